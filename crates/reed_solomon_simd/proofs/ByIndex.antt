@@ -33,7 +33,7 @@ entered-none s rooms left vectors holds is empty =
     record { count = k; none_past = λ i past. holds.restored.missing i ∙ missing-past s m i past; in_order = refl } in
     let items : holds.items ≡ items_from 0 (s.configuration.original_count - 0) holds.out =
     lists-same holds.out holds.items (items_below k holds.out) holds.listed here
-        ∙ ap (λ (n : ℕ). items_from 0 n holds.out) (let e : k ≡ k - 0 = omega arith in e) in
+    ∙ ap (λ (n : ℕ). items_from 0 n holds.out) (let e : k ≡ k - 0 = omega arith in e) in
     record {
       out = holds.out;
       restored = holds.restored;
@@ -48,7 +48,7 @@ module _ (s : DecoderState) (i : ℕ) (left : List Shard) (vectors : Shards) (ar
     some-here =
         are.restored.missing i
         ∙ ap₂ (λ (a b : Bool). cond (a && not b) (Some (shard_at are.restored.message i)) None)
-            (lt-ltb i s.configuration.original_count inside) (ap is_some free)
+        (lt-ltb i s.configuration.original_count inside) (ap is_some free)
 
     begins : items_from i (s.configuration.original_count - i) are.out
         ≡ (i, shard_at are.restored.message i) ∷ items_from (i + 1) (s.configuration.original_count - (i + 1)) are.out
@@ -58,7 +58,7 @@ module _ (s : DecoderState) (i : ℕ) (left : List Shard) (vectors : Shards) (ar
     pub entered-short : left ≡ [] → ⊥
     entered-short none =
         let both : [] ≡ shard_at are.restored.message i ∷ shards_listed
-            (items_from (i + 1) (s.configuration.original_count - (i + 1)) are.out) =
+        (items_from (i + 1) (s.configuration.original_count - (i + 1)) are.out) =
         sym none ∙ are.left_is ∙ ap shards_listed begins in
         let no : ⊥ = cc in no
 
@@ -68,7 +68,7 @@ module _ (s : DecoderState) (i : ℕ) (left : List Shard) (vectors : Shards) (ar
         → AreEntered s (i + 1) rest new
     entered-next x rest new is step =
         let both : x ∷ rest ≡ shard_at are.restored.message i ∷ shards_listed
-            (items_from (i + 1) (s.configuration.original_count - (i + 1)) are.out) =
+        (items_from (i + 1) (s.configuration.original_count - (i + 1)) are.out) =
         sym is ∙ are.left_is ∙ ap shards_listed begins in
         let same : shard_at are.restored.message i ≡ x = cc in
         record {
@@ -78,7 +78,7 @@ module _ (s : DecoderState) (i : ℕ) (left : List Shard) (vectors : Shards) (ar
           whole = step (items_from i (s.configuration.original_count - i) are.out)
               (items_from (i + 1) (s.configuration.original_count - (i + 1)) are.out)
               (begins ∙ ap (λ (y : Shard).
-                  (i, y) ∷ items_from (i + 1) (s.configuration.original_count - (i + 1)) are.out) same)
+              (i, y) ∷ items_from (i + 1) (s.configuration.original_count - (i + 1)) are.out) same)
               ∙ are.whole;
         }
 
@@ -90,16 +90,21 @@ module _ (s : DecoderState) (i : ℕ) (left : List Shard) (vectors : Shards) (ar
       let none : are.out i ≡ None =
       are.restored.missing i
       ∙ ap₂ (λ (a b : Bool). cond (a && not b) (Some (shard_at are.restored.message i)) None)
-          (lt-ltb i s.configuration.original_count inside) some in
+      (lt-ltb i s.configuration.original_count inside) some in
       let same = items_from-none i s.configuration.original_count are.out inside none in
-      record { out = are.out; restored = are.restored; left_is = are.left_is ∙ ap shards_listed same; whole =
-          ap (with_entries vectors) (sym same) ∙ are.whole }
+      record {
+        out = are.out;
+        restored = are.restored;
+        left_is = are.left_is ∙ ap shards_listed same;
+        whole =
+            ap (with_entries vectors) (sym same) ∙ are.whole;
+      }
 
   -- After the last index, the map holds all restored originals.
   pub entered-all : s.configuration.original_count ≤ i → Restored s vectors
   entered-all past =
       subst (Restored s) (sym are.whole
-          ∙ ap (with_entries vectors) (items_from-past i s.configuration.original_count are.out past)) are.restored
+      ∙ ap (with_entries vectors) (items_from-past i s.configuration.original_count are.out past)) are.restored
 
 -- If a place holds a shard, the map of the places has a shard at the index of the place.
 pub some-place : (places : List (Option (Bor Shard))) (i : ℕ) (found : Option (Bor Shard))

@@ -42,7 +42,7 @@ pub fresh-too_few : (c : Configuration) → validation_outcome c ≡ Ok tt
 fresh-too_few c valid =
     ap₂ (λ (o r : ℕ). by_counts c.original_count o r) (count-nothing c.original_count) (count-nothing c.recovery_count)
     ∙ ap (λ (b : Bool). cond b (Err (NotEnoughShards c.original_count 0 0)) (Ok tt))
-        (lt-ltb 0 c.original_count (valid-some c valid))
+    (lt-ltb 0 c.original_count (valid-some c valid))
 
 -- After a round, a decoder has no shards.
 pub ended : (s : DecoderState) → enough_given s ≡ Ok tt → after_decode s ≡ fresh_decoder s.configuration

@@ -32,20 +32,23 @@ refused-at : (s : EncoderState) (shards : List Shard) (i : ℕ) (e : Error) → 
 refused-at s [] i e inside room sized refused = absurd (let no : ⊥ = omega (arith, inside) in no)
 refused-at s (x ∷ xs) zero e inside room sized refused =
     let same : record s { given = s.given ++ [] } ≡ s =
-        ap (λ (given : List Shard). record s { given = given }) (append-nil s.given) in
+    ap (λ (given : List Shard). record s { given = given }) (append-nil s.given) in
     adds-err with_shard s x xs e
-        (outcome-err _ e (subst (λ (t : EncoderState). Err e ≡ answer_of (with_shard t x)) same refused))
+    (outcome-err _ e (subst (λ (t : EncoderState). Err e ≡ answer_of (with_shard t x)) same refused))
 refused-at s (x ∷ xs) (suc i) e inside room sized refused =
     let next : EncoderState = record s { given = s.given ++ x ∷ [] } in
     let long : length (s.given ++ x ∷ []) ≡ length s.given + 1 = length-append s.given (x ∷ []) in
     let taken : with_shard s x ≡ Ok (record s { given = s.given ++ x ∷ [] }) =
-    rw (lt-leb s.configuration.original_count (length s.given) (omega (arith, room)), eq-eqb
-        (length x) s.configuration.shard_bytes (sized 0 (omega arith))) refl in
+    rw (
+      lt-leb s.configuration.original_count (length s.given) (omega (arith, room)),
+      eq-eqb
+          (length x) s.configuration.shard_bytes (sized 0 (omega arith)),
+    ) refl in
     adds-ok with_shard s next x xs (Err e) taken
     (refused-at next xs i e (omega (arith, inside)) (omega (arith, long, room))
-        (λ j h. sized (suc j) (omega (arith, h)))
+    (λ j h. sized (suc j) (omega (arith, h)))
     (subst (λ (given : List Shard). Err e ≡ answer_of (with_shard (record s { given = given }) (get_or xs i [])))
-        (sym (append_assoc s.given (x ∷ []) (take i xs))) refused))
+    (sym (append_assoc s.given (x ∷ []) (take i xs))) refused))
 
 module _ (k r size : ℕ) (shards : List Shard) (some : 0 < length shards)
     (first : length (get_or shards 0 []) ≡ size) where
@@ -60,7 +63,7 @@ module _ (k r size : ℕ) (shards : List Shard) (some : 0 < length shards)
       by_shards (x ∷ xs) some first =
           encoding-refused k r (x ∷ xs) e (encoding-unset k r x xs e
           (inl (subst (λ (n : ℕ). Err e ≡ start_outcome (encoder_rows default_rate k r) (default_of k r n))
-              (sym first) refused)))
+          (sym first) refused)))
 
   -- If setting up succeeds, the outcome of adding the originals is the outcome of encoding.
   pub checked-led : Ok tt ≡ start_outcome (encoder_rows default_rate k r) (default_of k r size)
@@ -73,8 +76,8 @@ module _ (k r size : ℕ) (shards : List Shard) (some : 0 < length shards)
       by_shards [] some first is = absurd (let no : ⊥ = omega (arith, some) in no)
       by_shards (x ∷ xs) some first is =
           encoding-given k r x xs (fresh_encoder (default_of k r size))
-              (inl (subst (λ (n : ℕ). Ok tt ≡ start_outcome (encoder_rows default_rate k r) (default_of k r n))
-              (sym first) made))
+          (inl (subst (λ (n : ℕ). Ok tt ≡ start_outcome (encoder_rows default_rate k r) (default_of k r n))
+          (sym first) made))
           (ap (λ (n : ℕ). fresh_encoder (default_of k r n)) (sym first)) o is
 
   -- If an original cannot be added, one call fails with its error.
@@ -82,11 +85,11 @@ module _ (k r size : ℕ) (shards : List Shard) (some : 0 < length shards)
       → (i : ℕ) (e : Error) → i < length shards → i ≤ k
       → ((j : ℕ) → j < i → length (get_or shards j []) ≡ size)
       → Err e ≡ answer_of (with_shard (record { configuration = default_of k r size; given = take i shards })
-          (get_or shards i [])) → OneEncodeAnswers k r shards (Err e)
+      (get_or shards i [])) → OneEncodeAnswers k r shards (Err e)
   checked-refused made i e inside room sized refused =
       encoding-refused k r shards e
-          (checked-led made (Err e)
-          (refused-at (fresh_encoder (default_of k r size)) shards i e inside (omega (arith, room)) sized refused))
+      (checked-led made (Err e)
+      (refused-at (fresh_encoder (default_of k r size)) shards i e inside (omega (arith, room)) sized refused))
 
   module _ (made : Ok tt ≡ start_outcome (encoder_rows default_rate k r) (default_of k r size))
       (few : length shards ≤ k) (sized : All (λ s. length s ≡ size) shards) where
@@ -100,9 +103,9 @@ module _ (k r size : ℕ) (shards : List Shard) (some : 0 < length shards)
     pub checked-few : length shards < k → OneEncodeAnswers k r shards (Err (TooFewOriginalShards k (length shards)))
     checked-few less =
         encoding-answers k r shards (record { configuration = default_of k r size; given = shards }) checked-all
-            (Err (TooFewOriginalShards k (length shards)))
+        (Err (TooFewOriginalShards k (length shards)))
         (encode_answers-refused (record { configuration = default_of k r size; given = shards })
-            (TooFewOriginalShards k (length shards)) (rw (lt-ltb (length shards) k less) refl))
+        (TooFewOriginalShards k (length shards)) (rw (lt-ltb (length shards) k less) refl))
 
 module _ (k r size : ℕ) (shards : List Shard) (is : AreChecked k r size shards) where
   -- The encoder to which the checked originals were added.

@@ -68,28 +68,28 @@ below-listed : (n from : ℕ) (given part : Shards) → IsBelow from given part
     → IsBelow (from + n) given (with_entries part (items_from from n given))
 below-listed zero from given part below =
     subst (λ (m : ℕ). IsBelow m given (with_entries part (items_from from 0 given)))
-        (let m : from ≡ from + 0 = omega arith in m)
+    (let m : from ≡ from + 0 = omega arith in m)
     (subst (λ items. IsBelow from given (with_entries part items)) (sym (items_from-zero from given)) below)
 below-listed (suc n) from given part below =
     let next = below-listed n (suc from) given _ (below-next from given part (given from) refl below) in
     let joined = ap (with_entries part) (items_from-suc from n given)
-        ∙ with_entries-append part (items_at from (given from)) (items_from (suc from) n given) in
+    ∙ with_entries-append part (items_at from (given from)) (items_from (suc from) n given) in
     subst (λ (m : ℕ). IsBelow m given (with_entries part (items_from from (suc n) given)))
-        (let m : suc from + n ≡ from + suc n = omega arith in m)
+    (let m : suc from + n ≡ from + suc n = omega arith in m)
     (subst (IsBelow (suc from + n) given) (sym joined) next)
 
 -- Entering the listed items of a map into the empty map gives the map.
 pub with_entries-lists : (given : Shards) (items : Items) → Lists given items → with_entries nothing items ≡ given
 with_entries-lists given items lists =
     let start : IsBelow 0 given nothing =
-        record { same = λ i inside. absurd (omega arith); none = λ i outside. refl } in
+    record { same = λ i inside. absurd (omega arith); none = λ i outside. refl } in
     let all : IsBelow lists.count given (with_entries nothing items) =
     subst (λ xs. IsBelow lists.count given (with_entries nothing xs)) (sym lists.in_order)
     (subst (λ (m : ℕ). IsBelow m given (with_entries nothing (items_from 0 lists.count given)))
-        (let m : 0 + lists.count ≡ lists.count = omega arith in m) (below-listed lists.count 0 given nothing start))
+    (let m : 0 + lists.count ≡ lists.count = omega arith in m) (below-listed lists.count 0 given nothing start))
     in
     fun_ext (λ i. elim (cases_lt i lists.count)
-        [ inl inside ↦ all.same i inside | inr outside ↦ all.none i outside ∙ sym (lists.none_past i outside) ])
+    [ inl inside ↦ all.same i inside | inr outside ↦ all.none i outside ∙ sym (lists.none_past i outside) ])
 
 -- `nat_cmp` returns `Equal` exactly for equal numbers.
 is_eq-nat_cmp : (a b : ℕ) → is_eq (nat_cmp a b) ≡ (b == a)
@@ -130,4 +130,4 @@ module _ {Y : Type 0} where
       → with_entries (shards_in new) rest ≡ with_entries (shards_in old) left
   with_entries-inserted old new index vector shard left rest begins same updates =
       ap (λ s. with_entries s rest) (shards_in-inserted old new index vector shard same updates)
-          ∙ ap (with_entries (shards_in old)) (sym begins)
+      ∙ ap (with_entries (shards_in old)) (sym begins)

@@ -29,7 +29,7 @@ pub shards-long : (size : ℕ) (xs : List (Bor (List ℕ))) → All (IsShard siz
     → All (λ x. length x.now ≡ size) xs
 shards-long size xs sized k d h =
     ap length (sym (get_or-map (λ (x : Bor (List ℕ)). x.now) xs k d [] h))
-        ∙ (sized k [] (let n = length-map xs (λ (x : Bor (List ℕ)). x.now) in omega (arith, h, n))).length_is
+    ∙ (sized k [] (let n = length-map xs (λ (x : Bor (List ℕ)). x.now) in omega (arith, h, n))).length_is
 
 -- Gathered originals represent a state that an encoder can have.
 pub gathered-is : (x : LentOriginals) → IsEncoder default_rate (lent_state x)
@@ -51,7 +51,7 @@ has-made s is all =
     let whole = message-whole s all in
     let few = is.no_more in
     has_recovery s.configuration s.given (valid-supported s.configuration is.valid)
-        (valid-even s.configuration is.valid)
+    (valid-even s.configuration is.valid)
     (record { length_is = omega (arith, few, whole.0); each = is.sized })
 
 module _ (k r : ℕ) (shards : List Shard) (s : EncoderState) (is : IsEncoding k r shards (Ok s)) where

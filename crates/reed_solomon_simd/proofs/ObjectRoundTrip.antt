@@ -42,10 +42,10 @@ pub gives-back : (c : Configuration) (shards recovery : List Shard) (lost recove
     → GivesBack shards (kept_of shards lost) (kept_of recovery recovery_lost) result
 gives-back c shards recovery lost recovery_lost new_decoder half decoder result all start_outcome own coded answers =
     taken_gives_back c shards recovery (kept_of shards lost) (kept_of recovery recovery_lost) decoder result all.0 all.1
-        (kept-left shards lost) (kept-left recovery recovery_lost)
+    (kept-left shards lost) (kept-left recovery recovery_lost)
     (
     ap (λ s. result_and_then (λ now. with_recoveries now (kept_of recovery recovery_lost))
-        (with_originals s (kept_of shards lost))) (sym start_outcome)
+    (with_originals s (kept_of shards lost))) (sym start_outcome)
     ∙ ap (result_and_then (λ now. with_recoveries now (kept_of recovery recovery_lost))) own
     ∙ coded
     )
@@ -56,10 +56,10 @@ pub copies-lost : {V : Type 0} (shards : List Shard) (lost : ℕ → Bool) (rece
     (result : Result V Error) (items : V → List (ℕ × Shard))
     → GivesBack shards (kept_of shards lost) received (Ok out) → IfOk result (λ v. Lists out (items v))
     → IfOk result (λ v. Lists (λ i. cond (nat_lt i (length shards) && lost i) (Some (shard_at shards i)) None)
-        (items v))
+    (items v))
 copies-lost shards lost received out result items back copies =
     subst (λ (given : Shards). IfOk result (λ v. Lists given (items v)))
-        (fun_ext (just-lost shards lost (Ok out) back.restored)) copies
+    (fun_ext (just-lost shards lost (Ok out) back.restored)) copies
 
 -- ---- calls that do not fail
 
@@ -71,8 +71,11 @@ pub takes-all : (shards : List Shard) (s : EncoderState)
 takes-all [] s room sized = ap (λ given. Ok (record s { given = given })) (sym (append-nil s.given))
 takes-all (x ∷ xs) s room sized =
     let first : with_shard s x ≡ Ok (record s { given = s.given ++ x ∷ [] }) =
-    rw (lt-leb s.configuration.original_count (length s.given) (omega arith), eq-eqb
-        (length x) s.configuration.shard_bytes sized.0) refl in
+    rw (
+      lt-leb s.configuration.original_count (length s.given) (omega arith),
+      eq-eqb
+          (length x) s.configuration.shard_bytes sized.0,
+    ) refl in
     let long : length (s.given ++ x ∷ []) ≡ length s.given + 1 = length-append s.given (x ∷ []) in
     ap (result_and_then (λ next. with_shards next xs)) first
     ∙ takes-all xs (record s { given = s.given ++ x ∷ [] }) (omega (arith, long)) sized.1
@@ -85,8 +88,8 @@ module _ (c : Configuration) (shards : List Shard) (new_encoder : EncoderState) 
   pub takes-message : with_shards new_encoder shards ≡ Ok (record { configuration = c; given = shards })
   takes-message =
       ap (λ s. with_shards s shards) fresh
-          ∙ takes-all shards (fresh_encoder c) (omega (arith, count))
-          (recursion_from_All (λ x. length x ≡ c.shard_bytes) shards sized)
+      ∙ takes-all shards (fresh_encoder c) (omega (arith, count))
+      (recursion_from_All (λ x. length x ≡ c.shard_bytes) shards sized)
 
   -- Adding a message to a fresh encoder does not fail.
   pub gives-all : (P : EncoderState → Type 0) (e : Error) → Reaches (with_shards new_encoder shards) (Err e) P → ⊥
@@ -100,12 +103,12 @@ module _ (c : Configuration) (shards : List Shard) (new_encoder : EncoderState) 
       let taken = takes-message in
       let is : encoder ≡ record { configuration = c; given = shards } = cc in
       by_test (nat_lt (length shards) c.original_count) (le-ltb (length shards) c.original_count (omega (arith, count)))
-          (subst (λ (s : EncoderState). EncodeAnswers s (Err e)) is answers)
+      (subst (λ (s : EncoderState). EncodeAnswers s (Err e)) is answers)
     where
       by_test : (few : Bool) → few ≡ false
           → MatchResult (cond few (Err (TooFewOriginalShards c.original_count (length shards))) (Ok shards))
           (λ message. IsOkAnd {T = List Shard} {E = Error} (Err e) (AreRecovery c message))
-              (λ f. ◌≡◌ {A = Result (List Shard) Error} (Err e) (Err f)) → ⊥
+          (λ f. ◌≡◌ {A = Result (List Shard) Error} (Err e) (Err f)) → ⊥
       by_test true whole h = absurd (let no : ⊥ = cc in no)
       by_test false whole h = h
 
@@ -117,8 +120,8 @@ module _ (c : Configuration) (shards : List Shard) (new_encoder : EncoderState) 
       let is : encoder ≡ record { configuration = c; given = shards } = cc in
       ap after_encode is
       ∙ ap (λ (few : Bool).
-          cond (is_ok (cond few (Err (TooFewOriginalShards c.original_count (length shards))) (Ok shards)))
-          (fresh_encoder c) (record { configuration = c; given = shards }))
+      cond (is_ok (cond few (Err (TooFewOriginalShards c.original_count (length shards))) (Ok shards)))
+      (fresh_encoder c) (record { configuration = c; given = shards }))
       (le-ltb (length shards) c.original_count (omega (arith, count)))
       ∙ sym fresh
 
@@ -133,7 +136,7 @@ module _ (c : Configuration) (shards recovery : List Shard) (lost recovery_lost 
       let both = ap (λ s. with_originals s (kept_of shards lost)) (sym fresh) ∙ refused in
       let taken = sym (ap (result_and_then (λ now. with_recoveries now (kept_of recovery recovery_lost))) both)
       ∙ all_taken c shards recovery (kept_of shards lost) (kept_of recovery recovery_lost) all.0 all.1
-          (kept-left shards lost) (kept-left recovery recovery_lost) in
+      (kept-left shards lost) (kept-left recovery recovery_lost) in
       cc
 
   -- Adding the recovery shards that are not lost to the decoder does not fail.
@@ -144,9 +147,9 @@ module _ (c : Configuration) (shards recovery : List Shard) (lost recovery_lost 
       let refused = reached-err (with_recoveries half (kept_of recovery recovery_lost)) P e reached in
       let both = ap (λ s. with_originals s (kept_of shards lost)) (sym fresh) ∙ given in
       let taken = sym (ap (result_and_then (λ now. with_recoveries now (kept_of recovery recovery_lost))) both
-          ∙ refused)
+      ∙ refused)
       ∙ all_taken c shards recovery (kept_of shards lost) (kept_of recovery recovery_lost) all.0 all.1
-          (kept-left shards lost) (kept-left recovery recovery_lost) in
+      (kept-left shards lost) (kept-left recovery recovery_lost) in
       cc
 
 -- If as many shards are left as there are originals, restoring fails only with `OutOfMemory`.

@@ -66,7 +66,7 @@ places-empty n places is =
 pub none-within : (count size : ℕ) (given : Shards) → given ≡ nothing → AreWithin count size given
 none-within count size given none =
     subst (AreWithin count size) (sym none)
-        (record { none_past = λ i h. refl; sized = λ i shard found. absurd (none-some shard found) })
+    (record { none_past = λ i h. refl; sized = λ i shard found. absurd (none-some shard found) })
 
 -- Entering a shard of the size at an index below the count keeps a map within its bounds.
 pub entered-within : (count size : ℕ) (given : Shards) (index : ℕ) (shard : Shard) → index < count → IsShard size shard

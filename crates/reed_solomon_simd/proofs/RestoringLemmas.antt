@@ -58,7 +58,7 @@ module _ (s : DecoderState) (enough : enough_given s ≡ Ok tt) where
       holds.listed,
       fills (shards_listed holds.items) old new answer o (fit ∙ ap (λ (l : List Shard). rooms_fit l old) holds.held)
           (subst (λ (l : List Shard).
-              MatchResult o (λ _. (answer ≡ Ok tt) × (new ≡ l)) (λ e. (answer ≡ Err e) × (new ≡ old))) holds.held does),
+          MatchResult o (λ _. (answer ≡ Ok tt) × (new ≡ l)) (λ e. (answer ≡ Err e) × (new ≡ old))) holds.held does),
     ),
   )
 
@@ -77,8 +77,8 @@ module _ (s : DecoderState) (enough : enough_given s ≡ Ok tt) where
 pub few-answers : (s : DecoderState) (e : Error) → Err e ≡ enough_given s → DecodeAnswers s (Err e)
 few-answers s e few =
     subst (λ (o : Result (Unit {0}) Error).
-        MatchResult o (λ _. MatchResult {T = Shards} (Err e) (Restored s) (NoneAgrees s))
-        (λ f. ◌≡◌ {A = Result Shards Error} (Err e) (Err f))) few refl
+    MatchResult o (λ _. MatchResult {T = Shards} (Err e) (Restored s) (NoneAgrees s))
+    (λ f. ◌≡◌ {A = Result Shards Error} (Err e) (Err f))) few refl
 
 pub restores-few : (s : DecoderState) (e : Error) (old new : List Shard) (answer : Result (Unit {0}) RoomError)
     → Err e ≡ enough_given s
@@ -103,7 +103,7 @@ pub restored-fit : (s : DecoderState) (made old : List Shard) → HoldRestored s
 restored-fit s made old holds number fit =
     let many = held-number s made holds in
     fits-many made old (omega (arith, many, number))
-        ∙ fits-all s.configuration.shard_bytes made old (held-sized s made holds) (λ i h. fit i [] h)
+    ∙ fits-all s.configuration.shard_bytes made old (held-sized s made holds) (λ i h. fit i [] h)
 
 -- ---- one call
 
@@ -116,7 +116,7 @@ module _ (k r : ℕ) (originals recovery : Items) (s : DecoderState)
       let (first, rest, same, led) = decoding-led k r originals recovery s is in
       let c : Configuration = default_of k r (length first.1) in
       let (valid, fits) = started-parts (decoder_rows default_rate k r) c
-          (started-of (start_outcome (decoder_rows default_rate k r) c) _ s led) in
+      (started-of (start_outcome (decoder_rows default_rate k r) c) _ s led) in
       subst (λ (items : Items). LacksMemory (decode_opening k r items) result) (sym same) (ap is_ok valid, lacks)
     where
       started-of : (o : Result (Unit {0}) Error) (f : Unit {0} → Result DecoderState Error) (s : DecoderState)
@@ -160,16 +160,18 @@ decodes-refused k r originals recovery e old answer one refused = (Err e, one, (
 pub decodes-nothing : (k r : ℕ) (originals recovery : Items) (old : List Shard) (answer : Result (Unit {0}) RoomError)
     → IsDecoding k r originals recovery (Ok None)
     → answer ≡ rooms_fit [] old → DecodesInto k r originals recovery old old answer
-decodes-nothing k r originals recovery old answer is fit =
-    (Ok nothing, decoding-nothing k r originals recovery is,
-        ([], lists-none, fills [] old old answer (rooms_fit [] old) refl (by_rooms old fit)))
+decodes-nothing k r originals recovery old answer is fit = (
+  Ok nothing,
+  decoding-nothing k r originals recovery is,
+  ([], lists-none, fills [] old old answer (rooms_fit [] old) refl (by_rooms old fit)),
+)
   where
     by_rooms : (old : List Shard) → answer ≡ rooms_fit [] old
         → MatchResult (rooms_fit [] old) (λ _. (answer ≡ Ok tt) × (old ≡ [])) (λ e. (answer ≡ Err e) × (old ≡ old))
     by_rooms [] fit = (fit, refl)
     by_rooms (room ∷ rooms) fit =
         let some : (0 == length (room ∷ rooms)) ≡ false =
-            ne_eqb 0 (length (room ∷ rooms)) (λ none. omega (arith, none)) in rw some (rw some at fit, refl)
+        ne_eqb 0 (length (room ∷ rooms)) (λ none. omega (arith, none)) in rw some (rw some at fit, refl)
 
 -- Restoring into rooms what one call returns satisfies `DecodesInto`.
 pub decodes-restored : (k r : ℕ) (originals recovery : Items) (s : DecoderState) (old new : List Shard)

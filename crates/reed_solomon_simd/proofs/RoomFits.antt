@@ -37,7 +37,7 @@ fits-first size (suc i) (shard ∷ shards) (room ∷ rooms) number sized inside 
     let same : length room ≡ length shard = before 0 (omega arith) ∙ sym (sized 0 [] (omega arith)) in
     rw (eq-eqb (length room) (length shard) same)
     (fits-first size i shards rooms (omega (arith, number)) (λ k d h. sized (suc k) d (omega (arith, h)))
-        (omega (arith, inside))
+    (omega (arith, inside))
     (λ j h. before (suc j) (omega (arith, h))) other)
 
 -- A call that fills rooms that fit, and fails with the error of rooms that do not fit, satisfies `Fills`.

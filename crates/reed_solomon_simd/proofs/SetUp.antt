@@ -25,8 +25,8 @@ started-parts rows c is = by_outcome (validation_outcome c) is
 
     by_outcome : (o : Result (Unit {0}) Error)
         → ◌≡◌ {A = Result (Unit {0}) Error}
-            (result_and_then (λ _. cond (nat_le (2 ^ 64) (bytes_of_rows rows c.shard_bytes)) (Err OutOfMemory) (Ok tt))
-            o) (Ok tt)
+        (result_and_then (λ _. cond (nat_le (2 ^ 64) (bytes_of_rows rows c.shard_bytes)) (Err OutOfMemory) (Ok tt))
+        o) (Ok tt)
         → (◌≡◌ {A = Result (Unit {0}) Error} o (Ok tt)) × (bytes_of_rows rows c.shard_bytes < 2 ^ 64)
     by_outcome (Ok u) is = (refl, by_test (nat_le (2 ^ 64) (bytes_of_rows rows c.shard_bytes)) refl is)
     by_outcome (Err e) is = absurd (let no : ⊥ = cc in no)

@@ -99,8 +99,12 @@ module _ (s now : DecoderState) (n : ℕ) (given : Shards) (shard : Shard) (foun
     pub original-taken : with_original now n shard ≡ Ok (record s { originals = first (n + 1) given })
     original-taken =
         ap (λ (t : DecoderState). with_original t n shard) is
-        ∙ rw (lt-leb s.configuration.original_count n inside, first-outside n n given
-            (let e : n ≤ n = omega arith in e), eq-eqb (length shard) s.configuration.shard_bytes sized)
+        ∙ rw (
+          lt-leb s.configuration.original_count n inside,
+          first-outside n n given
+              (let e : n ≤ n = omega arith in e),
+          eq-eqb (length shard) s.configuration.shard_bytes sized,
+        )
         (ap (λ (g : Shards). Ok (record s { originals = g })) (first-entered n given shard found))
 
     pub original-next : (next : DecoderState) → next ≡ state_after now (with_original now n shard)
@@ -115,8 +119,12 @@ module _ (s now : DecoderState) (n : ℕ) (given : Shards) (shard : Shard) (foun
     pub recovery-taken : with_recovery now n shard ≡ Ok (record s { recovery = first (n + 1) given })
     recovery-taken =
         ap (λ (t : DecoderState). with_recovery t n shard) is
-        ∙ rw (lt-leb s.configuration.recovery_count n inside, first-outside n n given
-            (let e : n ≤ n = omega arith in e), eq-eqb (length shard) s.configuration.shard_bytes sized)
+        ∙ rw (
+          lt-leb s.configuration.recovery_count n inside,
+          first-outside n n given
+              (let e : n ≤ n = omega arith in e),
+          eq-eqb (length shard) s.configuration.shard_bytes sized,
+        )
         (ap (λ (g : Shards). Ok (record s { recovery = g })) (first-entered n given shard found))
 
     pub recovery-next : (next : DecoderState) → next ≡ state_after now (with_recovery now n shard)
@@ -152,7 +160,7 @@ left-none n items most left = let long = length-drop n items in let none : lengt
 -- A fresh decoder with all pieces has the state of the pieces.
 pub pieces-added : (start end : ℕ) (x zero one two : DecoderState)
     → zero ≡ fresh_decoder
-        (configuration x.configuration.rate x.configuration.original_count x.configuration.recovery_count (end - start))
+    (configuration x.configuration.rate x.configuration.original_count x.configuration.recovery_count (end - start))
     → one ≡ record zero { originals = pieces_of start end x.originals }
     → two ≡ record one { recovery = pieces_of start end x.recovery }
     → two ≡ state_of_pieces start end x
@@ -171,8 +179,8 @@ module _ (start end : ℕ) (x state : DecoderState) (is : state ≡ state_of_pie
   answers-here result answers =
       let here = subst (λ (s : DecoderState). DecodeAnswers s result) is answers in
       subst (λ (o : Result (Unit {0}) Error).
-          MatchResult o (λ _. MatchResult result (Restored (state_of_pieces start end x))
-          (NoneAgrees (state_of_pieces start end x)))
+      MatchResult o (λ _. MatchResult result (Restored (state_of_pieces start end x))
+      (NoneAgrees (state_of_pieces start end x)))
       (λ e. result ≡ Err e)) enough-here here
 
   -- A round that succeeds restores the missing pieces.

@@ -40,5 +40,5 @@ module _ (start end r : ℕ) (originals : List (Bor Shard)) (order : start ≤ e
         → AreRecovery (default_of (length originals) r (end - start)) (pieces start end (shards_of originals)) made
     strip-codes made is answers =
         let both = codes-given default_rate (default_of (length originals) r (end - start))
-            (pieces start end (shards_of originals)) made first given fresh led is answers in
+        (pieces start end (shards_of originals)) made first given fresh led is answers in
         both.1

@@ -29,4 +29,4 @@ abbrev pub EndsEncode : MutBor ReedSolomonEncoder → ReedSolomonEncoder → Fml
 EndsEncode object old =
     AfterLoan (the_row (record { mir = named 1; lft = [] })) object
     (λ now. (state_of now ≡ after_encode (state_of old)) × (engine_of now ≡ engine_of old)
-        × (room_of now ≡ room_of old))
+    × (room_of now ≡ room_of old))

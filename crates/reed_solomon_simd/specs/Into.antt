@@ -45,7 +45,7 @@ abbrev pub DecodesInto : ℕ → ℕ → Items → Items → List (List ℕ) →
 DecodesInto k r originals recovery old new answer =
     (decoded : Result Shards Error) × OneDecodeAnswers k r originals recovery decoded
     × MatchResult decoded
-        (λ restored. (items : Items) × Lists restored items × Fills (map (λ item. item.1) items) old new answer)
+    (λ restored. (items : Items) × Lists restored items × Fills (map (λ item. item.1) items) old new answer)
     (λ e. (answer ≡ Err (Refused e)) × (new ≡ old))
 
 -- the result of writing the missing originals of a decoder into rooms: the result of its decode, or `OutOfMemory`
@@ -53,5 +53,5 @@ abbrev pub RestoresInto : DecoderState → List (List ℕ) → List (List ℕ) �
 RestoresInto s old new answer =
     (decoded : Result Shards Error) × (DecodeAnswers s decoded ⊎ (decoded ≡ Err OutOfMemory))
     × MatchResult decoded
-        (λ restored. (items : Items) × Lists restored items × Fills (map (λ item. item.1) items) old new answer)
+    (λ restored. (items : Items) × Lists restored items × Fills (map (λ item. item.1) items) old new answer)
     (λ e. (answer ≡ Err (Refused e)) × (new ≡ old))

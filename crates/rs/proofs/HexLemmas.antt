@@ -23,7 +23,7 @@ Reads r o = MatchResult r (λ bytes. o ≡ Some bytes) (λ e. o ≡ None)
 
 reads_pair : (h l i : ℕ) (dh dl : Option ℕ) (r : Result (List ℕ) FromHexError) (o : Option (List ℕ)) → Reads r o
     → Reads ((digit_or_error h i dh >>= λ a. digit_or_error l (i + 1) dl >>= λ b. Ok (a * 16 + b)) >>= λ byte.
-        r >>= λ bytes. Ok (byte ∷ bytes)) (byte_before dh dl o)
+    r >>= λ bytes. Ok (byte ∷ bytes)) (byte_before dh dl o)
 reads_pair h l i (Some a) (Some b) (Ok bytes) o e = ap (λ p. byte_before (Some a) (Some b) p) e
 reads_pair h l i (Some a) (Some b) (Err x) o e = ap (λ p. byte_before (Some a) (Some b) p) e
 reads_pair h l i (Some a) None r o e = refl
@@ -38,7 +38,7 @@ reads_pairs i (h ∷ l ∷ rest) =
     (λ o. Reads (decode_pairs i (h ∷ l ∷ rest)) o)
     (ap₂ (λ a b. byte_before a b (bytes_of_hex rest)) (digit_value-same h) (digit_value-same l))
     (reads_pair h l i (hex_digit_value h) (hex_digit_value l) (decode_pairs (i + 2) rest) (bytes_of_hex rest)
-        (reads_pairs (i + 2) rest))
+    (reads_pairs (i + 2) rest))
 
 none_before : (a b : Option ℕ) → byte_before a b None ≡ None
 none_before (Some a) (Some b) = refl
@@ -52,7 +52,7 @@ odd_none [] h = absurd (omega arith)
 odd_none (c ∷ []) h = refl
 odd_none (a ∷ b ∷ rest) h =
     ap (byte_before (digit_value a) (digit_value b)) (odd_none rest (omega arith))
-        ∙ none_before (digit_value a) (digit_value b)
+    ∙ none_before (digit_value a) (digit_value b)
 
 reads_tested : (text : List ℕ) (t : Bool) → (t ≡ true → length text % 2 ≡ 1)
     → Reads (cond t (Err OddLength) (decode_pairs 0 text)) (bytes_of_hex text)

@@ -50,7 +50,7 @@ AgreesFrom from given items = (i : ℕ) → from ≤ i → given i ≡ lookup (n
 ascending_more : (n from : ℕ) (given : Shards) (item : ℕ × Shard) (items : Items) → Ascends from (item ∷ items)
     → AgreesFrom from given (item ∷ items)
     → ((others : Items) → Ascends (suc from) others → AgreesFrom (suc from) given others
-        → others ≡ items_from (suc from) n given)
+    → others ≡ items_from (suc from) n given)
     → item ∷ items ≡ items_from from (suc n) given
 ascending_more n from given item items up agrees others = by_first (nat_eq from item.0) refl
   where
@@ -60,16 +60,16 @@ ascending_more n from given item items up agrees others = by_first (nat_eq from 
         let rest : AgreesFrom (suc from) given items =
         λ i above. agrees i (omega (arith, above))
         ∙ ap (λ b. cond b (Some item.1) (lookup (nat_eq i) items))
-            (unequal i item.0 (λ e. omega (arith, above, here, e))) in
+        (unequal i item.0 (λ e. omega (arith, above, here, e))) in
         let some : given from ≡ Some item.1 =
-            agrees from (omega arith) ∙ ap (λ b. cond b (Some item.1) (lookup (nat_eq from) items)) same in
+        agrees from (omega arith) ∙ ap (λ b. cond b (Some item.1) (lookup (nat_eq from) items)) same in
         ap₂ (λ k xs. (k, item.1) ∷ xs) here (others items (rw here at up.1) rest)
         ∙ ap (λ o. items_at from o ++ items_from (suc from) n given) (sym some)
         ∙ sym (items_from-suc from n given)
     by_first false apart =
         let later : suc from ≤ item.0 = grind (arith, nat_tests, apart, up.0) in
         let none : given from ≡ None =
-            agrees from (omega arith) ∙ none_below (suc from) from (item ∷ items) (later, up.1) (omega arith) in
+        agrees from (omega arith) ∙ none_below (suc from) from (item ∷ items) (later, up.1) (omega arith) in
         others (item ∷ items) (later, up.1) (λ i above. agrees i (omega (arith, above)))
         ∙ ap (λ o. items_at from o ++ items_from (suc from) n given) (sym none)
         ∙ sym (items_from-suc from n given)
@@ -84,7 +84,7 @@ ascending_from zero from given (item ∷ items) up agrees past =
     absurd (let no : ⊥ = cc in no)
 ascending_from (suc n) from given [] up agrees past =
     ascending_from n (suc from) given [] up (λ i above. agrees i (omega (arith, above)))
-        (λ i above. past i (omega (arith, above)))
+    (λ i above. past i (omega (arith, above)))
     ∙ ap (λ o. items_at from o ++ items_from (suc from) n given) (sym (agrees from (omega arith)))
     ∙ sym (items_from-suc from n given)
 ascending_from (suc n) from given (item ∷ items) up agrees past =

@@ -24,9 +24,9 @@ by_tests n false false few (Err e) q = refl
 
 tested : (text : List ℕ) {E : Type 0} (r : Result ℕ E)
     → OkIff r ((all_ascii_digits text ≡ true) × (0 < length text) × (digits_value 10 text < 2 ^ 64))
-        (digits_value 10 text)
+    (digits_value 10 text)
     → OkIff r ((all_ascii_digits text ≡ true) × (nat_lt 0 (length text) ≡ true)
-        × (nat_lt (digits_value 10 text) (2 ^ 64) ≡ true)) (digits_value 10 text)
+    × (nat_lt (digits_value 10 text) (2 ^ 64) ≡ true)) (digits_value 10 text)
 tested text (Ok x) q = ((q.0.0, lt-ltb 0 (length text) q.0.1, lt-ltb (digits_value 10 text) (2 ^ 64) q.0.2), q.1)
 tested text (Err e) q = λ p. q (p.0, ltb-true 0 (length text) p.1, ltb-true (digits_value 10 text) (2 ^ 64) p.2)
 
@@ -35,7 +35,7 @@ pub number_of-parsed : (text : List ℕ) {E : Type 0} (r : Result ℕ E) → Par
     → get_or text 0 0 ≢ 43 → result_ok r ≡ number_of text
 number_of-parsed text r parsed no_plus =
     by_tests (digits_value 10 text) (all_ascii_digits text) (nat_lt 0 (length text))
-        (nat_lt (digits_value 10 text) (2 ^ 64)) r (tested text r (parse_plain model 64 text r parsed no_plus))
+    (nat_lt (digits_value 10 text) (2 ^ 64)) r (tested text r (parse_plain model 64 text r parsed no_plus))
 
 -- An empty text does not begin with a plus sign.
 pub no_plus_in-empty : (text : List ℕ) → (length text == 0) ≡ true → get_or text 0 0 ≢ 43

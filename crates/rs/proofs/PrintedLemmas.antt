@@ -40,7 +40,7 @@ entries_in_order vectors ordered =
     lists-sorted (shards_in vectors) (map (λ e. (e.0, e.1.items)) vectors.entries)
     (subst (IsStrictlySortedBy nat_cmp) (sym (keys_of-map_values (λ v. v.items) vectors.entries)) ordered)
     (λ i. ap (option_map (λ v. v.items))
-        (lookup-same (λ k. is_eq (nat_cmp i k)) (nat_eq i) (compared_equal i) vectors.entries)
+    (lookup-same (λ k. is_eq (nat_cmp i k)) (nat_eq i) (compared_equal i) vectors.entries)
     ∙ sym (lookup-map_values (λ v. v.items) (nat_eq i) vectors.entries))
 
 -- If the texts are the lines of the recovery shards or the result is `OutOfMemory`, the result is one of an encode

@@ -14,4 +14,4 @@ pub item_of-other : (text : List ℕ) → ((rest : List ℕ) → text ≢ 111 �
 item_of-other [] no_original no_recovery = refl
 item_of-other (letter ∷ rest) no_original no_recovery =
     by_letter letter _ _ (λ e. no_original rest (ap (λ first. first ∷ rest) e))
-        (λ e. no_recovery rest (ap (λ first. first ∷ rest) e))
+    (λ e. no_recovery rest (ap (λ first. first ∷ rest) e))

@@ -52,13 +52,13 @@ pub text-at : {X : Type 0} (f : X → List ℕ) (a b c : Option (List ℕ)) (tex
     → Appends b c (f (get_or texts i d)) → Appends a c (flat_map f (take (i + 1) texts))
 text-at f a b c texts i d inside written more =
     let further : take (i + 1) texts ≡ take i texts ++ (get_or texts i d ∷ []) =
-        take-add i 1 texts ∙ ap (λ xs. take i texts ++ take 1 xs) (drop_more texts i d inside) in
+    take-add i 1 texts ∙ ap (λ xs. take i texts ++ take 1 xs) (drop_more texts i d inside) in
     let last : f (get_or texts i d) ++ [] ≡ f (get_or texts i d) = append-nil (f (get_or texts i d)) in
     let whole : flat_map f (take (i + 1) texts) ≡ flat_map f (take i texts) ++ f (get_or texts i d) =
     ap (flat_map f) further ∙ flat_map-append f (take i texts) (get_or texts i d ∷ [])
-        ∙ ap (λ xs. flat_map f (take i texts) ++ xs) last in
+    ∙ ap (λ xs. flat_map f (take i texts) ++ xs) last in
     subst (Appends a c) (sym whole)
-        (appends-appends a b c (flat_map f (take i texts)) (f (get_or texts i d)) written more)
+    (appends-appends a b c (flat_map f (take i texts)) (f (get_or texts i d)) written more)
 
 -- If the texts before text i are appended, and then only a first part of text i, only a first part of all texts is
 -- appended.
@@ -71,9 +71,9 @@ cut-at f a b c texts i d inside written cut =
     let rest = flat_map f (drop (i + 1) texts) in
     let whole : flat_map f texts ≡ front ++ (text ++ rest) =
     ap (flat_map f) (sym (take-append-drop i texts)) ∙ flat_map-append f (take i texts) (drop i texts)
-        ∙ ap (λ xs. front ++ flat_map f xs) (drop_more texts i d inside) in
+    ∙ ap (λ xs. front ++ flat_map f xs) (drop_more texts i d inside) in
     let long : length (front ++ (text ++ rest)) ≡ length front + length (text ++ rest) =
-        length-append front (text ++ rest) in
+    length-append front (text ++ rest) in
     let longer : length (text ++ rest) ≡ length text + length rest = length-append text rest in
     subst (CutShort a c) (sym whole) (
       length front + cut.0,

@@ -79,5 +79,5 @@ abbrev pub request_of : List (List ℕ) → Option Request
 request_of (command ∷ engine ∷ original ∷ recovery ∷ words) =
     option_map (λ p. record { engine = p.0; original_count = p.1.0.0; recovery_count = p.1.0.1; task = p.1.1 })
     (option_zip (engine_named engine)
-        (option_zip (option_zip (number_of original) (number_of recovery)) (task_of command words)))
+    (option_zip (option_zip (number_of original) (number_of recovery)) (task_of command words)))
 request_of _ = None

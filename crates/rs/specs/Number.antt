@@ -8,5 +8,5 @@ use Rattle.std.specs.Str.Parse.{digits_value}
 abbrev pub number_of : List ℕ → Option ℕ
 number_of text =
     if all_ascii_digits text && nat_lt 0 (length text) && nat_lt (digits_value 10 text) (2 ^ 64) then Some
-        (digits_value 10 text)
+    (digits_value 10 text)
     else None

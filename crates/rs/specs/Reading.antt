@@ -55,5 +55,10 @@ as_task (Decode given) = Line.Restored (given_items given)
 -- the request that a command represents
 abbrev pub as_request : Command → Line.Request
 as_request command =
-    record { engine = command.engine; original_count = command.counts.original; recovery_count =
-        command.counts.recovery; task = as_task command.task }
+    record {
+      engine = command.engine;
+      original_count = command.counts.original;
+      recovery_count =
+          command.counts.recovery;
+      task = as_task command.task;
+    }

@@ -24,7 +24,7 @@ cut-at (suc n) size bytes (suc i) inside =
     let more = suc-mul i size in
     cut-at n size (drop size bytes) i (omega (arith, inside))
     ∙ ap (take size) (drop-drop (i * size) size bytes
-        ∙ ap (λ (m : ℕ). drop m bytes) (let e : size + i * size ≡ suc i * size = omega (arith, more) in e))
+    ∙ ap (λ (m : ℕ). drop m bytes) (let e : size + i * size ≡ suc i * size = omega (arith, more) in e))
 
 -- If a buffer has the length of n shards, its n shards, one after the other, are the buffer.
 pub joined-cut : (n size : ℕ) (bytes : List ℕ) → length bytes ≡ n * size
@@ -34,7 +34,7 @@ joined-cut zero size (b ∷ bytes) whole = absurd (let no : ⊥ = omega (arith, 
 joined-cut (suc n) size bytes whole =
     let more = suc-mul n size in let left = length-drop size bytes in
     ap (λ (l : List ℕ). take size bytes ++ l) (joined-cut n size (drop size bytes) (omega (arith, whole, more, left)))
-        ∙ take-append-drop size bytes
+    ∙ take-append-drop size bytes
 
 -- If a buffer has the length of n shards, each of its n shards has the shard size.
 pub cut-sized : (n size : ℕ) (bytes : List ℕ) → length bytes ≡ n * size
@@ -43,7 +43,7 @@ cut-sized zero size bytes whole k d h = absurd (let no : ⊥ = omega (arith, h) 
 cut-sized (suc n) size bytes whole k d h =
     let more = suc-mul n size in let left = length-drop size bytes in
     All-cons (λ s. length s ≡ size) (take size bytes) (shards_in_buffer n size (drop size bytes))
-        (length-take-le size bytes (omega (arith, whole, more)))
+    (length-take-le size bytes (omega (arith, whole, more)))
     (cut-sized n size (drop size bytes) (omega (arith, whole, more, left))) k d h
 
 -- If two buffers have the length of n shards and the same n shards, they are equal.
@@ -62,7 +62,7 @@ room-inside size i start m whole bytes some fits is =
       | inl short ↦
           let all : length (take size (drop (i * size) bytes)) ≡ length (drop (i * size) bytes) =
           ap length (take_all size (drop (i * size) bytes)
-              (let le : length (drop (i * size) bytes) ≤ size = omega (arith, short) in le)) in
+          (let le : length (drop (i * size) bytes) ≤ size = omega (arith, short) in le)) in
           (omega (arith, all, is, short, fits), omega (arith, all, is, left, some, fits))
       | inr enough ↦
           let cutoff = length-take-le size (drop (i * size) bytes) enough in
@@ -84,17 +84,17 @@ module _ (size i start : ℕ) (bytes piece : List ℕ) (fits : start + length pi
       let back = length-drop (i * size + start + length piece) bytes in
       let middle = length-append piece (drop (i * size + start + length piece) bytes) in
       length-append (take (i * size + start) bytes) (piece ++ drop (i * size + start + length piece) bytes)
-          ∙ omega (arith, front, back, middle, inside)
+      ∙ omega (arith, front, back, middle, inside)
 
   -- the bytes of the new buffer from shard i on
   from-shard : drop (i * size) with_piece ≡ take start (drop (i * size) bytes)
       ++ (piece ++ drop (start + length piece) (drop (i * size) bytes))
   from-shard =
       drop-append-le (i * size) (take (i * size + start) bytes) (piece ++ drop (i * size + start + length piece) bytes)
-          (omega (arith, front))
+      (omega (arith, front))
       ∙ ap₂ (λ (a b : List ℕ). a ++ (piece ++ b)) (drop-take (i * size) start bytes)
       (ap (λ (m : ℕ). drop m bytes)
-          (let e : i * size + start + length piece ≡ i * size + (start + length piece) = omega arith in e)
+      (let e : i * size + start + length piece ≡ i * size + (start + length piece) = omega arith in e)
       ∙ sym (drop-drop (start + length piece) (i * size) bytes))
 
   -- Shard i of the new buffer is the old shard i with the piece written into it.
@@ -105,12 +105,12 @@ module _ (size i start : ℕ) (bytes piece : List ℕ) (fits : start + length pi
       let own : List ℕ = drop (i * size) bytes in
       let left = length-drop (i * size) bytes in
       let first : length (take start (drop (i * size) bytes)) ≡ start =
-          length-take-le start (drop (i * size) bytes) (omega (arith, left, inside)) in
+      length-take-le start (drop (i * size) bytes) (omega (arith, left, inside)) in
       let rest : ℕ = size - (start + length piece) in
       let both : length (take start (drop (i * size) bytes) ++ piece) ≡ start + length piece =
-          length-append (take start (drop (i * size) bytes)) piece ∙ ap (λ (m : ℕ). m + length piece) first in
+      length-append (take start (drop (i * size) bytes)) piece ∙ ap (λ (m : ℕ). m + length piece) first in
       let parts : size ≡ length (take start (drop (i * size) bytes) ++ piece) + (size - (start + length piece)) =
-          omega (arith, both, fits) in
+      omega (arith, both, fits) in
       let whole : start + length piece + (size - (start + length piece)) ≡ size = omega (arith, fits) in
       ap (take size) (from-shard ∙ sym (append_assoc (take start own) piece (drop (start + length piece) own)))
       ∙ ap (λ (m : ℕ). take m ((take start own ++ piece) ++ drop (start + length piece) own)) parts
@@ -118,7 +118,7 @@ module _ (size i start : ℕ) (bytes piece : List ℕ) (fits : start + length pi
       ∙ append_assoc (take start own) piece (take rest (drop (start + length piece) own))
       ∙ ap₂ (λ (a b : List ℕ). a ++ (piece ++ b)) (sym (take-take start size own (omega (arith, fits))))
       (sym (ap (λ (m : ℕ). drop (start + length piece) (take m own)) (sym whole)
-          ∙ drop-take (start + length piece) rest own))
+      ∙ drop-take (start + length piece) rest own))
 
   -- Each other shard is unchanged.
   pub put-other : (j : ℕ) → (j ≡ i → ⊥) → take size (drop (j * size) with_piece) ≡ take size (drop (j * size) bytes)
@@ -131,13 +131,13 @@ module _ (size i start : ℕ) (bytes piece : List ℕ) (fits : start + length pi
         let gap : ℕ = i * size + start - j * size in
         let joins : i * size + start ≡ j * size + (i * size + start - j * size) = omega (arith, room, more) in
         let cutoff : drop (j * size) (take (i * size + start) bytes)
-            ≡ take (i * size + start - j * size) (drop (j * size) bytes) =
+        ≡ take (i * size + start - j * size) (drop (j * size) bytes) =
         ap (λ (m : ℕ). drop (j * size) (take m bytes)) joins ∙ drop-take (j * size) gap bytes in
         let left = length-drop (j * size) (take (i * size + start) bytes) in
         ap (take size) (drop-append-le (j * size) (take (i * size + start) bytes) tail
-            (omega (arith, front, room, more)))
+        (omega (arith, front, room, more)))
         ∙ take-append-le size (drop (j * size) (take (i * size + start) bytes)) tail
-            (omega (arith, left, front, room, more))
+        (omega (arith, left, front, room, more))
         ∙ ap (take size) cutoff
         ∙ take-take size gap (drop (j * size) bytes) (omega (arith, room, more))
     | inr (inr after) ↦
@@ -146,7 +146,7 @@ module _ (size i start : ℕ) (bytes piece : List ℕ) (fits : start + length pi
         let end : ℕ = i * size + start + length piece in
         let back : ℕ = j * size - (i * size + start + length piece) in
         let joins : i * size + start + length piece + (j * size - (i * size + start + length piece)) ≡ j * size =
-            omega (arith, room, more, fits) in
+        omega (arith, room, more, fits) in
         let both : length (take (i * size + start) bytes ++ piece) ≡ i * size + start + length piece =
         length-append (take (i * size + start) bytes) piece ∙ ap (λ (m : ℕ). m + length piece) front in
         ap (take size)

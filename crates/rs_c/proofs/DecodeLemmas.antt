@@ -32,12 +32,12 @@ pub decodes-unmarked : (k r size : ℕ) (own other old recovery : List ℕ) (o :
     → supports default_rate k r ≡ true → length own ≡ k → count_by (λ mark. not (mark == 0)) other ≡ 0
     → o ≡ all_or_refused (length own) (count_by (λ mark. not (mark == 0)) own)
     → IsDecoding k r (marked_shards 0 size own old) (marked_shards 0 size other recovery)
-        (result_and_then (λ _. Ok None) o)
+    (result_and_then (λ _. Ok None) o)
 decodes-unmarked k r size own other old recovery o supported many none is =
     rw (marked-none 0 size other recovery (count-present other ∙ none))
     (decoding-none k r (marked_shards 0 size own old) o supported
-        (inl (is ∙ ap (λ (n : ℕ). all_or_refused n (count_by (λ mark. not (mark == 0)) own)) many
-        ∙ sym (originals_alone-marked k size own old many))))
+    (inl (is ∙ ap (λ (n : ℕ). all_or_refused n (count_by (λ mark. not (mark == 0)) own)) many
+    ∙ sym (originals_alone-marked k size own old many))))
 
 -- If nothing is restored, the buffer is unchanged.
 pub with-nothing : (i size n : ℕ) (bytes : List ℕ) → length bytes ≡ n * size
@@ -46,15 +46,15 @@ with-nothing i size zero bytes sized = sym (nil_from_length bytes (omega (arith,
 with-nothing i size (suc n) bytes sized =
     let more = suc-mul n size in
     ap (λ (l : List ℕ). take size bytes ++ l)
-        (with-nothing (i + 1) size n (drop size bytes) (length-drop size bytes ∙ omega (arith, sized, more)))
-        ∙ take-append-drop size bytes
+    (with-nothing (i + 1) size n (drop size bytes) (length-drop size bytes ∙ omega (arith, sized, more)))
+    ∙ take-append-drop size bytes
 
 -- If the counts and lengths are right, the result of the decode over buffers is the result of one call.
 pub decodes : (k r size : ℕ) (marks recovery old new : List ℕ) (answer : Result (Unit {0}) Fault)
     (decoded : Result Shards Error) → supports default_rate k r ≡ true → Ok tt ≡ length_outcome k size (length old)
     → Ok tt ≡ length_outcome r size (length recovery) → Ok tt ≡ length_outcome (k + r) 1 (length marks)
     → OneDecodeAnswers k r (marked_shards 0 size (take k marks) old)
-        (marked_shards 0 size (drop k marks) recovery) decoded
+    (marked_shards 0 size (drop k marks) recovery) decoded
     → Writes decoded (λ restored. with_restored restored 0 size k old) old new answer
     → DecodesBuffer k r size marks recovery old new answer
 decodes k r size marks recovery old new answer decoded supported own other all answers writes =

@@ -25,7 +25,7 @@ lost-next i marks so_far inside lost =
     append_assoc so_far (i ∷ []) (lost_indexes (i + 1) (drop (i + 1) marks))
     ∙ ap (λ (l : List ℕ). so_far ++ l) (sym (ap (lost_indexes i) (drop_more marks i 0 inside)
     ∙ ap (λ (b : Bool). cond b (i ∷ lost_indexes (i + 1) (drop (i + 1) marks))
-        (lost_indexes (i + 1) (drop (i + 1) marks))) (eq-eqb (get_or marks i 0) 0 lost)))
+    (lost_indexes (i + 1) (drop (i + 1) marks))) (eq-eqb (get_or marks i 0) 0 lost)))
 
 -- If mark i is not 0, i is no lost index.
 pub kept-next : (i : ℕ) (marks : List ℕ) → i < length marks → (get_or marks i 0 ≡ 0 → ⊥)
@@ -33,7 +33,7 @@ pub kept-next : (i : ℕ) (marks : List ℕ) → i < length marks → (get_or ma
 kept-next i marks inside kept =
     sym (ap (lost_indexes i) (drop_more marks i 0 inside)
     ∙ ap (λ (b : Bool). cond b (i ∷ lost_indexes (i + 1) (drop (i + 1) marks))
-        (lost_indexes (i + 1) (drop (i + 1) marks))) (ne_eqb (get_or marks i 0) 0 kept))
+    (lost_indexes (i + 1) (drop (i + 1) marks))) (ne_eqb (get_or marks i 0) 0 kept))
 
 -- After the last mark, all lost indexes are found.
 pub lost-end : (i : ℕ) (marks found : List ℕ) → length marks ≤ i
@@ -62,7 +62,7 @@ lost-mark i [] = λ n inside. absurd (let no : ⊥ = omega (arith, inside) in no
 lost-mark i (mark ∷ marks) = elim (cases_eq mark 0) [
   | inl lost ↦
       let all = lost-first i mark marks (lost_indexes (i + 1) marks) lost
-          (lost-later i mark marks (lost_indexes (i + 1) marks) (lost-mark (i + 1) marks)) in
+      (lost-later i mark marks (lost_indexes (i + 1) marks) (lost-mark (i + 1) marks)) in
       rw (eq-eqb mark 0 lost) all
   | inr kept ↦ let all = lost-later i mark marks (lost_indexes (i + 1) marks) (lost-mark (i + 1) marks) in
       rw (ne_eqb mark 0 kept) all
@@ -85,7 +85,7 @@ lost-grow i [] = λ n m order inside. absurd (let no : ⊥ = omega (arith, insid
 lost-grow i (mark ∷ marks) = elim (cases_eq mark 0) [
   | inl lost ↦
       let all = grow-first i marks (lost_indexes (i + 1) marks) (lost-mark (i + 1) marks) (lost-grow (i + 1) marks) in
-          rw (eq-eqb mark 0 lost) all
+      rw (eq-eqb mark 0 lost) all
   | inr kept ↦ let all = lost-grow (i + 1) marks in rw (ne_eqb mark 0 kept) all
 ]
 
@@ -108,20 +108,20 @@ module _ {T : Type 0} (f g : ℕ → T) where
       let step : i ≡ i + 0 = omega arith in ap f (sym step) ∙ here lost ∙ ap g step
   agree-later i mark marks here rest (suc j) inside lost =
       let step : i + 1 + j ≡ i + suc j = omega arith in ap f (sym step) ∙ rest j (omega (arith, inside)) lost
-          ∙ ap g step
+      ∙ ap g step
 
   pub lost-same : (i : ℕ) (marks : List ℕ) → map f (lost_indexes i marks) ≡ map g (lost_indexes i marks) → Agree i marks
   lost-same i [] same = λ j inside lost. absurd (let no : ⊥ = omega (arith, inside) in no)
   lost-same i (mark ∷ marks) same = elim (cases_eq mark 0) [
     | inl lost ↦
         let all : f i ∷ map f (lost_indexes (i + 1) marks) ≡ g i ∷ map g (lost_indexes (i + 1) marks) =
-            rw (eq-eqb mark 0 lost) at same in
+        rw (eq-eqb mark 0 lost) at same in
         let here : f i ≡ g i = cc in
         let others : map f (lost_indexes (i + 1) marks) ≡ map g (lost_indexes (i + 1) marks) = cc in
         agree-later i mark marks (λ zero_here. here) (lost-same (i + 1) marks others)
     | inr kept ↦
         let others : map f (lost_indexes (i + 1) marks) ≡ map g (lost_indexes (i + 1) marks) =
-            rw (ne_eqb mark 0 kept) at same in
+        rw (ne_eqb mark 0 kept) at same in
         agree-later i mark marks (λ zero_here. absurd (kept zero_here)) (lost-same (i + 1) marks others)
   ]
 
@@ -130,7 +130,7 @@ pub place-next : (size j : ℕ) (bytes : List ℕ) → shard_place size (drop si
 place-next size j bytes =
     let more = suc-mul j size in
     ap (take size) (drop-drop (j * size) size bytes
-        ∙ ap (λ (m : ℕ). drop m bytes) (let e : size + j * size ≡ suc j * size = omega (arith, more) in e))
+    ∙ ap (λ (m : ℕ). drop m bytes) (let e : size + j * size ≡ suc j * size = omega (arith, more) in e))
 
 -- Place 0 of a buffer consists of its first bytes.
 pub place-first : (size : ℕ) (bytes : List ℕ) → shard_place size bytes 0 ≡ take size bytes
@@ -148,7 +148,7 @@ with-placed restored i size (suc n) old new whole each =
     let none : i + 0 ≡ i = omega arith in
     let first : take size new ≡ unwrap_or (restored i) (take size old) =
     sym (place-first size new) ∙ each 0 (omega arith)
-        ∙ ap (λ (m : ℕ). unwrap_or (restored m) (shard_place size old 0)) none
+    ∙ ap (λ (m : ℕ). unwrap_or (restored m) (shard_place size old 0)) none
     ∙ ap (λ (l : List ℕ). unwrap_or (restored i) l) (place-first size old) in
     sym (take-append-drop size new)
     ∙ ap (λ (l : List ℕ). l ++ drop size new) first

@@ -72,7 +72,7 @@ below-next i given below j h =
 abbrev NotesAll : ℕ → List ℕ → Items → ℕ → Type 0
 NotesAll k given items count =
     (all : List ℕ) × (one_by_one (λ so_far item. note_outcome k so_far item.0) given items ≡ Ok all)
-        × (length all ≡ length given + count)
+    × (length all ≡ length given + count)
 
 -- Noting the indexes of the marked originals from index i on succeeds, and notes as many indexes as there are marks
 -- that are not 0.
@@ -84,9 +84,9 @@ notes-all k i size (mark ∷ marks) bytes given ends below = elim (cases_eq mark
       (notes-all k (i + 1) size marks (drop size bytes) given (omega (arith, ends)) (λ j h. below j (omega (arith, h))))
   | inr kept ↦
       let others = notes-all k (i + 1) size marks (drop size bytes) (i ∷ given) (omega (arith, ends))
-          (below-next i given below) in
+      (below-next i given below) in
       rw (ne_eqb mark 0 kept)
-          (others.0, rw (note_outcome-next k i given (omega (arith, ends)) below) others.1, others.2 ∙ omega arith)
+      (others.0, rw (note_outcome-next k i given (omega (arith, ends)) below) others.1, others.2 ∙ omega arith)
 ]
 
 -- The check that all originals are given returns a result that depends only on the number of marks that are not 0.

@@ -84,10 +84,10 @@ map-within count size marks bytes number whole all =
     by_mark i shard (inr kept) found = elim (cases_lt i count) [
       | inl inside ↦
           let same : shard_place size bytes i ≡ shard =
-              ap (λ o. unwrap_or o shard) (sym (map-kept size marks bytes i kept) ∙ found) in
+          ap (λ o. unwrap_or o shard) (sym (map-kept size marks bytes i kept) ∙ found) in
           let long = place-long size bytes count i whole inside in
           subst (λ (x : Shard). IsShard size x) same
-              (record { length_is = long; bytes = place-bytes size bytes i all long })
+          (record { length_is = long; bytes = place-bytes size bytes i all long })
       | inr past ↦ absurd (kept (get_or_past marks i 0 (omega (arith, past, number))))
     ]
 
@@ -172,7 +172,7 @@ marked-recovery k r size own originals other recovery number =
 module _ (put : Shards → DecoderState) (add : DecoderState → ℕ × Shard → Result DecoderState Error) (size : ℕ)
     (given : Shards) (count : ℕ)
     (taken : (n : ℕ) (shard : Shard) → given n ≡ Some shard → length shard ≡ size → n < count
-        → add (put (first n given)) (n, shard) ≡ Ok (put (first (n + 1) given))) where
+    → add (put (first n given)) (n, shard) ≡ Ok (put (first (n + 1) given))) where
   pub marked-added : (n : ℕ) (marks bytes : List ℕ) → length bytes ≡ length marks * size → n + length marks ≤ count
       → ((j : ℕ) → j < length marks → given (n + j) ≡ marked_map size marks bytes j)
       → one_by_one add (put (first n given)) (marked_shards n size marks bytes)
@@ -185,12 +185,12 @@ module _ (put : Shards → DecoderState) (add : DecoderState → ℕ × Shard �
       let none : n + 0 ≡ n = omega arith in
       let here : given n ≡ marked_map size (mark ∷ marks) bytes 0 = ap given (sym none) ∙ each 0 (omega arith) in
       let others : one_by_one add (put (first (n + 1) given)) (marked_shards (n + 1) size marks (drop size bytes))
-          ≡ Ok (put (first (n + suc (length marks)) given)) =
+      ≡ Ok (put (first (n + suc (length marks)) given)) =
       marked-added (n + 1) marks (drop size bytes) (omega (arith, whole, more, left)) (omega (arith, fits)) (λ j inside.
       let step : n + 1 + j ≡ n + suc j = omega arith in
       ap given step ∙ each (suc j) (omega (arith, inside)) ∙ shifted j)
       ∙ ap (λ (m : ℕ). Ok (put (first m given)))
-          (let e : n + 1 + length marks ≡ n + suc (length marks) = omega arith in e) in
+      (let e : n + 1 + length marks ≡ n + suc (length marks) = omega arith in e) in
       elim (cases_eq mark 0) [
         | inl lost ↦
             rw (eq-eqb mark 0 lost)
@@ -202,7 +202,7 @@ module _ (put : Shards → DecoderState) (add : DecoderState → ℕ × Shard �
             rw (ne_eqb mark 0 kept)
             (ap (result_and_then (λ next. one_by_one add next (marked_shards (n + 1) size marks (drop size bytes))))
             (taken n (take size bytes) found (length-take-le size bytes (omega (arith, whole, more)))
-                (omega (arith, fits))) ∙ others)
+            (omega (arith, fits))) ∙ others)
       ]
     where
       shifted : (j : ℕ) → marked_map size (mark ∷ marks) bytes (suc j) ≡ marked_map size marks (drop size bytes) j
@@ -218,36 +218,36 @@ module _ (k r size : ℕ) (own originals other recovery : List ℕ) (own_number 
   both-added =
       let zero_state : DecoderState = fresh_decoder (default_of k r size) in
       let half : DecoderState =
-          record { configuration = default_of k r size; originals = marked_map size own originals; recovery = nothing }
-          in
+      record { configuration = default_of k r size; originals = marked_map size own originals; recovery = nothing }
+      in
       let own_map : Shards = marked_map size own originals in
       let other_map : Shards = marked_map size other recovery in
       let one : with_originals (fresh_decoder (default_of k r size)) (marked_shards 0 size own originals) ≡ Ok half =
       ap (λ (g : Shards). with_originals (record zero_state { originals = g }) (marked_shards 0 size own originals))
-          (first-none own_map)
+      (first-none own_map)
       ∙ marked-added (λ (g : Shards). record zero_state { originals = g })
-          (λ s item. with_original s item.0 item.1) size own_map k
+      (λ s item. with_original s item.0 item.1) size own_map k
       (λ n shard found sized inside.
-          original-taken zero_state
-          (record zero_state { originals = first n own_map }) n own_map shard found sized refl inside)
+      original-taken zero_state
+      (record zero_state { originals = first n own_map }) n own_map shard found sized refl inside)
       0 own originals (own_whole ∙ ap (λ (n : ℕ). n * size) (sym own_number)) (omega (arith, own_number))
       (λ j inside. ap own_map (let e : 0 + j ≡ j = omega arith in e))
       ∙ ap (λ (g : Shards). Ok (record zero_state { originals = g }))
       (first-all (0 + length own) own_map
-          (λ i past. map-lost size own originals i (get_or_past own i 0 (omega (arith, past))))) in
+      (λ i past. map-lost size own originals i (get_or_past own i 0 (omega (arith, past))))) in
       let two : with_recoveries half (marked_shards 0 size other recovery)
-          ≡ Ok (marked_state k r size own originals other recovery) =
+      ≡ Ok (marked_state k r size own originals other recovery) =
       ap (λ (g : Shards). with_recoveries (record half { recovery = g }) (marked_shards 0 size other recovery))
-          (first-none other_map)
+      (first-none other_map)
       ∙ marked-added (λ (g : Shards). record half { recovery = g })
-          (λ s item. with_recovery s item.0 item.1) size other_map r
+      (λ s item. with_recovery s item.0 item.1) size other_map r
       (λ n shard found sized inside.
-          recovery-taken half (record half { recovery = first n other_map }) n other_map shard found sized refl inside)
+      recovery-taken half (record half { recovery = first n other_map }) n other_map shard found sized refl inside)
       0 other recovery (other_whole ∙ ap (λ (n : ℕ). n * size) (sym other_number)) (omega (arith, other_number))
       (λ j inside. ap other_map (let e : 0 + j ≡ j = omega arith in e))
       ∙ ap (λ (g : Shards). Ok (record half { recovery = g }))
       (first-all (0 + length other) other_map
-          (λ i past. map-lost size other recovery i (get_or_past other i 0 (omega (arith, past))))) in
+      (λ i past. map-lost size other recovery i (get_or_past other i 0 (omega (arith, past))))) in
       ap (result_and_then (λ now. with_recoveries now (marked_shards 0 size other recovery))) one ∙ two
 
   -- A decoder can have this state.
@@ -274,9 +274,13 @@ module _ (k r size : ℕ) (own originals other recovery : List ℕ) (own_number 
             → (first : ℕ × Shard) × (rest : Items) × (marked_shards 0 size other recovery ≡ first ∷ rest)
             × (length first.1 ≡ size)
         by_items [] is = absurd (marked-some 0 size other recovery some is)
-        by_items (item ∷ items) is =
-            (item, items, is, marked-sized 0 size other recovery item items
-            (other_whole ∙ ap (λ (n : ℕ). n * size) (sym other_number)) is)
+        by_items (item ∷ items) is = (
+          item,
+          items,
+          is,
+          marked-sized 0 size other recovery item items
+              (other_whole ∙ ap (λ (n : ℕ). n * size) (sym other_number)) is,
+        )
 
     -- One call adds the marked shards to a decoder, which leads to this state, or fails with the error of setting up
     -- the decoder.
@@ -287,28 +291,28 @@ module _ (k r size : ℕ) (own originals other recovery : List ℕ) (own_number 
     marked-led o made =
         let (item, items, is, sized) = first-marked in
         let both : with_both (fresh_decoder (default_of k r size)) (marked_shards 0 size own originals) (item ∷ items)
-            ≡ Ok (marked_state k r size own originals other recovery) =
+        ≡ Ok (marked_state k r size own originals other recovery) =
         ap (λ (l : Items). with_both (fresh_decoder (default_of k r size)) (marked_shards 0 size own originals) l)
-            (sym is) ∙ both-added in
+        (sym is) ∙ both-added in
         subst (λ (l : Items).
-            IsDecoding k r (marked_shards 0 size own originals) l
-            (result_and_then (λ _. Ok (Some (marked_state k r size own originals other recovery))) o)) (sym is)
+        IsDecoding k r (marked_shards 0 size own originals) l
+        (result_and_then (λ _. Ok (Some (marked_state k r size own originals other recovery))) o)) (sym is)
         (inl (sym (ap (λ (n : ℕ). result_and_then (λ s. Ok (Some s))
         (result_and_then (λ _.
-            with_both (fresh_decoder (default_of k r n)) (marked_shards 0 size own originals) (item ∷ items))
-            (start_outcome (decoder_rows default_rate k r) (default_of k r n)))) sized
+        with_both (fresh_decoder (default_of k r n)) (marked_shards 0 size own originals) (item ∷ items))
+        (start_outcome (decoder_rows default_rate k r) (default_of k r n)))) sized
         ∙ ap (λ (outcome : Result (Unit {0}) Error). result_and_then (λ s. Ok (Some s))
         (result_and_then (λ _.
-            with_both (fresh_decoder (default_of k r size)) (marked_shards 0 size own originals) (item ∷ items))
-            outcome)) made
+        with_both (fresh_decoder (default_of k r size)) (marked_shards 0 size own originals) (item ∷ items))
+        outcome)) made
         ∙ by_outcome (item ∷ items) o both)))
       where
         by_outcome : (items : Items) (o : Result (Unit {0}) Error)
             → with_both (fresh_decoder (default_of k r size)) (marked_shards 0 size own originals) items
             ≡ Ok (marked_state k r size own originals other recovery)
             → result_and_then (λ s. Ok (Some s))
-                (result_and_then (λ _.
-                with_both (fresh_decoder (default_of k r size)) (marked_shards 0 size own originals) items) o)
+            (result_and_then (λ _.
+            with_both (fresh_decoder (default_of k r size)) (marked_shards 0 size own originals) items) o)
             ≡ result_and_then (λ _. Ok (Some (marked_state k r size own originals other recovery))) o
         by_outcome items (Ok u) both = ap (result_and_then (λ s. Ok (Some s))) both
         by_outcome items (Err e) both = refl
@@ -333,10 +337,10 @@ pub enough-marked : (x : MarkedBuffers) (own other : ℕ) → own ≡ present x.
     → other ≡ present x.recovery_marks.now
     → enough_given (state_in x)
     ≡ cond (nat_lt (own + other) x.counts.original_count) (Err (NotEnoughShards x.counts.original_count own other))
-        (Ok tt)
+    (Ok tt)
 enough-marked x own other own_is other_is =
     ap₂ (λ (a b : ℕ). cond (nat_lt (a + b) x.counts.original_count) (Err (NotEnoughShards x.counts.original_count a b))
-        (Ok tt))
+    (Ok tt))
     (originals-counted x ∙ sym own_is) (recovery-counted x ∙ sym other_is)
 
 -- A fact about the successes of a call and a fact about its errors, as one fact about its result.

@@ -42,19 +42,19 @@ lost-listed out message i (mark ∷ marks) each =
     let others = lost-listed out message (i + 1) marks (λ j inside.
     let next : i + 1 + j ≡ i + suc j = omega arith in
     ap out next ∙ each (suc j) (omega (arith, inside))
-        ∙ ap (λ (n : ℕ). cond (get_or marks j 0 == 0) (Some (shard_at message n)) None) (sym next)) in
+    ∙ ap (λ (n : ℕ). cond (get_or marks j 0 == 0) (Some (shard_at message n)) None) (sym next)) in
     ap shards_listed (items_from-suc i (length marks) out)
     ∙ elim (cases_eq mark 0) [
       | inl lost ↦
           rw (eq-eqb mark 0 lost)
           (ap (λ (o : Option Shard). shards_listed (items_at i o ++ items_from (suc i) (length marks) out))
-              (rw (eq-eqb mark 0 lost) at here)
+          (rw (eq-eqb mark 0 lost) at here)
           ∙ ap (λ (n : ℕ). shard_at message i ∷ shards_listed (items_from n (length marks) out)) step
           ∙ ap (λ (l : List Shard). shard_at message i ∷ l) others)
       | inr kept ↦
           rw (ne_eqb mark 0 kept)
           (ap (λ (o : Option Shard). shards_listed (items_at i o ++ items_from (suc i) (length marks) out))
-              (rw (ne_eqb mark 0 kept) at here)
+          (rw (ne_eqb mark 0 kept) at here)
           ∙ ap (λ (n : ℕ). shards_listed (items_from n (length marks) out)) step ∙ others)
     ]
 
@@ -76,12 +76,12 @@ module _ (k r size : ℕ) (own originals other recovery new : List ℕ) (own_num
   unfolding missing_of
   missing-mark message j inside =
       ap (λ (b : Bool). cond (b && not (is_some (marked_map size own originals j))) (Some (shard_at message j)) None)
-          (lt-ltb j k inside)
+      (lt-ltb j k inside)
       ∙ by_mark (get_or own j 0 == 0)
     where
       by_mark : (zero_here : Bool)
           → cond (not (is_some (cond zero_here None (Some (shard_place size originals j)))))
-              (Some (shard_at message j)) None
+          (Some (shard_at message j)) None
           ≡ cond zero_here (Some (shard_at message j)) None
       by_mark true = refl
       by_mark false = refl
@@ -96,37 +96,41 @@ module _ (k r size : ℕ) (own originals other recovery new : List ℕ) (own_num
       let s : DecoderState = marked_state k r size own originals other recovery in
       let message : List Shard = holds.restored.message in
       let by_index : (j : ℕ) → j < k
-          → holds.out j ≡ cond (get_or own j 0 == 0) (Some (shard_at holds.restored.message j)) None =
+      → holds.out j ≡ cond (get_or own j 0 == 0) (Some (shard_at holds.restored.message j)) None =
       (λ j inside. holds.restored.missing j ∙ missing-mark message j inside) in
       let lists : Lists holds.out (items_below k holds.out) =
-      record { count = k; none_past = λ i past. holds.restored.missing i ∙ missing-past s message i past; in_order =
-          refl } in
+      record {
+        count = k;
+        none_past = λ i past. holds.restored.missing i ∙ missing-past s message i past;
+        in_order =
+            refl;
+      } in
       let listed : shards_listed (items_below (length own) holds.out)
-          ≡ map (λ n. shard_at holds.restored.message n) (lost_indexes 0 own) =
+      ≡ map (λ n. shard_at holds.restored.message n) (lost_indexes 0 own) =
       lost-listed holds.out message 0 own (λ j inside.
       let same : 0 + j ≡ j = omega arith in
       ap holds.out same ∙ by_index j (omega (arith, inside, own_number))
       ∙ ap (λ (n : ℕ). cond (get_or own j 0 == 0) (Some (shard_at holds.restored.message n)) None) (sym same)) in
       let all : map (λ i. shard_place size new i) (lost_indexes 0 own)
-          ≡ map (λ n. shard_at holds.restored.message n) (lost_indexes 0 own) =
+      ≡ map (λ n. shard_at holds.restored.message n) (lost_indexes 0 own) =
       holds.held ∙ ap shards_listed (lists-same holds.out holds.items (items_below k holds.out) holds.listed lists)
       ∙ ap (λ (n : ℕ). shards_listed (items_below n holds.out)) (sym own_number) ∙ listed in
       with-placed holds.out 0 size k originals new (long ∙ own_whole) (λ j inside.
       let same : 0 + j ≡ j = omega arith in
       let here : holds.out (0 + j) ≡ cond (get_or own j 0 == 0) (Some (shard_at holds.restored.message j)) None =
-          ap holds.out same ∙ by_index j inside in
+      ap holds.out same ∙ by_index j inside in
       let below : j < length own = omega (arith, inside, own_number) in
       elim (cases_eq (get_or own j 0) 0) [
         | inl lost ↦
             let placed = lost-same (λ i. shard_place size new i) (λ n. shard_at message n) 0 own all j below lost in
             ap (λ (n : ℕ). shard_place size new n) (sym same) ∙ placed
-                ∙ ap (λ (n : ℕ). shard_at holds.restored.message n) same
+            ∙ ap (λ (n : ℕ). shard_at holds.restored.message n) same
             ∙ sym (ap (λ (o : Option Shard). unwrap_or o (shard_place size originals j))
-                (rw (eq-eqb (get_or own j 0) 0 lost) at here))
+            (rw (eq-eqb (get_or own j 0) 0 lost) at here))
         | inr marked ↦
             place-kept j marked
             ∙ sym (ap (λ (o : Option Shard). unwrap_or o (shard_place size originals j))
-                (rw (ne_eqb (get_or own j 0) 0 marked) at here))
+            (rw (ne_eqb (get_or own j 0) 0 marked) at here))
       ])
 
   -- If the places of the lost originals are unchanged, the whole buffer is unchanged.
@@ -139,9 +143,9 @@ module _ (k r size : ℕ) (own originals other recovery new : List ℕ) (own_num
       elim (cases_eq (get_or own j 0) 0) [
         | inl lost ↦
             let placed = lost-same (λ i. shard_place size new i)
-                (λ i. shard_place size originals i) 0 own same j below lost in
+            (λ i. shard_place size originals i) 0 own same j below lost in
             ap (λ (n : ℕ). shard_place size new n) (sym here) ∙ placed
-                ∙ ap (λ (n : ℕ). shard_place size originals n) here
+            ∙ ap (λ (n : ℕ). shard_place size originals n) here
         | inr marked ↦ place-kept j marked
       ])
       ∙ with-nothing 0 size k originals own_whole
@@ -151,7 +155,7 @@ module _ (k r size : ℕ) (own originals other recovery new : List ℕ) (own_num
 module _ (k r size : ℕ) (own other originals recovery : List ℕ) (own_number : length own ≡ k)
     (other_number : length other ≡ r)
     (own_whole : length originals ≡ k * size) (other_whole : length recovery ≡ r * size)
-        (some : 0 < present other) where
+    (some : 0 < present other) where
   -- If a decoder cannot be set up, one call returns the error.
   pub unset-answers : (e : Error) → start_outcome (decoder_rows default_rate k r) (default_of k r size) ≡ Err e
       → OneDecodeAnswers k r (marked_shards 0 size own originals) (marked_shards 0 size other recovery) (Err e)
@@ -170,17 +174,17 @@ module _ (k r size : ℕ) (own other originals recovery : List ℕ) (own_number 
         → OneDecodeAnswers k r (marked_shards 0 size own originals) (marked_shards 0 size other recovery) (Err e)
     short-answers e lacks =
         decoding-answered k r (marked_shards 0 size own originals) (marked_shards 0 size other recovery)
-            (marked_state k r size own originals other recovery) leads (Err e) (inr (ap Err lacks))
+        (marked_state k r size own originals other recovery) leads (Err e) (inr (ap Err lacks))
 
     -- The result of restoring into the buffer is a result of one call.
     pub restored-answers : (rooms : List Shard) (result : Result (Unit {0}) Error)
         → MatchResult (enough_given (marked_state k r size own originals other recovery))
         (λ _. MatchResult result (λ _. HoldRestored (marked_state k r size own originals other recovery) rooms)
         (λ e. NoneAgrees (marked_state k r size own originals other recovery) e ⊎ (e ≡ OutOfMemory)))
-            (λ e. result ≡ Err e)
+        (λ e. result ≡ Err e)
         → MatchResult result (λ _. (holds : HoldRestored (marked_state k r size own originals other recovery) rooms)
         × OneDecodeAnswers k r (marked_shards 0 size own originals) (marked_shards 0 size other recovery)
-            (Ok holds.out))
+        (Ok holds.out))
         (λ e. OneDecodeAnswers k r (marked_shards 0 size own originals) (marked_shards 0 size other recovery) (Err e))
     restored-answers rooms result does =
         by_outcome (enough_given (marked_state k r size own originals other recovery)) refl result does
@@ -188,17 +192,19 @@ module _ (k r size : ℕ) (own other originals recovery : List ℕ) (own_number 
         by_outcome : (o : Result (Unit {0}) Error)
             → enough_given (marked_state k r size own originals other recovery) ≡ o → (result : Result (Unit {0}) Error)
             → MatchResult o (λ _.
-                MatchResult result (λ _. HoldRestored (marked_state k r size own originals other recovery) rooms)
+            MatchResult result (λ _. HoldRestored (marked_state k r size own originals other recovery) rooms)
             (λ e. NoneAgrees (marked_state k r size own originals other recovery) e ⊎ (e ≡ OutOfMemory)))
-                (λ e. result ≡ Err e)
+            (λ e. result ≡ Err e)
             → MatchResult result (λ _. (holds : HoldRestored (marked_state k r size own originals other recovery) rooms)
             × OneDecodeAnswers k r (marked_shards 0 size own originals) (marked_shards 0 size other recovery)
-                (Ok holds.out))
+            (Ok holds.out))
             (λ e. OneDecodeAnswers k r (marked_shards 0 size own originals) (marked_shards 0 size other recovery)
-                (Err e))
-        by_outcome (Ok u) enough (Ok v) holds =
-            (holds, decoding-restored k r _ _ (marked_state k r size own originals other recovery) leads enough
-                (Ok holds.out) holds.restored)
+            (Err e))
+        by_outcome (Ok u) enough (Ok v) holds = (
+          holds,
+          decoding-restored k r _ _ (marked_state k r size own originals other recovery) leads enough
+              (Ok holds.out) holds.restored,
+        )
         by_outcome (Ok u) enough (Err e) why =
             decoding-none-agrees k r _ _ (marked_state k r size own originals other recovery) leads enough e why
         by_outcome (Err f) few (Ok v) same = absurd (let no : ⊥ = cc in no)
@@ -213,7 +219,7 @@ module _ (k r size : ℕ) (own other originals recovery : List ℕ) (own_number 
         MatchResult (enough_given (marked_state k r size own originals other recovery))
         (λ _. MatchResult result (λ _. HoldRestored (marked_state k r size own originals other recovery) rooms)
         (λ e. NoneAgrees (marked_state k r size own originals other recovery) e ⊎ (e ≡ OutOfMemory)))
-            (λ e. result ≡ Err e) ⊎ (result ≡ Err OutOfMemory)
+        (λ e. result ≡ Err e) ⊎ (result ≡ Err OutOfMemory)
 
     pub failed-answers : (rooms : List Shard) (e : Error) → Restores rooms (Err e)
         → OneDecodeAnswers k r (marked_shards 0 size own originals) (marked_shards 0 size other recovery) (Err e)

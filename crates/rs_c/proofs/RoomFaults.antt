@@ -40,10 +40,10 @@ fit-told shards rooms = by_test (length shards == length rooms)
   where
     by_test : (same : Bool) → ◌≡◌ {A = Result (Unit {0}) Fault}
         (result_and_then (λ _. lengths_fit shards rooms)
-            (cond {A = Result (Unit {0}) Fault} same (Ok tt)
-            (Err (fault_of_room (wrong_number (length shards) (length rooms))))))
+        (cond {A = Result (Unit {0}) Fault} same (Ok tt)
+        (Err (fault_of_room (wrong_number (length shards) (length rooms))))))
         (told (result_and_then (λ _. fit_lengths shards rooms)
-            (cond {A = Result (Unit {0}) RoomError} same (Ok tt) (Err (wrong_number (length shards) (length rooms))))))
+        (cond {A = Result (Unit {0}) RoomError} same (Ok tt) (Err (wrong_number (length shards) (length rooms))))))
     by_test true = lengths-told shards rooms
     by_test false = refl
 
@@ -51,13 +51,13 @@ fills-told : (shards : List Shard) (old new : List (List ℕ)) (answer : Result 
     → fills_rooms shards old new answer → Fills shards old new (told answer)
 fills-told shards old new answer fills =
     subst (λ (o : Result (Unit {0}) Fault).
-        MatchResult o (λ _. (told answer ≡ Ok tt) × (new ≡ shards)) (λ fault. (told answer ≡ Err fault) × (new ≡ old)))
+    MatchResult o (λ _. (told answer ≡ Ok tt) × (new ≡ shards)) (λ fault. (told answer ≡ Err fault) × (new ≡ old)))
     (sym (fit-told shards old)) (by_outcome (fit_rooms shards old) fills)
   where
     by_outcome : (o : Result (Unit {0}) RoomError)
         → MatchResult o (λ _. (answer ≡ Ok tt) × (new ≡ shards)) (λ e. (answer ≡ Err e) × (new ≡ old))
         → MatchResult (told o) (λ _. (told answer ≡ Ok tt) × (new ≡ shards))
-            (λ fault. (told answer ≡ Err fault) × (new ≡ old))
+        (λ fault. (told answer ≡ Err fault) × (new ≡ old))
     by_outcome (Ok u) does = (ap told does.0, does.1)
     by_outcome (Err e) does = (ap told does.0, does.1)
 
@@ -67,13 +67,13 @@ pub encodes-told : (k r : ℕ) (originals : List Shard) (old new : List (List �
     → other ≡ told answer → EncodesInto k r originals old new answer → EncodesArrays k r originals old new other
 encodes-told k r originals old new answer other is encodes =
     subst (λ (o : Result (Unit {0}) Fault). EncodesArrays k r originals old new o) (sym is)
-        (encodes.0, encodes.1, by_coded encodes.0 encodes.2)
+    (encodes.0, encodes.1, by_coded encodes.0 encodes.2)
   where
     by_coded : (coded : Result (List Shard) Error)
         → MatchResult coded (λ shards. fills_rooms shards old new answer)
         (λ e. (answer ≡ Err (refused e)) × (new ≡ old))
         → MatchResult coded (λ shards. Fills shards old new (told answer))
-            (λ e. (told answer ≡ Err (Refused e)) × (new ≡ old))
+        (λ e. (told answer ≡ Err (Refused e)) × (new ≡ old))
     by_coded (Ok shards) fills = fills-told shards old new answer fills
     by_coded (Err e) does = (ap told does.0, does.1)
 
@@ -84,15 +84,15 @@ pub decodes-told : (k r : ℕ) (originals recovery : Items) (old new : List (Lis
     → DecodesArrays k r originals recovery old new other
 decodes-told k r originals recovery old new answer other is decodes =
     subst (λ (o : Result (Unit {0}) Fault). DecodesArrays k r originals recovery old new o) (sym is)
-        (decodes.0, decodes.1, by_decoded decodes.0 decodes.2)
+    (decodes.0, decodes.1, by_decoded decodes.0 decodes.2)
   where
     by_decoded : (decoded : Result Shards Error)
         → MatchResult decoded
         (λ restored. (items : Items) × Lists restored items × fills_rooms (map (λ item. item.1) items) old new answer)
         (λ e. (answer ≡ Err (refused e)) × (new ≡ old))
         → MatchResult decoded
-            (λ restored. (items : Items) × Lists restored items
-            × Fills (map (λ item. item.1) items) old new (told answer))
+        (λ restored. (items : Items) × Lists restored items
+        × Fills (map (λ item. item.1) items) old new (told answer))
         (λ e. (told answer ≡ Err (Refused e)) × (new ≡ old))
     by_decoded (Ok restored) (items, listing, fills) =
         (items, listing, fills-told (map (λ (item : ℕ × Shard). item.1) items) old new answer fills)

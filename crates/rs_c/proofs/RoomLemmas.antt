@@ -15,4 +15,4 @@ pub fills-none : (old : List (List ℕ)) (answer : Result (Unit {0}) Fault) → 
 fills-none [] answer is = (is, refl)
 fills-none (room ∷ rooms) answer is =
     let some : (0 == length (room ∷ rooms)) ≡ false = ne_eqb 0 (length (room ∷ rooms)) (λ none. omega (arith, none)) in
-        rw some (rw some at is, refl)
+    rw some (rw some at is, refl)

@@ -22,7 +22,7 @@ Writes outcome bytes old new answer =
 abbrev pub encode_lengths : ℕ → ℕ → ℕ → ℕ → ℕ → Result (Unit {0}) Fault
 encode_lengths k r size originals recovery =
     result_and_then (λ _. result_and_then (λ _. length_outcome r size recovery) (length_outcome k size originals))
-        (as_fault (counts_outcome k r))
+    (as_fault (counts_outcome k r))
 
 -- the result of `rs_encode` and the bytes that it writes. If the counts and lengths are right, this is the result of
 -- one-call `encode` for these shards, one recovery shard after the other
@@ -30,7 +30,7 @@ abbrev pub EncodesBuffer : ℕ → ℕ → ℕ → List ℕ → List ℕ → Lis
 EncodesBuffer k r size originals old new answer =
     MatchResult (encode_lengths k r size (length originals) (length old))
     (λ _. (coded : Result (List Shard) Error) × OneEncodeAnswers k r (shards_in_buffer k size originals) coded
-        × Writes coded concatenation old new answer)
+    × Writes coded concatenation old new answer)
     (λ fault. (answer ≡ Err fault) × (new ≡ old))
 
 -- the result of the checks of a decode over buffers that come before the library is called: first the counts, then the
@@ -45,8 +45,8 @@ abbrev pub DecodesBuffer : ℕ → ℕ → ℕ → List ℕ → List ℕ → Lis
 DecodesBuffer k r size marks recovery old new answer =
     MatchResult (decode_lengths k r size (length old) (length recovery) (length marks))
     (λ _. (decoded : Result Shards Error)
-        × OneDecodeAnswers k r (marked_shards 0 size (take k marks) old)
-        (marked_shards 0 size (drop k marks) recovery) decoded
+    × OneDecodeAnswers k r (marked_shards 0 size (take k marks) old)
+    (marked_shards 0 size (drop k marks) recovery) decoded
     × Writes decoded (λ restored. with_restored restored 0 size k old) old new answer)
     (λ fault. (answer ≡ Err fault) × (new ≡ old))
 

@@ -47,7 +47,7 @@ rooms_fit shards rooms = result_and_then (λ _. lengths_fit shards rooms) (as_ma
 abbrev pub Fills : List Shard → List (List ℕ) → List (List ℕ) → Result (Unit {0}) Fault → Type 0
 Fills shards old new answer =
     MatchResult (rooms_fit shards old) (λ _. (answer ≡ Ok tt) × (new ≡ shards))
-        (λ fault. (answer ≡ Err fault) × (new ≡ old))
+    (λ fault. (answer ≡ Err fault) × (new ≡ old))
 
 -- the result of an encode over arrays: the result of one-call `encode` for these originals, written into the rooms
 abbrev pub EncodesArrays : ℕ → ℕ → List Shard → List (List ℕ) → List (List ℕ) → Result (Unit {0}) Fault → Type 0
@@ -61,5 +61,5 @@ abbrev pub DecodesArrays : ℕ → ℕ → Items → Items → List (List ℕ) �
 DecodesArrays k r originals recovery old new answer =
     (decoded : Result Shards Error) × OneDecodeAnswers k r originals recovery decoded
     × MatchResult decoded
-        (λ restored. (items : Items) × Lists restored items × Fills (map (λ item. item.1) items) old new answer)
+    (λ restored. (items : Items) × Lists restored items × Fills (map (λ item. item.1) items) old new answer)
     (λ e. (answer ≡ Err (Refused e)) × (new ≡ old))

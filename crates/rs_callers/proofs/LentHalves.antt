@@ -32,7 +32,7 @@ joined-parts : (ch first second : Chunks) (a n m : ℕ) → n ≤ a → n ≤ m 
 joined-parts ch first second a n m short₁ short₂ within =
     ap₂ (λ u v. u ++ v) {x = take 0 ch} refl
     (append_assoc first (drop n (take a ch)) (between (0 + a) a ch ++ _)
-        ∙ ap (λ l. first ++ l) (ap₂ (λ u v. u ++ v) gap (ap₂ (λ u v. u ++ v) none last)))
+    ∙ ap (λ l. first ++ l) (ap₂ (λ u v. u ++ v) gap (ap₂ (λ u v. u ++ v) none last)))
   where
     none : between (0 + a) a ch ≡ []
     none = let e : a - (0 + a) ≡ 0 = omega arith in ap (λ k. take k (drop (0 + a) ch)) e
@@ -45,8 +45,8 @@ joined-parts ch first second a n m short₁ short₂ within =
         let inner : m ≤ length (drop a ch) = let long = length-drop a ch in omega (arith, long, within) in
         append_assoc second (drop n (take m (drop a ch))) (drop (a + m) ch)
         ∙ ap (λ l. second ++ l)
-            (ap (λ l. drop n (take m (drop a ch)) ++ l) (sym (drop-drop m a ch))
-            ∙ left-over (drop a ch) n m short₂ inner ∙ drop-drop n a ch)
+        (ap (λ l. drop n (take m (drop a ch)) ++ l) (sym (drop-drop m a ch))
+        ∙ left-over (drop a ch) n m short₂ inner ∙ drop-drop n a ch)
 
 pub parted : (m r c n : ℕ) → m + r ≡ c → m * n + r * n ≡ c * n
 parted m r c n e = let products : (m + r) * n ≡ c * n = ap (λ k. k * n) e in omega (arith, products)
@@ -58,13 +58,13 @@ first-of-part h i m r some is =
     let short = ends n 0 m some in
     let none : 0 * r.shard_len_64 ≡ 0 = omega arith in
     ap (λ k. take r.shard_len_64 (drop k r.chunks.now)) none ∙ ap₂ take is.len_64 is.chunks
-        ∙ take-take n (m * n) (drop (i * n) h.chunks.now) (omega (arith, short))
+    ∙ take-take n (m * n) (drop (i * n) h.chunks.now) (omega (arith, short))
 
 -- The list after the first rows of the two parts of a split were exchanged.
 module _ (h : ShardsRefMut) (mid : ℕ) (x y x' y' : ShardsRefMut) (fits : Fits h) (some : 0 < mid)
     (within : mid < h.shard_count)
     (front : HasRows h 0 mid x) (back : HasRows h mid (h.shard_count - mid) y) (is₁ : HasFirstRow x (row_at y 0) x')
-        (is₂ : HasFirstRow y (row_at x 0) y') where
+    (is₂ : HasFirstRow y (row_at x 0) y') where
   abbrev n : ℕ
   n = h.shard_len_64
 
@@ -97,5 +97,5 @@ module _ (h : ShardsRefMut) (mid : ℕ) (x y x' y' : ShardsRefMut) (fits : Fits 
       let short₂ = ends n 0 rest more in
       ap₂ (λ u v. with_two ch 0 (mid * n) (mid * n) (rest * n) u v) first-part second-part
       ∙ joined-parts ch (row_at h mid) (row_at h 0) (mid * n) n (rest * n) (omega (arith, short₁))
-          (omega (arith, short₂)) (omega (arith, parts, fits))
+      (omega (arith, short₂)) (omega (arith, parts, fits))
       ∙ ap (λ i. with_two ch i n (mid * n) n (row_at h mid) (row_at h 0)) (sym zero-rows)

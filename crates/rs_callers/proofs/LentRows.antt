@@ -33,7 +33,7 @@ as-runs ch first second a n b m apart within =
     let front = length-take-le b ch within in
     sym (ap₂ (λ u v. u ++ (first ++ v)) (take-put_mid_below b m ch second a (omega (arith, apart)) within)
     (drop-drop n a other
-        ∙ drop-append-le (a + n) (take b ch) (second ++ drop m (drop b ch)) (omega (arith, front, apart))
+    ∙ drop-append-le (a + n) (take b ch) (second ++ drop m (drop b ch)) (omega (arith, front, apart))
     ∙ ap₂ (λ u v. u ++ (second ++ v)) (sym (between_is ch (a + n) b)) (drop-drop m b ch)))
 
 -- Four runs are replaced two by two. Replacing the first two runs leaves the chunks after them unchanged.
@@ -49,7 +49,7 @@ module _ (ch first second : Chunks) (i n j : ℕ) (l₁ : length first ≡ n) (l
   length-head : length head ≡ j + n
   length-head =
       let front = length-take-le i ch (omega (arith, apart, within)) in let gap =
-          between-long ch (i + n) j apart (omega (arith, within)) in
+      between-long ch (i + n) j apart (omega (arith, within)) in
       simp length-append (omega (arith, front, gap, l₁, l₂, apart))
 
   after-two : (c : ℕ) → j + n ≤ c → drop c (with_two ch i n j n first second) ≡ drop c ch
@@ -62,7 +62,7 @@ module _ (ch first second : Chunks) (i n j : ℕ) (l₁ : length first ≡ n) (l
       let at : k ≡ length head + (k - (j + n)) = omega (arith, length-head, later) in
       sym (ap₂ (λ u v. u ++ v) (ap₂ take at parts ∙ take-append-add head (drop (j + n) ch) (k - (j + n)))
       (ap₂ (λ u v. third ++ (take (m - (k + n)) u ++ (fourth ++ v))) (after-two (k + n) (omega (arith, later)))
-          (after-two (m + n) (omega (arith, later, ordered))))
+      (after-two (m + n) (omega (arith, later, ordered))))
       ∙ simp append_assoc)
 
 -- A row ends before any later row begins, and row ends are within the rows.
@@ -97,8 +97,13 @@ swapped h i j fits ordered within =
     let room : i * n + n ≤ length (with_run ch (j * n) n (row_at h i)) = omega (arith, same, apart, last) in
     let one = in-run _ (row_at h j) (i * n) n l₁ room in let off = off-run _ (row_at h j) (i * n) n l₁ room in
     record {
-      extent = record { name = refl; count = refl; len_64 = refl; length =
-          ap length both ∙ length-run _ (row_at h j) (i * n) n l₁ room ∙ same };
+      extent = record {
+        name = refl;
+        count = refl;
+        len_64 = refl;
+        length =
+            ap length both ∙ length-run _ (row_at h j) (i * n) n l₁ room ∙ same;
+      };
       first = λ k low. ap (λ l. chunk l (i * n + k)) both ∙ one (i * n + k) k refl low ∙ cell-of-row h j k low;
       second = λ k low. ap (λ l. chunk l (j * n + k)) both ∙ off (j * n + k) (inr (omega (arith, apart)))
           ∙ in-run ch (row_at h i) (j * n) n l₂ last (j * n + k) k refl low ∙ cell-of-row h i k low;
@@ -109,7 +114,7 @@ abbrev pub swapped_four : ShardsRefMut → ℕ → ℕ → ℕ → ℕ → Shard
 swapped_four h i j k l =
     let n = h.shard_len_64 in
     with_chunks h (with_four h.chunks.now (i * n) (j * n) (k * n) (l * n) n (row_at h j) (row_at h i) (row_at h l)
-        (row_at h k))
+    (row_at h k))
 
 pub swapped-twice : (h : ShardsRefMut) (i j k l : ℕ) → Fits h → i < j → j < k → k < l → l < h.shard_count
     → AreSwappedTwice i j k l h (swapped_four h i j k l)
@@ -121,10 +126,10 @@ swapped-twice h i j k l fits ij jk kl within =
     let apart = ends n i j ij in let last = row-within h j fits inside in
     let once = swapped h i j fits ij inside in
     let same : (r : ℕ) → j < r → row_at mid r ≡ row_at h r = λ r later.
-        ap (take n) (after-two ch (row_at h j) (row_at h i) (i * n) n (j * n) l₁ l₂ apart last (r * n)
-        (ends n j r later)) in
+    ap (take n) (after-two ch (row_at h j) (row_at h i) (i * n) n (j * n) l₁ l₂ apart last (r * n)
+    (ends n j r later)) in
     let whole = four-as-two ch (row_at h j) (row_at h i) (i * n) n (j * n) l₁ l₂ apart last (k * n) (l * n) (row_at h l)
-        (row_at h k) (ends n j k jk) (let e = ends n k l kl in omega (arith, e)) in (
+    (row_at h k) (ends n j k jk) (let e = ends n k l kl in omega (arith, e)) in (
       mid,
       once,
       subst (λ (w : Chunks). AreSwapped k l mid (with_chunks h w))

@@ -37,7 +37,7 @@ module _ {M : Type 1} {𝓤 : Ura M} (𝓛 : Logic 𝓤) (γ : GName) (last : Ch
   list-ended δ same = qed 𝓛 (‵ (fobs γ (code₀ (heres E last))) ∷ []) ∵ rewrite ! 0
       (λ (k : Chunks). ‵ (fobs γ (code₀ k))) (heres_id E last) refl $
       use1 𝓛 (‵ (fres γ (code₀ last))) (𝓛.names.obs-res γ (code₀ last)) $ rewrite ! 0
-          (λ (β : GName). ‵ (fres β (code₀ last))) same refl $ done !
+      (λ (β : GName). ‵ (fres β (code₀ last))) same refl $ done !
 
 module _ {M : Type 1} {𝓤 : Ura M} (𝓛 : Logic 𝓤) (Row : RattleType) (κ₀ κ₁ : Lft) (q₀ q₁ : Share)
     (self : MutBor Row.Denot) where
@@ -62,16 +62,16 @@ module _ {M : Type 1} {𝓤 : Ura M} (𝓛 : Logic 𝓤) (Row : RattleType) (κ�
       let ql = Share.left q₁ in let qr = Share.right q₁ in
       qed 𝓛 (‵ (flft κ₁ q₁) ∷ ‵ (Ref κ₀ self) ∷ ‵ (flft κ₀ q₀) ∷ []) ∵ updating ! $ lft_new ! tt (λ α.
       use1 𝓛 (‵ (flft (α ∷ []) ql) ⊛ raw (wand 𝓤 (A.lft (α ∷ []) ql) (A.lft (α ∷ []) full_share)))
-          (𝓛.lfts.lft_carve α ql) $ split ! $
+      (𝓛.lfts.lft_carve α ql) $ split ! $
       move ! (2 ∷ []) $ use1 𝓛 (‵ (flft κ₁ ql) ⊛ ‵ (flft κ₁ qr)) (𝓛.lfts.lft_split κ₁ q₁) $ split ! $
       move ! (2 ∷ 0 ∷ []) $ use2 𝓛 (‵ (flft (α ∷ κ₁) ql)) (𝓛.lfts.lft_meet (α ∷ []) κ₁ ql) $
       -- [the token of the loan; what is left of the list's; the rest of the new one; self; its token]
       move ! (3 ∷ 4 ∷ []) $
       use2 𝓛 (later (some (λ (δ : GName).
-          ‵ (Ref (α ∷ κ₁) (record self { ghost_name = δ })) ⊛ ‵
-          (LentAgain Row κ₀ (α ∷ κ₁) q₀ self.ghost_name self.ref_ptr.0 self.ref_ptr.1 δ self.now))))
+      ‵ (Ref (α ∷ κ₁) (record self { ghost_name = δ })) ⊛ ‵
+      (LentAgain Row κ₀ (α ∷ κ₁) q₀ self.ghost_name self.ref_ptr.0 self.ref_ptr.1 δ self.now))))
       (lends_again 𝓛 Row (named 0) κ₀ (α ∷ κ₁) q₀ self.ghost_name self.ref_ptr.0 self.ref_ptr.1 (named 0) self.now) $
-          await ! tt $ pick ! (λ δ. split ! $
+      await ! tt $ pick ! (λ δ. split ! $
       now ! $ show ! (λ v. mean 𝓛 (Lent v)) (α, δ) $ keep ! (0 ∷ 2 ∷ 3 ∷ 1 ∷ 4 ∷ []) $ done !))
 
   -- The reference `self` and its tokens after the call.
@@ -80,20 +80,20 @@ module _ {M : Type 1} {𝓤 : Ura M} (𝓛 : Logic 𝓤) (Row : RattleType) (κ�
 
   pub gives_back : (α : ℕ) (δ : GName) (end : Row.Denot)
       → ent 𝓤 (sep 𝓤 (sem 𝓛 (fres δ (Row.coded.code end)))
-          (sep 𝓤 (mean 𝓛 (‵ (flft (α ∷ κ₁) (Share.left q₁)) ⊛ ‵ (flft κ₁ (Share.right q₁)))) (mean 𝓛 (Kept α δ))))
-          (H.⇛ (mean 𝓛 (Back end)))
+      (sep 𝓤 (mean 𝓛 (‵ (flft (α ∷ κ₁) (Share.left q₁)) ⊛ ‵ (flft κ₁ (Share.right q₁)))) (mean 𝓛 (Kept α δ))))
+      (H.⇛ (mean 𝓛 (Back end)))
   gives_back α δ end =
       let ql = Share.left q₁ in let qr = Share.right q₁ in
       qed 𝓛 (‵ (fres δ (Row.coded.code end)) ∷ (‵ (flft (α ∷ κ₁) ql) ⊛ ‵ (flft κ₁ qr)) ∷ Kept α δ ∷ []) ∵ updating ! $
       move ! (2 ∷ []) $ split ! $ move ! (3 ∷ []) $ split ! $ use1 𝓛 (‵ (flft (α ∷ []) ql) ⊛ ‵ (flft κ₁ ql))
-          (𝓛.lfts.lft_unmeet (α ∷ []) κ₁ ql) $ split ! $
+      (𝓛.lfts.lft_unmeet (α ∷ []) κ₁ ql) $ split ! $
       -- [the token of the new lifetime; two of the list's; what the lender keeps; the rest of the new token; the last
       -- value]
       move ! (0 ∷ 4 ∷ []) $ use2 𝓛 (‵ (flft (α ∷ []) full_share))
-          (apply∗ 𝓤 (A.lft (α ∷ []) ql) (A.lft (α ∷ []) full_share)) $
+      (apply∗ 𝓤 (A.lft (α ∷ []) ql) (A.lft (α ∷ []) full_share)) $
       lft_end ! tt $ use1 𝓛 (‵ (fdead (α ∷ κ₁))) (𝓛.lfts.dead-incl (α ∷ κ₁) (α ∷ []) (meet_⊑_left (α ∷ []) κ₁)) $
       move ! (1 ∷ 2 ∷ []) $ use2 𝓛 (‵ (flft κ₁ q₁)) (𝓛.lfts.lft_join κ₁ q₁) $
       move ! (1 ∷ 2 ∷ 3 ∷ []) $ use3 𝓛 (later (‵ (Ref κ₀ (record self { now = end })) ⊛ ‵ (flft κ₀ q₀)))
       (comes_back 𝓛 Row (named 0) κ₀ (α ∷ κ₁) q₀ self.ghost_name self.ref_ptr.0 self.ref_ptr.1 δ self.now end) $ await !
-          tt $ split ! $
+      tt $ split ! $
       now ! $ done !

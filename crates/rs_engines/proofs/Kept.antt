@@ -17,11 +17,11 @@ pub four_kept_before : (R : OnFourWords) (w0 w1 w2 w3 x0 x1 x2 x3 y0 y1 y2 y3 : 
     → R w0 w1 w2 w3 y0 y1 y2 y3 → R x0 x1 x2 x3 y0 y1 y2 y3
 four_kept_before R w0 w1 w2 w3 x0 x1 x2 x3 y0 y1 y2 y3 e0 e1 e2 e3 r =
     two_kept_before (λ a b c d. R x0 x1 a b y0 y1 c d) w2 w3 x2 x3 y2 y3 e2 e3
-        (two_kept_before (λ a b c d. R a b w2 w3 c d y2 y3) w0 w1 x0 x1 y0 y1 e0 e1 r)
+    (two_kept_before (λ a b c d. R a b w2 w3 c d y2 y3) w0 w1 x0 x1 y0 y1 e0 e1 r)
 
 pub four_kept_after : (R : OnFourWords) (x0 x1 x2 x3 y0 y1 y2 y3 z0 z1 z2 z3 : ℕ) → z0 ≡ y0 → z1 ≡ y1 → z2 ≡ y2
     → z3 ≡ y3
     → R x0 x1 x2 x3 y0 y1 y2 y3 → R x0 x1 x2 x3 z0 z1 z2 z3
 four_kept_after R x0 x1 x2 x3 y0 y1 y2 y3 z0 z1 z2 z3 e0 e1 e2 e3 =
     four_kept_before (λ a b c d e f g h. R e f g h a b c d) y0 y1 y2 y3 z0 z1 z2 z3 x0 x1 x2 x3 (sym e0) (sym e1)
-        (sym e2) (sym e3)
+    (sym e2) (sym e3)

@@ -21,7 +21,7 @@ module _ (n b : ℕ) (v : List ℕ) (blocks : n ≡ b * 16) (long : length v ≡
   are_places : SwzOk w8 16 n 0 places
   are_places =
       SwzOk-from_below w8 16 b n 0 places blocks (omega (arith, long_places))
-          (Each1-zip2 f (λ j. j < 16) v (replicate n m) (Each2-splat (λ a b. f a b < 16) v n m small))
+      (Each1-zip2 f (λ j. j < 16) v (replicate n m) (Each2-splat (λ a b. f a b < 16) v n m small))
 
   -- Each lane of the result is the byte of the table at the index that was computed for this lane.
   looked_up : (table : List ℕ) (t i p : ℕ) → ((j : ℕ) → j < n → get_or table j 0 ≡ byte_at t (j % 16)) → i < n
@@ -29,8 +29,8 @@ module _ (n b : ℕ) (v : List ℕ) (blocks : n ≡ b * 16) (long : length v ≡
       → get_or (swz_l w8 16 table 0 places) i 0 ≡ byte_at t p
   looked_up table t i p is h at below =
       let here : get_or places i 0 ≡ p =
-          get_or-zip2 f v (replicate n m) i 0 0 0 (omega arith) (omega (arith, length-replicate {A = ℕ} n m))
-          ∙ ap (f (get_or v i 0)) (get_or-replicate n i m 0 h) ∙ at in
+      get_or-zip2 f v (replicate n m) i 0 0 0 (omega arith) (omega (arith, length-replicate {A = ℕ} n m))
+      ∙ ap (f (get_or v i 0)) (get_or-replicate n i m 0 h) ∙ at in
       get_or-swz_l_below w8 16 table 0 places i (omega (arith, long_places)) (omega arith)
       ∙ ap (λ k. get_or table k 0) (omega arith)
       ∙ is (16 * (i / 16) + p) (omega arith)

@@ -15,7 +15,7 @@ pub use contract.Running.{tables}
 pub use Rattle.std.proofs.Math.Nat.{mul-le-mul_right}
 pub use Rattle.std.proofs.raw_atomic.Walks.{proved}
 pub use types.ByLocal.{alloc_all, env, free_all, get, lands_as, look_at, look_in_at, pass_all, sets, sets_last, through}
-pub use types.Kit.{!, at_ret, await, done, drop, feq_i, feq_l, fjoin, fjoin3, fpack, frame, fsplit, fsplit3, group}
+pub use types.Kit.{ !, at_ret, await, done, drop, feq_i, feq_l, fjoin, fjoin3, fpack, frame, fsplit, fsplit3, group}
 pub use types.Kit.{join, keep, later, move, pick}
 pub use types.Kit.{qed, raw, rewrite, some, split, split3, suffices, use0, use1, use2, ‵, ◌$◌, ◌∵◌, ◌⊛◌, use3}
 pub use types.Part.{agg, look_in, sub, whole}

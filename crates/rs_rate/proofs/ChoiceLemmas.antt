@@ -62,5 +62,5 @@ pub choice-outside : (rate : Rate) (k r : ℕ) (inside : Bool)
     → ((0 < k) × (k ≤ 65536) × (0 < r) × (r ≤ 65536) → inside ≡ true) → inside ≡ false → None ≡ choice_of rate k r
 choice-outside rate k r inside test out =
     let not_supported = false_from_ne_true (supports rate k r)
-        (λ is. true≢false (sym (test (supported-in_field rate k r is)) ∙ out)) in
+    (λ is. true≢false (sym (test (supported-in_field rate k r is)) ∙ out)) in
     rw not_supported refl

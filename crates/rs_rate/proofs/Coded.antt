@@ -21,9 +21,9 @@ pub words-read : (rate : Rate) (k r : ℕ) (old new old_read new_read : ℕ → 
     → CodesWords rate k r old new → CodesWords rate k r old_read new_read
 words-read rate k r old new old_read new_read same_old same_new coded =
     subst (λ (words : List ℕ). AreRecoveryWords rate k r words (up_to r new_read))
-        (sym (up_to-same k old_read old same_old))
+    (sym (up_to-same k old_read old same_old))
     (subst (λ (words : List ℕ). AreRecoveryWords rate k r (up_to k old) words)
-        (sym (up_to-same r new_read new same_new)) coded)
+    (sym (up_to-same r new_read new same_new)) coded)
 
 -- Words read from the chunks of coded rows are coded.
 pub rows-read : (rate : Rate) (k r n c s : ℕ) (before after : Chunks) (old new : ShardsRefMut) → old.shard_len_64 ≡ n
@@ -41,24 +41,27 @@ columns-up_to : (j n : ℕ) (shards : ℕ → Shard) → columns j (up_to n shar
 columns-up_to j zero shards = refl
 columns-up_to j (suc n) shards =
     map-append (column j) (up_to n shards) (shards n ∷ [])
-        ∙ ap (λ words. words ++ column j (shards n) ∷ []) (columns-up_to j n shards)
+    ∙ ap (λ words. words ++ column j (shards n) ∷ []) (columns-up_to j n shards)
 
 -- If the words of each column are recovery words, the shards are the recovery shards of the message.
 pub are_recovery : (c : Configuration) (laid moved : ℕ → Shard)
     → ((i : ℕ) → i < c.recovery_count → IsShard c.shard_bytes (moved i))
     → ((j : ℕ) → j < c.shard_bytes / 2
-        → CodesWords c.rate c.original_count c.recovery_count (λ i. column j (laid i)) (λ i. column j (moved i)))
+    → CodesWords c.rate c.original_count c.recovery_count (λ i. column j (laid i)) (λ i. column j (moved i)))
     → AreRecovery c (up_to c.original_count laid) (up_to c.recovery_count moved)
 are_recovery c laid moved shards coded =
     record {
-      shards = record { length_is = length-up_to c.recovery_count moved; each =
-          all-up_to (IsShard c.shard_bytes) c.recovery_count moved shards };
+      shards = record {
+        length_is = length-up_to c.recovery_count moved;
+        each =
+            all-up_to (IsShard c.shard_bytes) c.recovery_count moved shards;
+      };
       words = λ j inside.
           subst (λ (words : List ℕ).
-              AreRecoveryWords c.rate c.original_count c.recovery_count words
-              (columns j (up_to c.recovery_count moved))) (sym (columns-up_to j c.original_count laid))
+          AreRecoveryWords c.rate c.original_count c.recovery_count words
+          (columns j (up_to c.recovery_count moved))) (sym (columns-up_to j c.original_count laid))
           (subst (λ (words : List ℕ).
-              AreRecoveryWords c.rate c.original_count c.recovery_count
-              (up_to c.original_count (λ i. column j (laid i))) words) (sym (columns-up_to j c.recovery_count moved))
-              (coded j inside));
+          AreRecoveryWords c.rate c.original_count c.recovery_count
+          (up_to c.original_count (λ i. column j (laid i))) words) (sym (columns-up_to j c.recovery_count moved))
+          (coded j inside));
     }

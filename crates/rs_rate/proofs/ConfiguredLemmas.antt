@@ -95,7 +95,7 @@ pub decoder_shape-is : (rate : Rate) (s : DecoderShape) → IsSetUp rate s.confi
 decoder_shape-is rate s is laid =
     let own = s.configuration in
     ap₂ (λ (c : Configuration) (f : Frame). let shape : DecoderShape = record { configuration = c; frame = f } in shape)
-        is.chosen
+    is.chosen
     (laid.frame ∙ frame_alike (low_or_high own.is_low) rate own.original_count own.recovery_count is.alike)
 
 -- A property that holds after a success and after an error always holds.
@@ -108,11 +108,11 @@ either_way (Err e) made kept by_made by_kept = by_kept kept
 pub encoder-laid : (c : Configuration) → IsConfigured c → EncoderCanBeLaid (shape_of_encoder c)
 encoder-laid c is =
     let rows = by_choice c.is_low is.supported in
-        record { configured = is; rows = refl; originals = rows.0; recovery = rows.1 }
+    record { configured = is; rows = refl; originals = rows.0; recovery = rows.1 }
   where
     by_choice : (low : Bool) → supports (low_or_high low) c.original_count c.recovery_count ≡ true
         → let n = encoder_rows (low_or_high low) c.original_count c.recovery_count in
-            (c.original_count ≤ n) × (c.recovery_count ≤ n)
+        (c.original_count ≤ n) × (c.recovery_count ≤ n)
     by_choice true is = let rows = rows-fit true c.original_count c.recovery_count is in
         (omega (arith, rows.block, rows.some), rows.enough)
     by_choice false is = let rows = rows-fit false c.original_count c.recovery_count is in
@@ -121,7 +121,7 @@ encoder-laid c is =
 -- The number of rows of a decoder is a power of two, and the rows hold the first block and the shards after this block.
 rows-known : (k r : ℕ) → supports low_rate k r ≡ true
     → let n = next_power (next_power k + r) in
-        (next_power n ≡ n) × (n ≤ 65536) × (k ≤ next_power k) × (next_power k + r ≤ n)
+    (next_power n ≡ n) × (n ≤ 65536) × (k ≤ next_power k) × (next_power k + r ≤ n)
 rows-known k r is =
     let block = next_power-small k (low_small k r is) in
     let known = next_power-small (next_power k + r) (low_fits k r is).2 in
@@ -133,16 +133,33 @@ places : (low : Bool) (k r : ℕ) → supports (low_or_high low) k r ≡ true �
 places true k r is =
     let rows = rows-known k r is in
     subst (HasPlaces k r) (sym (low_frame-is k r))
-    (record { power = rows.0; few = rows.1; originals = omega (arith, rows.2, rows.3); recovery = rows.3; apart =
-        λ i j own coded. omega (arith, rows.2) })
+    (record {
+      power = rows.0;
+      few = rows.1;
+      originals = omega (arith, rows.2, rows.3);
+      recovery = rows.3;
+      apart =
+          λ i j own coded. omega (arith, rows.2);
+    })
 places false k r is =
     let rows = rows-known r k (high_turned k r ∙ is) in
     subst (HasPlaces k r) (sym (high_frame-is k r))
-    (record { power = rows.0; few = rows.1; originals = rows.3; recovery = omega (arith, rows.2, rows.3); apart =
-        λ i j own coded. omega (arith, rows.2) })
+    (record {
+      power = rows.0;
+      few = rows.1;
+      originals = rows.3;
+      recovery = omega (arith, rows.2, rows.3);
+      apart =
+          λ i j own coded. omega (arith, rows.2);
+    })
 
 pub decoder-laid : (c : Configuration) → IsConfigured c → DecoderCanBeLaid (shape_of_decoder c)
 unfolding frame_of
 decoder-laid c is =
-    record { configured = is; rows = refl; frame = refl; places =
-        places c.is_low c.original_count c.recovery_count is.supported }
+    record {
+      configured = is;
+      rows = refl;
+      frame = refl;
+      places =
+          places c.is_low c.original_count c.recovery_count is.supported;
+    }

@@ -79,7 +79,7 @@ missing-out s message i outside =
 pub restores_missing : (rate : Rate) (s : DecoderShape) (marks new : List Bool) (before after : Chunks)
     (message : List Shard)
     → ((i : ℕ) → i < s.configuration.original_count
-        → is_marked new (s.frame.originals_from + i) ≡ not (is_marked marks (s.frame.originals_from + i)))
+    → is_marked new (s.frame.originals_from + i) ≡ not (is_marked marks (s.frame.originals_from + i)))
     → ((i : ℕ) → i < s.configuration.original_count → is_marked marks (s.frame.originals_from + i) ≡ false
     → shard_in_order after s.configuration.shard_bytes (s.frame.originals_from + i) ≡ shard_at message i)
     → (i : ℕ) → restored_over s new after i ≡ missing_of (state_over rate s marks before) message i
@@ -93,8 +93,8 @@ restores_missing rate s marks new before after message marked same i =
   where
     at : i < s.configuration.original_count → (given : Bool) → is_marked marks (s.frame.originals_from + i) ≡ given
         → ◌≡◌ {A = Option Shard}
-            (cond (not given) (Some (shard_in_order after s.configuration.shard_bytes (s.frame.originals_from + i)))
-            None) (cond (not given) (Some (shard_at message i)) None)
+        (cond (not given) (Some (shard_in_order after s.configuration.shard_bytes (s.frame.originals_from + i)))
+        None) (cond (not given) (Some (shard_at message i)) None)
     at inside true is = refl
     at inside false is = ap Some (same i inside is)
 
@@ -102,55 +102,55 @@ restores_missing rate s marks new before after message marked same i =
         → restored_over s new after i ≡ missing_of (state_over rate s marks before) message i
     by_mark inside given is =
         restored-marked new after s.configuration.shard_bytes s.frame.originals_from s.configuration.original_count i
-            (not given) inside (marked i inside ∙ ap not is)
+        (not given) inside (marked i inside ∙ ap not is)
         ∙ at inside given is
         ∙ sym (missing-in (state_over rate s marks before) message i given inside
-            (given-marked marks before s.configuration.shard_bytes s.frame.originals_from s.configuration.original_count
-            i inside ∙ is))
+        (given-marked marks before s.configuration.shard_bytes s.frame.originals_from s.configuration.original_count
+        i inside ∙ is))
 
 -- The number of given shards is the number of marked rows.
 given_count : (rate : Rate) (s : DecoderShape) (marks : List Bool) (chunks : Chunks) (n : ℕ)
     → given_row_count marks s.frame.originals_from s.configuration.original_count + given_row_count marks
-        s.frame.recovery_from s.configuration.recovery_count ≡ n
+    s.frame.recovery_from s.configuration.recovery_count ≡ n
     → originals_given (state_over rate s marks chunks) + recovery_given (state_over rate s marks chunks) ≡ n
 given_count rate s marks chunks n counted =
     ap₂ (λ (a b : ℕ). a + b)
-        (count-given marks chunks s.configuration.shard_bytes s.frame.originals_from s.configuration.original_count)
-        (count-given marks chunks s.configuration.shard_bytes s.frame.recovery_from s.configuration.recovery_count)
-        ∙ counted
+    (count-given marks chunks s.configuration.shard_bytes s.frame.originals_from s.configuration.original_count)
+    (count-given marks chunks s.configuration.shard_bytes s.frame.recovery_from s.configuration.recovery_count)
+    ∙ counted
 
 -- The columns of the rows that were decoded.
 columns_of : (rate : Rate) (k r size surplus : ℕ) (marks new : List Bool) (locator : List ℕ) (before after : Chunks)
     (agrees : Bool) (f : HasFrame rate k r)
     → (d : IsDecoded (decoder_shape rate k r size) marks new locator surplus before after agrees)
     → AreColumns (configuration rate k r size) (given_shards marks before size (placement rate k r).originals_from k)
-        (given_shards marks before size (placement rate k r).recovery_from r)
+    (given_shards marks before size (placement rate k r).recovery_from r)
     f.exponent f.bound f.zeros_end (erasure (placement rate k r).zeros_from (placement rate k r).zeros_to marks)
-        (words_given marks before size)
+    (words_given marks before size)
     (λ j. located_word marks locator (word_in before (row_len size) (j / 32) (j % 32)))
-        (λ j. d.restores.restored.coefficients (j / 32) (j % 32))
+    (λ j. d.restores.restored.coefficients (j / 32) (j % 32))
 unfolding frame_of
 columns_of rate k r size surplus marks new locator before after agrees f d =
     let words = d.restores.restored in
     are_columns rate k r size f.exponent f.bound f.zeros_end marks before locator words.coefficients d.even f.frame
-        d.placed d.shards
+    d.placed d.shards
     (subst (λ (n : ℕ). IsLocatorBelow n (erasure (placement rate k r).zeros_from (placement rate k r).zeros_to marks)
-        (λ x. slice_index locator x)) f.rows d.is_locator.values)
+    (λ x. slice_index locator x)) f.rows d.is_locator.values)
     (λ j s i hj hs hi. words.found.are_words j s i hj hs (omega (arith, f.rows, hi)))
     (λ j s hj hs. subst (λ (n : ℕ).
-        IsBackward n 0 (located_word marks locator (word_in before (row_len size) j s)) (words.coefficients j s)) f.rows
-        (words.found.of_located j s hj hs))
+    IsBackward n 0 (located_word marks locator (word_in before (row_len size) j s)) (words.coefficients j s)) f.rows
+    (words.found.of_located j s hj hs))
 
 -- The entry of a missing original is marked as erased.
 entry_of : (rate : Rate) (k r i : ℕ) (marks : List Bool) (f : HasFrame rate k r) → i < k
     → is_marked marks ((placement rate k r).originals_from + i) ≡ false
     → erasure (placement rate k r).zeros_from (placement rate k r).zeros_to marks
-        ((placement rate k r).originals_from + i) ≡ 1
+    ((placement rate k r).originals_from + i) ≡ 1
 entry_of rate k r i marks f inside none =
     let follow : (placement rate k r).zeros_from ≡ (placement rate k r).originals_from + k = f.frame.follow in
     let below : (placement rate k r).originals_from + k ≤ 2 ^ f.exponent = f.frame.originals in
     erased-row (placement rate k r).zeros_from (placement rate k r).zeros_to
-        ((placement rate k r).originals_from + i) marks false (inl (omega arith)) none
+    ((placement rate k r).originals_from + i) marks false (inl (omega arith)) none
 
 -- The powers of a locator's entries are the powers of the locator's sums.
 located_at : (rate : Rate) (k r x : ℕ) (marks : List Bool) (locator : List ℕ) (f : HasFrame rate k r)
@@ -160,9 +160,9 @@ located_at : (rate : Rate) (k r x : ℕ) (marks : List Bool) (locator : List ℕ
 unfolding frame_of
 located_at rate k r x marks locator f l hx =
     same_residue (slice_index locator x)
-        (log_sum (2 ^ f.exponent) (erasure (placement rate k r).zeros_from (placement rate k r).zeros_to marks) x)
+    (log_sum (2 ^ f.exponent) (erasure (placement rate k r).zeros_from (placement rate k r).zeros_to marks) x)
     (subst (λ (n : ℕ). IsLocatorBelow n (erasure (placement rate k r).zeros_from (placement rate k r).zeros_to marks)
-        (λ y. slice_index locator y)) f.rows l.values x hx)
+    (λ y. slice_index locator y)) f.rows l.values x hx)
 
 -- Some message agrees exactly if the last rows are zero.
 decode-answered : (rate : Rate) (k r size surplus : ℕ) (marks new : List Bool) (locator : List ℕ)
@@ -173,14 +173,14 @@ unfolding frame_of
 decode-answered rate k r size surplus marks new locator before after agrees supported d =
     let f = has_frame rate k r supported in
     let exact = consistent_exactly (configuration rate k r size)
-        (given_shards marks before size (placement rate k r).originals_from k)
-        (given_shards marks before size (placement rate k r).recovery_from r)
+    (given_shards marks before size (placement rate k r).originals_from k)
+    (given_shards marks before size (placement rate k r).recovery_from r)
     f.exponent f.bound f.zeros_end surplus (erasure (placement rate k r).zeros_from (placement rate k r).zeros_to marks)
-        (words_given marks before size)
+    (words_given marks before size)
     (λ j. located_word marks locator (word_in before (row_len size) (j / 32) (j % 32)))
-        (λ j. d.restores.restored.coefficients (j / 32) (j % 32))
+    (λ j. d.restores.restored.coefficients (j / 32) (j % 32))
     (columns_of rate k r size surplus marks new locator before after agrees f d)
-        (given_count rate (decoder_shape rate k r size) marks before (k + surplus) d.counted) in (
+    (given_count rate (decoder_shape rate k r size) marks before (k + surplus) d.counted) in (
       λ some. d.restores.restored.found.checked.0
           (λ i j past below inside.
           exact.0 some j i inside (omega (arith, f.rows, past)) (omega (arith, f.rows, below))),
@@ -194,17 +194,17 @@ restored_shard : (rate : Rate) (k r size surplus i : ℕ) (marks new : List Bool
     (before after : Chunks) (message : List Shard) → supports rate k r ≡ true
     → IsDecoded (decoder_shape rate k r size) marks new locator surplus before after true
     → Agrees (configuration rate k r size) (given_shards marks before size (placement rate k r).originals_from k)
-        (given_shards marks before size (placement rate k r).recovery_from r) message
+    (given_shards marks before size (placement rate k r).recovery_from r) message
     → i < k → is_marked marks ((placement rate k r).originals_from + i) ≡ false
     → shard_in_order after size ((placement rate k r).originals_from + i) ≡ shard_at message i
 unfolding frame_of
 restored_shard rate k r size surplus i marks new locator before after message supported d a inside none =
     shard_from_columns size (shard_in_order after size ((placement rate k r).originals_from + i)) (shard_at message i)
-        (d.sized i inside)
+    (d.sized i inside)
     (a.shards.each i [] (subst (λ (n : ℕ). i < n) (sym a.shards.length_is) inside)) d.even
     (λ j hj. d.restores.shards refl i j inside hj none
-        ∙ in_column j hj (d.restores.restored.revealed refl (j / 32) (j % 32) (omega (arith, hj))
-        (omega arith) i inside none))
+    ∙ in_column j hj (d.restores.restored.revealed refl (j / 32) (j % 32) (omega (arith, hj))
+    (omega arith) i inside none))
   where
     f : HasFrame rate k r
     f = has_frame rate k r supported
@@ -219,22 +219,22 @@ restored_shard rate k r size surplus i marks new locator before after message su
 
     in_column : (j : ℕ) → j < size / 2
         → (added : ℕ → ℕ) × IsDerivativeAdded (decoder_rows rate k r)
-            (d.restores.restored.coefficients (j / 32) (j % 32)) added
+        (d.restores.restored.coefficients (j / 32) (j % 32)) added
         × (d.restores.words (j / 32) (j % 32) ((placement rate k r).originals_from + i)
         ≡ product (forward (decoder_rows rate k r) 0 added ((placement rate k r).originals_from + i))
-            (power (65535 - slice_index locator ((placement rate k r).originals_from + i))))
+        (power (65535 - slice_index locator ((placement rate k r).originals_from + i))))
         → d.restores.words (j / 32) (j % 32) ((placement rate k r).originals_from + i) ≡ column j (shard_at message i)
     in_column j hj (added, step, is) =
         is
         ∙ ap (λ n. product (forward n 0 added ((placement rate k r).originals_from + i))
-            (power (65535 - slice_index locator ((placement rate k r).originals_from + i)))) f.rows
+        (power (65535 - slice_index locator ((placement rate k r).originals_from + i)))) f.rows
         ∙ restored_column (configuration rate k r size)
-            (given_shards marks before size (placement rate k r).originals_from k)
-            (given_shards marks before size (placement rate k r).recovery_from r)
+        (given_shards marks before size (placement rate k r).originals_from k)
+        (given_shards marks before size (placement rate k r).recovery_from r)
         f.exponent f.bound f.zeros_end (erasure (placement rate k r).zeros_from (placement rate k r).zeros_to marks)
-            (words_given marks before size)
+        (words_given marks before size)
         (λ c. located_word marks locator (word_in before (row_len size) (c / 32) (c % 32)))
-            (λ c. d.restores.restored.coefficients (c / 32) (c % 32))
+        (λ c. d.restores.restored.coefficients (c / 32) (c % 32))
         message added i j (slice_index locator ((placement rate k r).originals_from + i))
         (columns_of rate k r size surplus marks new locator before after true f d) enough a inside hj
         (subst (λ (n : ℕ). IsDerivativeAdded n (d.restores.restored.coefficients (j / 32) (j % 32)) added) f.rows step)
@@ -247,9 +247,9 @@ agreeing : (rate : Rate) (k r size surplus : ℕ) (marks new : List Bool) (locat
     → supports rate k r ≡ true
     → IsDecoded (decoder_shape rate k r size) marks new locator surplus before after true
     → Consistent (configuration rate k r size) (given_shards marks before size (placement rate k r).originals_from k)
-        (given_shards marks before size (placement rate k r).recovery_from r)
+    (given_shards marks before size (placement rate k r).recovery_from r)
     → Restored (state_over rate (decoder_shape rate k r size) marks before)
-        (restored_over (decoder_shape rate k r size) new after)
+    (restored_over (decoder_shape rate k r size) new after)
 unfolding frame_of
 agreeing rate k r size surplus marks new locator before after supported d (message, agrees) =
     let count = given_count rate (decoder_shape rate k r size) marks before (k + surplus) d.counted in
@@ -259,10 +259,10 @@ agreeing rate k r size surplus marks new locator before after supported d (messa
       only = λ other too. one_message (configuration rate k r size)
           (given_shards marks before size (placement rate k r).originals_from k)
           (given_shards marks before size (placement rate k r).recovery_from r) other message supported d.even
-              (omega (arith, count)) too agrees;
+          (omega (arith, count)) too agrees;
       missing = restores_missing rate (decoder_shape rate k r size) marks new before after message d.marked
           (λ i inside none. restored_shard rate k r size surplus i marks new locator before after message supported d
-              agrees inside none);
+          agrees inside none);
     }
 
 -- The result of a decode for the rows of a rate's shape.
@@ -271,7 +271,7 @@ AnswersOver rate s marks new before after true = Restored (state_over rate s mar
 AnswersOver rate s marks new before after false =
     NoneAgrees (state_over rate s marks before)
     (InconsistentShards (given_row_count marks s.frame.originals_from s.configuration.original_count)
-        (given_row_count marks s.frame.recovery_from s.configuration.recovery_count))
+    (given_row_count marks s.frame.recovery_from s.configuration.recovery_count))
 
 by_answer : (rate : Rate) (k r size surplus : ℕ) (marks new : List Bool) (locator : List ℕ) (before after : Chunks)
     (agrees : Bool) → supports rate k r ≡ true
@@ -280,7 +280,7 @@ by_answer : (rate : Rate) (k r size surplus : ℕ) (marks new : List Bool) (loca
 unfolding frame_of
 by_answer rate k r size surplus marks new locator before after true supported d =
     agreeing rate k r size surplus marks new locator before after supported d
-        ((decode-answered rate k r size surplus marks new locator before after true supported d).1 refl)
+    ((decode-answered rate k r size surplus marks new locator before after true supported d).1 refl)
 by_answer rate k r size surplus marks new locator before after false supported d =
     let s = decoder_shape rate k r size in
     let count = given_count rate s marks before (k + surplus) d.counted in
@@ -308,9 +308,9 @@ complete : (rate : Rate) (k r size : ℕ) (marks new : List Bool) (before after 
     → given_row_count marks (placement rate k r).originals_from k ≡ k
     → given_row_count marks (placement rate k r).recovery_from r ≡ 0
     → ((i : ℕ) → i < k → is_marked new ((placement rate k r).originals_from + i)
-        ≡ not (is_marked marks ((placement rate k r).originals_from + i)))
+    ≡ not (is_marked marks ((placement rate k r).originals_from + i)))
     → Restored (state_over rate (decoder_shape rate k r size) marks before)
-        (restored_over (decoder_shape rate k r size) new after)
+    (restored_over (decoder_shape rate k r size) new after)
 unfolding frame_of
 complete rate k r size marks new before after supported even shards all none marked = record {
   message = message;
@@ -318,7 +318,7 @@ complete rate k r size marks new before after supported even shards all none mar
   only = λ other too. one_message (configuration rate k r size)
       (given_shards marks before size (placement rate k r).originals_from k)
       (given_shards marks before size (placement rate k r).recovery_from r) other message supported even
-          (omega (arith, count)) too agrees;
+      (omega (arith, count)) too agrees;
   missing = restores_missing rate (decoder_shape rate k r size) marks new before after message marked
       (λ i inside not_given. absurd (true≢false (sym (given i inside) ∙ not_given)));
 }
@@ -371,7 +371,7 @@ pub decode_answers : (rate : Rate) (s : DecoderShape) (marks new : List Bool) (l
 decode_answers rate s marks new locator surplus before after agrees valid shaped d =
     subst (λ (t : DecoderShape). AnswersOver rate t marks new before after agrees) (sym shaped)
     (by_answer rate s.configuration.original_count s.configuration.recovery_count s.configuration.shard_bytes surplus
-        marks new locator before after agrees (valid-supported (configuration_at rate s.configuration) valid)
+    marks new locator before after agrees (valid-supported (configuration_at rate s.configuration) valid)
     (subst (λ (t : DecoderShape). IsDecoded t marks new locator surplus before after agrees) shaped d))
 
 -- If all originals and no recovery shards were added, nothing is restored.
@@ -380,26 +380,26 @@ pub complete_answers : (rate : Rate) (s : DecoderShape) (marks new : List Bool) 
     → s ≡ decoder_shape rate s.configuration.original_count s.configuration.recovery_count s.configuration.shard_bytes
     → s.configuration.shard_bytes % 2 ≡ 0
     → ((p : ℕ) → is_marked marks p ≡ true
-        → IsShard s.configuration.shard_bytes (shard_laid_out before s.configuration.shard_bytes p))
+    → IsShard s.configuration.shard_bytes (shard_laid_out before s.configuration.shard_bytes p))
     → given_row_count marks s.frame.originals_from s.configuration.original_count ≡ s.configuration.original_count
     → given_row_count marks s.frame.recovery_from s.configuration.recovery_count ≡ 0
     → ((i : ℕ) → i < s.configuration.original_count
-        → is_marked new (s.frame.originals_from + i) ≡ not (is_marked marks (s.frame.originals_from + i)))
+    → is_marked new (s.frame.originals_from + i) ≡ not (is_marked marks (s.frame.originals_from + i)))
     → Restored (state_over rate s marks before) (restored_over s new after)
 unfolding frame_of
 complete_answers rate s marks new before after valid shaped even shards all none marked =
     subst (λ (t : DecoderShape). Restored (state_over rate t marks before) (restored_over t new after)) (sym shaped)
     (complete rate s.configuration.original_count s.configuration.recovery_count s.configuration.shard_bytes marks new
-        before after (valid-supported (configuration_at rate s.configuration) valid) even shards
+    before after (valid-supported (configuration_at rate s.configuration) valid) even shards
     (subst (λ (t : DecoderShape).
-        given_row_count marks t.frame.originals_from s.configuration.original_count ≡ s.configuration.original_count)
-        shaped all)
+    given_row_count marks t.frame.originals_from s.configuration.original_count ≡ s.configuration.original_count)
+    shaped all)
     (subst (λ (t : DecoderShape). given_row_count marks t.frame.recovery_from s.configuration.recovery_count ≡ 0) shaped
-        none)
+    none)
     (subst (λ (t : DecoderShape).
-        (i : ℕ) → i < s.configuration.original_count
-        → is_marked new (t.frame.originals_from + i) ≡ not (is_marked marks (t.frame.originals_from + i))) shaped
-        marked))
+    (i : ℕ) → i < s.configuration.original_count
+    → is_marked new (t.frame.originals_from + i) ≡ not (is_marked marks (t.frame.originals_from + i))) shaped
+    marked))
 
 -- The result is a success if some message agrees, and `InconsistentShards` if none agrees.
 pub told_answer : {T : Type 0} (done : T) (rate : Rate) (s : DecoderShape) (marks new : List Bool)
@@ -409,15 +409,15 @@ pub told_answer : {T : Type 0} (done : T) (rate : Rate) (s : DecoderShape) (mark
     → r ≡ given_row_count marks s.frame.recovery_from s.configuration.recovery_count
     → AnswersOver rate s marks new before after agrees
     → MatchResult answer (λ _. Restored (state_over rate s marks before) (restored_over s new after))
-        (NoneAgrees (state_over rate s marks before))
+    (NoneAgrees (state_over rate s marks before))
 told_answer {T = T} done rate s marks new before after o r agrees answer (inl known) o_is r_is answers =
     subst (λ (a : Result T Error).
-        MatchResult a (λ _. Restored (state_over rate s marks before) (restored_over s new after))
-        (NoneAgrees (state_over rate s marks before))) (sym known.1)
+    MatchResult a (λ _. Restored (state_over rate s marks before) (restored_over s new after))
+    (NoneAgrees (state_over rate s marks before))) (sym known.1)
     (subst (λ b. AnswersOver rate s marks new before after b) known.0 answers)
 told_answer {T = T} done rate s marks new before after o r agrees answer (inr known) o_is r_is answers =
     subst (λ (a : Result T Error).
-        MatchResult a (λ _. Restored (state_over rate s marks before) (restored_over s new after))
-        (NoneAgrees (state_over rate s marks before)))
+    MatchResult a (λ _. Restored (state_over rate s marks before) (restored_over s new after))
+    (NoneAgrees (state_over rate s marks before)))
     (sym (known.1 ∙ ap₂ (λ (a b : ℕ). Err (InconsistentShards a b)) o_is r_is))
     (subst (λ b. AnswersOver rate s marks new before after b) known.0 answers)

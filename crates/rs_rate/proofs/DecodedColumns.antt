@@ -56,9 +56,11 @@ given_some marks chunks size from n i shard is =
         → ◌≡◌ {A = Option Shard} (cond (is_marked marks (from + i)) (Some (shard_laid_out chunks size (from + i))) None)
         (Some shard)
         → (is_marked marks (from + i) ≡ true) × (shard_laid_out chunks size (from + i) ≡ shard)
-    by_mark true mark e =
-        (mark, ap (λ o. unwrap_or o shard)
-            (sym (ap (λ b. cond b (Some (shard_laid_out chunks size (from + i))) None) mark) ∙ e))
+    by_mark true mark e = (
+      mark,
+      ap (λ o. unwrap_or o shard)
+          (sym (ap (λ b. cond b (Some (shard_laid_out chunks size (from + i))) None) mark) ∙ e),
+    )
     by_mark false mark e =
         absurd (none_some (sym (ap (λ b. cond b (Some (shard_laid_out chunks size (from + i))) None) mark) ∙ e))
 
@@ -74,7 +76,7 @@ given_sized marks chunks size from n shards = record {
 -- The given words are the columns of the given shards.
 given_words : (p : Placement) (k r : ℕ) (marks : List Bool) (chunks : Chunks) (size j : ℕ)
     → HasWords p (given_shards marks chunks size p.originals_from k)
-        (given_shards marks chunks size p.recovery_from r) j (words_given marks chunks size j)
+    (given_shards marks chunks size p.recovery_from r) j (words_given marks chunks size j)
 given_words p k r marks chunks size j = record {
   own = λ i shard is. at p.originals_from k i shard is;
   coded = λ i shard is. at p.recovery_from r i shard is;
@@ -84,7 +86,7 @@ given_words p k r marks chunks size j = record {
         → words_given marks chunks size j (from + i) ≡ column j shard
     at from n i shard is =
         let s = given_some marks chunks size from n i shard is in words_given-at marks chunks size j (from + i) true s.1
-            ∙ ap (column j) s.2
+        ∙ ap (column j) s.2
 
 -- The located words of a column are the given words times the powers of the locator.
 located_words : (n j size : ℕ) (marks : List Bool) (chunks : Chunks) (locator : List ℕ) (marked : ℕ → ℕ) → size % 2 ≡ 0
@@ -92,10 +94,10 @@ located_words : (n j size : ℕ) (marks : List Bool) (chunks : Chunks) (locator 
     → ((x : ℕ) → x < n → is_marked marks x ≡ true → marked x ≡ 0)
     → ((x : ℕ) → x < n → power (slice_index locator x) ≡ power (log_sum n marked x))
     → AreLocated n marked (words_given marks chunks size j)
-        (located_word marks locator (word_in chunks (row_len size) (j / 32) (j % 32)))
+    (located_word marks locator (word_in chunks (row_len size) (j / 32) (j % 32)))
 located_words n j size marks chunks locator marked even inside kept same =
     are_located n marked (words_given marks chunks size j)
-        (located_word marks locator (word_in chunks (row_len size) (j / 32) (j % 32)))
+    (located_word marks locator (word_in chunks (row_len size) (j / 32) (j % 32)))
     (λ x hx one. erased_at x hx one (is_marked marks x) refl) (λ x hx none. other_at x hx (is_marked marks x) refl)
   where
     erased_at : (x : ℕ) → x < n → marked x ≡ 1 → (given : Bool) → is_marked marks x ≡ given
@@ -106,16 +108,19 @@ located_words n j size marks chunks locator marked even inside kept same =
 
     other_at : (x : ℕ) → x < n → (given : Bool) → is_marked marks x ≡ given
         → ((words_given marks chunks size j x ≡ 0)
-            × (located_word marks locator (word_in chunks (row_len size) (j / 32) (j % 32)) x ≡ 0))
+        × (located_word marks locator (word_in chunks (row_len size) (j / 32) (j % 32)) x ≡ 0))
         ⊎ (located_word marks locator (word_in chunks (row_len size) (j / 32) (j % 32)) x
-            ≡ product (words_given marks chunks size j x) (power (log_sum n marked x)))
+        ≡ product (words_given marks chunks size j x) (power (log_sum n marked x)))
     other_at x hx true is =
         inr (located_word-at marks locator (word_in chunks (row_len size) (j / 32) (j % 32)) x true is
         ∙ ap₂ product (sym (words_given-at marks chunks size j x true is ∙ column-put chunks size x j even inside))
-            (same x hx))
+        (same x hx))
     other_at x hx false is =
-        inl (words_given-at marks chunks size j x false is, located_word-at marks locator
-        (word_in chunks (row_len size) (j / 32) (j % 32)) x false is)
+        inl (
+          words_given-at marks chunks size j x false is,
+          located_word-at marks locator
+              (word_in chunks (row_len size) (j / 32) (j % 32)) x false is,
+        )
 
 -- The word at each point is below 65536.
 given_lt : (marks : List Bool) (chunks : Chunks) (size j x : ℕ)
@@ -135,16 +140,16 @@ pub are_columns : (rate : Rate) (k r size e bound zeros_end : ℕ) (marks : List
     → ArePlaced (placement rate k r).originals_from k (placement rate k r).recovery_from r marks
     → ((p : ℕ) → is_marked marks p ≡ true → IsShard size (shard_laid_out chunks size p))
     → IsLocatorBelow (2 ^ e) (erasure (placement rate k r).zeros_from (placement rate k r).zeros_to marks)
-        (λ x. slice_index locator x)
+    (λ x. slice_index locator x)
     → ((j s i : ℕ) → j < row_len size → s < 32 → i < 2 ^ e → coefficients j s i < 65536)
     → ((j s : ℕ) → j < row_len size → s < 32
-        → IsBackward (2 ^ e) 0 (located_word marks locator (word_in chunks (row_len size) j s)) (coefficients j s))
+    → IsBackward (2 ^ e) 0 (located_word marks locator (word_in chunks (row_len size) j s)) (coefficients j s))
     → AreColumns (configuration rate k r size) (given_shards marks chunks size (placement rate k r).originals_from k)
-        (given_shards marks chunks size (placement rate k r).recovery_from r)
+    (given_shards marks chunks size (placement rate k r).recovery_from r)
     e bound zeros_end (erasure (placement rate k r).zeros_from (placement rate k r).zeros_to marks)
-        (words_given marks chunks size)
+    (words_given marks chunks size)
     (λ j. located_word marks locator (word_in chunks (row_len size) (j / 32) (j % 32)))
-        (λ j. coefficients (j / 32) (j % 32))
+    (λ j. coefficients (j / 32) (j % 32))
 are_columns rate k r size e bound zeros_end marks chunks locator coefficients even frame placed shards is_locator words
     back =
     let few : 2 ^ e ≤ 2 ^ 16 = pow_mono frame.few in
@@ -158,17 +163,17 @@ are_columns rate k r size e bound zeros_end marks chunks locator coefficients ev
             frame = frame;
             erasures = are_erased (placement rate k r) k r e bound zeros_end marks
                 (given_shards marks chunks size (placement rate k r).originals_from k)
-                    (given_shards marks chunks size (placement rate k r).recovery_from r) frame placed
+                (given_shards marks chunks size (placement rate k r).recovery_from r) frame placed
                 (λ i hi. given-marked marks chunks size (placement rate k r).originals_from k i hi)
-                    (λ i hi. given-marked marks chunks size (placement rate k r).recovery_from r i hi);
+                (λ i hi. given-marked marks chunks size (placement rate k r).recovery_from r i hi);
             are_words = λ x hx. given_lt marks chunks size j x shards;
             known = λ x above below. words_given-at marks chunks size j x false (zero_row x above below);
             are_located = located_words (2 ^ e) j size marks chunks locator
                 (erasure (placement rate k r).zeros_from (placement rate k r).zeros_to marks) even inside
                 (λ x hx is. erased-given (placement rate k r).zeros_from (placement rate k r).zeros_to x marks is)
                 (λ x hx. same_residue (slice_index locator x)
-                    (log_sum (2 ^ e) (erasure (placement rate k r).zeros_from (placement rate k r).zeros_to marks) x)
-                    (is_locator x hx));
+                (log_sum (2 ^ e) (erasure (placement rate k r).zeros_from (placement rate k r).zeros_to marks) x)
+                (is_locator x hx));
             row_words = λ x hx. words (j / 32) (j % 32) x (omega (arith, inside)) (omega arith) hx;
             back = λ x hx. sym (back (j / 32) (j % 32) (omega (arith, inside)) (omega arith) x hx);
           };

@@ -69,7 +69,7 @@ pub given-marked : (marks : List Bool) (chunks : Chunks) (size from n i : ℕ) �
     → is_some (given_shards marks chunks size from n i) ≡ is_marked marks (from + i)
 given-marked marks chunks size from n i inside =
     ap is_some (given_shards-in marks chunks size from n i inside)
-        ∙ some_if (is_marked marks (from + i)) (shard_laid_out chunks size (from + i))
+    ∙ some_if (is_marked marks (from + i)) (shard_laid_out chunks size (from + i))
 
 pub given_row_count-zero : (marks : List Bool) (from : ℕ) → given_row_count marks from 0 ≡ 0
 unfolding given_row_count
@@ -86,8 +86,12 @@ count-below : (marks : List Bool) (chunks : Chunks) (size from m n : ℕ) → n 
 count-below marks chunks size from m zero fits = count_below-zero (given_shards marks chunks size from m)
     ∙ sym (given_row_count-zero marks from)
 count-below marks chunks size from m (suc n) fits =
-    rw (count_below-suc n, given-marked marks chunks size from m n (omega arith), count-below marks chunks size from m n
-        (omega arith)) (sym (given_row_count-suc marks from n))
+    rw (
+      count_below-suc n,
+      given-marked marks chunks size from m n (omega arith),
+      count-below marks chunks size from m n
+          (omega arith),
+    ) (sym (given_row_count-suc marks from n))
 
 pub count-given : (marks : List Bool) (chunks : Chunks) (size from n : ℕ)
     → count_below n (given_shards marks chunks size from n) ≡ given_row_count marks from n
@@ -108,7 +112,7 @@ pub all_given : (marks : List Bool) (from n : ℕ) → given_row_count marks fro
     → is_marked marks (from + i) ≡ true
 all_given marks from n count i inside =
     sym (given-marked marks [] 0 from n i inside)
-        ∙ all_some n (given_shards marks [] 0 from n) (omega (arith, count, count-given marks [] 0 from n)) i inside
+    ∙ all_some n (given_shards marks [] 0 from n) (omega (arith, count, count-given marks [] 0 from n)) i inside
 
 pub none_given : (marks : List Bool) (from n : ℕ) → given_row_count marks from n ≡ 0 → (i : ℕ) → i < n
     → is_marked marks (from + i) ≡ false
@@ -174,9 +178,9 @@ given_if_some marks from n from_too m some = by_kind marks.shards some
 -- The number of missing originals and the number of surplus shards of a round, from the marked rows.
 pub tally_counts : (s : DecoderShape) (tally : Tally) (marks : Marks) → tally.shape ≡ s → CanBeRestored tally marks
     → (given_row_count (given_marks marks) s.frame.originals_from s.configuration.original_count + tally.missing
-        ≡ s.configuration.original_count)
+    ≡ s.configuration.original_count)
     × (given_row_count (given_marks marks) s.frame.originals_from s.configuration.original_count + given_row_count
-        (given_marks marks) s.frame.recovery_from s.configuration.recovery_count
+    (given_marks marks) s.frame.recovery_from s.configuration.recovery_count
     ≡ s.configuration.original_count + tally.surplus)
 tally_counts s tally marks same facts = rw (← same) (facts.missing_counted, facts.surplus_counted)
 
@@ -198,7 +202,7 @@ pub given-kept : (old new : List Bool) (before after : Chunks) (size from n : �
     × (given_row_count new from n ≡ given_row_count old from n)
 given-kept old new before after size from n same =
     let kept : given_shards new after size from n ≡ given_shards old before size from n =
-        fun_ext (λ i. given-same old new before after size from n i (same i)) in
+    fun_ext (λ i. given-same old new before after size from n i (same i)) in
     (kept, sym (count-given new after size from n) ∙ ap (count_below n) kept ∙ count-given old before size from n)
 
 with_entry-is : (given : Shards) (index i : ℕ) (shard : Shard)
@@ -216,10 +220,10 @@ pub given-entered : (old new : List Bool) (before after : Chunks) (size from n i
 given-entered old new before after size from n index shard inside free here others =
     let own : ℕ → Option Shard = given_shards old before size from n in
     let more : given_shards new after size from n ≡ with_entry (given_shards old before size from n) index shard =
-        fun_ext (λ i. elim (cases_eq i index) [
+    fun_ext (λ i. elim (cases_eq i index) [
       | inl same ↦
           ap (given_shards new after size from n) same ∙ given_shards-in new after size from n index inside ∙ here
-              ∙ sym (rw (with_entry-is own index i shard, eq-eqb i index same) refl)
+          ∙ sym (rw (with_entry-is own index i shard, eq-eqb i index same) refl)
       | inr apart ↦ given-same old new before after size from n i (λ _. others i apart)
           ∙ sym (rw (with_entry-is own index i shard, ne_eqb i index apart) refl)
     ]) in (
@@ -247,8 +251,8 @@ pub nothing-given : (rate : Rate) (s : DecoderShape) (marks : List Bool) (chunks
     → state_over rate s marks chunks ≡ fresh_decoder (configuration_at rate s.configuration)
 nothing-given rate s marks chunks empty =
     ap₂ (λ (o r : Shards). let state : DecoderState =
-        record { configuration = configuration_at rate s.configuration; originals = o; recovery = r } in state)
+    record { configuration = configuration_at rate s.configuration; originals = o; recovery = r } in state)
     (given-nothing marks chunks s.configuration.shard_bytes s.frame.originals_from s.configuration.original_count
-        (λ i inside. empty (s.frame.originals_from + i)))
+    (λ i inside. empty (s.frame.originals_from + i)))
     (given-nothing marks chunks s.configuration.shard_bytes s.frame.recovery_from s.configuration.recovery_count
-        (λ i inside. empty (s.frame.recovery_from + i)))
+    (λ i inside. empty (s.frame.recovery_from + i)))

@@ -12,8 +12,14 @@ use Rattle.rs_rate.specs.Configured.{frame_of}
 
 -- The frame of a decoder of the low rate, with each number written out.
 pub low_frame-is : (k r : ℕ) → frame_of low_rate k r
-    ≡ record { row_count = next_power (next_power k + r); originals_from = 0; recovery_from = next_power k; zeros_from =
-        k; zeros_to = next_power k }
+    ≡ record {
+      row_count = next_power (next_power k + r);
+      originals_from = 0;
+      recovery_from = next_power k;
+      zeros_from =
+          k;
+      zeros_to = next_power k;
+    }
 unfolding frame_of placement low_placement is_low decoder_rows
 low_frame-is k r = refl
 

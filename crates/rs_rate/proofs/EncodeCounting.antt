@@ -26,7 +26,7 @@ pub further-next : (start m step : ℕ) → 0 < m → m ≤ start
 further-next start m step some from =
     let moved : start + m - m ≡ start - m + m = omega arith in
     let one : further_blocks m (start + m) ≡ further_blocks m start + 1 =
-        ap (λ n. n / m) moved ∙ add-div_right (start - m) some in
+    ap (λ n. n / m) moved ∙ add-div_right (start - m) some in
     let more : further_blocks m (start + m) * step ≡ (further_blocks m start + 1) * step = ap (λ n. n * step) one in
     omega arith
 
@@ -40,7 +40,7 @@ further-within start rows m step some within =
 bound-is : (low : Bool) (k r m rows : ℕ) → supports (low_or_high low) k r ≡ true → m ≡ next_power (cond low k r)
     → rows ≡ encoder_rows (low_or_high low) k r
     → let f = further_blocks m rows in
-        (encode_steps_at (low_or_high low) k r ≡ (f + 2) * transform_steps m + 2 * (f * m + m)) × (rows ≡ f * m + m)
+    (encode_steps_at (low_or_high low) k r ≡ (f + 2) * transform_steps m + 2 * (f * m + m)) × (rows ≡ f * m + m)
 unfolding encode_steps
 bound-is low k r m rows is block all =
     let fit = rows-fit low k r is in
@@ -62,12 +62,16 @@ bound-is low k r m rows is block all =
 -- The steps of an encode of the low rate, part by part, are within the bound of the encode.
 pub low_total : (k r m rows : ℕ) → supports low_rate k r ≡ true → m ≡ next_power k → rows ≡ encoder_rows low_rate k r
     → m - k + transform_steps m + further_blocks m rows *
-        (m + transform_steps m) + transform_steps m + r ≤ encode_steps_at low_rate k r
+    (m + transform_steps m) + transform_steps m + r ≤ encode_steps_at low_rate k r
 low_total k r m rows is block all =
     let fit = rows-fit true k r is in
     let bound = bound-is true k r m rows is block all in
-    omega (arith, bound.0, sum k r m (transform_steps m) (further_blocks m rows)
-        (omega (arith, fit.enough, all, bound.1)))
+    omega (
+      arith,
+      bound.0,
+      sum k r m (transform_steps m) (further_blocks m rows)
+          (omega (arith, fit.enough, all, bound.1)),
+    )
   where
     sum : (k r m t f : ℕ) → r ≤ f * m + m → m - k + t + f * (m + t) + t + r ≤ (f + 2) * t + 2 * (f * m + m)
     sum k r m t f enough = omega arith
@@ -75,7 +79,7 @@ low_total k r m rows is block all =
 -- The steps of an encode of the high rate, part by part, are within the bound of the encode.
 pub high_total : (k r m rows : ℕ) → supports high_rate k r ≡ true → m ≡ next_power r → rows ≡ encoder_rows high_rate k r
     → m + transform_steps m + further_blocks m rows *
-        (2 * m + transform_steps m) + transform_steps m + r ≤ encode_steps_at high_rate k r
+    (2 * m + transform_steps m) + transform_steps m + r ≤ encode_steps_at high_rate k r
 high_total k r m rows is block all =
     let fit = rows-fit false k r is in
     let bound = bound-is false k r m rows is block all in

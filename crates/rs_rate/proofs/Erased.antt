@@ -88,7 +88,7 @@ are_erased p k r e bound zeros_end marks originals recovery f placed own coded =
       are_marks = record { mark = λ y hy. erased-most p.zeros_from p.zeros_to y marks };
       own = λ i hi.
           erased-row p.zeros_from p.zeros_to (p.originals_from + i) marks (is_some (originals i)) (inl (omega arith))
-              (sym (own i hi));
+          (sym (own i hi));
       coded = λ i hi.
           erased-row p.zeros_from p.zeros_to (p.recovery_from + i) marks (is_some (recovery i))
           (zeros_in p k r e bound zeros_end (p.recovery_from + i) f (omega arith)

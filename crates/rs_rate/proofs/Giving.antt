@@ -40,9 +40,12 @@ module _ {I A T : Type 0} (steps : I → Option A → I → Type 0) (view : A �
   pub begins-always : (iterator : I) (calls : Calls steps iterator) (list : List T)
       → AlwaysYields steps view iterator list → Begins view calls list
   begins-always iterator calls list yields =
-      let parts = always-begins steps view calls.items iterator calls.gave.0 calls.gave.1 list yields in
-      (parts.0, parts.1, λ ended. let last = calls.gave.2 ended in
-          no-item steps view calls.gave.0 last.0 parts.0 last.1 parts.2)
+      let parts = always-begins steps view calls.items iterator calls.gave.0 calls.gave.1 list yields in (
+        parts.0,
+        parts.1,
+        λ ended. let last = calls.gave.2 ended in
+            no-item steps view calls.gave.0 last.0 parts.0 last.1 parts.2,
+      )
 
 -- The record of no calls.
 abbrev pub no-calls : {I A : Type 0} {steps : I → Option A → I → Type 0} (iterator : I) → Calls steps iterator
@@ -58,8 +61,12 @@ ended-calls iterator after gives = record { items = []; ended = true; gave = (it
 abbrev pub more-calls : {I A : Type 0} {steps : I → Option A → I → Type 0} (iterator after : I) (item : A)
     → steps iterator (Some item) after → Calls steps after → Calls steps iterator
 more-calls iterator after item gives calls =
-    record { items = item ∷ calls.items; ended = calls.ended; gave =
-        (calls.gave.0, (after, gives, calls.gave.1), calls.gave.2) }
+    record {
+      items = item ∷ calls.items;
+      ended = calls.ended;
+      gave =
+          (calls.gave.0, (after, gives, calls.gave.1), calls.gave.2);
+    }
 
 -- Properties of all lists that begin with the items of some calls.
 module _ {I A T : Type 0} (steps : I → Option A → I → Type 0) (view : A → T) (P : List T → Type 0) where
@@ -136,7 +143,7 @@ module _ {I A S T : Type 0} {steps : I → Option A → I → Type 0} {view : A 
         gave = Yields-further steps leads.taken item begin iterator after leads.gave gives;
         led = λ more.
             ap (one_by_one add first) (map-further view leads.taken item more) ∙ leads.led (view item ∷ more)
-                ∙ ap (result_and_then (λ s. one_by_one add s more)) taken;
+            ∙ ap (result_and_then (λ s. one_by_one add s more)) taken;
       }
 
   -- If an item cannot be added, its error is the outcome, whatever comes after the item.
@@ -150,14 +157,18 @@ module _ {I A S T : Type 0} {steps : I → Option A → I → Type 0} {view : A 
     record {
       items = leads.taken ++ item ∷ [];
       ended = false;
-      gave = (after, Yields-further steps leads.taken item begin iterator after leads.gave gives, λ ended.
-          absurd (true≢false (sym ended)));
+      gave = (
+        after,
+        Yields-further steps leads.taken item begin iterator after leads.gave gives,
+        λ ended.
+            absurd (true≢false (sym ended)),
+      );
     },
     λ items begins.
         reaches-err (one_by_one add first items) P result e
         (
         ap (one_by_one add first) (begins.1 ∙ map-further view leads.taken item begins.0)
-            ∙ leads.led (view item ∷ begins.0)
+        ∙ leads.led (view item ∷ begins.0)
         ∙ ap (result_and_then (λ s. one_by_one add s begins.0)) refused
         )
         told,
@@ -173,7 +184,7 @@ module _ {I A S T : Type 0} {steps : I → Option A → I → Type 0} {view : A 
     λ items begins.
         reaches-ok (one_by_one add first items) P now
         (ap (one_by_one add first) (begins.1 ∙ ap (λ more. map view leads.taken ++ more) (begins.2 refl))
-            ∙ leads.led []) holds,
+        ∙ leads.led []) holds,
   )
 
 -- If a success reaches an outcome, the outcome is the state that was left.
@@ -214,20 +225,26 @@ module _ {I J A B T U : Type 0} {own : I → Option A → I → Type 0} {steps :
       × ((list : List T) → Begins see calls list → P list [])
       → (calls : Calls own start) × (further : Calls steps iterator)
       × ((list : List T) (more : List U) → Begins see calls list → Begins view further more → P list more)
-  ended-both iterator after gives run =
-      (run.0, ended-calls iterator after gives, λ list more begins ends.
-          ended-run steps view (P list) iterator after gives (run.1 list begins) more ends)
+  ended-both iterator after gives run = (
+    run.0,
+    ended-calls iterator after gives,
+    λ list more begins ends.
+        ended-run steps view (P list) iterator after gives (run.1 list begins) more ends,
+  )
 
   -- The second iterator gave an item first, and then other items.
   pub first-both : {iterator after : J} {item : B} → steps iterator (Some item) after
       → (calls : Calls own start) × (further : Calls steps after)
       × ((list : List T) (others : List U) → Begins see calls list → Begins view further others
-          → P list (view item ∷ others))
+      → P list (view item ∷ others))
       → (calls : Calls own start) × (further : Calls steps iterator)
       × ((list : List T) (more : List U) → Begins see calls list → Begins view further more → P list more)
-  first-both {iterator} {after} {item} gives run =
-      (run.0, more-calls iterator after item gives run.1, λ list more begins.
-          more-run steps view (P list) iterator after item gives run.1 (λ others. run.2 list others begins) more)
+  first-both {iterator} {after} {item} gives run = (
+    run.0,
+    more-calls iterator after item gives run.1,
+    λ list more begins.
+        more-run steps view (P list) iterator after item gives run.1 (λ others. run.2 list others begins) more,
+  )
 
   -- The property holds for the two lists that each run of the two iterators gives.
   pub always-both : {iterator : J} → (calls : Calls own start) × (further : Calls steps iterator)
@@ -244,8 +261,11 @@ pub lends-left : {A B : Type 0} (view : A → B) (own list : List B) → own ≡
 lends-left view own [] is = λ item after gives. let no : ⊥ = cc in no
 lends-left view own (x ∷ xs) is = (
   λ after gives. let none = gives.0 in let no : ⊥ = cc in no,
-  λ item after gives. (let same : view item ≡ x = cc in
-      same, lends-left view after xs (let rest : after ≡ xs = cc in rest)),
+  λ item after gives. (
+    let same : view item ≡ x = cc in
+        same,
+    lends-left view after xs (let rest : after ≡ xs = cc in rest),
+  ),
 )
 
 pub lends-list : {A B : Type 0} (view : A → B) (own list : List B) → own ≡ list

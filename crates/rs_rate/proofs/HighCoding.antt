@@ -25,7 +25,7 @@ use Rattle.rs_rate.proofs.HighCounts.{high_small}
 sum_one : (f : ℕ → ℕ) → sum_below 1 f ≡ f 0
 sum_one f =
     sum_below-suc 0 f ∙ ap (λ v. bit_xor v (f 0)) (sum_below-zero 0 f (λ i h. let no : ⊥ = omega arith in absurd no))
-        ∙ xor_zero_l (f 0)
+    ∙ xor_zero_l (f 0)
 
 -- The sums of one block are the combination of the first block.
 pub sums-first : (m k : ℕ) (old sums : ℕ → ℕ) → ((i : ℕ) → i < m → i < k → forward m m sums i ≡ old i)
@@ -79,7 +79,7 @@ sums-more m n k old sums one more values zeros added (those, those_values, those
       added q hq
       ∙ sym (sum_below-suc n (λ u. extended n those one u q)
       ∙ ap₂ bit_xor (sum_below-same n (λ u. extended n those one u q) (λ u. those u q)
-          (λ u h. extended-before n those one u q h) ∙ sym (sum q hq)) (extended-last n those one q))),
+      (λ u h. extended-before n those one u q h) ∙ sym (sum q hq)) (extended-last n those one q))),
 )
   where
     earlier : (u i : ℕ) → u < n → forward m (u * m + m) (extended n those one u) i ≡ forward m (u * m + m) (those u) i
@@ -99,7 +99,7 @@ pub sums-start : (m k : ℕ) (old passed : ℕ → ℕ) → 0 < m
 sums-start m k old passed some values zeros =
     subst (λ (n : ℕ). SumsBlocks m n k old passed) (sym (div_self some))
     (sums-first m k old passed (λ i hi given. at i ∙ values i hi (omega arith) ∙ ap old (zero-add i))
-        (λ i hi past. at i ∙ zeros i hi (omega arith)))
+    (λ i hi past. at i ∙ zeros i hi (omega arith)))
   where
     at : (i : ℕ) → forward m m passed i ≡ forward m (0 + m) (λ q. passed (0 + q)) i
     at i = ap (λ s. forward m s passed i) (sym (zero-add m))
@@ -121,10 +121,10 @@ sums-next m start k old now passed new some multiple left values zeros kept adde
     (sums-more m (start / m) k old now (λ q. passed (start + q)) new
     (λ i hi given.
     ap (λ t. forward m (t + m) (λ q. passed (start + q)) i) whole ∙ values i hi (omega arith)
-        ∙ left (start + i) (omega arith) ∙ ap (λ t. old (t + i)) (sym whole))
+    ∙ left (start + i) (omega arith) ∙ ap (λ t. old (t + i)) (sym whole))
     (λ i hi past. ap (λ t. forward m (t + m) (λ q. passed (start + q)) i) whole ∙ zeros i hi (omega arith))
     (λ q hq. ap new (sym (zero-add q)) ∙ added q hq
-        ∙ ap (λ v. bit_xor v (passed (start + q))) (ap passed (zero-add q) ∙ kept q hq)) sums)
+    ∙ ap (λ v. bit_xor v (passed (start + q))) (ap passed (zero-add q) ∙ kept q hq)) sums)
 
 -- ---- the polynomial
 
@@ -160,9 +160,9 @@ sum_family first n later q count room sum =
     ∙ ap₂ bit_xor (sum_one all ∙ family-first first n later q)
     (sum_below-add n rest (λ i. all (1 + i))
     ∙ ap₂ bit_xor (sum_below-same n (λ i. all (1 + i)) (λ u. later u q)
-        (λ u h. ap all (next u) ∙ family-later first n later u q h) ∙ sym sum)
+    (λ u h. ap all (next u) ∙ family-later first n later u q h) ∙ sym sum)
     (sum_below-zero rest (λ i. all (1 + (n + i)))
-        (λ i h. ap all (next (n + i)) ∙ family-past first n later (n + i) q (omega arith)))
+    (λ i h. ap all (next (n + i)) ∙ family-past first n later (n + i) q (omega arith)))
     ∙ xor_zero_r (first q))
     ∙ xor_self (first q)
   where
@@ -172,8 +172,11 @@ sum_family first n later q count room sum =
 -- A point below n blocks is in one of the n blocks.
 quotient_below : (j n m i x : ℕ) → x ≡ j * m + i → x < n * m → j < n
 quotient_below j n m i x is h =
-    elim (cases_lt j n) [ inl below ↦ below | inr above ↦ let le : n * m ≤ j * m = mul-le-mul_right m above in
-        absurd (let no : ⊥ = omega arith in no) ]
+    elim (cases_lt j n) [
+      | inl below ↦ below
+      | inr above ↦ let le : n * m ≤ j * m = mul-le-mul_right m above in
+          absurd (let no : ⊥ = omega arith in no)
+    ]
 
 -- A polynomial whose values on each block of points are the values of the combination of this block.
 record IsHigh (m all n : ℕ) (sums : ℕ → ℕ) (those : ℕ → ℕ → ℕ) (p : List ℕ) : Type 0 where
@@ -190,8 +193,8 @@ high_polynomial d t n sums those few room sum =
     let product : 2 ^ (d + t) ≡ 2 ^ d * 2 ^ t = pow-add 2 d t in
     let positive : 0 < 2 ^ d = pow_pos d in
     let least : 2 ^ d ≤ 2 ^ (d + t) =
-        (let le : 1 * 2 ^ d ≤ 2 ^ t * 2 ^ d = mul-le-mul_right (2 ^ d) (let h : 1 ≤ 2 ^ t = omega arith in h) in
-        omega arith) in
+    (let le : 1 * 2 ^ d ≤ 2 ^ t * 2 ^ d = mul-le-mul_right (2 ^ d) (let h : 1 ≤ 2 ^ t = omega arith in h) in
+    omega arith) in
     let g : ℕ → ℕ → ℕ = family sums n those in
     let f : ℕ → ℕ = joined_blocks d t 0 (family sums n those) in
     let start : 0 * 2 ^ d ≡ 0 = omega arith in
@@ -199,7 +202,7 @@ high_polynomial d t n sums those few room sum =
     let ends : 2 ^ (d + t) - 2 ^ d + 2 ^ d ≡ 2 ^ (d + t) = omega arith in
     let last : (q : ℕ) → q < 2 ^ d → f (2 ^ (d + t) - 2 ^ d + q) ≡ 0
     = λ q h. last-joined d t 0 (family sums n those) (2 ^ (d + t) - 2 ^ d) q ends
-        ∙ sum_family sums n those q (2 ^ t) room (sum q h) in
+    ∙ sum_family sums n those q (2 ^ t) room (sum q h) in
     let p = polynomial_of_terms (all - m) f (omega arith) in (
       p.0,
       record {
@@ -207,7 +210,7 @@ high_polynomial d t n sums those few room sum =
         words = p.2;
         blocks = λ j i x is within hi.
             let block : j < 2 ^ t =
-                quotient_below j (2 ^ t) (2 ^ d) i x is (let h : x < 2 ^ t * 2 ^ d = omega arith in h) in
+            quotient_below j (2 ^ t) (2 ^ d) i x is (let h : x < 2 ^ t * 2 ^ d = omega arith in h) in
             let here : 0 + j ≡ j = omega arith in
             p.3 x ∙ sym (forward-fewer (all - m) m f x last)
             ∙ ap₂ (λ c s. forward c s f x) ends (sym start) ∙ ap (forward all (0 * m) f) is
@@ -245,7 +248,7 @@ sums_code k m all n old sums those p some enough room values zeros h =
           let hu : j / m < n = quotient_below (j / m) n m (j % m) j (sym parts) (omega arith) in
           further u i (m + j) (let e : m + j ≡ j / m * m + m + j % m = omega arith in e) (omega arith) hi
           ∙ forward-same m (u * m + m) (family sums n those (suc u)) (those u) i
-              (λ q hq. family-later sums n those u q hu)
+          (λ q hq. family-later sums n those u q hu)
           ∙ values u i hu hi (omega arith) ∙ ap old parts;
       zeros = λ x low high.
           let j : ℕ = x - m in
@@ -257,7 +260,7 @@ sums_code k m all n old sums those p some enough room values zeros h =
           ∙ elim (cases_lt u n) [
             | inl hu ↦
                 forward-same m (u * m + m) (family sums n those (suc u)) (those u) i
-                    (λ q hq. family-later sums n those u q hu)
+                (λ q hq. family-later sums n those u q hu)
                 ∙ zeros u i hu hi (omega arith)
             | inr past ↦ forward-zero m (u * m + m) (family sums n those (suc u)) i
                 (λ q hq. family-past sums n those u q past)
@@ -288,10 +291,10 @@ high_coded k r n old sums new is enough room (those, values, zeros, sum) first =
     let parts : d + (16 - d) ≡ 16 = omega arith in
     let all : 2 ^ (d + (16 - d)) ≡ 65536 = ap (λ e. 2 ^ e) parts in
     let made = high_polynomial d (16 - d) n sums those (omega arith) (blocks d (16 - d) n (next_power r) power all room)
-        (λ q h. sum q (omega arith)) in
+    (λ q h. sum q (omega arith)) in
     let shape : IsHigh (next_power r) 65536 n sums those made.0
     = subst (λ (c : ℕ). IsHigh c 65536 n sums those made.0) (sym power)
-        (subst (λ (c : ℕ). IsHigh (2 ^ d) c n sums those made.0) all made.1) in
+    (subst (λ (c : ℕ). IsHigh (2 ^ d) c n sums those made.0) all made.1) in
     let codes = sums_code k m 65536 n old sums those made.0 positive enough room values zeros shape in (
       made.0,
       record {

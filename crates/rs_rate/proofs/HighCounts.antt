@@ -37,12 +37,12 @@ low_rows-fit k r is =
     let fits = low_fits k r is in
     let positive : 0 < next_power k = (let p = pow_pos known.0 in omega (arith, known.2)) in
     let parts : (r + next_power k - 1) / next_power k * next_power k + (r + next_power k - 1) % next_power k
-        ≡ r + next_power k - 1 = div-add-mod' (r + next_power k - 1) (next_power k) in
+    ≡ r + next_power k - 1 = div-add-mod' (r + next_power k - 1) (next_power k) in
     let rows : encoder_rows low_rate k r ≡ (r + next_power k - 1) / next_power k * next_power k =
-        sym (next_multiple-by true k r) in
+    sym (next_multiple-by true k r) in
     let rest : (r + next_power k - 1) % next_power k < next_power k = omega arith in
     let multiple : encoder_rows low_rate k r % next_power k ≡ 0 =
-        ap (λ n. n % next_power k) rows ∙ mul-mod_left ((r + next_power k - 1) / next_power k) (next_power k) in
+    ap (λ n. n % next_power k) rows ∙ mul-mod_left ((r + next_power k - 1) / next_power k) (next_power k) in
     record {
       power = (known.0, known.2);
       block = known.3;

@@ -37,7 +37,7 @@ further-more size start r wanted first now copied new few after combination valu
           let point : start + size + (i - start) ≡ size + i = omega arith in
           ap new (sym place) ∙ transform (i - start) (omega arith)
           ∙ forward-same size (start + size) (λ q. copied (start + q)) first (i - start)
-              (λ q h. copy q h ∙ combination q h)
+          (λ q h. copy q h ∙ combination q h)
           ∙ from_start size (start + size) first (i - start) ∙ ap (forward size 0 first) point
     ]
 

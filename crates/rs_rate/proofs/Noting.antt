@@ -21,10 +21,12 @@ use Rattle.rs_rate.proofs.Giving.{outcome-err}
 pub note_outcome-none : (n : ℕ) → AreNoted [] (replicate n false)
 note_outcome-none n =
     record {
-      places = λ i. elim (cases_lt i n)
-          [ inl inside ↦ get_or-replicate n i false false inside | inr outside ↦
-          get_or-eq_default (replicate n false) false
-          (subst (λ (m : ℕ). m ≤ i) (sym (length-replicate n false)) outside) ];
+      places = λ i. elim (cases_lt i n) [
+        | inl inside ↦ get_or-replicate n i false false inside
+        | inr outside ↦
+            get_or-eq_default (replicate n false) false
+            (subst (λ (m : ℕ). m ≤ i) (sym (length-replicate n false)) outside)
+      ];
       number = sum_by-replicate (λ (b : Bool). cond b 1 0) n false ∙ omega arith;
     }
 
@@ -48,9 +50,9 @@ note_outcome-tested : (count : ℕ) (indexes : List ℕ) (given : List Bool) (in
     ≡ answer_of (note_outcome count indexes index)
 note_outcome-tested count indexes given index size are =
     subst (λ (n : ℕ). tested n index (nat_le n index) (get_or given index false)
-        ≡ answer_of (note_outcome count indexes index)) (sym size)
+    ≡ answer_of (note_outcome count indexes index)) (sym size)
     (ap (tested count index (nat_le count index)) (are.places index)
-        ∙ by_tests (nat_le count index) (list_any (nat_eq index) indexes))
+    ∙ by_tests (nat_le count index) (list_any (nat_eq index) indexes))
   where
     by_tests : (outside taken : Bool)
         → tested count index outside taken ≡ answer_of (noted_by count indexes index outside taken)
@@ -73,7 +75,7 @@ pub note_outcome-added : {count : ℕ} {indexes : List ℕ} {given : List Bool} 
     → note_outcome count indexes index ≡ Ok (index ∷ indexes)
 note_outcome-added {count} {indexes} {given} index size are told =
     by_tests (nat_le count index) (list_any (nat_eq index) indexes)
-        (told ∙ note_outcome-tested count indexes given index size are)
+    (told ∙ note_outcome-tested count indexes given index size are)
   where
     by_tests : (outside taken : Bool) → Ok tt ≡ answer_of (noted_by count indexes index outside taken)
         → noted_by count indexes index outside taken ≡ Ok (index ∷ indexes)
@@ -109,7 +111,7 @@ note_outcome-more {indexes} {given} {new} index are told is =
       number =
           let one : Bool → ℕ = λ b. cond b 1 0 in
           let more : sum_by one (set given index true) + one (get_or given index false) ≡ sum_by one given + 1 =
-              sum_by-set one given index true false free.0 in
+          sum_by-set one given index true false free.0 in
           let none : one (get_or given index false) ≡ 0 = ap one free.1 in
           let noted : sum_by one given ≡ length indexes = are.number in
           omega arith;
@@ -124,7 +126,7 @@ enough k outcome = result_and_then
 module _ (k : ℕ) (items : Items) (places given : List Bool) (result : Result (Unit {0}) Error)
     (filled : places ≡ replicate k false)
     (leads : Reaches (one_by_one (λ so_far item. note_outcome (length places) so_far item.0) [] items) result
-        (λ all. AreNoted all given)) where
+    (λ all. AreNoted all given)) where
   outcome : Result (List ℕ) Error
   outcome = one_by_one (λ so_far item. note_outcome k so_far item.0) [] items
 
@@ -132,7 +134,7 @@ module _ (k : ℕ) (items : Items) (places given : List Bool) (result : Result (
   unfolding outcome
   led =
       subst (λ (n : ℕ). Reaches (one_by_one (λ so_far item. note_outcome n so_far item.0) [] items) result
-          (λ all. AreNoted all given)) (ap length filled ∙ length-replicate k false)
+      (λ all. AreNoted all given)) (ap length filled ∙ length-replicate k false)
       leads
 
   -- An error of noting is the result of `originals_alone`.

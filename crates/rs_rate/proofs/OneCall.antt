@@ -80,8 +80,11 @@ module _ (k r : ℕ) (first : Shard) (rest : List Shard) where
   encoding-unset e (inl same) =
       inl (ap (result_and_then (λ _. with_shards (fresh_encoder (default_of k r (length first))) (first ∷ rest))) same)
   encoding-unset e (inr lacks) =
-      inr (start_outcome-valid (encoder_rows default_rate k r)
-      (default_of k r (length first)) lacks.0, as-lacking e lacks.1)
+      inr (
+        start_outcome-valid (encoder_rows default_rate k r)
+            (default_of k r (length first)) lacks.0,
+        as-lacking e lacks.1,
+      )
 
   -- If the encoder was set up, the outcome of adding the shards is the outcome of encoding.
   pub encoding-given : (start : EncoderState)
@@ -91,7 +94,7 @@ module _ (k r : ℕ) (first : Shard) (rest : List Shard) where
   encoding-given start made fresh o is =
       inl (sym is ∙ ap (λ s. with_shards s (first ∷ rest)) fresh
       ∙ ap (result_and_then (λ _. with_shards (fresh_encoder (default_of k r (length first))) (first ∷ rest)))
-          (sym (start_outcome-made _ made)))
+      (sym (start_outcome-made _ made)))
 
 -- An error of adding the originals is an error of one-call `encode`.
 pub encoding-refused : (k r : ℕ) (shards : List Shard) (e : Error) → IsEncoding k r shards (Err e)
@@ -143,7 +146,7 @@ kept-by-all : {S T A : Type 0} (add : S → T → Result S Error) (view : S → 
 kept-by-all add view kept [] s t is = ap view (let same : t ≡ s = cc in same)
 kept-by-all add view kept (x ∷ xs) s t is =
     let one = first-ok (λ next. one_by_one add next xs) (add s x) t (sym is) in
-        kept-by-all add view kept xs one.0 t one.2 ∙ kept s one.0 x one.1
+    kept-by-all add view kept xs one.0 t one.2 ∙ kept s one.0 x one.1
 
 -- Adding an original or a recovery shard does not change the configuration of a decoder.
 kept-original : (s t : DecoderState) (item : ℕ × Shard) → with_original s item.0 item.1 ≡ Ok t
@@ -184,11 +187,14 @@ module _ (k r : ℕ) (originals : Items) (first : ℕ × Shard) (rest : Items) w
       → IsDecoding k r originals (first ∷ rest) (Err e)
   decoding-unset e (inl same) =
       inl (ap (λ o. result_and_then (λ s. Ok (Some s))
-          (result_and_then (λ _. with_both (fresh_decoder (default_of k r (length first.1))) originals (first ∷ rest))
-          o)) same)
+      (result_and_then (λ _. with_both (fresh_decoder (default_of k r (length first.1))) originals (first ∷ rest))
+      o)) same)
   decoding-unset e (inr lacks) =
-      inr (start_outcome-valid (decoder_rows default_rate k r)
-      (default_of k r (length first.1)) lacks.0, as-lacking e lacks.1)
+      inr (
+        start_outcome-valid (decoder_rows default_rate k r)
+            (default_of k r (length first.1)) lacks.0,
+        as-lacking e lacks.1,
+      )
 
   -- If the decoder was set up, the outcome of adding the shards is the outcome of decoding.
   pub decoding-given : (start : DecoderState)
@@ -199,7 +205,7 @@ module _ (k r : ℕ) (originals : Items) (first : ℕ × Shard) (rest : Items) w
   decoding-given start made fresh o is =
       inl (ap (result_and_then (λ s. Ok (Some s))) (sym is ∙ ap (λ s. with_both s originals (first ∷ rest)) fresh
       ∙ ap (result_and_then (λ _. with_both (fresh_decoder (default_of k r (length first.1))) originals (first ∷ rest)))
-          (sym (start_outcome-made _ made))))
+      (sym (start_outcome-made _ made))))
 
 -- An error of adding the shards is an error of one-call `decode`.
 pub decoding-refused : (k r : ℕ) (originals recovery : Items) (e : Error) → IsDecoding k r originals recovery (Err e)
@@ -247,7 +253,7 @@ module _ (k r : ℕ) (originals recovery : Items) (s : DecoderState)
   decoding-answers result answers =
       let led = decoding-led in
       subst (λ items. OneDecodeAnswers k r originals items result) (sym led.2)
-          (inl (leads-on DecodeAnswers (decoding_outcome k r originals led.0 led.1) s result led.3 answers))
+      (inl (leads-on DecodeAnswers (decoding_outcome k r originals led.0 led.1) s result led.3 answers))
 
   -- The collected result of the decoder, or `OutOfMemory`, is a result of one call.
   pub decoding-collected : (restored : Shards) (result : Result Shards Error) → DecodeAnswers s (Ok restored)
@@ -258,9 +264,9 @@ module _ (k r : ℕ) (originals recovery : Items) (s : DecoderState)
   decoding-collected restored (Err e) answers short =
       let led = decoding-led in
       let one = first-ok _ (start_outcome (decoder_rows default_rate k r) (default_of k r (length led.0.1))) s
-          (sym led.3) in
+      (sym led.3) in
       let opened = start_outcome-valid (decoder_rows default_rate k r) (default_of k r (length led.0.1))
-          (subst (λ (o : Result (Unit {0}) Error). IsOk o) (sym one.1) refl) in
+      (subst (λ (o : Result (Unit {0}) Error). IsOk o) (sym one.1) refl) in
       subst (λ items. OneDecodeAnswers k r originals items (Err e)) (sym led.2) (inr (opened, ap Err short))
 
   -- The decoder has the size of the first recovery shard.
@@ -269,16 +275,16 @@ module _ (k r : ℕ) (originals recovery : Items) (s : DecoderState)
   decoding-kept =
       let led = decoding-led in
       let set_up = first-ok _ (start_outcome (decoder_rows default_rate k r) (default_of k r (length led.0.1))) s
-          (sym led.3) in
+      (sym led.3) in
       let one = first-ok (λ now. with_recoveries now (led.0 ∷ led.1))
-          (with_originals (fresh_decoder (default_of k r (length led.0.1))) originals) s (sym set_up.2) in (
+      (with_originals (fresh_decoder (default_of k r (length led.0.1))) originals) s (sym set_up.2) in (
         led.0,
         led.1,
         led.2,
         kept-by-all (λ s item. with_recovery s item.0 item.1) (λ s. s.configuration) kept-recovery
             (led.0 ∷ led.1) one.0 s one.2
             ∙ kept-by-all (λ s item. with_original s item.0 item.1)
-                (λ s. s.configuration) kept-original originals _ one.0 one.1,
+            (λ s. s.configuration) kept-original originals _ one.0 one.1,
       )
 
 -- Adding a shard does not change the configuration of an encoder.
@@ -290,6 +296,6 @@ pub encoding-size : (k r : ℕ) (first : Shard) (rest : List Shard) (s : Encoder
     → IsEncoding k r (first ∷ rest) (Ok s) → s.configuration ≡ default_of k r (length first)
 encoding-size k r first rest s is =
     let one = first-ok _ (start_outcome (encoder_rows default_rate k r) (default_of k r (length first))) s
-        (sym (led k r (first ∷ rest) s is)) in
+    (sym (led k r (first ∷ rest) s is)) in
     kept-by-all with_shard (λ t. t.configuration) kept-shard (first ∷ rest)
-        (fresh_encoder (default_of k r (length first))) s one.2
+    (fresh_encoder (default_of k r (length first))) s one.2

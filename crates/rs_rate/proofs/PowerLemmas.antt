@@ -42,9 +42,11 @@ next_multiple_of-below n m some = let rest : (m - n % m) % m < m = omega arith i
 pub low_small : (k r : ℕ) → supports low_rate k r ≡ true → k ≤ 65536
 low_small k r is =
     let fits = low_fits k r is in
-    elim (cases_lt 65536 k)
-        [ inl many ↦ let large : 65536 < next_power k = next_power-large k many in absurd (omega arith) | inr small ↦
-        small ]
+    elim (cases_lt 65536 k) [
+      | inl many ↦ let large : 65536 < next_power k = next_power-large k many in absurd (omega arith)
+      | inr small ↦
+          small
+    ]
 
 -- If one multiple of m is below another, one more block of m fits between them.
 pub next_block : (start rows m : ℕ) → start < rows → start % m ≡ 0 → rows % m ≡ 0 → start + m ≤ rows
@@ -66,6 +68,6 @@ multiple_least n m some multiple = let least = next_block 0 n m some (zero-mod m
 pub multiple_room : (n d m : ℕ) → d ≤ 16 → m ≡ 2 ^ d → n % m ≡ 0 → n < 65536 → n + m ≤ 65536
 multiple_room n d m few power multiple below =
     let all : 65536 ≡ 2 ^ (16 - d) * m =
-        (let parts : 16 - d + d ≡ 16 = omega arith in sym (ap (λ e. 2 ^ e) parts) ∙ pow-add 2 (16 - d) d
-        ∙ ap (λ w. 2 ^ (16 - d) * w) (sym power)) in
+    (let parts : 16 - d + d ≡ 16 = omega arith in sym (ap (λ e. 2 ^ e) parts) ∙ pow-add 2 (16 - d) d
+    ∙ ap (λ w. 2 ^ (16 - d) * w) (sym power)) in
     next_block n 65536 m below multiple (ap (λ w. w % m) all ∙ mul-mod_left (2 ^ (16 - d)) m)

@@ -17,8 +17,14 @@ use Rattle.rs_rate.proofs.HighCounts.{high_turned}
 
 -- The frame of a decoder of the high rate, with each number written out.
 pub high_frame-is : (k r : ℕ) → frame_of high_rate k r
-    ≡ record { row_count = next_power (next_power r + k); originals_from = next_power r; recovery_from = 0; zeros_from =
-        next_power r + k; zeros_to = 65536 }
+    ≡ record {
+      row_count = next_power (next_power r + k);
+      originals_from = next_power r;
+      recovery_from = 0;
+      zeros_from =
+          next_power r + k;
+      zeros_to = 65536;
+    }
 unfolding frame_of placement high_placement is_low decoder_rows
 high_frame-is k r = refl
 
@@ -75,11 +81,16 @@ pub frame_alike : (one other : Rate) (k r : ℕ) → is_low one k r ≡ is_low o
 unfolding frame_of decoder_rows
 frame_alike one other k r same =
     ap₂ (λ (n : ℕ) (p : Placement).
-    let frame : Frame = record
-        { row_count = n; originals_from = p.originals_from; recovery_from = p.recovery_from; zeros_from =
-        p.zeros_from; zeros_to = p.zeros_to } in frame)
+    let frame : Frame = record {
+      row_count = n;
+      originals_from = p.originals_from;
+      recovery_from = p.recovery_from;
+      zeros_from =
+          p.zeros_from;
+      zeros_to = p.zeros_to;
+    } in frame)
     (ap (λ b. if b then next_power (next_power k + r) else next_power (next_power r + k)) same)
-        (placement_alike one other k r same)
+    (placement_alike one other k r same)
 
 codes_alike : (one other : Rate) (k r : ℕ) (words polynomial : List ℕ) → is_low one k r ≡ is_low other k r
     → Codes one k r words polynomial → Codes other k r words polynomial
@@ -97,13 +108,19 @@ codes_alike one other k r words polynomial alike codes =
 
 recovery_alike : (one other : Rate) (k r : ℕ) (words recovery : List ℕ) → is_low one k r ≡ is_low other k r
     → AreRecoveryWords one k r words recovery → AreRecoveryWords other k r words recovery
-recovery_alike one other k r words recovery alike (polynomial, codes, values) =
-    (polynomial, codes_alike one other k r words polynomial alike codes, λ i inside.
-        values i inside ∙ ap (λ p. value polynomial (p.recovery_from + i)) (placement_alike one other k r alike))
+recovery_alike one other k r words recovery alike (polynomial, codes, values) = (
+  polynomial,
+  codes_alike one other k r words polynomial alike codes,
+  λ i inside.
+      values i inside ∙ ap (λ p. value polynomial (p.recovery_from + i)) (placement_alike one other k r alike),
+)
 
 pub shards_alike : (one other : Rate) (k r size : ℕ) (message recovery : List Shard) → is_low one k r ≡ is_low other k r
     → AreRecovery (configuration one k r size) message recovery
     → AreRecovery (configuration other k r size) message recovery
 shards_alike one other k r size message recovery alike coded =
-    record { shards = coded.shards; words = λ j inside.
-        recovery_alike one other k r (columns j message) (columns j recovery) alike (coded.words j inside) }
+    record {
+      shards = coded.shards;
+      words = λ j inside.
+          recovery_alike one other k r (columns j message) (columns j recovery) alike (coded.words j inside);
+    }

@@ -22,9 +22,9 @@ restores_alike : (shape : DecoderShape) (marks : List Bool) (locator : List ℕ)
     → RestoresWords shape marks locator surplus old_too new_too agrees
 restores_alike shape marks locator surplus old new old_too new_too agrees same_old same_new r =
     subst (λ (f : ℕ → ℕ → ℕ → ℕ). RestoresWords shape marks locator surplus f new_too agrees)
-        (fun_ext (λ k. fun_ext (λ s. fun_ext (λ i. same_old k s i))))
+    (fun_ext (λ k. fun_ext (λ s. fun_ext (λ i. same_old k s i))))
     (subst (λ (f : ℕ → ℕ → ℕ → ℕ). RestoresWords shape marks locator surplus old f agrees)
-        (fun_ext (λ k. fun_ext (λ s. fun_ext (λ i. same_new k s i)))) r)
+    (fun_ext (λ k. fun_ext (λ s. fun_ext (λ i. same_new k s i)))) r)
 
 pub restores_read : (shape : DecoderShape) (marks : List Bool) (locator : List ℕ) (surplus n : ℕ)
     (before after : Chunks) (old new : ShardsRefMut) (agrees : Bool)

@@ -21,7 +21,7 @@ pub row-read : (r : ShardsRefMut) (i k : ℕ) → Fits r → i < r.shard_count �
 unfolding cell
 row-read r i k fits hi hk =
     let ends : i * r.shard_len_64 + r.shard_len_64 ≤ r.shard_count * r.shard_len_64 =
-        row_ends i r.shard_count r.shard_len_64 hi in
+    row_ends i r.shard_count r.shard_len_64 hi in
     part-read r.chunks.now (i * r.shard_len_64) r.shard_len_64 k (omega arith) hk
 
 -- One row was multiplied by its locator factor, in at most one row step, and no other row was changed.
@@ -63,7 +63,7 @@ pub from_row_zero : (size n i : ℕ) (values coefficients : ℕ → ℕ) → siz
     → values i ≡ forward n 0 coefficients i
 from_row_zero size n i values coefficients same is =
     sym (ap values (zero-add i)) ∙ is
-        ∙ ap₂ (λ m (f : ℕ → ℕ). forward m 0 f i) same (fun_ext (λ q. ap coefficients (zero-add q)))
+    ∙ ap₂ (λ m (f : ℕ → ℕ). forward m 0 f i) same (fun_ext (λ q. ap coefficients (zero-add q)))
 
 -- The last rows are zero exactly if the check of the last rows returns true.
 pub checked_rows : (rows surplus size count first : ℕ) (f : ℕ → ℕ → ℕ → ℕ) (answer agrees : Bool) → surplus ≤ rows

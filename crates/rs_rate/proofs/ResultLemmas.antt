@@ -28,14 +28,14 @@ pub length-left : (rows : EncoderRows) (i : ℕ)
     → length (drop i (lent_shards rows)) ≡ rows.shape.configuration.recovery_count - i
 length-left rows i =
     length-drop i (lent_shards rows)
-        ∙ ap (λ n. n - i) (length-up_to rows.shape.configuration.recovery_count
-        (shard_in_order rows.chunks.items rows.shape.configuration.shard_bytes))
+    ∙ ap (λ n. n - i) (length-up_to rows.shape.configuration.recovery_count
+    (shard_in_order rows.chunks.items rows.shape.configuration.shard_bytes))
 
 pub left-past : (rows : EncoderRows) (i : ℕ) → rows.shape.configuration.recovery_count ≤ i
     → drop i (lent_shards rows) ≡ []
 left-past rows i past =
     let count = length-up_to rows.shape.configuration.recovery_count
-        (shard_in_order rows.chunks.items rows.shape.configuration.shard_bytes) in
+    (shard_in_order rows.chunks.items rows.shape.configuration.shard_bytes) in
     drop_all i (lent_shards rows) (omega arith)
 
 -- The recovery shards from an index on begin with the shard of this index.
@@ -47,8 +47,8 @@ lends_next rows i shard inside lends =
     let count = length-up_to rows.shape.configuration.recovery_count f in
     drop-cons (lent_shards rows) i [] (omega arith)
     ∙ ap₂ (λ x n. x ∷ drop n (lent_shards rows))
-        (get-up_to rows.shape.configuration.recovery_count f i [] inside ∙ sym lends)
-        (let n : suc i ≡ i + 1 = omega arith in n)
+    (get-up_to rows.shape.configuration.recovery_count f i [] inside ∙ sym lends)
+    (let n : suc i ≡ i + 1 = omega arith in n)
 
 -- From the count on, there are no restored originals.
 pub restored_from-past : (rows : DecoderRows) (i : ℕ) → rows.shape.configuration.original_count ≤ i
@@ -60,14 +60,14 @@ pub restored_from-none : (rows : DecoderRows) (i : ℕ) (r : Option (Bor Shard))
     → restored_from rows i ≡ restored_from rows (i + 1)
 restored_from-none rows i r inside none lends =
     items_from-none i rows.shape.configuration.original_count (restored_by_rows rows) inside
-        (sym lends ∙ ap option_copied none)
+    (sym lends ∙ ap option_copied none)
 
 pub restored_from-some : (rows : DecoderRows) (i : ℕ) (r : Option (Bor Shard)) (shard : Bor Shard)
     → i < rows.shape.configuration.original_count → r ≡ Some shard
     → option_copied r ≡ restored_by_rows rows i → restored_from rows i ≡ (i, shard.now) ∷ restored_from rows (i + 1)
 restored_from-some rows i r shard inside some lends =
     items_from-some i rows.shape.configuration.original_count (restored_by_rows rows) shard.now inside
-        (sym lends ∙ ap option_copied some)
+    (sym lends ∙ ap option_copied some)
 
 -- The restored originals from index 0 on are all restored originals.
 restored_from-all : (rows : DecoderRows)
@@ -98,7 +98,7 @@ count-restored old new chunks size from m (suc n) fits marked =
     let more_too = given_row_count-suc old from n in
     let given = is_marked old (from + n) in
     let here = ap {B = ℕ} (λ o. cond (is_some o) 1 0)
-        (restored-marked new chunks size from m n (not given) (omega arith) (marked n (omega arith))) in
+    (restored-marked new chunks size from m n (not given) (omega arith) (marked n (omega arith))) in
     omega (arith, by_mark given (shard_in_order chunks size (from + n)), here)
   where
     by_mark : (given : Bool) (shard : Shard)
@@ -117,19 +117,29 @@ length-restored old new chunks size from n marked =
 pub restored-few : (rows : DecoderRows) → length (restored_from rows 0) < 2 ^ 64
 restored-few rows =
     let listed_all = ap length (restored_from-all rows)
-        ∙ length-listed rows.shape.configuration.original_count (restored_by_rows rows) in
-    omega (arith, listed_all, count-most rows.shape.configuration.original_count
-        (restored_by_rows rows), rows.laid.places.few, rows.laid.places.originals)
+    ∙ length-listed rows.shape.configuration.original_count (restored_by_rows rows) in
+    omega (
+      arith,
+      listed_all,
+      count-most rows.shape.configuration.original_count
+          (restored_by_rows rows),
+      rows.laid.places.few,
+      rows.laid.places.originals,
+    )
 
 -- The number of recovery shards of an encoder's configuration fits a `usize`.
 pub recovery_count-few : (rows : EncoderRows) → rows.shape.configuration.recovery_count < 2 ^ 64
 recovery_count-few rows =
-    omega (arith, rows.laid.recovery, count-few rows.shape.row_count rows.shape.configuration.shard_bytes
-        rows.laid.configured.positive rows.sized)
+    omega (
+      arith,
+      rows.laid.recovery,
+      count-few rows.shape.row_count rows.shape.configuration.shard_bytes
+          rows.laid.configured.positive rows.sized,
+    )
 
 -- The number of recovery shards that an encoder lends fits a `usize`.
 pub recovery-few : (rows : EncoderRows) → length (lent_shards rows) < 2 ^ 64
 recovery-few rows =
     let made = length-up_to rows.shape.configuration.recovery_count
-        (shard_in_order rows.chunks.items rows.shape.configuration.shard_bytes) in
+    (shard_in_order rows.chunks.items rows.shape.configuration.shard_bytes) in
     omega (arith, made, recovery_count-few rows)

@@ -50,7 +50,7 @@ pub given-more : (old new : Chunks) (size n length_ : ℕ) (shard : Shard) → l
     → up_to (n + 1) (shard_laid_out new size) ≡ up_to n (shard_laid_out old size) ++ shard ∷ []
 given-more old new size n length_ shard same here others =
     subst (λ (z : ℕ). up_to (n + 1) (shard_laid_out new z) ≡ up_to n (shard_laid_out old z) ++ shard ∷ []) same
-        (at length_ here others)
+    (at length_ here others)
   where
     at : (z : ℕ) → shard_laid_out new z n ≡ shard → ((i : ℕ) → i ≢ n → shard_laid_out new z i ≡ shard_laid_out old z i)
         → up_to (n + 1) (shard_laid_out new z) ≡ up_to n (shard_laid_out old z) ++ shard ∷ []
@@ -97,7 +97,7 @@ pub row_chunk-other : (chunks part : Chunks) (size i j k : ℕ) → i * row_len 
 unfolding row_chunk
 row_chunk-other chunks part size i j k fits same inside apart =
     part-outside chunks part (i * row_len size) (row_len size) (j * row_len size + k) fits same
-        (offset_apart i j k (row_len size) inside apart)
+    (offset_apart i j k (row_len size) inside apart)
 
 -- If a part that is row i was written, the shard in row i is the shard of the part.
 pub put-here : (chunks part : Chunks) (size i start n : ℕ) → start ≡ i * row_len size → n ≡ row_len size
@@ -131,7 +131,7 @@ unfolding row_chunk
 moved-read chunks size i start n m at width same fits =
     in_order-same size (λ k. chunk (take m (drop start chunks)) k) (row_chunk chunks size i)
     (λ k inside. ap (λ w. chunk (take w (drop start chunks)) k) same ∙ part-read chunks start n k fits (omega arith)
-        ∙ ap (λ a. chunk chunks (a + k)) at)
+    ∙ ap (λ a. chunk chunks (a + k)) at)
 
 -- A part that was written has the length of the chunks that it replaced.
 pub part_length : (chunks part : Chunks) (start n : ℕ) → start + n ≤ length chunks
@@ -147,7 +147,7 @@ unfolding row_chunk
 moved-here chunks part size i start n at width fits same moved =
     in_order-same size (row_chunk (put_mid start n chunks part) size i) (λ k. chunk part k)
     (λ k inside. ap₂ (λ a w. row_chunk (put_mid a w chunks part) size i k) at width
-        ∙ row_chunk-here chunks part size i k (omega arith) (omega arith) inside)
+    ∙ row_chunk-here chunks part size i k (omega arith) (omega arith) inside)
     ∙ moved
     ∙ laid_out-same size (λ k. chunk (take n (drop start chunks)) k) (row_chunk chunks size i)
     (λ k inside. part-read chunks start n k fits (omega arith) ∙ ap (λ a. chunk chunks (a + k)) at)
@@ -158,7 +158,7 @@ pub row_chunk-apart : (chunks part : Chunks) (size i j k start n : ℕ) → star
     → row_chunk (put_mid start n chunks part) size j k ≡ row_chunk chunks size j k
 row_chunk-apart chunks part size i j k start n at width fits same inside apart =
     ap₂ (λ a w. row_chunk (put_mid a w chunks part) size j k) at width
-        ∙ row_chunk-other chunks part size i j k (omega arith) (omega arith) inside apart
+    ∙ row_chunk-other chunks part size i j k (omega arith) (omega arith) inside apart
 
 -- Column j of the shard in row i has the words of row i.
 pub column-put : (chunks : Chunks) (size i j : ℕ) → size % 2 ≡ 0 → j < size / 2
@@ -178,4 +178,4 @@ row-fits chunks bytes size rows i k b whole fits wide few room inside small =
     let within = chunk_count-within i rows size (length chunks) few room in
     let place : i * row_len size + k < length chunks = omega (arith, end, within, inside) in
     byte_fits chunks bytes whole fits (i * row_len size + k) b place
-        (let all = wide (i * row_len size + k) place in omega (arith, all, small))
+    (let all = wide (i * row_len size + k) place in omega (arith, all, small))

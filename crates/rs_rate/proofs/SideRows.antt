@@ -36,10 +36,10 @@ given-at : (w : DecoderRows) (side : Side) (index row : ℕ) (given : Bool) → 
     → index < side_count side w.shape
     → is_marked (given_marks w.memory.marks) row ≡ given
     → is_some (given_shards (given_marks w.memory.marks) w.memory.chunks.items w.shape.configuration.shard_bytes
-        (side_from side w.shape) (side_count side w.shape) index) ≡ given
+    (side_from side w.shape) (side_count side w.shape) index) ≡ given
 given-at w side index row given at inside is =
     given-marked (given_marks w.memory.marks) w.memory.chunks.items w.shape.configuration.shard_bytes
-        (side_from side w.shape) (side_count side w.shape) index inside
+    (side_from side w.shape) (side_count side w.shape) index inside
     ∙ ap (λ (p : ℕ). is_marked (given_marks w.memory.marks) p) (sym at) ∙ is
 
 -- Adding a shard whose row is marked as given is an error.
@@ -49,10 +49,10 @@ pub add-repeated : (rate : Rate) (w : DecoderRows) (side : Side) (index row : �
     → with_shard_of_side side (decoder_state rate w) index shard ≡ Err (repeat_refused side index)
 add-repeated rate w Original index row shard at inside given =
     rw (lt-leb w.shape.configuration.original_count index inside, given-at w Original index row true at inside given)
-        refl
+    refl
 add-repeated rate w Recovery index row shard at inside given =
     rw (lt-leb w.shape.configuration.recovery_count index inside, given-at w Recovery index row true at inside given)
-        refl
+    refl
 
 pub add-sized : (rate : Rate) (w : DecoderRows) (side : Side) (index row : ℕ) (shard : Shard)
     → row ≡ side_row side w.shape index → index < side_count side w.shape
@@ -60,11 +60,17 @@ pub add-sized : (rate : Rate) (w : DecoderRows) (side : Side) (index row : ℕ) 
     → with_shard_of_side side (decoder_state rate w) index shard
     ≡ Err (DifferentShardSize w.shape.configuration.shard_bytes (length shard))
 add-sized rate w Original index row shard at inside free other =
-    rw (lt-leb w.shape.configuration.original_count index inside, given-at w Original index row false at inside free,
-        ne_eqb (length shard) w.shape.configuration.shard_bytes other) refl
+    rw (
+      lt-leb w.shape.configuration.original_count index inside,
+      given-at w Original index row false at inside free,
+      ne_eqb (length shard) w.shape.configuration.shard_bytes other,
+    ) refl
 add-sized rate w Recovery index row shard at inside free other =
-    rw (lt-leb w.shape.configuration.recovery_count index inside, given-at w Recovery index row false at inside free,
-        ne_eqb (length shard) w.shape.configuration.shard_bytes other) refl
+    rw (
+      lt-leb w.shape.configuration.recovery_count index inside,
+      given-at w Recovery index row false at inside free,
+      ne_eqb (length shard) w.shape.configuration.shard_bytes other,
+    ) refl
 
 -- A shard of the size was entered in a free row of a side, and no other row was changed.
 pub record RowEntered (w : DecoderRows) (side : Side) (index row : ℕ) (shard : Shard) (marks : List Bool)
@@ -90,13 +96,13 @@ own-entered : (w : DecoderRows) (side : Side) (index row : ℕ) (shard : Shard) 
     → RowEntered w side index row shard marks chunks
     → let from = side_from side w.shape in let n = side_count side w.shape in
     (given_shards marks chunks w.shape.configuration.shard_bytes from n
-        ≡ with_entry (given_shards
-        (given_marks w.memory.marks) w.memory.chunks.items w.shape.configuration.shard_bytes from n) index shard)
+    ≡ with_entry (given_shards
+    (given_marks w.memory.marks) w.memory.chunks.items w.shape.configuration.shard_bytes from n) index shard)
     × (given_row_count marks from n ≡ given_row_count (given_marks w.memory.marks) from n + 1)
 own-entered w side index row shard marks chunks e =
     let from = side_from side w.shape in
     given-entered (given_marks w.memory.marks) marks w.memory.chunks.items chunks w.shape.configuration.shard_bytes from
-        (side_count side w.shape) index shard e.inside
+    (side_count side w.shape) index shard e.inside
     (rw e.at at e.free) (rw e.at at e.here) (λ i apart. e.others (from + i) (omega (arith, e.at, apart)))
 
 -- The other side has the same shards as before the addition.
@@ -104,12 +110,12 @@ other-kept : (w : DecoderRows) (side : Side) (index row : ℕ) (shard : Shard) (
     → RowEntered w side index row shard marks chunks
     → let from = side_from (other side) w.shape in let n = side_count (other side) w.shape in
     (given_shards marks chunks w.shape.configuration.shard_bytes from n
-        ≡ given_shards (given_marks w.memory.marks) w.memory.chunks.items w.shape.configuration.shard_bytes from n)
+    ≡ given_shards (given_marks w.memory.marks) w.memory.chunks.items w.shape.configuration.shard_bytes from n)
     × (given_row_count marks from n ≡ given_row_count (given_marks w.memory.marks) from n)
 other-kept w side index row shard marks chunks e =
     let from = side_from (other side) w.shape in
     given-kept (given_marks w.memory.marks) marks w.memory.chunks.items chunks w.shape.configuration.shard_bytes from
-        (side_count (other side) w.shape)
+    (side_count (other side) w.shape)
     (λ i within. e.others (from + i) (other-apart w side index i row e.at e.inside within))
 
 -- The outcome of the addition is the state of the changed rows.
@@ -117,27 +123,35 @@ pub add-entered : (rate : Rate) (w : DecoderRows) (side : Side) (index row : ℕ
     (chunks : Chunks) → RowEntered w side index row shard marks chunks
     → with_shard_of_side side (decoder_state rate w) index shard ≡ Ok (state_over rate w.shape marks chunks)
 add-entered rate w Original index row shard marks chunks e =
-    rw (lt-leb w.shape.configuration.original_count index e.inside, given-at w Original index row false e.at e.inside
-        e.free, eq-eqb (length shard) w.shape.configuration.shard_bytes e.size)
+    rw (
+      lt-leb w.shape.configuration.original_count index e.inside,
+      given-at w Original index row false e.at e.inside
+          e.free,
+      eq-eqb (length shard) w.shape.configuration.shard_bytes e.size,
+    )
     (ap₂ (λ (o r : Shards).
-        Ok (record { configuration = configuration_at rate w.shape.configuration; originals = o; recovery = r }))
+    Ok (record { configuration = configuration_at rate w.shape.configuration; originals = o; recovery = r }))
     (sym ((own-entered w Original index row shard marks chunks e).0))
-        (sym ((other-kept w Original index row shard marks chunks e).0)))
+    (sym ((other-kept w Original index row shard marks chunks e).0)))
 add-entered rate w Recovery index row shard marks chunks e =
-    rw (lt-leb w.shape.configuration.recovery_count index e.inside, given-at w Recovery index row false e.at e.inside
-        e.free, eq-eqb (length shard) w.shape.configuration.shard_bytes e.size)
+    rw (
+      lt-leb w.shape.configuration.recovery_count index e.inside,
+      given-at w Recovery index row false e.at e.inside
+          e.free,
+      eq-eqb (length shard) w.shape.configuration.shard_bytes e.size,
+    )
     (ap₂ (λ (o r : Shards).
-        Ok (record { configuration = configuration_at rate w.shape.configuration; originals = o; recovery = r }))
+    Ok (record { configuration = configuration_at rate w.shape.configuration; originals = o; recovery = r }))
     (sym ((other-kept w Recovery index row shard marks chunks e).0))
-        (sym ((own-entered w Recovery index row shard marks chunks e).0)))
+    (sym ((own-entered w Recovery index row shard marks chunks e).0)))
 
 -- The counts after the addition are the numbers of marked rows.
 pub add-counted : (w : DecoderRows) (side : Side) (index row : ℕ) (shard : Shard) (marks : List Bool) (chunks : Chunks)
     → RowEntered w side index row shard marks chunks
     → (w.originals_given + side_originals side
-        ≡ given_row_count marks w.shape.frame.originals_from w.shape.configuration.original_count)
+    ≡ given_row_count marks w.shape.frame.originals_from w.shape.configuration.original_count)
     × (w.recovery_given + side_recovery side
-        ≡ given_row_count marks w.shape.frame.recovery_from w.shape.configuration.recovery_count)
+    ≡ given_row_count marks w.shape.frame.recovery_from w.shape.configuration.recovery_count)
 add-counted w Original index row shard marks chunks e =
     let more = (own-entered w Original index row shard marks chunks e).1 in
     let same = (other-kept w Original index row shard marks chunks e).1 in

@@ -26,8 +26,11 @@ pub with_shard-added : (s : EncoderState) (shard : Shard) → length s.given < s
     → length shard ≡ s.configuration.shard_bytes
     → state_after s (with_shard s shard) ≡ record s { given = s.given ++ shard ∷ [] }
 with_shard-added s shard room same =
-    rw (lt-leb s.configuration.original_count (length s.given) room, eq-eqb
-        (length shard) s.configuration.shard_bytes same) refl
+    rw (
+      lt-leb s.configuration.original_count (length s.given) room,
+      eq-eqb
+          (length shard) s.configuration.shard_bytes same,
+    ) refl
 
 -- The outcome of setting up a valid configuration is the outcome of allocating its chunks.
 pub start_outcome-by : (rows : ℕ) (c : Configuration) (chunks : ℕ) → validation_outcome c ≡ Ok tt
@@ -35,7 +38,7 @@ pub start_outcome-by : (rows : ℕ) (c : Configuration) (chunks : ℕ) → valid
 unfolding chunk_count
 start_outcome-by rows c chunks valid is =
     ap (result_and_then (λ _. cond (nat_le (2 ^ 64) (bytes_of_rows rows c.shard_bytes)) (Err OutOfMemory) (Ok tt)))
-        valid ∙ ap memory_outcome (sym is)
+    valid ∙ ap memory_outcome (sym is)
 
 -- If the size of chunks in bytes fits a `usize`, the outcome of allocating them is a success.
 memory_outcome-fits : (chunks : ℕ) → chunks * 64 < 2 ^ 64 → memory_outcome chunks ≡ Ok tt
@@ -66,7 +69,7 @@ on_err-at rate (Err e) P h = h rate
 abbrev tested : Configuration → Bool → Bool → Bool → Result (Unit {0}) Error
 tested c supported none odd =
     cond (not supported) (Err (UnsupportedShardCount c.original_count c.recovery_count))
-        (cond (none || odd) (Err (InvalidShardSize c.shard_bytes)) (Ok tt))
+    (cond (none || odd) (Err (InvalidShardSize c.shard_bytes)) (Ok tt))
 
 -- A valid configuration has counts that its rate supports.
 pub valid-supported : (c : Configuration) → validation_outcome c ≡ Ok tt
@@ -132,5 +135,5 @@ pub encoder_state-fresh : (rate : Rate) (rows : EncoderRows) (shape : EncoderSha
     → encoder_state rate rows ≡ fresh_encoder (configuration_at rate shape.configuration)
 encoder_state-fresh rate rows shape same none =
     let F : EncoderShape → List Shard → EncoderState = λ s given.
-        record { configuration = configuration_at rate s.configuration; given = given } in
+    record { configuration = configuration_at rate s.configuration; given = given } in
     ap₂ F same (ap (λ n. up_to n (shard_laid_out rows.chunks.items rows.shape.configuration.shard_bytes)) none)

@@ -24,8 +24,14 @@ configuration_at rate c = configuration rate c.original_count c.recovery_count c
 -- the configuration of a rate for these counts and this size
 abbrev pub rate_configuration : Rate → ℕ → ℕ → ℕ → Configuration
 rate_configuration rate k r size =
-    record { original_count = k; recovery_count = r; shard_bytes = size; is_low = is_low rate k r; block_rows =
-        block_rows rate k r }
+    record {
+      original_count = k;
+      recovery_count = r;
+      shard_bytes = size;
+      is_low = is_low rate k r;
+      block_rows =
+          block_rows rate k r;
+    }
 
 -- the low rate or the high rate
 abbrev pub low_or_high : Bool → Rate
@@ -44,8 +50,14 @@ pub record IsConfigured (c : Configuration) : Type 0 where
 unfoldable pub frame_of : Rate → ℕ → ℕ → Frame
 frame_of rate k r =
     let p = placement rate k r in
-    record { row_count = decoder_rows rate k r; originals_from = p.originals_from; recovery_from =
-        p.recovery_from; zeros_from = p.zeros_from; zeros_to = p.zeros_to }
+    record {
+      row_count = decoder_rows rate k r;
+      originals_from = p.originals_from;
+      recovery_from =
+          p.recovery_from;
+      zeros_from = p.zeros_from;
+      zeros_to = p.zeros_to;
+    }
 
 -- the shape of an encoder with this configuration
 abbrev pub shape_of_encoder : Configuration → EncoderShape

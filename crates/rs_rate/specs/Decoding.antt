@@ -45,7 +45,7 @@ pub record CanBeRestored (tally : Tally) (marks : Marks) : Type 0 where
   pub surplus_counted : given_row_count
       (given_marks marks) tally.shape.frame.originals_from tally.shape.configuration.original_count
       + given_row_count (given_marks marks) tally.shape.frame.recovery_from tally.shape.configuration.recovery_count
-          ≡ tally.shape.configuration.original_count + tally.surplus
+      ≡ tally.shape.configuration.original_count + tally.surplus
   pub few_surplus : tally.surplus ≤ tally.shape.frame.row_count
 
 -- the row steps of restoring words in the rows of a shape: one for each row, a transform, one for each surplus shard,
@@ -53,7 +53,7 @@ pub record CanBeRestored (tally : Tally) (marks : Marks) : Type 0 where
 abbrev pub restore_steps : DecoderShape → ℕ → ℕ
 restore_steps shape surplus =
     let w = shape.frame.row_count in
-        w + (transform_steps w + (surplus + (2 * transform_steps w + shape.configuration.original_count)))
+    w + (transform_steps w + (surplus + (2 * transform_steps w + shape.configuration.original_count)))
 
 -- the located word of row p: if its shard is given, the word times the generator to the power of the locator at p, else
 -- zero

@@ -78,7 +78,7 @@ restored_shards marks chunks size from n i =
 abbrev pub ArePlaced : ℕ → ℕ → ℕ → ℕ → List Bool → Type 0
 ArePlaced originals_from k recovery_from r marks =
     (p : ℕ) → (p < originals_from) ⊎ (originals_from + k ≤ p) → (p < recovery_from) ⊎ (recovery_from + r ≤ p)
-        → is_marked marks p ≡ false
+    → is_marked marks p ≡ false
 
 -- the marks say that these numbers of originals and of recovery shards are given, in their rows of a shape, and no
 -- shard in another row

@@ -28,7 +28,7 @@ use Rattle.rs_rate.specs.ShardRows.{chunk_count, shard_laid_out}
 pub all-up_to : (P : Shard → Type 0) (n : ℕ) (f : ℕ → Shard) → ((i : ℕ) → i < n → P (f i)) → All P (up_to n f)
 all-up_to P n f each i d h =
     let inside : i < n = subst (λ (m : ℕ). i < m) (length-up_to n f) h in
-        subst P (sym (get-up_to n f i d inside)) (each i inside)
+    subst P (sym (get-up_to n f i d inside)) (each i inside)
 
 -- an encoder over rows of a valid shape has a state that an encoder can have
 pub is_encoder : (rate : Rate) (rows : EncoderRows) → IsSetUp rate rows.shape.configuration
@@ -50,7 +50,7 @@ is_encoder rate rows is =
 -- an encoder has room for its own rows
 pub has_own_room : (rate : Rate) (rows : EncoderRows) → IsSetUp rate rows.shape.configuration
     → chunk_count (encoder_rows rate rows.shape.configuration.original_count rows.shape.configuration.recovery_count)
-        rows.shape.configuration.shard_bytes ≤ vec_capacity rows.chunks
+    rows.shape.configuration.shard_bytes ≤ vec_capacity rows.chunks
 has_own_room rate rows is =
     subst (λ (n : ℕ). chunk_count n rows.shape.configuration.shard_bytes ≤ vec_capacity rows.chunks)
     (rows.laid.rows ∙ encoder_rows_set_up rate rows.shape.configuration is) rows.own_room
@@ -97,8 +97,8 @@ is_decoder rate rows is =
 -- a decoder has room for its own rows
 pub has_own_decoder_room : (rate : Rate) (rows : DecoderRows) → IsSetUp rate rows.shape.configuration
     → HasRoom (memory_room rows.memory)
-        (decoder_rows rate rows.shape.configuration.original_count rows.shape.configuration.recovery_count)
-        rows.shape.configuration.shard_bytes
+    (decoder_rows rate rows.shape.configuration.original_count rows.shape.configuration.recovery_count)
+    rows.shape.configuration.shard_bytes
 has_own_decoder_room rate rows is =
     subst (λ (n : ℕ). HasRoom (memory_room rows.memory) n rows.shape.configuration.shard_bytes)
-        (rows.laid.rows ∙ decoder_rows_set_up rate rows.shape.configuration is) rows.laid_out.room
+    (rows.laid.rows ∙ decoder_rows_set_up rate rows.shape.configuration is) rows.laid_out.room

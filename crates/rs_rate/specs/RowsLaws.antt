@@ -35,7 +35,7 @@ pub decoder_rows_set_up : (rate : Rate) (c : Configuration) → IsSetUp rate c
 unfolding decoder_rows
 decoder_rows_set_up rate c is =
     ap (λ b. if b then next_power (next_power c.original_count + c.recovery_count) else next_power
-        (next_power c.recovery_count + c.original_count)) is.alike
+    (next_power c.recovery_count + c.original_count)) is.alike
 
 -- rows for larger shards have at least as many chunks
 pub chunk_count-size : (n a b : ℕ) → a ≤ b → chunk_count n a ≤ chunk_count n b
@@ -56,6 +56,12 @@ pub room_within : (n rows size own : ℕ) (room : DecoderRoom) → rows ≡ n �
     → chunk_count rows own * 64 < 2 ^ 64 → HasRoom room rows own
     → (chunk_count n size * 64 < 2 ^ 64) × HasRoom room n size
 room_within n rows size own room same less sized roomy =
-    let chunks = chunks_within n rows size own room.chunks same less sized roomy.chunks in
-    (chunks.0, record { chunks = chunks.1; rows = omega (arith, same, roomy.rows); entries =
-        omega (arith, same, roomy.entries) })
+    let chunks = chunks_within n rows size own room.chunks same less sized roomy.chunks in (
+      chunks.0,
+      record {
+        chunks = chunks.1;
+        rows = omega (arith, same, roomy.rows);
+        entries =
+            omega (arith, same, roomy.entries);
+      },
+    )

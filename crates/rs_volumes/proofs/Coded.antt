@@ -22,9 +22,11 @@ pub coded_sized : (k r n : ℕ) (pieces made : List Shard) → AreCoded k r piec
 coded_sized k r n pieces made coded sized =
     let some : 0 < k = (default_fits k r (valid-supported (default_of k r coded.size) coded.valid)).0 in
     let first : 0 < length pieces = omega (arith, some, coded.shards.length_is) in
-    let size : coded.size ≡ n = sym (coded.shards.each 0 [] first).length_is ∙ sized 0 [] first in
-    (subst (λ (m : ℕ). AreShards k m pieces) size coded.shards, subst
-        (λ (m : ℕ). AreRecovery (default_of k r m) pieces made) size coded.coded)
+    let size : coded.size ≡ n = sym (coded.shards.each 0 [] first).length_is ∙ sized 0 [] first in (
+      subst (λ (m : ℕ). AreShards k m pieces) size coded.shards,
+      subst
+          (λ (m : ℕ). AreRecovery (default_of k r m) pieces made) size coded.coded,
+    )
 
 -- a call that writes the pieces of the blocks from `first` on
 pub record Puts (first : ℕ) (pieces : List Shard) (before after : Shards) : Type 0 where
@@ -60,7 +62,7 @@ pub next_strip : (start piece size : ℕ) → start ≤ size → (start % 64 ≡
     → IsStrip start (start + min piece (size - start)) size
 next_strip start piece size inside begins chunks some less =
     let from : start % 64 ≡ 0 =
-        elim begins [ inl whole ↦ whole | inr last ↦ absurd (let no : ⊥ = omega (arith, last, less) in no) ] in
+    elim begins [ inl whole ↦ whole | inr last ↦ absurd (let no : ⊥ = omega (arith, last, less) in no) ] in
     elim (cases_lt piece (size - start)) [
       | inl lt ↦
           let width : min piece (size - start) ≡ piece = omega arith in
@@ -83,7 +85,7 @@ next_strip start piece size inside begins chunks some less =
 -- the pieces of vectors, as a call writes them
 pub puts_from : (first : ℕ) (vectors : List (Vec ℕ)) (before after : Shards)
     → ((i : ℕ) (block : Shard) → i < length vectors → before (first + i) ≡ Some block
-        → after (first + i) ≡ Some (block ++ shard_at (map (λ p. p.items) vectors) i))
+    → after (first + i) ≡ Some (block ++ shard_at (map (λ p. p.items) vectors) i))
     → ((i : ℕ) → (i < first) ⊎ (first + length vectors ≤ i) → after i ≡ before i)
     → Puts first (map (λ p. p.items) vectors) before after
 puts_from first vectors before after put others =
@@ -97,7 +99,7 @@ puts_from first vectors before after put others =
 module _ (first n : ℕ) (pieces : List Shard) (piece : Shard) (before now after : Shards)
     (is : piece ≡ shard_at pieces n)
     (done : (i : ℕ) (block : Shard) → i < n → before (first + i) ≡ Some block
-        → now (first + i) ≡ Some (block ++ shard_at pieces i))
+    → now (first + i) ≡ Some (block ++ shard_at pieces i))
     (rest : (i : ℕ) → (i < first) ⊎ (first + n ≤ i) → now i ≡ before i)
     (here : (block : Shard) → now (first + n) ≡ Some block → after (first + n) ≡ Some (block ++ piece))
     (others : (i : ℕ) → i ≢ first + n → after i ≡ now i) where

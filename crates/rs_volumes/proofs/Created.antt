@@ -99,14 +99,14 @@ joined_block k r xs ys ps qs i a b c d lt =
           let left : shard_at (xs ++ ys) i ≡ shard_at xs i = get_or-append xs ys [] i one in
           let right : shard_at (ps ++ qs) i ≡ shard_at ps i = get_or-append ps qs [] i two in
           front.1 ∙ shard_at-joined xs ps i one two ∙ ap (λ (x : Shard). x ++ shard_at ps i) (sym left)
-              ∙ ap (λ (x : Shard). shard_at (xs ++ ys) i ++ x) (sym right)
+          ∙ ap (λ (x : Shard). shard_at (xs ++ ys) i ++ x) (sym right)
       | inr back ↦
           let one : i - k < length ys = omega (arith, back.0) in
           let two : i - k < length qs = omega (arith, back.0) in
           let left : shard_at (xs ++ ys) i ≡ shard_at ys (i - k) = get_or-append_right xs ys k i [] a back.0 in
           let right : shard_at (ps ++ qs) i ≡ shard_at qs (i - k) = get_or-append_right ps qs k i [] c back.0 in
           back.1 ∙ shard_at-joined ys qs (i - k) one two ∙ ap (λ (x : Shard). x ++ shard_at qs (i - k)) (sym left)
-              ∙ ap (λ (x : Shard). shard_at (xs ++ ys) i ++ x) (sym right)
+          ∙ ap (λ (x : Shard). shard_at (xs ++ ys) i ++ x) (sym right)
     ]
 
 pub created_more : (shape : Shape) (start end : ℕ) (known before now after : Shards) (h h' r r' : List Sha256)
@@ -129,7 +129,7 @@ created_more shape start end known before now after h h' r r' strip old new =
           let one : i < length old.originals = omega (arith, lt, old.shards.length_is) in
           let two : i < length new.pieces = omega (arith, lt, new.shards.length_is) in
           shard_at-joined old.originals new.pieces i one two
-              ∙ ap (λ (x : Shard). x ++ shard_at new.pieces i) (old.read i block lt is)
+          ∙ ap (λ (x : Shard). x ++ shard_at new.pieces i) (old.read i block lt is)
           ∙ ap (λ (x : Shard). take start block ++ x) (new.read i block lt is)
           ∙ take-further start end block strip.order;
       hashed = new.hashed old.originals old.hashed;
@@ -137,14 +137,14 @@ created_more shape start end known before now after h h' r r' strip old new =
       written = λ i lt is.
           new.put i (shard_at (old.originals ++ old.recovery) i) lt (old.written i lt is)
           ∙ ap Some (sym (joined_block shape.original_count shape.recovery_count old.originals old.recovery new.pieces
-              new.made i old.shards.length_is old.made.length_is new.shards.length_is new.coded.shards.length_is lt));
+          new.made i old.shards.length_is old.made.length_is new.shards.length_is new.coded.shards.length_is lt));
     }
 
 pub created_all : (shape : Shape) (start : ℕ) (known before now : Shards) (h r : List Sha256) (digests : List ℕ)
     → start ≡ shape.block_bytes
     → IsCreatedTo shape start known before now h r
     → ((blocks : List Shard) → AreHashed h blocks → (others : List Shard) → AreHashed r others
-        → digests ≡ flat_map sha256 blocks ++ flat_map sha256 others)
+    → digests ≡ flat_map sha256 blocks ++ flat_map sha256 others)
     → IsCreated shape known before now digests
 created_all shape start known before now h r digests ends done hashed =
     let size : ℕ = shape.block_bytes in
@@ -157,7 +157,7 @@ created_all shape start known before now h r digests ends done hashed =
       coded = strips-join (default_of shape.original_count shape.recovery_count shape.block_bytes) done.originals
           done.recovery shards made
           (λ byte lt. let is = done.coded.strips byte (subst (λ (n : ℕ). byte < n) (sym ends) lt) in
-              (is.0, is.1, is.2, is.3, is.4, is.6));
+          (is.0, is.1, is.2, is.3, is.4, is.6));
       read = λ i block lt is len. done.read i block lt is ∙ take_all start block (omega (arith, ends, len));
       digests_are = hashed done.originals done.hashed done.recovery done.recovery_hashed;
       written = done.written;

@@ -90,25 +90,35 @@ pub number_takes : (w : Width) (limit : ℕ) (wide : IsWide w limit) (bytes : Li
     → IsBytes bytes → number_at w bytes ≡ Ok (n, rest) → Takes bytes (to_le_bytes w n) rest × (n < limit)
 number_takes w limit wide bytes n rest fits e =
     let g = guard_ok (ltb (length bytes) (byte_len w)) Short
-        (from_le_bytes w (take (byte_len w) bytes), drop (byte_len w) bytes) (n, rest) e in
+    (from_le_bytes w (take (byte_len w) bytes), drop (byte_len w) bytes) (n, rest) e in
     let long : byte_len w ≤ length bytes = ltb-false _ _ g.0 in
     let n-is : from_le_bytes w (take (byte_len w) bytes) ≡ n = ap (λ (p : ℕ × List ℕ). p.0) g.1 in
     let rest-is : drop (byte_len w) bytes ≡ rest = ap (λ (p : ℕ × List ℕ). p.1) g.1 in
     let front : to_le_bytes w n ≡ take (byte_len w) bytes =
-        rw (← n-is) (wide.back (take (byte_len w) bytes) (omega (arith, length-take (byte_len w) bytes))
-        (IsBytes-take (byte_len w) bytes fits)) in
-    (record { parts = rw (front, ← rest-is) (sym (take-append-drop (byte_len w) bytes)); rest_fits =
-        rw (← rest-is) (IsBytes-drop (byte_len w) bytes fits) }, rw (← n-is)
-        (wide.below (take (byte_len w) bytes) (IsBytes-take (byte_len w) bytes fits)))
+    rw (← n-is) (wide.back (take (byte_len w) bytes) (omega (arith, length-take (byte_len w) bytes))
+    (IsBytes-take (byte_len w) bytes fits)) in (
+      record {
+        parts = rw (front, ← rest-is) (sym (take-append-drop (byte_len w) bytes));
+        rest_fits =
+            rw (← rest-is) (IsBytes-drop (byte_len w) bytes fits);
+      },
+      rw (← n-is)
+          (wide.below (take (byte_len w) bytes) (IsBytes-take (byte_len w) bytes fits)),
+    )
 
 pub number_again : (w : Width) (limit : ℕ) (wide : IsWide w limit) (n : ℕ) (rest : List ℕ) → n < limit
     → number_at w (to_le_bytes w n ++ rest) ≡ Ok (n, rest)
 number_again w limit wide n rest lt =
     let len = wide.len n in
     let long : ltb (length (to_le_bytes w n ++ rest)) (byte_len w) ≡ false =
-        le-ltb _ _ (omega (arith, length-append (to_le_bytes w n) rest)) in
-    rw (long, take_at (to_le_bytes w n) rest (byte_len w) len, drop_at (to_le_bytes w n) rest
-        (byte_len w) len, wide.again n lt) refl
+    le-ltb _ _ (omega (arith, length-append (to_le_bytes w n) rest)) in
+    rw (
+      long,
+      take_at (to_le_bytes w n) rest (byte_len w) len,
+      drop_at (to_le_bytes w n) rest
+          (byte_len w) len,
+      wide.again n lt,
+    ) refl
 
 -- ---- names
 
@@ -117,25 +127,30 @@ pub name_takes : (bytes name rest : List ℕ) → IsBytes bytes → name_at byte
 unfolding name_at
 name_takes bytes name rest fits e =
     let b = bind_ok (number_at w16 bytes)
-        (λ n. cond (ltb (length n.1) n.0) (Err Short) (Ok (take n.0 n.1, drop n.0 n.1))) (name, rest) e in
+    (λ n. cond (ltb (length n.1) n.0) (Err Short) (Ok (take n.0 n.1, drop n.0 n.1))) (name, rest) e in
     let n = b.0 in
     let t = number_takes w16 (2 ^ 16) wide16 bytes n.0 n.1 fits b.1 in
     let g = guard_ok (ltb (length n.1) n.0) Short (take n.0 n.1, drop n.0 n.1) (name, rest) b.2 in
     let long : n.0 ≤ length n.1 = ltb-false _ _ g.0 in
     let len : length (take n.0 n.1) ≡ n.0 = omega (arith, length-take n.0 n.1) in
     let second : Takes n.1 (take n.0 n.1) (drop n.0 n.1) =
-        record { parts = sym (take-append-drop n.0 n.1); rest_fits = IsBytes-drop n.0 n.1 t.0.rest_fits } in
+    record { parts = sym (take-append-drop n.0 n.1); rest_fits = IsBytes-drop n.0 n.1 t.0.rest_fits } in
     let both = Takes-then bytes (to_le_bytes w16 n.0) n.1 (take n.0 n.1) (drop n.0 n.1) t.0 second in
     let whole : Takes bytes (name_spelling (take n.0 n.1)) (drop n.0 n.1) =
-        subst (λ (k : ℕ). Takes bytes (to_le_bytes w16 k ++ take n.0 n.1) (drop n.0 n.1)) (sym len) both in
+    subst (λ (k : ℕ). Takes bytes (to_le_bytes w16 k ++ take n.0 n.1) (drop n.0 n.1)) (sym len) both in
     subst (λ (p : List ℕ × List ℕ). Takes bytes (name_spelling p.0) p.1 × (length p.0 < 2 ^ 16)) g.1
-        (whole, omega (arith, t.1))
+    (whole, omega (arith, t.1))
 
 pub name_again : (name rest : List ℕ) → length name < 2 ^ 16 → name_at (name_spelling name ++ rest) ≡ Ok (name, rest)
 unfolding name_at
 name_again name rest lt =
     let long : ltb (length (name ++ rest)) (length name) ≡ false =
-        le-ltb _ _ (omega (arith, length-append name rest)) in
+    le-ltb _ _ (omega (arith, length-append name rest)) in
     ap name_at (append_assoc (to_le_bytes w16 (length name)) name rest)
-    ∙ rw (number_again w16 (2 ^ 16) wide16 (length name) (name ++ rest) lt, long, take_at name rest
-        (length name) refl, drop_at name rest (length name) refl) refl
+    ∙ rw (
+      number_again w16 (2 ^ 16) wide16 (length name) (name ++ rest) lt,
+      long,
+      take_at name rest
+          (length name) refl,
+      drop_at name rest (length name) refl,
+    ) refl

@@ -30,7 +30,7 @@ shard_at-joined (block ∷ blocks) (piece ∷ pieces) (suc i) h k =
 pub absorbed : (old new : List Sha256) (blocks pieces : List Shard) → length old ≡ length pieces
     → length new ≡ length pieces
     → ((i : ℕ) (d : Sha256) (m : List ℕ) → i < length pieces → Holds256 (get_or old i d) m
-        → Holds256 (get_or new i d) (m ++ shard_at pieces i))
+    → Holds256 (get_or new i d) (m ++ shard_at pieces i))
     → AreHashed old blocks → AreHashed new (joined blocks pieces)
 absorbed old new blocks pieces one other step is =
     let count : length old ≡ length blocks = is.number in
@@ -41,5 +41,5 @@ absorbed old new blocks pieces one other step is =
           let block : i < length blocks = omega arith in
           let P : List ℕ → Type 0 = λ m. Holds256 (get_or new i d) m in
           subst P (sym (shard_at-joined blocks pieces i block inside))
-              (step i d (shard_at blocks i) inside (is.each i d before));
+          (step i d (shard_at blocks i) inside (is.each i d before));
     }

@@ -25,8 +25,8 @@ unfolding files_at
 goes_on front count i bytes n after total lt h so_far =
     let k : count - i ≡ suc (count - (i + 1)) = omega arith in
     let one : with_front front (files_at (count - i) bytes)
-        ≡ with_front (front ++ n ∷ []) (files_at (count - (i + 1)) after) =
-        rw (k, h) (regroup front n (files_at (count - (i + 1)) after)) in
+    ≡ with_front (front ++ n ∷ []) (files_at (count - (i + 1)) after) =
+    rw (k, h) (regroup front n (files_at (count - (i + 1)) after)) in
     sym one ∙ so_far
 
 pub ends : (e : ReadError) (front : List SetFile) (count i : ℕ) (bytes : List ℕ)
@@ -45,5 +45,5 @@ unfolding files_at
 is_done front count i bytes total le so_far =
     let k : count - i ≡ 0 = omega arith in
     let one : with_front front (files_at (count - i) bytes) ≡ Ok (front, bytes) =
-        rw k (ap (λ (fs : List SetFile). Ok (fs, bytes)) (append-nil front)) in
+    rw k (ap (λ (fs : List SetFile). Ok (fs, bytes)) (append-nil front)) in
     sym so_far ∙ one

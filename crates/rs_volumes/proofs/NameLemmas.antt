@@ -48,8 +48,8 @@ between_further name start i le h =
     let here : start + (i - start) ≡ i = omega arith in
     let inside : i - start < length (drop start name) = omega (arith, length-drop start name) in
     rw n (take_more (drop start name) (i - start) 0 inside
-        ∙ ap (λ (x : ℕ). take (i - start) (drop start name) ++ x ∷ [])
-        (get_or-drop start name (i - start) 0 ∙ ap (λ (k : ℕ). get_or name k 0) here))
+    ∙ ap (λ (x : ℕ). take (i - start) (drop start name) ++ x ∷ [])
+    (get_or-drop start name (i - start) 0 ∙ ap (λ (k : ℕ). get_or name k 0) here))
 
 pub between_nothing : (name : List ℕ) (i : ℕ) → between i i name ≡ []
 between_nothing name i = between_none name i
@@ -149,7 +149,7 @@ module _ (files : List FileEntry) (i : ℕ) (file : FileEntry) (h : i < length f
 
   pub fills_at : (block left : ℕ) → blocks_of block file.size ≤ left
       → eqb (blocks_in block (files_of (drop i files))) left ≡ eqb (blocks_in block (files_of (drop (i + 1) files)))
-          (left - blocks_of block file.size)
+      (left - blocks_of block file.size)
   fills_at block left le = ap (λ (fs : List SetFile). eqb (blocks_in block fs) left) cut
       ∙ fills_further block (file_of file) (files_of (drop (i + 1) files)) left le
 

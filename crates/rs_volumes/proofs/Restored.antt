@@ -13,13 +13,18 @@ use Rattle.rs_volumes.proofs.Created.{length-empty, shard_at-empty}
 pub step_none : (hashers : List Sha256) (n : ℕ) (before : Shards) → AreHashed hashers (empty_blocks n)
     → AreInStep hashers before before
 step_none hashers n before is =
-    record { each = λ i d h.
-        ([], subst (λ (bytes : Shard). Holds256 (get_or hashers i d) bytes) (shard_at-empty n i)
-        (is.each i d h), λ same. same) }
+    record {
+      each = λ i d h. (
+        [],
+        subst (λ (bytes : Shard). Holds256 (get_or hashers i d) bytes) (shard_at-empty n i)
+            (is.each i d h),
+        λ same. same,
+      );
+    }
 
 pub step_one : (old new : List Sha256) (index : ℕ) (piece : Shard) (before now after : Shards) → length new ≡ length old
     → ((d : Sha256) (bytes : Shard) → Holds256 (get_or old index d) bytes
-        → Holds256 (get_or new index d) (bytes ++ piece))
+    → Holds256 (get_or new index d) (bytes ++ piece))
     → ((i : ℕ) (d : Sha256) → i ≢ index → get_or new i d ≡ get_or old i d)
     → ((bytes : Shard) → now index ≡ Some bytes → after index ≡ Some (bytes ++ piece))
     → ((i : ℕ) → i ≢ index → after i ≡ now i)
@@ -38,16 +43,19 @@ step_one old new index piece before now after count here others put rest is =
                       (here d bytes (subst (λ (n : ℕ). Holds256 (get_or old n d) bytes) at one.1)),
                   λ empty. ap after at ∙ put bytes (ap now (sym at) ∙ one.2 empty),
                 )
-            | inr other ↦
-                (bytes, subst (λ (hasher : Sha256). Holds256 hasher bytes) (sym (others i d other.1)) one.1, λ empty.
-                    rest i other.1 ∙ one.2 empty)
+            | inr other ↦ (
+              bytes,
+              subst (λ (hasher : Sha256). Holds256 hasher bytes) (sym (others i d other.1)) one.1,
+              λ empty.
+                  rest i other.1 ∙ one.2 empty,
+            )
           ];
     }
 
 pub restored : (hashers : List Sha256) (wanted : List Bool) (digests : List ℕ) (before after : Shards)
     → length wanted ≤ length hashers → AreInStep hashers before after
     → ((i : ℕ) (d : Sha256) (bytes : Shard) → i < length wanted → get_or wanted i false ≡ true
-        → Holds256 (get_or hashers i d) bytes → HasDigest digests i bytes)
+    → Holds256 (get_or hashers i d) bytes → HasDigest digests i bytes)
     → AreRestored wanted digests before after
 restored [] wanted digests before after room step compared =
     record { each = λ i lt is. absurd (omega (arith, room, lt)) }

@@ -20,7 +20,7 @@ reading_takes bytes s fits e =
     let b = bind_ok (set_outcome a.0) (λ _. Ok a.0) s a.2 in
     let t = description_takes bytes a.0 fits a.1 in
     subst (λ (v : FileSet). IsSound v × (bytes ≡ spelling v)) (ok_is a.0 s b.2)
-        (record { fits = t.0; outcome = b.1 }, t.1)
+    (record { fits = t.0; outcome = b.1 }, t.1)
 
 pub reading_again : (s : FileSet) → IsSound s → reading (spelling s) ≡ Ok s
 unfolding reading

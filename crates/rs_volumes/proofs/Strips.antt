@@ -43,7 +43,7 @@ pieces-front s e start [] ps order le each = refl
 pieces-front s e start (x ∷ xs) [] order le each = refl
 pieces-front s e start (x ∷ xs) (p ∷ ps) order le each =
     ap (λ (y : Shard). y ∷ pieces s e (joined xs ps)) (between-front s e start x p order le each.0)
-        ∙ ap (λ (ys : List Shard). between s e x ∷ ys) (pieces-front s e start xs ps order le each.1)
+    ∙ ap (λ (ys : List Shard). between s e x ∷ ys) (pieces-front s e start xs ps order le each.1)
 
 pieces-back : (start end : ℕ) (xs ps : List Shard) → length xs ≡ length ps → AllByRecursion (λ x. length x ≡ start) xs
     → AllByRecursion (λ p. length p ≡ end - start) ps → pieces start end (joined xs ps) ≡ ps
@@ -54,7 +54,7 @@ pieces-back start end (x ∷ xs) [] count each other = absurd (omega arith)
 pieces-back start end (x ∷ xs) (p ∷ ps) count each other =
     let rest : length xs ≡ length ps = omega arith in
     ap (λ (y : Shard). y ∷ pieces start end (joined xs ps)) (between-back start end x p each.0 other.0)
-        ∙ ap (λ (ys : List Shard). p ∷ ys) (pieces-back start end xs ps rest each.1 other.1)
+    ∙ ap (λ (ys : List Shard). p ∷ ys) (pieces-back start end xs ps rest each.1 other.1)
 
 lengths : (n size : ℕ) (xs : List Shard) → AreShards n size xs → AllByRecursion (λ x. length x ≡ size) xs
 lengths n size xs are = recursion_from_All (λ x. length x ≡ size) xs (λ i d h. (are.each i d h).length_is)
@@ -71,7 +71,7 @@ shards-joined count n m xs ps are new =
           let first : i < length xs = omega (arith, are.length_is) in
           let second : i < length ps = omega (arith, new.length_is) in
           let is : get_or (joined xs ps) i d ≡ get_or xs i [] ++ get_or ps i [] =
-              get_or_default (joined xs ps) i d [] h ∙ shard_at-joined xs ps i first second in
+          get_or_default (joined xs ps) i d [] h ∙ shard_at-joined xs ps i first second in
           let one = are.each i [] first in
           let two = new.each i [] second in
           subst (IsShard (n + m)) (sym is) (record {
@@ -114,13 +114,13 @@ coded-more k r size start end originals recovery ps made strip are others new co
               subst (λ (l : List Shard). AreRecovery (default_of k r (e - s)) l (pieces s e (joined recovery made)))
                   (sym front)
                   (subst (λ (l : List Shard). AreRecovery (default_of k r (e - s)) (pieces s e originals) l)
-                      (sym back) old.6),
+                  (sym back) old.6),
             )
         | inr after ↦
             let one = pieces-back start end originals ps (are.length_is ∙ sym new.length_is)
-                (lengths k start originals are) (lengths k (end - start) ps new) in
+            (lengths k start originals are) (lengths k (end - start) ps new) in
             let two = pieces-back start end recovery made (others.length_is ∙ sym coded.shards.length_is)
-                (lengths r start recovery others) (lengths r (end - start) made coded.shards) in (
+            (lengths r start recovery others) (lengths r (end - start) made coded.shards) in (
               start,
               end,
               strip,

@@ -54,8 +54,8 @@ file_spelling f = to_le_bytes w64 f.size
 abbrev pub opening_spelling : ℕ → ℕ → ℕ → ℕ → List ℕ
 opening_spelling block k r files =
     to_le_bytes w32 1 ++
-        (to_le_bytes w32 1 ++
-        (to_le_bytes w64 block ++ (to_le_bytes w32 k ++ (to_le_bytes w32 r ++ to_le_bytes w32 files))))
+    (to_le_bytes w32 1 ++
+    (to_le_bytes w64 block ++ (to_le_bytes w32 k ++ (to_le_bytes w32 r ++ to_le_bytes w32 files))))
 
 -- the spelling of a description: the opening, the files, and the digests
 abbrev pub spelling : FileSet → List ℕ

@@ -80,7 +80,7 @@ opening_at bytes = do
 unfoldable pub digests_in : ℕ → List ℕ → Result (List ℕ) Fault
 digests_in blocks bytes =
     if nat_lt (length bytes) (32 * blocks) then Err Short else if nat_lt (32 * blocks)
-        (length bytes) then Err Trailing else Ok bytes
+    (length bytes) then Err Trailing else Ok bytes
 
 -- a description that takes all of the bytes
 unfoldable pub description_in : List ℕ → Result FileSet Fault

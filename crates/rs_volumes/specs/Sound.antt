@@ -62,7 +62,7 @@ set_outcome s =
     if not (allows_block s.block_bytes) then Err BlockSize
     else if not (allows_counts s.original_count s.recovery_count) then Err Counts
     else files_outcome [] s.files >>= λ _.
-        if blocks_in s.block_bytes s.files == s.original_count then Ok tt else Err Blocks
+    if blocks_in s.block_bytes s.files == s.original_count then Ok tt else Err Blocks
 
 -- a set has a description, and its numbers fit each other
 pub record IsSound (s : FileSet) : Type 0 where

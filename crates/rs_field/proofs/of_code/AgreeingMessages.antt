@@ -32,7 +32,7 @@ pub column_taken : (c : Configuration) (originals recovery : Shards) (message : 
     → HasWords (placement c.rate c.original_count c.recovery_count) originals recovery j words
     → (p : List ℕ) × Codes c.rate c.original_count c.recovery_count (columns j message) p
     × TakesGiven (placement c.rate c.original_count c.recovery_count) c.original_count c.recovery_count originals
-        recovery words p
+    recovery words p
 column_taken c originals recovery message j words hj a w =
     let (p, codes, at) = a.coded.1.words j hj in (
       p,
@@ -68,14 +68,14 @@ abbrev pub IsTaken : (c : Configuration) (originals recovery : Shards) (words : 
 IsTaken c originals recovery words j p =
     (message : List ℕ) × Codes c.rate c.original_count c.recovery_count message p
     × TakesGiven (placement c.rate c.original_count c.recovery_count) c.original_count c.recovery_count originals
-        recovery (words j) p
+    recovery (words j) p
 
 -- If each column has a polynomial that codes and has the given words as values, some message agrees with the given
 -- shards.
 pub consistent : (c : Configuration) (originals recovery : Shards) (words : ℕ → ℕ → ℕ) → c.shard_bytes % 2 ≡ 0
     → AreSized c.original_count c.shard_bytes originals → AreSized c.recovery_count c.shard_bytes recovery
     → ((j : ℕ) → j < c.shard_bytes / 2
-        → HasWords (placement c.rate c.original_count c.recovery_count) originals recovery j (words j))
+    → HasWords (placement c.rate c.original_count c.recovery_count) originals recovery j (words j))
     → ((j : ℕ) → j < c.shard_bytes / 2 → (p : List ℕ) × IsTaken c originals recovery words j p)
     → Consistent c originals recovery
 consistent c originals recovery words even own_sized coded_sized has made =
@@ -91,11 +91,11 @@ consistent c originals recovery words even own_sized coded_sized has made =
     by_shards : (f : ℕ → List ℕ) → ((j : ℕ) → j < c.shard_bytes / 2 → IsTaken c originals recovery words j (f j))
         → (message : List Shard) × AreShards c.original_count c.shard_bytes message
         × ((i j : ℕ) → i < c.original_count → j < c.shard_bytes / 2
-            → slice_index (columns j message) i
+        → slice_index (columns j message) i
         ≡ value (f j) ((placement c.rate c.original_count c.recovery_count).originals_from + i) % 65536)
         → (coded : List Shard) × AreShards c.recovery_count c.shard_bytes coded
         × ((i j : ℕ) → i < c.recovery_count → j < c.shard_bytes / 2
-            → slice_index (columns j coded) i
+        → slice_index (columns j coded) i
         ≡ value (f j) ((placement c.rate c.original_count c.recovery_count).recovery_from + i) % 65536)
         → Consistent c originals recovery
     by_shards f at (message, are, is) (coded, are_coded, is_coded) = (
@@ -105,10 +105,10 @@ consistent c originals recovery words even own_sized coded_sized has made =
         own = λ i s e.
             let sized = own_sized.each i s e in
             shard_from_columns c.shard_bytes (shard_at message i) s
-                (are.each i [] (subst (λ (k : ℕ). i < k) (sym are.length_is) sized.0)) sized.1 even
+            (are.each i [] (subst (λ (k : ℕ). i < k) (sym are.length_is) sized.0)) sized.1 even
             (λ j hj.
             sym (columns-at j message i) ∙ is i j sized.0 hj
-                ∙ same_word f at j ((placement c.rate c.original_count c.recovery_count).originals_from + i) hj
+            ∙ same_word f at j ((placement c.rate c.original_count c.recovery_count).originals_from + i) hj
             ∙ (at j hj).2.own i sized.0 (ap is_some e) ∙ (has j hj).own i s e);
         coded = (
           coded,
@@ -131,10 +131,10 @@ consistent c originals recovery words even own_sized coded_sized has made =
           λ i s e.
               let sized = coded_sized.each i s e in
               shard_from_columns c.shard_bytes (shard_at coded i) s
-                  (are_coded.each i [] (subst (λ (k : ℕ). i < k) (sym are_coded.length_is) sized.0)) sized.1 even
+              (are_coded.each i [] (subst (λ (k : ℕ). i < k) (sym are_coded.length_is) sized.0)) sized.1 even
               (λ j hj.
               sym (columns-at j coded i) ∙ is_coded i j sized.0 hj
-                  ∙ same_word f at j ((placement c.rate c.original_count c.recovery_count).recovery_from + i) hj
+              ∙ same_word f at j ((placement c.rate c.original_count c.recovery_count).recovery_from + i) hj
               ∙ (at j hj).2.coded i sized.0 (ap is_some e) ∙ (has j hj).coded i s e),
         );
       },
@@ -145,8 +145,8 @@ consistent c originals recovery words even own_sized coded_sized has made =
     by_polynomials (f, at) =
         by_shards f at
         (shards_of c.original_count c.shard_bytes
-            (λ i j. value (f j) ((placement c.rate c.original_count c.recovery_count).originals_from + i) % 65536) even
-            (λ i j. small (value (f j) ((placement c.rate c.original_count c.recovery_count).originals_from + i))))
+        (λ i j. value (f j) ((placement c.rate c.original_count c.recovery_count).originals_from + i) % 65536) even
+        (λ i j. small (value (f j) ((placement c.rate c.original_count c.recovery_count).originals_from + i))))
         (shards_of c.recovery_count c.shard_bytes
-            (λ i j. value (f j) ((placement c.rate c.original_count c.recovery_count).recovery_from + i) % 65536) even
-            (λ i j. small (value (f j) ((placement c.rate c.original_count c.recovery_count).recovery_from + i))))
+        (λ i j. value (f j) ((placement c.rate c.original_count c.recovery_count).recovery_from + i) % 65536) even
+        (λ i j. small (value (f j) ((placement c.rate c.original_count c.recovery_count).recovery_from + i))))

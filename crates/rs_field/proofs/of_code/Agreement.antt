@@ -26,7 +26,7 @@ pub record AreColumns (c : Configuration) (originals recovery : Shards) (e bound
       → HasWords (placement c.rate c.original_count c.recovery_count) originals recovery j (words j)
   pub each : (j : ℕ) → j < c.shard_bytes / 2
       → IsColumnOf (placement c.rate c.original_count c.recovery_count) c.original_count c.recovery_count e bound
-          zeros_end originals recovery marks (words j) (located j) (rows j)
+      zeros_end originals recovery marks (words j) (located j) (rows j)
 
 -- If k + t shards are given, some message agrees if and only if the last t rows are zero in every column.
 pub consistent_exactly : (c : Configuration) (originals recovery : Shards) (e bound zeros_end t : ℕ) (marks : ℕ → ℕ)
@@ -38,12 +38,12 @@ consistent_exactly c originals recovery e bound zeros_end t marks words located 
   λ m j i hj.
       let (p, codes, takes) = column_taken c originals recovery m.0 j (words j) hj m.1 (h.has j hj) in
       surplus_rows c.rate c.original_count c.recovery_count e bound zeros_end t originals recovery marks (words j)
-          (located j) (rows j) (columns j m.0) p
+      (located j) (rows j) (columns j m.0) p
       (h.each j hj) count codes takes i,
   λ none. consistent c originals recovery words h.even h.own_sized h.coded_sized h.has (λ j hj.
       let (message, p, _, codes, takes) =
-          some_message c.rate c.original_count c.recovery_count e bound zeros_end t originals recovery marks (words j)
-          (located j) (rows j)
+      some_message c.rate c.original_count c.recovery_count e bound zeros_end t originals recovery marks (words j)
+      (located j) (rows j)
       (h.each j hj) count (λ i. none j i hj) in
       (p, (message, codes, takes))),
 )
@@ -60,15 +60,15 @@ pub restored_column : (c : Configuration) (originals recovery : Shards) (e bound
     → l ≤ 65535 → power l
     ≡ power (log_sum (2 ^ e) marks ((placement c.rate c.original_count c.recovery_count).originals_from + i))
     → product (forward (2 ^ e) 0 added ((placement c.rate c.original_count c.recovery_count).originals_from + i))
-        (power (65535 - l)) ≡ column j (shard_at message i)
+    (power (65535 - l)) ≡ column j (shard_at message i)
 restored_column c originals recovery e bound zeros_end marks words located rows message added i j l h enough agrees hi
     hj step one hl same =
     let (p, codes, takes) = column_taken c originals recovery message j (words j) hj agrees (h.has j hj) in
     let below = (h.each j hj).frame.originals in
     restored_word c.rate c.original_count c.recovery_count e bound zeros_end originals recovery marks (words j)
-        (located j) (rows j) added (columns j message) p
+    (located j) (rows j) added (columns j message) p
     (h.each j hj) enough codes takes step ((placement c.rate c.original_count c.recovery_count).originals_from + i) l
-        (omega arith) one hl same
+    (omega arith) one hl same
     ∙ codes.originals i hi ∙ columns-at j message i
 
 -- If at least k shards are given, at most one message agrees.
@@ -78,11 +78,11 @@ pub one_message : (c : Configuration) (originals recovery : Shards) (one other :
     → Agrees c originals recovery one → Agrees c originals recovery other → one ≡ other
 one_message c originals recovery one other is even enough a b =
     let (place, are, some) =
-        places_given (c.original_count + c.recovery_count) (by_place c.original_count originals recovery) in
+    places_given (c.original_count + c.recovery_count) (by_place c.original_count originals recovery) in
     let count = count-by_place c.original_count c.recovery_count originals recovery in
     fixed_by_places c one other a.coded.0 b.coded.0 place is even a.shards b.shards a.coded.1 b.coded.1
     (record { below = λ i h. are.below i (omega arith); once = λ i j h k. are.once i j (omega arith) (omega arith) })
     (λ i h.
     let s = some_of (by_place c.original_count originals recovery (place i)) (some i (omega arith)) in
     codeword_given c originals recovery one a (place i) s.0 s.1
-        ∙ sym (codeword_given c originals recovery other b (place i) s.0 s.1))
+    ∙ sym (codeword_given c originals recovery other b (place i) s.0 s.1))

@@ -47,9 +47,9 @@ pub changes_noticed : (c : Configuration) (message all : List Shard) (originals 
     → supports c.rate c.original_count c.recovery_count ≡ true → c.shard_bytes % 2 ≡ 0
     → AreShards c.original_count c.shard_bytes message → AreRecovery c message all
     → 0 < count_below c.original_count (changed_shards originals message) + count_below c.recovery_count
-        (changed_shards recovery all)
+    (changed_shards recovery all)
     → count_below c.original_count (changed_shards originals message) + count_below c.recovery_count
-        (changed_shards recovery all) + c.original_count
+    (changed_shards recovery all) + c.original_count
     ≤ count_below c.original_count originals + count_below c.recovery_count recovery
     → Consistent c originals recovery → ⊥
 changes_noticed c message all originals recovery is even are own some few (other, a) =
@@ -66,12 +66,12 @@ changes_noticed c message all originals recovery is even are own some few (other
       coded = (a.coded.0, a.coded.1, λ i s e. a.coded.2 i s (kept_given recovery all i s e).0);
     } in
     let same : message ≡ other =
-        one_message c (kept originals message) (kept recovery all) message other is even (omega arith) here there in
+    one_message c (kept originals message) (kept recovery all) message other is even (omega arith) here there in
     let same_recovery : all ≡ a.coded.0 =
-        recovery_unique c message all a.coded.0 (few_originals c.rate c.original_count c.recovery_count is) even own
+    recovery_unique c message all a.coded.0 (few_originals c.rate c.original_count c.recovery_count is) even own
     (subst (λ (m : List Shard). AreRecovery c m a.coded.0) (sym same) a.coded.1) in
     let none_own = none_changed c.original_count originals message
-        (λ i s e. ap (λ (m : List Shard). shard_at m i) same ∙ a.own i s e) in
+    (λ i s e. ap (λ (m : List Shard). shard_at m i) same ∙ a.own i s e) in
     let none_coded = none_changed c.recovery_count recovery all
-        (λ i s e. ap (λ (m : List Shard). shard_at m i) same_recovery ∙ a.coded.2 i s e) in
+    (λ i s e. ap (λ (m : List Shard). shard_at m i) same_recovery ∙ a.coded.2 i s e) in
     omega arith

@@ -36,7 +36,7 @@ coded_in p k r e bound zeros_end words f are_words =
     let room : 2 ^ e ≤ 2 ^ 16 = pow_mono f.few in
     let zeros : (p.zeros_from ≤ zeros_end) × (zeros_end ≤ 2 ^ e) = f.zeros in
     let q = interpolated p.originals_from bound (first k (λ j. slice_index words j)) (omega arith)
-        (λ i h. first-word k (λ j. slice_index words j) are_words i) in (
+    (λ i h. first-word k (λ j. slice_index words j) are_words i) in (
       q.0,
       record {
         degree = q.1.degree;
@@ -45,7 +45,7 @@ coded_in p k r e bound zeros_end words f are_words =
         zeros = λ x above below.
             let back : x ≡ p.originals_from + (x - p.originals_from) = omega arith in
             ap (value q.0) back ∙ q.1.at (x - p.originals_from) (omega arith)
-                ∙ first-past k (λ i. slice_index words i) (x - p.originals_from) (omega arith);
+            ∙ first-past k (λ i. slice_index words i) (x - p.originals_from) (omega arith);
       },
     )
 
@@ -86,6 +86,8 @@ pub recovered : (rate : Rate) (k r : ℕ) (words : List ℕ) → supports rate k
     → (recovery : List ℕ) × (length recovery ≡ r) × AreRecoveryWords rate k r words recovery
 recovered rate k r words is are_words =
     let p = coded rate k r words is are_words in
-    let f : ℕ → ℕ = λ i. value p.0 ((placement rate k r).recovery_from + i) in
-    (values_of r (λ i. value p.0 ((placement rate k r).recovery_from + i)), length-values_of r f,
-        (p.0, p.1, λ i hi. values_of-at r (λ i. value p.0 ((placement rate k r).recovery_from + i)) i hi))
+    let f : ℕ → ℕ = λ i. value p.0 ((placement rate k r).recovery_from + i) in (
+      values_of r (λ i. value p.0 ((placement rate k r).recovery_from + i)),
+      length-values_of r f,
+      (p.0, p.1, λ i hi. values_of-at r (λ i. value p.0 ((placement rate k r).recovery_from + i)) i hi),
+    )

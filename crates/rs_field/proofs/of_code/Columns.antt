@@ -47,9 +47,9 @@ shard_from_columns size s t hs ht even same =
     both q i w hi hw fits ws wt =
         let place : q * 32 + i < size / 2 = omega arith in
         halves (slice_index s (q * 64 + i)) _ (slice_index t (q * 64 + i)) _ (byte_lt size s hs (q * 64 + i))
-            (byte_lt size t ht (q * 64 + i))
+        (byte_lt size t ht (q * 64 + i))
         (ap (λ v. slice_index s (q * 64 + i) + 256 * slice_index s (q * 64 + i + v)) (sym ws)
-            ∙ sym (column-at q i s (omega arith)) ∙ same (q * 32 + i) place
+        ∙ sym (column-at q i s (omega arith)) ∙ same (q * 32 + i) place
         ∙ column-at q i t (omega arith)
         ∙ ap (λ v. slice_index t (q * 64 + i) + 256 * slice_index t (q * 64 + i + v)) wt)
 
@@ -62,26 +62,26 @@ shard_from_columns size s t hs ht even same =
           | inl low ↦ (both q r w low hw fits ws wt).0
           | inr high ↦
               ap (slice_index s) (sym (omega arith)) ∙ (both q (r - w) w (omega arith) hw fits ws wt).1
-                  ∙ ap (slice_index t) (omega arith)
+              ∙ ap (slice_index t) (omega arith)
         ]
 
     -- If the columns are equal, each byte is equal, by the chunk in which it is.
     byte : (b : ℕ) → b < size → slice_index s b ≡ slice_index t b
     byte b hb =
         let words : (u : Shard) → length u ≡ size → (w : ℕ) → min 64 (size - b / 64 * 64) / 2 ≡ w
-            → chunk_words u (b / 64 * 64) ≡ w
+        → chunk_words u (b / 64 * 64) ≡ w
         = λ u e w is. ap (λ n. min 64 (n - b / 64 * 64) / 2) e ∙ is in
         ap (slice_index s) (sym (omega arith))
         ∙ elim (cases_lt (size - b / 64 * 64) 64) [
           | inl tail ↦
               let is : min 64 (size - b / 64 * 64) / 2 ≡ (size - b / 64 * 64) / 2 =
-                  ap (λ n. n / 2) (min-eq_right (let h : size - b / 64 * 64 ≤ 64 = omega arith in h)) in
+              ap (λ n. n / 2) (min-eq_right (let h : size - b / 64 * 64 ≤ 64 = omega arith in h)) in
               at (b / 64) (b % 64) ((size - b / 64 * 64) / 2) (omega arith) (omega arith) (omega arith)
-                  (words s hs.length_is _ is) (words t ht.length_is _ is)
+              (words s hs.length_is _ is) (words t ht.length_is _ is)
           | inr whole ↦
               let is : min 64 (size - b / 64 * 64) / 2 ≡ 32 = ap (λ n. n / 2) (min-eq_left whole) in
               at (b / 64) (b % 64) 32 (omega arith) (omega arith) (omega arith) (words s hs.length_is _ is)
-                  (words t ht.length_is _ is)
+              (words t ht.length_is _ is)
         ]
         ∙ ap (slice_index t) (omega arith)
 
@@ -116,5 +116,5 @@ shards_from_columns count size a b ha hb even same =
     ext_get_or [] a b (ha.length_is ∙ sym hb.length_is) (λ i h.
     let below : i < count = subst (λ (n : ℕ). i < n) ha.length_is h in
     shard_from_columns size (shard_at a i) (shard_at b i) (ha.each i [] h)
-        (hb.each i [] (subst (λ (n : ℕ). i < n) (sym hb.length_is) below)) even
+    (hb.each i [] (subst (λ (n : ℕ). i < n) (sym hb.length_is) below)) even
     (λ j hj. sym (columns-at j a i) ∙ same i j below hj ∙ columns-at j b i))

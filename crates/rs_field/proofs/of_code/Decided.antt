@@ -71,7 +71,7 @@ codes_from rate k r words P h =
     let two : (all_below 65536 P ≡ true) × _ = and_parts _ _ one.1 in
     let three : (same_below k (λ j. value P ((placement rate k r).originals_from + j)) (slice_index words) ≡ true)
     × (same_below ((placement rate k r).zeros_to - (placement rate k r).zeros_from)
-        (λ x. value P ((placement rate k r).zeros_from + x)) (λ x. 0) ≡ true) = and_parts _ _ two.1 in
+    (λ x. value P ((placement rate k r).zeros_from + x)) (λ x. 0) ≡ true) = and_parts _ _ two.1 in
     record {
       degree = eqb-true _ _ one.0;
       coefficients = all_from (λ w. nat_lt w 65536) (λ w. w < 65536) (λ w. ltb-true w 65536) P two.0;
@@ -79,7 +79,7 @@ codes_from rate k r words P h =
       zeros = λ x from to.
           ap (value P) (sym (omega arith))
           ∙ same_from ((placement rate k r).zeros_to - (placement rate k r).zeros_from)
-              (λ x. value P ((placement rate k r).zeros_from + x)) (λ x. 0) three.1
+          (λ x. value P ((placement rate k r).zeros_from + x)) (λ x. 0) three.1
           (x - (placement rate k r).zeros_from) (omega arith);
     }
 
@@ -87,15 +87,15 @@ codes_from rate k r words P h =
 abbrev recovers_words : Rate → ℕ → ℕ → List ℕ → List ℕ → List ℕ → Bool
 recovers_words rate k r words recovery polynomial =
     codes rate k r words polynomial && same_below r (slice_index recovery)
-        (λ i. value polynomial ((placement rate k r).recovery_from + i))
+    (λ i. value polynomial ((placement rate k r).recovery_from + i))
 
 -- The test of `AreRecovery`, with the polynomial of each column.
 abbrev pub recovers : Configuration → List Shard → List Shard → List (List ℕ) → Bool
 recovers c message recovery polynomials =
     are_shards c.recovery_count c.shard_bytes recovery
     && passes_below (c.shard_bytes / 2)
-        (λ j. recovers_words c.rate c.original_count c.recovery_count (columns j message) (columns j recovery)
-        (slice_index_or polynomials j []))
+    (λ j. recovers_words c.rate c.original_count c.recovery_count (columns j message) (columns j recovery)
+    (slice_index_or polynomials j []))
 
 -- Shards that pass `recovers` are the recovery shards.
 pub recovery_from : (c : Configuration) (message recovery : List Shard) (polynomials : List (List ℕ))
@@ -103,14 +103,14 @@ pub recovery_from : (c : Configuration) (message recovery : List Shard) (polynom
 recovery_from c message recovery polynomials h =
     let P : ℕ → List ℕ = λ j. slice_index_or polynomials j [] in
     let test : ℕ → Bool = λ j.
-        recovers_words c.rate c.original_count c.recovery_count (columns j message) (columns j recovery) (P j) in
+    recovers_words c.rate c.original_count c.recovery_count (columns j message) (columns j recovery) (P j) in
     let parts : (are_shards c.recovery_count c.shard_bytes recovery ≡ true)
-        × (passes_below (c.shard_bytes / 2) test ≡ true) = and_parts _ _ h in
+    × (passes_below (c.shard_bytes / 2) test ≡ true) = and_parts _ _ h in
     record {
       shards = shards_from c.recovery_count c.shard_bytes recovery parts.0;
       words = λ j below.
           let column : (codes c.rate c.original_count c.recovery_count (columns j message) (P j) ≡ true) × _ =
-              and_parts _ _ (from_passes_below (c.shard_bytes / 2) test parts.1 j below) in (
+          and_parts _ _ (from_passes_below (c.shard_bytes / 2) test parts.1 j below) in (
             P j,
             codes_from c.rate c.original_count c.recovery_count (columns j message) (P j) column.0,
             same_from c.recovery_count (slice_index (columns j recovery))
@@ -134,15 +134,15 @@ joins d k r m words recovery polynomial =
     nat_eq (length polynomial) (2 ^ d - m) && (all_below 65536 polynomial
     && (same_below k (λ j. value polynomial (m + j)) (slice_index words)
     && (same_below (2 ^ d - (m + k)) (λ x. value polynomial (m + k + x)) (λ x. 0) && same_below r (slice_index recovery)
-        (value polynomial))))
+    (value polynomial))))
 
 -- The test of `AreRecovery` at the high rate, with the polynomial of each column below 2 ^ d.
 abbrev pub recovers_high : ℕ → Configuration → List Shard → List Shard → List (List ℕ) → Bool
 recovers_high d c message recovery polynomials =
     lie_below d c.rate c.original_count c.recovery_count && (are_shards c.recovery_count c.shard_bytes recovery
     && passes_below (c.shard_bytes / 2)
-        (λ j. joins d c.original_count c.recovery_count (next_power c.recovery_count) (columns j message)
-        (columns j recovery) (slice_index_or polynomials j [])))
+    (λ j. joins d c.original_count c.recovery_count (next_power c.recovery_count) (columns j message)
+    (columns j recovery) (slice_index_or polynomials j [])))
 
 -- A polynomial that passes `joins` codes the words with their recovery words, after it is made zero at the points from
 -- 2 ^ d on.
@@ -158,7 +158,7 @@ words_high d rate k r words recovery P lie join =
     let f : (all_below 65536 P ≡ true) × _ = and_parts _ _ e.1 in
     let g : (same_below k (λ j. value P (m + j)) (slice_index words) ≡ true) × _ = and_parts _ _ f.1 in
     let h : (same_below (2 ^ d - (m + k)) (λ x. value P (m + k + x)) (λ x. 0) ≡ true)
-        × (same_below r (slice_index recovery) (value P) ≡ true) = and_parts _ _ g.1 in
+    × (same_below r (slice_index recovery) (value P) ≡ true) = and_parts _ _ g.1 in
     let high : placement rate k r ≡ high_placement k r = placed_high rate k r (not-true (is_low rate k r) a.0) in
     let depth : d ≤ 16 = leb-true d 16 c.0 in
     let top : 2 ^ d ≤ 2 ^ 16 = pow_mono {i = d} depth in
@@ -170,10 +170,10 @@ words_high d rate k r words recovery P lie join =
           (λ x from to.
           let place : x ≡ m + k + (x - (m + k)) = omega arith in
           ap (value P) place ∙ same_from (2 ^ d - (m + k)) (λ x. value P (m + k + x)) (λ x. 0) h.0 (x - (m + k))
-              (omega arith)),
+          (omega arith)),
       λ i below.
           same_from r (slice_index recovery) (value P) h.1 i below ∙ ap (value P) (omega arith)
-              ∙ sym (value-inside d P depth each (0 + i) (omega arith))
+          ∙ sym (value-inside d P depth each (0 + i) (omega arith))
           ∙ ap (λ (q : Placement). value (times (points (2 ^ d) (65536 - 2 ^ d)) P) (q.recovery_from + i)) (sym high),
     )
 
@@ -183,14 +183,14 @@ pub recovery_from_high : (d : ℕ) (c : Configuration) (message recovery : List 
 recovery_from_high d c message recovery polynomials h =
     let P : ℕ → List ℕ = λ j. slice_index_or polynomials j [] in
     let test : ℕ → Bool = λ j.
-        joins d c.original_count c.recovery_count (next_power c.recovery_count) (columns j message) (columns j recovery)
-        (P j) in
+    joins d c.original_count c.recovery_count (next_power c.recovery_count) (columns j message) (columns j recovery)
+    (P j) in
     let a : (lie_below d c.rate c.original_count c.recovery_count ≡ true) × _ = and_parts _ _ h in
     let b : (are_shards c.recovery_count c.shard_bytes recovery ≡ true)
-        × (passes_below (c.shard_bytes / 2) test ≡ true) = and_parts _ _ a.1 in
+    × (passes_below (c.shard_bytes / 2) test ≡ true) = and_parts _ _ a.1 in
     record {
       shards = shards_from c.recovery_count c.shard_bytes recovery b.0;
       words = λ j below.
           words_high d c.rate c.original_count c.recovery_count (columns j message) (columns j recovery) (P j) a.0
-              (from_passes_below (c.shard_bytes / 2) test b.1 j below);
+          (from_passes_below (c.shard_bytes / 2) test b.1 j below);
     }

@@ -12,8 +12,8 @@ pub counts_decode : (w : ℕ) (a b c : Steps) → LocatorCounts a b → CountsUp
 unfolding transform_steps decode_steps
 counts_decode w a b c p q =
     let thirds : 3 * (w / 2) * log2 w ≤ 3 * w / 2 * log2 w =
-        mul-le-mul_right (log2 w) (let halves : 3 * (w / 2) ≤ 3 * w / 2 = omega arith in halves) in
+    mul-le-mul_right (log2 w) (let halves : 3 * (w / 2) ≤ 3 * w / 2 = omega arith in halves) in
     let same : 3 * (w / 2 * log2 w) ≡ 3 * (w / 2) * log2 w = sym (mul_assoc 3 (w / 2) (log2 w)) in
     counted (decode_steps w) 1048576 65536 a c
-        (omega arith, omega (arith, thirds, same, p.row_steps_most, q.row_steps_most))
+    (omega arith, omega (arith, thirds, same, p.row_steps_most, q.row_steps_most))
     (omega arith, omega arith) (omega arith, omega arith)

@@ -46,9 +46,9 @@ at_unmarked p k r n zeros_end originals recovery marks words q h t known x hx no
           let hi : x - p.originals_from < k = omega arith in
           sym (ap (value q) back)
           ∙ t.own (x - p.originals_from) hi
-              (unmarked_by (is_some (originals (x - p.originals_from)))
-              (marks (p.originals_from + (x - p.originals_from))) (h.own (x - p.originals_from) hi)
-              (ap marks back ∙ none))
+          (unmarked_by (is_some (originals (x - p.originals_from)))
+          (marks (p.originals_from + (x - p.originals_from))) (h.own (x - p.originals_from) hi)
+          (ap marks back ∙ none))
           ∙ ap words back
       | inr not_own ↦ elim (between p.recovery_from (p.recovery_from + r) x) [
         | inl coded ↦
@@ -56,9 +56,9 @@ at_unmarked p k r n zeros_end originals recovery marks words q h t known x hx no
             let hi : x - p.recovery_from < r = omega arith in
             sym (ap (value q) back)
             ∙ t.coded (x - p.recovery_from) hi
-                (unmarked_by (is_some (recovery (x - p.recovery_from)))
-                (marks (p.recovery_from + (x - p.recovery_from))) (h.coded (x - p.recovery_from) hi)
-                (ap marks back ∙ none))
+            (unmarked_by (is_some (recovery (x - p.recovery_from)))
+            (marks (p.recovery_from + (x - p.recovery_from))) (h.coded (x - p.recovery_from) hi)
+            (ap marks back ∙ none))
             ∙ ap words back
         | inr not_coded ↦ elim (between p.zeros_from zeros_end x) [
           | inl known_zero ↦ known x known_zero.0 known_zero.1
@@ -122,9 +122,9 @@ surplus_rows rate k r e bound zeros_end t originals recovery marks words located
     let total : length (marked (2 ^ e) marks) + bound + (count_below k originals + count_below r recovery) ≡ 2 ^ e + k =
     erased_count (placement rate k r) k r e bound zeros_end originals recovery marks c.frame c.erasures in
     let q = taken_in rate k r e bound zeros_end originals recovery marks words message p c.frame c.erasures c.known
-        codes takes in
+    codes takes in
     zero_rows (2 ^ e) bound t marks words located rows (pow_mono c.frame.few) c.erasures.are_marks
-        (omega arith) c.are_located c.row_words c.back (q.0, q.1)
+    (omega arith) c.are_located c.row_words c.back (q.0, q.1)
 
 -- After the derivative step the value at an erased point is the wanted word times the locator's power.
 pub restored_product : (rate : Rate) (k r e bound zeros_end : ℕ) (originals recovery : Shards)
@@ -140,11 +140,11 @@ restored_product rate k r e bound zeros_end originals recovery marks words locat
     let total : length (marked (2 ^ e) marks) + bound + (count_below k originals + count_below r recovery) ≡ 2 ^ e + k =
     erased_count (placement rate k r) k r e bound zeros_end originals recovery marks c.frame c.erasures in
     let q = taken_in rate k r e bound zeros_end originals recovery marks words message p c.frame c.erasures c.known
-        codes takes in
+    codes takes in
     restored e rows added marks q.0 c.frame.few q.1.coefficients c.erasures.are_marks (omega arith)
     (λ i hi. c.back i hi
-        ∙ located_values (2 ^ e) bound marks words located q.0
-        (pow_mono c.frame.few) c.erasures.are_marks c.are_located q.1 i hi) step x hx one
+    ∙ located_values (2 ^ e) bound marks words located q.0
+    (pow_mono c.frame.few) c.erasures.are_marks c.are_located q.1 i hi) step x hx one
     ∙ ap (product (power (log_sum (2 ^ e) marks x))) (q.2 x hx)
 
 -- A power for 65535 minus any residue of the locator, times the product, gives the wanted word.
@@ -160,7 +160,7 @@ restored_word rate k r e bound zeros_end originals recovery marks words located 
     takes step x l hx one hl same =
     ap (λ w. product w (power (65535 - l)))
     (restored_product rate k r e bound zeros_end originals recovery marks words located rows added message p c enough
-        codes takes step x hx one
+    codes takes step x hx one
     ∙ product-comm (power (log_sum (2 ^ e) marks x)) (value p x) ∙ ap (product (value p x)) (sym same))
     ∙ residue_undone l (value p x) hl (value_lt p x (words_from p codes.coefficients))
 
@@ -205,11 +205,11 @@ some_message rate k r e bound zeros_end t originals recovery marks words located
     let total : length (marked (2 ^ e) marks) + bound + (count_below k originals + count_below r recovery) ≡ 2 ^ e + k =
     erased_count (placement rate k r) k r e bound zeros_end originals recovery marks c.frame c.erasures in
     let (q, takes) = taken_from_zero_rows (2 ^ e) bound t marks words located rows
-        (pow_mono c.frame.few) c.erasures.are_marks (omega arith) c.are_located
+    (pow_mono c.frame.few) c.erasures.are_marks (omega arith) c.are_located
     (λ x hx _. c.are_words x hx) c.back none in
     let (p, codes, same) = unframed rate k r e bound zeros_end (message_of (placement rate k r) k q) q c.frame
     (own_message (placement rate k r) k r e bound zeros_end originals recovery marks words q c.frame c.erasures c.known
-        takes) in (
+    takes) in (
       message_of (placement rate k r) k q,
       p,
       length-message_of (placement rate k r) k q,

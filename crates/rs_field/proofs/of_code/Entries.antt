@@ -59,17 +59,17 @@ count-entered (suc n) given k x inside free =
       | inl last ↦
           let rest : count_below n (with_entry given k x) ≡ count_below n given =
           count_below-same n (with_entry given k x) given
-              (λ i below. elim (entered_cases given k i x)
-              [ inl e ↦ absurd (let no : ⊥ = omega (arith, e.0) in no) | inr other ↦ other.1 ]) in
+          (λ i below. elim (entered_cases given k i x)
+          [ inl e ↦ absurd (let no : ⊥ = omega (arith, e.0) in no) | inr other ↦ other.1 ]) in
           count_below-suc n (with_entry given k x)
           ∙ ap₂ (λ m b. m + cond b 1 0) rest
-              (elim (entered_cases given k n x) [ inl e ↦ ap is_some e.1 | inr other ↦ absurd (other.0 last) ])
+          (elim (entered_cases given k n x) [ inl e ↦ ap is_some e.1 | inr other ↦ absurd (other.0 last) ])
           ∙ sym (ap (λ m. m + 1) (count_below-suc n given
           ∙ ap (λ b. count_below n given + cond b 1 0) (ap (λ i. is_some (given i)) last ∙ ap is_some free)
           ∙ omega arith))
       | inr less ↦
           let same : with_entry given k x n ≡ given n =
-              elim (entered_cases given k n x) [ inl e ↦ absurd (less e.0) | inr other ↦ other.1 ] in
+          elim (entered_cases given k n x) [ inl e ↦ absurd (less e.0) | inr other ↦ other.1 ] in
           omega (
             arith,
             count-entered n given k x (omega arith) free,
@@ -86,7 +86,7 @@ pub count-entered_all : (n : ℕ) (items : Items) (given : Shards) → AllByRecu
 count-entered_all n [] given below free once = omega arith
 count-entered_all n (item ∷ items) given below free once =
     let rest = count-entered_all n items (with_entry given item.0 item.1) below.1 (free-next given item items once free)
-        (IsDistinct-tail nat_eq item.0 (indexes items) once) in
+    (IsDistinct-tail nat_eq item.0 (indexes items) once) in
     let one = count-entered n given item.0 item.1 below.0 free.0 in
     omega arith
 
@@ -97,7 +97,7 @@ pub among-entered_all : (items : Items) (given : Shards) (shards : List Shard)
 among-entered_all [] given shards own among = among
 among-entered_all (item ∷ items) given shards own among =
     among-entered_all items (with_entry given item.0 item.1) shards own.1
-        (entered_among given item.0 item.1 shards among own.0)
+    (entered_among given item.0 item.1 shards among own.0)
 
 some-entered : (given : Shards) (k i : ℕ) (x : Shard)
     → is_some (with_entry given k x i) ≡ (is_some (given i) || nat_eq i k)

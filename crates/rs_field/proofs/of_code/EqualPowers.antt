@@ -60,7 +60,7 @@ rows_double : (k r d e : ℕ) → 0 < k → d ≤ 16 → next_power r ≡ 2 ^ d 
     → next_power r + k ≤ 2 ^ e → 2 ^ e ≡ 2 ^ d + 2 ^ d
 rows_double k r d e some hd power most rows above =
     let least : next_power (next_power r + k) ≤ 2 ^ suc d =
-        next_power-least (next_power r + k) (suc d) (omega arith) (omega arith) in
+    next_power-least (next_power r + k) (suc d) (omega arith) (omega arith) in
     elim (cases_lt d e) [
       | inl more ↦ let big : 2 ^ suc d ≤ 2 ^ e = pow_mono more in omega arith
       | inr less ↦ let small : 2 ^ e ≤ 2 ^ d = pow_mono less in absurd (omega arith)
@@ -80,7 +80,7 @@ moved_codes k r d words p some hd power_r power_k most_k most_r fit codes =
     let rows : 2 ^ f.0 ≡ 2 ^ d + 2 ^ d = rows_double k r d f.0 some hd power_r most_k f.1 f.2.originals in
     let q = framed high_rate k r f.0 (2 ^ f.0 - next_power r) (2 ^ f.0) words p f.2 codes in
     let at : (j : ℕ) → j < 2 ^ d → value (moved (2 ^ d) q.0) j ≡ value q.0 (2 ^ d + j) = λ j hj.
-        value-moved (2 ^ d) q.0 j ∙ ap (value q.0) (up d j hj) in (
+    value-moved (2 ^ d) q.0 j ∙ ap (value q.0) (up d j hj) in (
       moved (2 ^ d) q.0,
       record {
         codes = record {
@@ -105,8 +105,14 @@ equal_powers k r words low high some same fit (p, hp, at_low) (o, ho, at_high) i
     let least_k : k ≤ next_power k = next_power-above k (omega arith) in
     let (d, hd, power, _) = next_power-small r (omega arith) in
     let (q, m) = moved_codes k r d words o some hd power (same ∙ power) (omega arith) (omega arith) fit ho in
-    cc (at_low i hi, codes_unique low_rate k r words p q
-        (omega arith) hp m.codes, m.recovery i hi, zero-add i, at_high i hi)
+    cc (
+      at_low i hi,
+      codes_unique low_rate k r words p q
+          (omega arith) hp m.codes,
+      m.recovery i hi,
+      zero-add i,
+      at_high i hi,
+    )
 
 -- If both counts have one power, the recovery words of the low rate are recovery words of the high rate.
 to_high : (k r : ℕ) (words recovery : List ℕ) → supports low_rate k r ≡ true → supports high_rate k r ≡ true
@@ -129,5 +135,5 @@ to_low k r words recovery low high same own =
 pub one_code : (k r size : ℕ) (message recovery : List Shard) → supports low_rate k r ≡ true
     → supports high_rate k r ≡ true → next_power k ≡ next_power r
     → AreRecovery (configuration low_rate k r size) message recovery
-        ↔ AreRecovery (configuration high_rate k r size) message recovery
+    ↔ AreRecovery (configuration high_rate k r size) message recovery
 one_code k r size message recovery low high same = search (rules, to_high, to_low)

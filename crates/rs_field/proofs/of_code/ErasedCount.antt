@@ -27,8 +27,15 @@ total-marked : (n : ℕ) (marks : ℕ → ℕ) → AreMarks n marks → length (
 unfolding total marked
 total-marked zero marks m = refl
 total-marked (suc n) marks m =
-    grind (arith, common_steps, cases_eq, marked-more, marked-same, total-marked n marks
-        (record { mark = λ y hy. m.mark y (omega arith) }))
+    grind (
+      arith,
+      common_steps,
+      cases_eq,
+      marked-more,
+      marked-same,
+      total-marked n marks
+          (record { mark = λ y hy. m.mark y (omega arith) }),
+    )
 
 -- If n further entries are all m, the sum grows by n times m.
 past_same : (m a n b : ℕ) (f : ℕ → ℕ) → a + n ≡ b → ((x : ℕ) → a ≤ x → x < b → f x ≡ m) → total b f ≡ total a f + n * m
@@ -48,8 +55,16 @@ past_given : (a n : ℕ) (f : ℕ → ℕ) (g : Shards) → ((i : ℕ) → i < n
 past_given a zero f g is = omega (arith, ap (λ k. total k f) (add-zero a), count_below-zero g)
 past_given a (suc n) f g is =
     let rest : total (a + n) f + count_below n g ≡ total a f + n = past_given a n f g (λ i h. is i (omega arith)) in
-    omega (arith, rest, ap (λ k. total k f) (add-suc a n), total-suc (a + n) f, count_below-suc n g, is n
-        (omega arith), one_of_two (is_some (g n)))
+    omega (
+      arith,
+      rest,
+      ap (λ k. total k f) (add-suc a n),
+      total-suc (a + n) f,
+      count_below-suc n g,
+      is n
+          (omega arith),
+      one_of_two (is_some (g n)),
+    )
 
 -- In a frame, the erased points, the coefficients and the given shards are together as many as the rows and the
 -- originals.
@@ -59,12 +74,12 @@ pub erased_count : (p : Placement) (k r e bound zeros_end : ℕ) (originals reco
 erased_count p k r e bound zeros_end originals recovery marks f h =
     let erased : length (marked (2 ^ e) marks) ≡ total (2 ^ e) marks = total-marked (2 ^ e) marks h.are_marks in
     let own : total (p.originals_from + k) marks + count_below k originals ≡ total p.originals_from marks + k =
-        past_given p.originals_from k marks originals h.own in
+    past_given p.originals_from k marks originals h.own in
     let coded : total (p.recovery_from + r) marks + count_below r recovery ≡ total p.recovery_from marks + r =
-        past_given p.recovery_from r marks recovery h.coded in
+    past_given p.recovery_from r marks recovery h.coded in
     let none =
     past_same 0 (p.originals_from + k) (zeros_end - (p.originals_from + k)) zeros_end marks (omega arith)
-        (λ x above below. h.known x (omega arith) below) in
+    (λ x above below. h.known x (omega arith) below) in
     elim f.order [
       | inl low ↦
           let start : total p.originals_from marks ≡ 0 = ap (λ n. total n marks) low.0 ∙ total-zero marks in
@@ -75,9 +90,20 @@ erased_count p k r e bound zeros_end originals recovery marks f h =
       | inr high ↦
           let gap =
           past_same 1 (p.recovery_from + r) (p.originals_from - (p.recovery_from + r)) p.originals_from marks
-              (omega (arith, high.0, high.1))
+          (omega (arith, high.0, high.1))
           (λ x above below. h.other x (omega arith) (inl below) (inr above) (inl (omega arith))) in
           let last : total (2 ^ e) marks ≡ total zeros_end marks = ap (λ n. total n marks) (sym high.2) in
-          omega (arith, erased, own, coded, none,
-              (ap (λ n. total n marks) high.0 ∙ total-zero marks), gap, last, high.0, high.1, high.2)
+          omega (
+            arith,
+            erased,
+            own,
+            coded,
+            none,
+            (ap (λ n. total n marks) high.0 ∙ total-zero marks),
+            gap,
+            last,
+            high.0,
+            high.1,
+            high.2,
+          )
     ]

@@ -35,7 +35,7 @@ pub count_below-same : (n : ℕ) (g h : Shards) → ((i : ℕ) → i < n → g i
 count_below-same zero g h same = count_below-zero g ∙ sym (count_below-zero h)
 count_below-same (suc n) g h same =
     count_below-suc n g ∙ ap₂ (λ m o. m + cond (is_some o) 1 0) (count_below-same n g h (λ i hi. same i (omega arith)))
-        (same n (omega arith)) ∙ sym (count_below-suc n h)
+    (same n (omega arith)) ∙ sym (count_below-suc n h)
 
 -- An entry that has a shard is `Some` of a shard.
 pub some_of : (o : Option Shard) → is_some o ≡ true → (shard : Shard) × (o ≡ Some shard)

@@ -43,7 +43,7 @@ kept-left shards lost = record {
       (λ i d inside.
       let below : i < length shards = omega (arith, length-enumerate_from 0 shards) in
       subst (IsOwn shards) (sym (get_or-enumerate_from 0 shards i d below))
-          (omega arith, ap (shard_at shards) (omega arith) ∙ get_or_default shards i [] d.1 below));
+      (omega arith, ap (shard_at shards) (omega arith) ∙ get_or_default shards i [] d.1 below));
   once = IsDistinct-keys_filter nat_eq (λ item. not (lost item.0)) (enumerate_from 0 shards) (once_numbered 0 shards);
 }
 
@@ -51,7 +51,7 @@ numbered_any : (shards : List Shard) (i : ℕ) → i < length shards
     → list_any (λ item. nat_eq i item.0) (enumerate_from 0 shards) ≡ true
 numbered_any shards i below =
     list_any_at (λ item. nat_eq i item.0) (enumerate_from 0 shards) i (0, [])
-        (omega (arith, length-enumerate_from 0 shards))
+    (omega (arith, length-enumerate_from 0 shards))
     (ap (λ item. nat_eq i item.0) (get_or-enumerate_from 0 shards i (0, []) below) ∙ eq-eqb i (0 + i) (omega arith))
 
 -- The shards that are not in the list of kept shards are the lost shards.
@@ -66,13 +66,13 @@ lost-kept shards lost i = by_test (nat_lt i (length shards)) refl
 
     by_test : (inside : Bool) → nat_lt i (length shards) ≡ inside
         → cond (inside && not (list_any (λ item. nat_eq i item.0) (kept_of shards lost)))
-            (Some (shard_at shards i)) None ≡ cond (inside && lost i) (Some (shard_at shards i)) None
+        (Some (shard_at shards i)) None ≡ cond (inside && lost i) (Some (shard_at shards i)) None
     by_test false e = refl
     by_test true e =
         let any = any-filter_same (λ item. nat_eq i item.0) (λ item. not (lost item.0)) (not (lost i))
-            (λ item same. ap (λ j. not (lost j)) (sym (eqb-true i item.0 same))) (enumerate_from 0 shards) in
+        (λ item same. ap (λ j. not (lost j)) (sym (eqb-true i item.0 same))) (enumerate_from 0 shards) in
         ap (λ b. cond (not b) (Some (shard_at shards i)) None)
-            (any ∙ ap (λ b. not (lost i) && b) (numbered_any shards i (ltb-true i (length shards) e)))
+        (any ∙ ap (λ b. not (lost i) && b) (numbered_any shards i (ltb-true i (length shards) e)))
         ∙ ap (λ b. cond b (Some (shard_at shards i)) None) (twice (lost i))
 
 -- If a decoder returns the shards that are not kept, it returns exactly the lost shards.

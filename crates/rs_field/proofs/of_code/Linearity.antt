@@ -35,11 +35,11 @@ recovery_sums : (rate : Rate) (k r : ℕ) (one other sums one_recovery other_rec
     → AreRecoveryWords rate k r sums recovery
 recovery_sums rate k r one other sums one_recovery other_recovery recovery are are_recovery (p, codes_p, at_p)
     (q, codes_q, at_q) = (
-  add p q,
-  codes_sums rate k r one other sums p q are codes_p codes_q,
-  λ i hi. are_recovery i hi ∙ ap₂ bit_xor (at_p i hi) (at_q i hi)
-      ∙ sym (value_add p q ((placement rate k r).recovery_from + i)),
-)
+      add p q,
+      codes_sums rate k r one other sums p q are codes_p codes_q,
+      λ i hi. are_recovery i hi ∙ ap₂ bit_xor (at_p i hi) (at_q i hi)
+          ∙ sym (value_add p q ((placement rate k r).recovery_from + i)),
+    )
 
 -- ---- shards
 
@@ -53,8 +53,11 @@ byte-xor : (size : ℕ) (s t : Shard) (i d : ℕ) → length s ≡ size → leng
 unfolding xor_bytes
 byte-xor size s t i d hs ht inside =
     let both : length (zip s t) ≡ min (length s) (length t) = length-zip s t in
-    cc (get_or-map (λ pair. bit_xor pair.0 pair.1) (zip s t) i (0, 0) d (omega arith), get_or-zip s t i (0, 0)
-        (omega arith) (omega arith))
+    cc (
+      get_or-map (λ pair. bit_xor pair.0 pair.1) (zip s t) i (0, 0) d (omega arith),
+      get_or-zip s t i (0, 0)
+          (omega arith) (omega arith),
+    )
 
 shard-xor : (size : ℕ) (s t : Shard) → IsShard size s → IsShard size t → IsShard size (xor_bytes s t)
 shard-xor size s t hs ht =
@@ -72,8 +75,11 @@ shard_at-xor : (count i : ℕ) (a b : List Shard) (d : Shard) → length a ≡ c
 unfolding xor_shards
 shard_at-xor count i a b d ha hb h =
     let both : length (zip a b) ≡ min (length a) (length b) = length-zip a b in
-    cc (get_or-map (λ pair. xor_bytes pair.0 pair.1) (zip a b) i ([], []) d (omega arith), get_or-zip a b i ([], [])
-        (omega arith) (omega arith))
+    cc (
+      get_or-map (λ pair. xor_bytes pair.0 pair.1) (zip a b) i ([], []) d (omega arith),
+      get_or-zip a b i ([], [])
+          (omega arith) (omega arith),
+    )
 
 shards-xor : (count size : ℕ) (a b : List Shard) → AreShards count size a → AreShards count size b
     → AreShards count size (xor_shards a b)
@@ -84,8 +90,18 @@ columns-xor : (count size j : ℕ) (a b : List Shard) → AreShards count size a
     → AreSums count (columns j a) (columns j b) (columns j (xor_shards a b))
 unfolding column
 columns-xor count size j a b ha hb i below =
-    search (rules, columns-at, shard_at-xor, cases_lt, byte-xor, get_or_past, length-xor_bytes, sum_of_bytes, byte_lt,
-    shard_in)
+    search (
+      rules,
+      columns-at,
+      shard_at-xor,
+      cases_lt,
+      byte-xor,
+      get_or_past,
+      length-xor_bytes,
+      sum_of_bytes,
+      byte_lt,
+      shard_in,
+    )
 
 -- The XOR of the recovery shards of two messages is the list of recovery shards of the XOR of the messages.
 pub recovery-xor : (c : Configuration) (one other one_recovery other_recovery : List Shard)
@@ -96,7 +112,7 @@ recovery-xor c one other one_recovery other_recovery a b recovery_a recovery_b =
   shards = shards-xor c.recovery_count c.shard_bytes one_recovery other_recovery recovery_a.shards recovery_b.shards;
   words = λ j hj.
       recovery_sums c.rate c.original_count c.recovery_count (columns j one) (columns j other)
-          (columns j (xor_shards one other))
+      (columns j (xor_shards one other))
       (columns j one_recovery) (columns j other_recovery) (columns j (xor_shards one_recovery other_recovery))
       (columns-xor c.original_count c.shard_bytes j one other a b)
       (columns-xor c.recovery_count c.shard_bytes j one_recovery other_recovery recovery_a.shards recovery_b.shards)

@@ -22,7 +22,7 @@ items_from-none from n given inside none =
     ap (λ m. items_from from m given) (let m : n - from ≡ suc (n - (from + 1)) = omega arith in m)
     ∙ items_from-suc from (n - (from + 1)) given
     ∙ ap₂ (λ o i. items_at from o ++ items_from i (n - (from + 1)) given) none
-        (let i : suc from ≡ from + 1 = omega arith in i)
+    (let i : suc from ≡ from + 1 = omega arith in i)
 
 -- If an index has a shard, the list from this index on begins with this shard.
 pub items_from-some : (from n : ℕ) (given : Shards) (shard : Shard) → from < n → given from ≡ Some shard
@@ -31,7 +31,7 @@ items_from-some from n given shard inside some =
     ap (λ m. items_from from m given) (let m : n - from ≡ suc (n - (from + 1)) = omega arith in m)
     ∙ items_from-suc from (n - (from + 1)) given
     ∙ ap₂ (λ o i. items_at from o ++ items_from i (n - (from + 1)) given) some
-        (let i : suc from ≡ from + 1 = omega arith in i)
+    (let i : suc from ≡ from + 1 = omega arith in i)
 
 -- From the end on, no shard is listed.
 pub items_from-past : (from n : ℕ) (given : Shards) → n ≤ from → items_from from (n - from) given ≡ []

@@ -28,7 +28,7 @@ items_below-longer (suc n) m from given none =
     ap (λ (l : ℕ). items_from from l given) (let e : suc n + m ≡ suc (n + m) = omega arith in e)
     ∙ items_from-suc from (n + m) given
     ∙ ap (λ rest. items_at from (given from) ++ rest)
-        (items_below-longer n m (suc from) given (λ i h. none i (omega (arith, h))))
+    (items_below-longer n m (suc from) given (λ i h. none i (omega (arith, h))))
     ∙ sym (items_from-suc from n given)
 
 -- A map has at most one list of its shards.
@@ -49,11 +49,11 @@ pub listed-changed : (f : Shard → Shard) (n from : ℕ) (given : Shards)
     → shards_listed (items_from from n (λ i. option_map f (given i))) ≡ map f (shards_listed (items_from from n given))
 listed-changed f zero from given =
     ap shards_listed (items_from-zero from (λ i. option_map f (given i)))
-        ∙ sym (ap (λ l. map f (shards_listed l)) (items_from-zero from given))
+    ∙ sym (ap (λ l. map f (shards_listed l)) (items_from-zero from given))
 listed-changed f (suc n) from given =
     ap shards_listed (items_from-suc from n (λ i. option_map f (given i)))
     ∙ map-append (λ item. item.1) (items_at from (option_map f (given from)))
-        (items_from (suc from) n (λ i. option_map f (given i)))
+    (items_from (suc from) n (λ i. option_map f (given i)))
     ∙ ap₂ (λ (a b : List Shard). a ++ b) (by_option (given from)) (listed-changed f n (suc from) given)
     ∙ sym (map-append f (shards_listed (items_at from (given from))) (shards_listed (items_from (suc from) n given)))
     ∙ sym (ap (map f) (map-append (λ item. item.1) (items_at from (given from)) (items_from (suc from) n given)))
@@ -73,7 +73,7 @@ listed-all P zero from given each =
 listed-all P (suc n) from given each =
     subst (λ (l : List Shard). All P l)
     (sym (ap shards_listed (items_from-suc from n given)
-        ∙ map-append (λ item. item.1) (items_at from (given from)) (items_from (suc from) n given)))
+    ∙ map-append (λ item. item.1) (items_at from (given from)) (items_from (suc from) n given)))
     (All-append P (shards_listed (items_at from (given from))) (shards_listed (items_from (suc from) n given))
     (by_option (given from) refl) (listed-all P n (suc from) given each))
   where

@@ -58,8 +58,8 @@ shards_of n size w even words = (
     length_is = length-up_to n (λ i. shard_of size (w i));
     each = λ i d h.
         subst (λ (s : Shard). IsShard size s)
-            (sym (get-up_to n (λ k. shard_of size (w k)) i d
-            (subst (λ (k : ℕ). i < k) (length-up_to n (λ k. shard_of size (w k))) h)))
+        (sym (get-up_to n (λ k. shard_of size (w k)) i d
+        (subst (λ (k : ℕ). i < k) (length-up_to n (λ k. shard_of size (w k))) h)))
         (is_shard_of size (w i) (words i));
   },
   λ i j hi hj.
@@ -79,10 +79,15 @@ pub has_recovery : (c : Configuration) (message : List Shard) → supports c.rat
     → AreShards c.original_count c.shard_bytes message → (recovery : List Shard) × AreRecovery c message recovery
 has_recovery c message is even h =
     let words = λ (j : ℕ).
-        recovered c.rate c.original_count c.recovery_count (columns j message) is
-        (columns_lt c.original_count c.shard_bytes message h j) in
+    recovered c.rate c.original_count c.recovery_count (columns j message) is
+    (columns_lt c.original_count c.shard_bytes message h j) in
     let (shards, are, at) = shards_of c.recovery_count c.shard_bytes (λ i j. slice_index (words j).0 i) even
     (λ i j. recovery_lt c.rate c.original_count c.recovery_count (columns j message) (words j).0 (words j).1
-        (words j).2 i) in
-    (shards, record { shards = are; words = λ j hj.
-        ((words j).2.0, (words j).2.1, λ i hi. at i j hi hj ∙ (words j).2.2 i hi) })
+    (words j).2 i) in (
+      shards,
+      record {
+        shards = are;
+        words = λ j hj.
+            ((words j).2.0, (words j).2.1, λ i hi. at i j hi hj ∙ (words j).2.2 i hi);
+      },
+    )

@@ -15,7 +15,7 @@ unfolding next_power
 next_power-small n small =
     let d : ℕ = first_below 64 (λ e. nat_le n (2 ^ e)) in
     let most : first_below 64 (λ e. nat_le n (2 ^ e)) ≤ 16 =
-        first_below_most 64 (λ e. nat_le n (2 ^ e)) 16 (omega arith) (le-leb n 65536 small) in
+    first_below_most 64 (λ e. nat_le n (2 ^ e)) 16 (omega arith) (le-leb n 65536 small) in
     (d, most, refl, leb-true n (2 ^ d) (first_below-passes 64 (λ e. nat_le n (2 ^ e)) (omega arith)))
 
 -- No smaller power of two is at least n.
@@ -23,15 +23,15 @@ pub next_power-least : (n d : ℕ) → d < 64 → n ≤ 2 ^ d → next_power n �
 unfolding next_power
 next_power-least n d hd h =
     pow_mono {i = first_below 64 (λ e. nat_le n (2 ^ e))}
-        (first_below_most 64 (λ e. nat_le n (2 ^ e)) d hd (le-leb n (2 ^ d) h))
+    (first_below_most 64 (λ e. nat_le n (2 ^ e)) d hd (le-leb n (2 ^ d) h))
 
 -- A power of two that is at least n, and whose half is below n, is `next_power n`.
 pub next_power-is : (n p x : ℕ) → p ≡ 2 ^ x → x < 64 → n ≤ p → p / 2 < max 1 n → p ≡ next_power n
 unfolding next_power
 next_power-is n p x power few above half =
     power ∙ ap (λ d. 2 ^ d)
-        (sym (first_below-is 64 (λ d. nat_le n (2 ^ d)) x few (le-leb n (2 ^ x) (omega arith))
-        (λ j less. lt-leb n (2 ^ j) (below j less))))
+    (sym (first_below-is 64 (λ d. nat_le n (2 ^ d)) x few (le-leb n (2 ^ x) (omega arith))
+    (λ j less. lt-leb n (2 ^ j) (below j less))))
   where
     halved : (j y : ℕ) → j < suc y → 2 ^ suc y / 2 < max 1 n → 2 ^ j < n
     halved j y less h =
@@ -54,10 +54,10 @@ next_power-large n large =
       | inl above ↦ above
       | inr small ↦
           let few : first_below 64 (λ e. nat_le n (2 ^ e)) < 17 =
-              exponent_below (first_below 64 (λ e. nat_le n (2 ^ e))) 17 (omega arith) in
+          exponent_below (first_below 64 (λ e. nat_le n (2 ^ e))) 17 (omega arith) in
           let no : n ≤ 2 ^ first_below 64 (λ e. nat_le n (2 ^ e)) =
-              leb-true n (2 ^ first_below 64 (λ e. nat_le n (2 ^ e)))
-              (first_below-passes 64 (λ e. nat_le n (2 ^ e)) (omega arith)) in
+          leb-true n (2 ^ first_below 64 (λ e. nat_le n (2 ^ e)))
+          (first_below-passes 64 (λ e. nat_le n (2 ^ e)) (omega arith)) in
           absurd (omega arith)
     ]
 

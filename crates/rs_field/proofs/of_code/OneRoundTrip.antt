@@ -60,7 +60,7 @@ taken (x ∷ xs) s t is =
     let same : first.0.configuration ≡ s.configuration = ap (λ (u : EncoderState). u.configuration) one.0 in
     let now : first.0.given ≡ s.given ++ x ∷ [] = ap (λ (u : EncoderState). u.given) one.0 in
     let count : first.0.configuration.original_count ≡ s.configuration.original_count =
-        ap (λ (c : Configuration). c.original_count) same in
+    ap (λ (c : Configuration). c.original_count) same in
     record {
       of = more.of ∙ same;
       given = more.given ∙ ap (λ ys. ys ++ xs) now ∙ append_assoc s.given (x ∷ []) xs;
@@ -81,22 +81,25 @@ codes_in_one_call k r originals recovery bytes (inl answers) =
         → encoding_outcome k r shards ≡ Ok s → EncodeAnswers s (Ok recovery) → AreCoded k r shards recovery
     by_shards [] small s same h =
         let e = (then_ok (λ _. Err (TooFewOriginalShards k 0)) (counts_outcome k r) s same).2 in
-            absurd (let no : ⊥ = cc in no)
+        absurd (let no : ⊥ = cc in no)
     by_shards (x ∷ xs) small s same h =
         let c = default_of k r (length x) in
         let begun = then_ok (λ _. with_shards (fresh_encoder c) (x ∷ xs))
-            (start_outcome (encoder_rows default_rate k r) c) s same in
+        (start_outcome (encoder_rows default_rate k r) c) s same in
         let valid = then_ok _ (validation_outcome c) begun.0 begun.1 in
         let all = taken (x ∷ xs) (fresh_encoder c) s begun.2 in
         let out = answered s recovery h in
         let least : k ≤ length s.given =
-            subst (λ (d : Configuration). d.original_count ≤ length s.given) all.of out.0 in
+        subst (λ (d : Configuration). d.original_count ≤ length s.given) all.of out.0 in
         let long : length s.given ≡ length (x ∷ xs) = ap length all.given in
         record {
           size = length x;
           valid = valid.1;
-          shards = record { length_is = omega arith; each = λ i d inside.
-              record { length_is = all.sized i d inside; bytes = small i d inside } };
+          shards = record {
+            length_is = omega arith;
+            each = λ i d inside.
+                record { length_is = all.sized i d inside; bytes = small i d inside };
+          };
           coded = subst (λ (d : Configuration). AreRecovery d (x ∷ xs) recovery) all.of
               (subst (λ (m : List Shard). AreRecovery s.configuration m recovery) all.given out.1);
         }
@@ -126,8 +129,11 @@ all_given : (shards : List Shard) (s : EncoderState) → length s.given + length
 all_given [] s room sized = ap (λ given. Ok (record s { given = given })) (sym (append-nil s.given))
 all_given (x ∷ xs) s room sized =
     let first : with_shard s x ≡ Ok (record s { given = s.given ++ x ∷ [] }) =
-    rw (lt-leb s.configuration.original_count (length s.given) (omega arith), eq-eqb
-        (length x) s.configuration.shard_bytes sized.0) refl in
+    rw (
+      lt-leb s.configuration.original_count (length s.given) (omega arith),
+      eq-eqb
+          (length x) s.configuration.shard_bytes sized.0,
+    ) refl in
     let long : length (s.given ++ x ∷ []) ≡ length s.given + 1 = length-append s.given (x ∷ []) in
     ap (result_and_then (λ next. with_shards next xs)) first
     ∙ all_given xs (record s { given = s.given ++ x ∷ [] }) (omega arith) sized.1
@@ -156,8 +162,8 @@ encodes_in_one_call k r size [] result valid count sized (inl answers) =
 encodes_in_one_call k r size (x ∷ xs) result valid count sized (inl answers) =
     whole_by_start k r size (x ∷ xs) result valid count sized
     (subst (λ (n : ℕ). MatchResult
-        (result_and_then (λ _. with_shards (fresh_encoder (default_of k r n)) (x ∷ xs))
-        (start_outcome (encoder_rows default_rate k r) (default_of k r n)))
+    (result_and_then (λ _. with_shards (fresh_encoder (default_of k r n)) (x ∷ xs))
+    (start_outcome (encoder_rows default_rate k r) (default_of k r n)))
     (λ s. EncodeAnswers s result) (λ e. result ≡ Err e)) (sized 0 x (omega arith)) answers)
 
 -- Shards that an encoder took one after another are a message, and the result of encoding is its recovery shards.
@@ -169,7 +175,7 @@ encoded_all rate c shards recovery s is made h =
     let out = answered s recovery h in
     let given : s.given ≡ shards = all.given in
     let least : c.original_count ≤ length s.given =
-        subst (λ (d : Configuration). d.original_count ≤ length s.given) all.of out.0 in
+    subst (λ (d : Configuration). d.original_count ≤ length s.given) all.of out.0 in
     let long : length s.given ≡ length shards = ap length given in (
       record {
         length_is = omega arith;
@@ -218,7 +224,7 @@ originals_taken [] s fit free once = refl
 originals_taken (item ∷ items) s fit free once =
     ap (result_and_then (λ next. with_originals next items)) (original_taken s item.0 item.1 fit.0.0 fit.0.1 free.0)
     ∙ originals_taken items (record s { originals = with_entry s.originals item.0 item.1 }) fit.1
-        (free-next s.originals item items once free) (IsDistinct-tail nat_eq item.0 (indexes items) once)
+    (free-next s.originals item items once free) (IsDistinct-tail nat_eq item.0 (indexes items) once)
 
 recoveries_taken : (items : Items) (s : DecoderState)
     → AreFitting s.configuration.recovery_count s.configuration.shard_bytes items → AreFree s.recovery items
@@ -228,7 +234,7 @@ recoveries_taken [] s fit free once = refl
 recoveries_taken (item ∷ items) s fit free once =
     ap (result_and_then (λ next. with_recoveries next items)) (recovery_taken s item.0 item.1 fit.0.0 fit.0.1 free.0)
     ∙ recoveries_taken items (record s { recovery = with_entry s.recovery item.0 item.1 }) fit.1
-        (free-next s.recovery item items once free) (IsDistinct-tail nat_eq item.0 (indexes items) once)
+    (free-next s.recovery item items once free) (IsDistinct-tail nat_eq item.0 (indexes items) once)
 
 all_free : (items : Items) → AreFree nothing items
 all_free [] = tt
@@ -258,11 +264,14 @@ all_noted : (k : ℕ) (items : Items) (given : List ℕ) → AllByRecursion (λ 
 all_noted k [] given below absent once = (given, refl, sym (add-zero (length given)))
 all_noted k (item ∷ items) given below absent once =
     let rest = all_noted k items (item.0 ∷ given) below.1
-        (absent_next item.0 given items (IsDistinct-head nat_eq item.0 (indexes items) once) absent.1)
+    (absent_next item.0 given items (IsDistinct-head nat_eq item.0 (indexes items) once) absent.1)
     (IsDistinct-tail nat_eq item.0 (indexes items) once) in
-    let first : note_outcome k given item.0 ≡ Ok (item.0 ∷ given) = rw (lt-leb k item.0 below.0, absent.0) refl in
-    (rest.0, ap (result_and_then (λ next. one_by_one (λ so_far one. note_outcome k so_far one.0) next items)) first
-        ∙ rest.1, omega (arith, rest.2))
+    let first : note_outcome k given item.0 ≡ Ok (item.0 ∷ given) = rw (lt-leb k item.0 below.0, absent.0) refl in (
+      rest.0,
+      ap (result_and_then (λ next. one_by_one (λ so_far one. note_outcome k so_far one.0) next items)) first
+          ∙ rest.1,
+      omega (arith, rest.2),
+    )
 
 none_noted : (items : Items) → AllByRecursion (λ item. list_any (nat_eq item.0) [] ≡ false) items
 none_noted [] = tt
@@ -287,7 +296,7 @@ none_lost originals kept left many i = by_test (nat_lt i (length originals)) ref
     by_test true e =
         let count = left_count (length originals) originals kept refl left in
         let there = all_some (length originals) (entered_all nothing kept) (omega arith) i
-            (ltb-true i (length originals) e) in
+        (ltb-true i (length originals) e) in
         ap (λ b. cond (not b) (Some (shard_at originals i)) None) (sym (some-entered_all kept nothing i) ∙ there)
 
 -- The state of a decoder that has exactly the shards that are left.
@@ -324,8 +333,8 @@ pub taken_gives_back : (c : Configuration) (message recovery : List Shard) (kept
     → with_both (fresh_decoder c) kept received ≡ Ok s → DecodeAnswers s result → GivesBack message kept received result
 taken_gives_back c message recovery kept received s result are coded left got is answers =
     subst (λ (o : Result DecoderState Error).
-        IsOkAnd o (λ s. (result : Result Shards Error) → DecodeAnswers s result
-        → GivesBack message kept received result)) is
+    IsOkAnd o (λ s. (result : Result Shards Error) → DecodeAnswers s result
+    → GivesBack message kept received result)) is
     (restores_left c message recovery kept received are coded left got) result answers
 
 module _ (k r : ℕ) (originals recovery : List Shard) (kept : Items) (was : AreCoded k r originals recovery)
@@ -334,7 +343,7 @@ module _ (k r : ℕ) (originals recovery : List Shard) (kept : Items) (was : Are
   abbrev Begun : Items → Result Shards Error → Result (Unit {0}) Error → Type 0
   Begun received result begun =
       MatchResult (result_and_then (λ _. with_both (fresh_decoder (default_of k r was.size)) kept received) begun)
-          (λ s. DecodeAnswers s result) (λ e. result ≡ Err e)
+      (λ s. DecodeAnswers s result) (λ e. result ≡ Err e)
 
   -- If the decoder can be set up, one call restores the lost originals.
   by_start : (received : Items) (result : Result Shards Error) → AreLeft recovery received
@@ -343,20 +352,20 @@ module _ (k r : ℕ) (originals recovery : List Shard) (kept : Items) (was : Are
   by_start received result got answers =
       by_bytes (nat_le (2 ^ 64) (bytes_of_rows (decoder_rows default_rate k r) was.size))
       (subst (Begun received result)
-          (ap (result_and_then
-          (λ _. cond (nat_le (2 ^ 64) (bytes_of_rows (decoder_rows default_rate k r) was.size)) (Err OutOfMemory)
-          (Ok tt))) was.valid) answers)
+      (ap (result_and_then
+      (λ _. cond (nat_le (2 ^ 64) (bytes_of_rows (decoder_rows default_rate k r) was.size)) (Err OutOfMemory)
+      (Ok tt))) was.valid) answers)
     where
       by_bytes : (full : Bool) → Begun received result (cond full (Err OutOfMemory) (Ok tt))
           → OneBringsBack originals kept received result
       by_bytes true h = record { answer = inr h; restored = if_ok-refused result OutOfMemory _ h }
       by_bytes false h =
           let all = all_taken (default_of k r was.size) originals recovery kept received was.shards was.coded left got
-              in
+          in
           let back = gives_back
-              (default_of k r was.size) originals recovery kept received was.shards was.coded left got result
+          (default_of k r was.size) originals recovery kept received was.shards was.coded left got result
           (subst (λ (o : Result DecoderState Error). MatchResult o (λ s. DecodeAnswers s result) (λ e. result ≡ Err e))
-              all h) in
+          all h) in
           record { answer = inl back.answer; restored = back.restored }
 
   -- If no recovery shard is left, one call restores the lost originals, of which there are none.
@@ -371,11 +380,11 @@ module _ (k r : ℕ) (originals recovery : List Shard) (kept : Items) (was : Are
   by_answer (first ∷ rest) result got (inl answers) =
       let own = got.own 0 first (omega arith) in
       let size : length first.1 ≡ was.size =
-          sym (ap length own.1) ∙ (was.coded.shards.each first.0 [] own.0).length_is in
+      sym (ap length own.1) ∙ (was.coded.shards.each first.0 [] own.0).length_is in
       by_start (first ∷ rest) result got
       (subst (λ (n : ℕ). MatchResult
-          (result_and_then (λ _. with_both (fresh_decoder (default_of k r n)) kept (first ∷ rest))
-          (start_outcome (decoder_rows default_rate k r) (default_of k r n)))
+      (result_and_then (λ _. with_both (fresh_decoder (default_of k r n)) kept (first ∷ rest))
+      (start_outcome (decoder_rows default_rate k r) (default_of k r n)))
       (λ s. DecodeAnswers s result) (λ e. result ≡ Err e)) size answers)
 
 pub restores_in_one_call : (k r : ℕ) (originals recovery : List Shard) (kept received : Items)

@@ -62,11 +62,11 @@ module _ (start end : ℕ) where
         words = λ j inside.
             subst (λ (words : List ℕ). AreRecoveryWords rate k r words (columns j (pieces start end all)))
             (sym (columns-pieces start end j message
-                (λ i d h. subst (λ (n : ℕ). IsStrip start end n) (sym (are.each i d h).length_is) strip) inside))
+            (λ i d h. subst (λ (n : ℕ). IsStrip start end n) (sym (are.each i d h).length_is) strip) inside))
             (subst (λ (words : List ℕ). AreRecoveryWords rate k r (columns (start / 2 + j) message) words)
             (sym (columns-pieces start end j all
-                (λ i d h. subst (λ (n : ℕ). IsStrip start end n) (sym (coded.shards.each i d h).length_is) strip)
-                inside))
+            (λ i d h. subst (λ (n : ℕ). IsStrip start end n) (sym (coded.shards.each i d h).length_is) strip)
+            inside))
             (coded.words (start / 2 + j) (omega (arith, inside, strip.order, strip.inside, strip.begins))));
       }
 
@@ -80,20 +80,20 @@ module _ (start end : ℕ) where
   pub agrees-cut : (rate : Rate) (k r size : ℕ) (originals recovery : Shards) (message : List Shard)
       → IsStrip start end size → Agrees (configuration rate k r size) originals recovery message
       → Agrees (configuration rate k r (end - start)) (pieces_of start end originals) (pieces_of start end recovery)
-          (pieces start end message)
+      (pieces start end message)
   agrees-cut rate k r size originals recovery message strip agrees =
       record {
         shards = shards-cut k size message strip agrees.shards;
         own = λ i p is.
             let s = whole_of (originals i) p is in
-                shard_at-pieces i message ∙ ap (λ (x : Shard). between start end x) (agrees.own i s.0 s.1) ∙ s.2;
+            shard_at-pieces i message ∙ ap (λ (x : Shard). between start end x) (agrees.own i s.0 s.1) ∙ s.2;
         coded = (
           pieces start end agrees.coded.0,
           recovery-cut rate k r size message agrees.coded.0 strip agrees.shards agrees.coded.1,
           λ i p is.
               let s = whole_of (recovery i) p is in
-                  shard_at-pieces i agrees.coded.0 ∙ ap (λ (x : Shard). between start end x) (agrees.coded.2 i s.0 s.1)
-                  ∙ s.2,
+              shard_at-pieces i agrees.coded.0 ∙ ap (λ (x : Shard). between start end x) (agrees.coded.2 i s.0 s.1)
+              ∙ s.2,
         );
       }
 
@@ -108,7 +108,7 @@ module _ (start end : ℕ) where
   unfolding missing_of
   missing-cut s message i =
       ap₂ (λ (b : Bool) (x : Shard). cond (nat_lt i s.configuration.original_count && not b) (Some x) None)
-          (is_some-map (s.originals i)) (shard_at-pieces i message)
+      (is_some-map (s.originals i)) (shard_at-pieces i message)
       ∙ by_test (nat_lt i s.configuration.original_count && not (is_some (s.originals i)))
     where
       by_test : (b : Bool)
@@ -125,9 +125,9 @@ module _ (start end : ℕ) where
   restored-cut s message out strip agrees restored i =
       let c = s.configuration in
       let cut = agrees-cut c.rate c.original_count c.recovery_count c.shard_bytes s.originals s.recovery message strip
-          agrees in
+      agrees in
       restored.missing i ∙ ap (λ (m : List Shard). missing_of (state_of_pieces start end s) m i)
-          (sym (restored.only (pieces start end message) cut)) ∙ missing-cut s message i
+      (sym (restored.only (pieces start end message) cut)) ∙ missing-cut s message i
 
   -- If the pieces of a strip are consistent, each of their columns is a column of a message, as the column of the
   -- shards is.
@@ -141,15 +141,15 @@ module _ (start end : ℕ) where
         own = λ i p is.
             let s = whole_of (originals i) p is in
             has.own i s.0 s.1 ∙ sym
-                (column-piece start end j s.0
-                (subst (λ (n : ℕ). IsStrip start end n) (sym (own_sized.each i s.0 s.1).1.length_is) strip) inside)
-                ∙ ap (column j) s.2;
+            (column-piece start end j s.0
+            (subst (λ (n : ℕ). IsStrip start end n) (sym (own_sized.each i s.0 s.1).1.length_is) strip) inside)
+            ∙ ap (column j) s.2;
         coded = λ i p is.
             let s = whole_of (recovery i) p is in
             has.coded i s.0 s.1 ∙ sym
-                (column-piece start end j s.0
-                (subst (λ (n : ℕ). IsStrip start end n) (sym (coded_sized.each i s.0 s.1).1.length_is) strip) inside)
-                ∙ ap (column j) s.2;
+            (column-piece start end j s.0
+            (subst (λ (n : ℕ). IsStrip start end n) (sym (coded_sized.each i s.0 s.1).1.length_is) strip) inside)
+            ∙ ap (column j) s.2;
       }
 
   pub taken-whole : (rate : Rate) (k r size j : ℕ) (originals recovery : Shards) (words : ℕ → ℕ → ℕ)
@@ -160,8 +160,8 @@ module _ (start end : ℕ) where
       → (p : List ℕ) × IsTaken (configuration rate k r size) originals recovery words (start / 2 + j) p
   taken-whole rate k r size j originals recovery words strip inside own_sized coded_sized has (message, agrees) =
       let (p, codes, takes) =
-          column_taken (configuration rate k r (end - start)) (pieces_of start end originals)
-          (pieces_of start end recovery) message j (words (start / 2 + j)) inside agrees
+      column_taken (configuration rate k r (end - start)) (pieces_of start end originals)
+      (pieces_of start end recovery) message j (words (start / 2 + j)) inside agrees
       (has-cut rate k r size j originals recovery (words (start / 2 + j)) strip inside own_sized coded_sized has) in (
         p,
         (
@@ -194,4 +194,4 @@ consistent-whole rate k r size originals recovery words even own_sized coded_siz
     subst (λ (i : ℕ). (p : List ℕ) × IsTaken (configuration rate k r size) originals recovery words i p) place
     (taken-whole start end rate k r size (j - start / 2) originals recovery words strip here own_sized coded_sized
     (subst (λ (i : ℕ). HasWords (placement rate k r) originals recovery i (words i)) (sym place) (has j inside))
-        pieces_agree))
+    pieces_agree))

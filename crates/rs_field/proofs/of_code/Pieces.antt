@@ -30,7 +30,7 @@ column-head a j s whole room inside =
     ap (λ (c : ℕ). column c (take a s)) parts
     ∙ column-chunk (j / 32) (j % 32) (take a s) (omega arith) (omega (arith, long))
     ∙ ap₂ (λ (x y : ℕ). x + 256 * y) (get_or-take a s (j / 32 * 64 + j % 32) 0 (omega arith))
-        (get_or-take a s (j / 32 * 64 + j % 32 + 32) 0 (omega arith))
+    (get_or-take a s (j / 32 * 64 + j % 32 + 32) 0 (omega arith))
     ∙ sym (column-chunk (j / 32) (j % 32) s (omega arith) (omega arith))
     ∙ ap (λ (c : ℕ). column c s) (sym parts)
 
@@ -43,15 +43,15 @@ column-rest a j s whole =
     let left : length (drop a s) ≡ length s - a = length-drop a s in
     let words : chunk_words (drop a s) (j / 32 * 64) ≡ chunk_words s ((a / 64 + j / 32) * 64) =
     ap (λ (n : ℕ). min 64 n / 2)
-        (let e : length (drop a s) - j / 32 * 64 ≡ length s - (a / 64 + j / 32) * 64 = omega (arith, left) in e) in
+    (let e : length (drop a s) - j / 32 * 64 ≡ length s - (a / 64 + j / 32) * 64 = omega (arith, left) in e) in
     ap (λ (c : ℕ). column c (drop a s)) parts
     ∙ column-at (j / 32) (j % 32) (drop a s) (omega arith)
     ∙ ap₂ (λ (x y : ℕ). x + 256 * y)
     (get_or-drop a s (j / 32 * 64 + j % 32) 0 ∙ ap (λ (i : ℕ). get_or s i 0) low)
     (get_or-drop a s (j / 32 * 64 + j % 32 + chunk_words (drop a s) (j / 32 * 64)) 0
     ∙ ap (λ (i : ℕ). get_or s i 0)
-        (let e : a + (j / 32 * 64 + j % 32 + chunk_words (drop a s) (j / 32 * 64))
-        ≡ (a / 64 + j / 32) * 64 + j % 32 + chunk_words (drop a s) (j / 32 * 64) = omega arith in e)
+    (let e : a + (j / 32 * 64 + j % 32 + chunk_words (drop a s) (j / 32 * 64))
+    ≡ (a / 64 + j / 32) * 64 + j % 32 + chunk_words (drop a s) (j / 32 * 64) = omega arith in e)
     ∙ ap (λ (w : ℕ). get_or s ((a / 64 + j / 32) * 64 + j % 32 + w) 0) words)
     ∙ sym (column-at (a / 64 + j / 32) (j % 32) s (omega arith))
     ∙ ap (λ (c : ℕ). column c s) place
@@ -64,7 +64,7 @@ column-piece start end j s strip inside =
     elim strip.ends [
       | inl whole ↦
           column-head (end - start) j (drop start s) (omega (arith, whole, strip.begins, strip.order))
-              (omega (arith, left, strip.inside)) inside
+          (omega (arith, left, strip.inside)) inside
           ∙ column-rest start j s strip.begins
       | inr last ↦
           ap (column j) (take_all (end - start) (drop start s) (omega (arith, left, last)))
@@ -108,10 +108,10 @@ coded-further rate k r start end originals old new own before after whole kept c
           let place : start / 2 + (j - start / 2) ≡ j = omega (arith, high) in
           subst (λ (i : ℕ). AreRecoveryWords rate k r (columns i originals) (columns i new)) place
           (subst (λ (words : List ℕ). AreRecoveryWords rate k r words (columns (start / 2 + (j - start / 2)) new))
-              (columns-pieces start end (j - start / 2) originals own here)
+          (columns-pieces start end (j - start / 2) originals own here)
           (subst (λ (words : List ℕ).
-              AreRecoveryWords rate k r (columns (j - start / 2) (pieces start end originals)) words)
-              (columns-pieces start end (j - start / 2) new after here)
+          AreRecoveryWords rate k r (columns (j - start / 2) (pieces start end originals)) words)
+          (columns-pieces start end (j - start / 2) new after here)
           (further.words (j - start / 2) here)))
     ]
 
@@ -119,9 +119,9 @@ coded-further rate k r start end originals old new own before after whole kept c
 pub strips-join : (c : Configuration) (message all : List Shard) → AreShards c.original_count c.shard_bytes message
     → AreShards c.recovery_count c.shard_bytes all
     → ((byte : ℕ) → byte < c.shard_bytes → (start : ℕ) × (end : ℕ) × IsStrip start end c.shard_bytes × (start ≤ byte)
-        × (byte < end)
+    × (byte < end)
     × AreRecovery (configuration c.rate c.original_count c.recovery_count (end - start)) (pieces start end message)
-        (pieces start end all))
+    (pieces start end all))
     → AreRecovery c message all
 strips-join c message all own made strips =
     record {
@@ -134,24 +134,24 @@ strips-join c message all own made strips =
           let after : start ≤ 2 * j = found.3 in
           let before : 2 * j < end = found.4 in
           let coded : AreRecovery (configuration c.rate c.original_count c.recovery_count (end - start))
-              (pieces start end message) (pieces start end all) = found.5 in
+          (pieces start end message) (pieces start end all) = found.5 in
           let whole : start % 64 ≡ 0 = strip.begins in
           let ends : j < end / 2 =
-              elim strip.ends [ inl even ↦ omega (arith, even, before) | inr last ↦ omega (arith, last, inside) ] in
+          elim strip.ends [ inl even ↦ omega (arith, even, before) | inr last ↦ omega (arith, last, inside) ] in
           let here : j - start / 2 < (end - start) / 2 = omega (arith, whole, after, ends) in
           let place : start / 2 + (j - start / 2) ≡ j = omega (arith, whole, after) in
           subst (λ (i : ℕ). AreRecoveryWords c.rate c.original_count c.recovery_count (columns i message)
-              (columns i all)) place
+          (columns i all)) place
           (subst (λ (words : List ℕ).
-              AreRecoveryWords c.rate c.original_count c.recovery_count words
-              (columns (start / 2 + (j - start / 2)) all))
+          AreRecoveryWords c.rate c.original_count c.recovery_count words
+          (columns (start / 2 + (j - start / 2)) all))
           (columns-pieces start end (j - start / 2) message
-              (λ i d h. subst (λ (n : ℕ). IsStrip start end n) (sym (own.each i d h).length_is) strip) here)
+          (λ i d h. subst (λ (n : ℕ). IsStrip start end n) (sym (own.each i d h).length_is) strip) here)
           (subst (λ (words : List ℕ).
-              AreRecoveryWords c.rate c.original_count c.recovery_count
-              (columns (j - start / 2) (pieces start end message)) words)
+          AreRecoveryWords c.rate c.original_count c.recovery_count
+          (columns (j - start / 2) (pieces start end message)) words)
           (columns-pieces start end (j - start / 2) all
-              (λ i d h. subst (λ (n : ℕ). IsStrip start end n) (sym (made.each i d h).length_is) strip) here)
+          (λ i d h. subst (λ (n : ℕ). IsStrip start end n) (sym (made.each i d h).length_is) strip) here)
           (coded.words (j - start / 2) here)));
     }
 
@@ -184,7 +184,7 @@ module _ (start end : ℕ) (made old new : List Shard) (put : ArePut start end m
   put-heads =
       same_from [] (heads start new) (heads start old) (simp length-map put.0) (λ i h.
       let here : i < length old =
-          (let n = length-map new (λ (s : Shard). take start s) in omega (arith, h, n, put.0)) in
+      (let n = length-map new (λ (s : Shard). take start s) in omega (arith, h, n, put.0)) in
       get_or-map (λ (s : Shard). take start s) new i [] [] (omega (arith, here, put.0))
       ∙ ap (take start) (at i here) ∙ take_at (take start (get_or old i [])) _ start (front i here)
       ∙ sym (get_or-map (λ (s : Shard). take start s) old i [] [] here))
@@ -194,7 +194,7 @@ module _ (start end : ℕ) (made old new : List Shard) (put : ArePut start end m
   put-pieces =
       same_from [] (pieces start end new) made (simp length-map (put.0 ∙ sym number)) (λ i h.
       let here : i < length old =
-          (let n = length-map new (λ (s : Shard). between start end s) in omega (arith, h, n, put.0)) in
+      (let n = length-map new (λ (s : Shard). between start end s) in omega (arith, h, n, put.0)) in
       get_or-map (λ (s : Shard). between start end s) new i [] [] (omega (arith, here, put.0))
       ∙ ap (λ (s : Shard). take (end - start) (drop start s)) (at i here)
       ∙ ap (take (end - start)) (drop_at (take start (get_or old i [])) _ start (front i here))
@@ -214,10 +214,10 @@ module _ (start end : ℕ) (made old new : List Shard) (put : ArePut start end m
       subst (λ (s : Shard). All (λ b. b < 256) s)
       (sym (get_or-map (λ (s : Shard). take end s) new i [] d (omega (arith, here, put.0))
       ∙ ap (take end) (at i here
-          ∙ sym (append_assoc (take start (get_or old i [])) (get_or made i []) (drop end (get_or old i []))))
+      ∙ sym (append_assoc (take start (get_or old i [])) (get_or made i []) (drop end (get_or old i []))))
       ∙ take_at (take start (get_or old i []) ++ get_or made i []) _ end (omega (arith, both, first, piece, order))))
       (All-append (λ b. b < 256) (take start (get_or old i [])) (get_or made i []) head
-          (bytes i [] (omega (arith, here, number))))
+      (bytes i [] (omega (arith, here, number))))
 
 -- ---- the state when all bytes below a number are done
 
@@ -227,7 +227,7 @@ pub is_strip : (start strip size width part : ℕ) → width ≡ min strip size 
     → (start % 64 ≡ 0) ⊎ (start ≡ size) → start < size → IsStrip start (start + part) size
 is_strip start strip size width part width_is part_is chunks begins less =
     let from : start % 64 ≡ 0 =
-        elim begins [ inl whole ↦ whole | inr last ↦ absurd (let no : ⊥ = omega (arith, last, less) in no) ] in
+    elim begins [ inl whole ↦ whole | inr last ↦ absurd (let no : ⊥ = omega (arith, last, less) in no) ] in
     elim (cases_lt width (size - start)) [
       | inl more ↦
           let here : part ≡ width = part_is ∙ min-eq_left (let le : width ≤ size - start = omega (arith, more) in le) in
@@ -244,8 +244,13 @@ is_strip start strip size width part width_is part_is chunks begins less =
           }
       | inr last ↦
           let here : part ≡ size - start = part_is ∙ min-eq_right last in
-          record { order = omega arith; inside = omega (arith, here, less); begins = from; ends =
-              inr (omega (arith, here, less)) }
+          record {
+            order = omega arith;
+            inside = omega (arith, here, less);
+            begins = from;
+            ends =
+                inr (omega (arith, here, less));
+          }
     ]
 
 -- A room has at least the length of the bytes that were written.
@@ -288,16 +293,16 @@ pub done-further : (grows : Bool) (rate : Rate) (k r size start end : ℕ) (orig
 done-further grows rate k r size start end originals made old new strip sized done recovery put =
     let inside : All (λ s. start ≤ length s) old = (λ i d h.
     let n = done.fit i d h in let from =
-        room-from grows start size (let le : start ≤ size = omega (arith, strip.order, strip.inside) in le) in
-        omega (arith, n, from)) in
+    room-from grows start size (let le : start ≤ size = omega (arith, strip.order, strip.inside) in le) in
+    omega (arith, n, from)) in
     let number : length made ≡ length old = recovery.shards.length_is ∙ sym done.number in
     let long : All (λ s. length s ≡ end - start) made = (λ i d h. (recovery.shards.each i d h).length_is) in
     let fit : All (λ s. length s ≡ room_length grows end size) new = (λ i d h.
     let here : i < length old = omega (arith, h, put.0) in
     ap length (get_or_default new i d [] h)
-        ∙ put-length start end made old new put strip.order inside number long i here
+    ∙ put-length start end made old new put strip.order inside number long i here
     ∙ ap (λ (n : ℕ). end + (n - end)) (done.fit i [] here) ∙ room-further grows start end size strip.order strip.inside)
-        in
+    in
     record {
       number = put.0 ∙ done.number;
       fit = fit;
@@ -338,7 +343,7 @@ done-all grows rate k r size originals rooms done =
               length_is = long;
               bytes = subst (λ (s : Shard). All (λ b. b < 256) s)
                   (get_or-map (λ (s : Shard). take size s) rooms i d d h
-                      ∙ take_all size (get_or rooms i d) (omega (arith, long)))
+                  ∙ take_all size (get_or rooms i d) (omega (arith, long)))
                   (done.bytes i d (let n = length-map rooms (λ (s : Shard). take size s) in omega (arith, h, n)));
             };
       };
@@ -366,7 +371,7 @@ pieces-append : (start end : ℕ) (xs ys : List (Bor Shard))
 pieces-append start end xs ys =
     ap (λ (l : List Shard). map (λ (s : Shard). between start end s) l) (map-append (λ (x : Bor Shard). x.now) xs ys)
     ∙ map-append (λ (s : Shard). between start end s) (map (λ (x : Bor Shard). x.now) xs)
-        (map (λ (x : Bor Shard). x.now) ys)
+    (map (λ (x : Bor Shard). x.now) ys)
 
 -- Adding two lists of shards is adding the second list after the first.
 adds-append : (s t : EncoderState) (xs ys : List Shard) → with_shards s xs ≡ Ok t
@@ -390,7 +395,7 @@ module _ (start end i : ℕ) (xs : List (Bor Shard)) (d : Bor Shard) (first now 
       ap (λ (l : List (Bor Shard)). with_shards first (pieces start end (map (λ x. x.now) l))) (take_more xs i d inside)
       ∙ ap (with_shards first) (pieces-append start end (take i xs) (get_or xs i d ∷ []))
       ∙ adds-append first now (pieces start end (map (λ x. x.now) (take i xs)))
-          (pieces start end (map (λ x. x.now) (get_or xs i d ∷ []))) led
+      (pieces start end (map (λ x. x.now) (get_or xs i d ∷ []))) led
       ∙ ap (result_and_then (λ (s : EncoderState). Ok s)) taken
 
   -- The error of the first piece that cannot be added is the outcome of adding all pieces.
@@ -401,6 +406,6 @@ module _ (start end i : ℕ) (xs : List (Bor Shard)) (d : Bor Shard) (first now 
       (sym (take-append-drop i xs) ∙ ap (λ (l : List (Bor Shard)). take i xs ++ l) (drop_more xs i d inside))
       ∙ ap (with_shards first) (pieces-append start end (take i xs) (get_or xs i d ∷ drop (i + 1) xs))
       ∙ adds-append first now (pieces start end (map (λ x. x.now) (take i xs)))
-          (pieces start end (map (λ x. x.now) (get_or xs i d ∷ drop (i + 1) xs))) led
+      (pieces start end (map (λ x. x.now) (get_or xs i d ∷ drop (i + 1) xs))) led
       ∙ ap (result_and_then
-          (λ (s : EncoderState). with_shards s (pieces start end (map (λ x. x.now) (drop (i + 1) xs))))) refused
+      (λ (s : EncoderState). with_shards s (pieces start end (map (λ x. x.now) (drop (i + 1) xs))))) refused

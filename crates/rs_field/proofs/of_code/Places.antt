@@ -62,10 +62,12 @@ point_apart : (p : Placement) (k r x : ℕ) → IsSpread p k r → x < k + r →
 point_apart p k r x s hx =
     elim (point_cases p k r x hx) [
       | inl first ↦ (omega (arith, first.0, first.1), inl (omega (arith, first.0, first.1)))
-      | inr later ↦
-          (omega (arith, later.1, later.2), elim
-              (s.apart (x - k) later.1)
-              [ inl past ↦ inr (omega (arith, later.2, past)) | inr before ↦ inl (omega (arith, later.2, before)) ])
+      | inr later ↦ (
+        omega (arith, later.1, later.2),
+        elim
+            (s.apart (x - k) later.1)
+            [ inl past ↦ inr (omega (arith, later.2, past)) | inr before ↦ inl (omega (arith, later.2, before)) ],
+      )
     ]
 
 -- Different places have different points.
@@ -93,7 +95,7 @@ fixed_by_points : (rate : Rate) (k r : ℕ) (words other p o : List ℕ) (place 
     → Codes rate k r words p → Codes rate k r other o
     → ArePlaces k (k + r) place
     → ((i : ℕ) → i < k → value p (point (placement rate k r) k (place i))
-        ≡ value o (point (placement rate k r) k (place i))) → p ≡ o
+    ≡ value o (point (placement rate k r) k (place i))) → p ≡ o
 fixed_by_points rate k r words other p o place is cp co are same = by_spread (spread_of (has_frame rate k r is))
   where
     spread_of : HasFrame rate k r → IsSpread (placement rate k r) k r
@@ -114,10 +116,13 @@ fixed_by_points rate k r words other p o place is cp co are same = by_spread (sp
     by_spread : IsSpread (placement rate k r) k r → p ≡ o
     by_spread s =
         same_from_values (placement rate k r).degree_bound p o cp.degree co.degree (words_from p cp.coefficients)
-            (words_from o co.coefficients) at
+        (words_from o co.coefficients) at
         (λ i hi. elim (cases_lt i k) [
-          | inl few ↦ omega (arith, at_place i few,
-              (point_apart (placement rate k r) k r (place i) s (are.below i few)).0)
+          | inl few ↦ omega (
+            arith,
+            at_place i few,
+            (point_apart (placement rate k r) k r (place i) s (are.below i few)).0,
+          )
           | inr zero_point ↦ omega (arith, at_zero i zero_point)
         ])
         (λ i j hi hj e. elim (cases_lt i k) [
@@ -167,7 +172,7 @@ codeword_column : (rate : Rate) (k r j x : ℕ) (message recovery : List Shard) 
     → value p (point (placement rate k r) k x) ≡ column j (shard_at (message ++ recovery) x)
 codeword_column rate k r j x message recovery p codes at size hx =
     codeword_word rate k r x (columns j message) (columns j recovery) p codes at
-        (length-map message (column j) ∙ size) hx
+    (length-map message (column j) ∙ size) hx
     ∙ ap (λ (ws : List ℕ). slice_index ws x) (sym (map-append (column j) message recovery))
     ∙ columns-at j (message ++ recovery) x
 
@@ -178,10 +183,10 @@ pub fixed_by_places : (c : Configuration) (one other one_recovery other_recovery
     → AreRecovery c one one_recovery → AreRecovery c other other_recovery
     → ArePlaces c.original_count (c.original_count + c.recovery_count) place
     → ((i : ℕ) → i < c.original_count
-        → shard_at (one ++ one_recovery) (place i) ≡ shard_at (other ++ other_recovery) (place i)) → one ≡ other
+    → shard_at (one ++ one_recovery) (place i) ≡ shard_at (other ++ other_recovery) (place i)) → one ≡ other
 fixed_by_places c one other one_recovery other_recovery place is even a b recovery_a recovery_b are same =
     shards_from_columns c.original_count c.shard_bytes one other a b even
-        (λ i j hi hj. in_column i j hi (recovery_a.words j hj) (recovery_b.words j hj))
+    (λ i j hi hj. in_column i j hi (recovery_a.words j hj) (recovery_b.words j hj))
   where
     in_column : (i j : ℕ) → i < c.original_count
         → AreRecoveryWords c.rate c.original_count c.recovery_count (columns j one) (columns j one_recovery)
@@ -191,13 +196,13 @@ fixed_by_places c one other one_recovery other_recovery place is even a b recove
         sym (codes_p.originals i hi)
         ∙ ap (λ (q : List ℕ). value q ((placement c.rate c.original_count c.recovery_count).originals_from + i))
         (fixed_by_points c.rate c.original_count c.recovery_count (columns j one)
-            (columns j other) p o place is codes_p codes_o are
+        (columns j other) p o place is codes_p codes_o are
         (λ n hn.
         codeword_column c.rate c.original_count c.recovery_count j (place n) one one_recovery p codes_p at_p a.length_is
-            (are.below n hn)
+        (are.below n hn)
         ∙ ap (column j) (same n hn)
         ∙ sym (codeword_column c.rate c.original_count c.recovery_count j
-            (place n) other other_recovery o codes_o at_o b.length_is (are.below n hn))))
+        (place n) other other_recovery o codes_o at_o b.length_is (are.below n hn))))
         ∙ codes_o.originals i hi
 
 -- ---- places of given shards
@@ -222,27 +227,32 @@ places_given (suc n) given = with_last (places_given n given) (is_some (given n)
         × ((i : ℕ) → i < count_below (suc n) given → is_some (given (place i)) ≡ true)
     with_last (place, are, some) false e =
         let count : count_below (suc n) given ≡ count_below n given =
-            count_below-suc n given ∙ ap (λ (b : Bool). count_below n given + cond b 1 0) e
-            ∙ add-zero (count_below n given) in (
+        count_below-suc n given ∙ ap (λ (b : Bool). count_below n given + cond b 1 0) e
+        ∙ add-zero (count_below n given) in (
           place,
-          record { below = λ i h.
-              (let b = are.below i (omega arith) in omega arith); once = λ i j h k.
-              are.once i j (omega arith) (omega arith) },
+          record {
+            below = λ i h.
+                (let b = are.below i (omega arith) in omega arith);
+            once = λ i j h k.
+                are.once i j (omega arith) (omega arith);
+          },
           λ i h. some i (omega arith),
         )
     with_last (place, are, some) true e =
         let m : ℕ = count_below n given in
         let count : count_below (suc n) given ≡ count_below n given + 1 =
-            count_below-suc n given ∙ ap (λ (b : Bool). count_below n given + cond b 1 0) e in
+        count_below-suc n given ∙ ap (λ (b : Bool). count_below n given + cond b 1 0) e in
         let first : (i : ℕ) → i < count_below n given → below_or m place (λ i. n) i ≡ place i = λ i h.
-            below_or-first m place (λ i. n) i h in
+        below_or-first m place (λ i. n) i h in
         let last : (i : ℕ) → count_below n given ≤ i → below_or m place (λ i. n) i ≡ n = λ i h.
-            below_or-then m place (λ i. n) i h in (
+        below_or-then m place (λ i. n) i h in (
           below_or m place (λ i. n),
           record {
-            below = λ i h. elim (cases_lt i m)
-                [ inl few ↦ (let b = are.below i few in omega (arith, first i few)) | inr end ↦
-                omega (arith, last i end) ];
+            below = λ i h. elim (cases_lt i m) [
+              | inl few ↦ (let b = are.below i few in omega (arith, first i few))
+              | inr end ↦
+                  omega (arith, last i end)
+            ];
             once = λ i j h k same. elim (cases_lt i m) [
               | inl few ↦ elim (cases_lt j m) [
                 | inl more ↦ are.once i j few more (sym (first i few) ∙ same ∙ first j more)
@@ -271,15 +281,15 @@ count-by_place k zero originals recovery =
     search (rules, below_or, add-zero, count_below-same, below_or-first, count_below-zero)
 count-by_place k (suc r) originals recovery =
     let rest : count_below (k + r) (below_or k originals recovery) ≡ count_below k originals + count_below r recovery =
-        count-by_place k r originals recovery in
+    count-by_place k r originals recovery in
     let here : below_or k originals recovery (k + r) ≡ recovery r =
-        below_or-then k originals recovery (k + r) (omega arith) ∙ ap recovery (omega arith) in
+    below_or-then k originals recovery (k + r) (omega arith) ∙ ap recovery (omega arith) in
     let last : count_below (suc (k + r)) (below_or k originals recovery)
-        ≡ count_below (k + r) (below_or k originals recovery) + cond (is_some (recovery r)) 1 0
+    ≡ count_below (k + r) (below_or k originals recovery) + cond (is_some (recovery r)) 1 0
     = count_below-suc (k + r) (below_or k originals recovery)
-        ∙ ap (λ (o : Option Shard). count_below (k + r) (below_or k originals recovery) + cond (is_some o) 1 0) here in
+    ∙ ap (λ (o : Option Shard). count_below (k + r) (below_or k originals recovery) + cond (is_some o) 1 0) here in
     ap (λ n. count_below n (below_or k originals recovery)) (add-suc k r) ∙ last
-        ∙ (let more = count_below-suc r recovery in omega arith)
+    ∙ (let more = count_below-suc r recovery in omega arith)
 
 -- A given shard is at its place in the codeword of each message that agrees.
 pub codeword_given : (c : Configuration) (originals recovery : Shards) (message : List Shard)

@@ -77,7 +77,7 @@ module _ (start end : ℕ) where
 word_at : Placement → ℕ → Shards → Shards → ℕ → ℕ → ℕ
 word_at p k originals recovery j x =
     cond (nat_le p.originals_from x && nat_lt x (p.originals_from + k))
-        (column j (unwrap_or (originals (x - p.originals_from)) []))
+    (column j (unwrap_or (originals (x - p.originals_from)) []))
     (column j (unwrap_or (recovery (x - p.recovery_from)) []))
 
 -- The words at the points of given shards are words of these shards.
@@ -93,8 +93,13 @@ has-words p k r e bound zeros_end size j originals recovery frame own_sized code
           let from : p.originals_from ≤ p.originals_from + i = omega arith in
           let to : p.originals_from + i < p.originals_from + k = omega (arith, below) in
           let place : p.originals_from + i - p.originals_from ≡ i = omega arith in
-          rw (le-leb p.originals_from (p.originals_from + i) from, lt-ltb (p.originals_from + i)
-              (p.originals_from + k) to, place, is) refl;
+          rw (
+            le-leb p.originals_from (p.originals_from + i) from,
+            lt-ltb (p.originals_from + i)
+                (p.originals_from + k) to,
+            place,
+            is,
+          ) refl;
       coded = λ i s is.
           let below = (coded_sized.each i s is).0 in
           let place : p.recovery_from + i - p.recovery_from ≡ i = omega arith in
@@ -119,7 +124,7 @@ has-words p k r e bound zeros_end size j originals recovery frame own_sized code
     by_first : (b : Bool) (i : ℕ) (s : Shard) → p.recovery_from + i - p.recovery_from ≡ i → recovery i ≡ Some s
         → p.originals_from + k ≤ p.recovery_from + i
         → cond (b && nat_lt (p.recovery_from + i) (p.originals_from + k))
-            (column j (unwrap_or (originals (p.recovery_from + i - p.originals_from)) []))
+        (column j (unwrap_or (originals (p.recovery_from + i - p.originals_from)) []))
         (column j (unwrap_or (recovery (p.recovery_from + i - p.recovery_from)) [])) ≡ column j s
     by_first true i s place is past = rw (le-ltb (p.recovery_from + i) (p.originals_from + k) past, place, is) refl
     by_first false i s place is past = rw (place, is) refl
@@ -142,16 +147,16 @@ all-consistent : (s : DecoderState)
     → AreSized s.configuration.original_count s.configuration.shard_bytes s.originals
     → AreSized s.configuration.recovery_count s.configuration.shard_bytes s.recovery
     → AreConsistentBelow s.configuration.rate s.configuration.original_count s.configuration.recovery_count
-        s.configuration.shard_bytes s.originals s.recovery s.configuration.shard_bytes
+    s.configuration.shard_bytes s.originals s.recovery s.configuration.shard_bytes
     → Consistent s.configuration s.originals s.recovery
 all-consistent s supported even own_sized coded_sized each =
     let c = s.configuration in
     let p = placement c.rate c.original_count c.recovery_count in
     let h = has_frame c.rate c.original_count c.recovery_count supported in
     consistent-whole c.rate c.original_count c.recovery_count c.shard_bytes s.originals s.recovery
-        (word_at p c.original_count s.originals s.recovery) even own_sized coded_sized
+    (word_at p c.original_count s.originals s.recovery) even own_sized coded_sized
     (λ j inside. has-words p c.original_count c.recovery_count h.exponent h.bound h.zeros_end c.shard_bytes j
-        s.originals s.recovery h.frame own_sized coded_sized) each
+    s.originals s.recovery h.frame own_sized coded_sized) each
 
 -- ---- rooms
 
@@ -160,7 +165,7 @@ some-missing : (s : DecoderState) (message : List Shard) (i : ℕ) → i < s.con
 unfolding missing_of
 some-missing s message i inside =
     ap (λ b. is_some (cond (b && not (is_some (s.originals i))) (Some (get_or message i [])) None))
-        (lt-ltb i s.configuration.original_count inside)
+    (lt-ltb i s.configuration.original_count inside)
     ∙ by_test (is_some (s.originals i))
   where
     by_test : (b : Bool) → is_some (cond (not b) (Some (get_or message i [])) None) ≡ not b
@@ -190,10 +195,10 @@ count-missing s message = below s.configuration.original_count (omega arith)
     below (suc n) h =
         ap₂ (λ (a b : ℕ). a + b)
         (count_below-suc n (missing_of s message)
-            ∙ ap (λ b. count_below n (missing_of s message) + cond b 1 0) (some-missing s message n (omega arith)))
+        ∙ ap (λ b. count_below n (missing_of s message) + cond b 1 0) (some-missing s message n (omega arith)))
         (count_below-suc n s.originals)
         ∙ by_test (count_below n (missing_of s message)) (count_below n s.originals) n (below n (omega arith))
-            (is_some (s.originals n))
+        (is_some (s.originals n))
 
 -- The missing shards of a message, in order of index.
 abbrev pub missing_shards : DecoderState → List Shard → List Shard
@@ -210,8 +215,8 @@ missing-number : (s : DecoderState) (message : List Shard)
 missing-number s message =
     let k = s.configuration.original_count in
     ap (λ (n : ℕ). n + originals_given s)
-        (length-map (items_below k (missing_of s message)) (λ item. item.1) ∙ length-listed k (missing_of s message))
-        ∙ count-missing s message
+    (length-map (items_below k (missing_of s message)) (λ item. item.1) ∙ length-listed k (missing_of s message))
+    ∙ count-missing s message
 
 -- The missing shards of a message have the shard size.
 missing-sized : (s : DecoderState) (message : List Shard) → IsAgreeing s message
@@ -230,7 +235,7 @@ missing-sized s message agrees =
     by_test i x (inl inside) false found =
         let found = rw (lt-ltb i s.configuration.original_count inside) at found in
         ap length (sym (ap (λ o. unwrap_or o x) found))
-            ∙ (agrees.shards.each i [] (omega (arith, inside, agrees.shards.length_is))).length_is
+        ∙ (agrees.shards.each i [] (omega (arith, inside, agrees.shards.length_is))).length_is
     by_test i x (inr past) b found =
         absurd (let found = rw (le-ltb i s.configuration.original_count past) at found in let no : ⊥ = cc in no)
 
@@ -261,13 +266,13 @@ module _ (s : DecoderState) (grows : Bool) (start end : ℕ) (out : Shards) (ite
   items-are =
       ap shards_listed (lists-same (missing_of (state_of_pieces start end s) restored.message) items _
       (subst (λ (g : Shards). Lists g items) (fun_ext restored.missing) listing)
-          (missing-lists (state_of_pieces start end s) restored.message))
+      (missing-lists (state_of_pieces start end s) restored.message))
 
   -- The listed items are as many as originals are missing.
   pub pieces-number : length items + originals_given s ≡ s.configuration.original_count
   pieces-number =
       ap₂ (λ (a b : ℕ). a + b) (sym (length-map items (λ item. item.1)) ∙ ap length items-are)
-          (sym (count-pieces start end s.configuration.original_count s.originals))
+      (sym (count-pieces start end s.configuration.original_count s.originals))
       ∙ missing-number (state_of_pieces start end s) restored.message
 
   pub pieces-sized : All (λ x. length x ≡ end - start) (shards_listed items)
@@ -281,11 +286,11 @@ module _ (s : DecoderState) (grows : Bool) (start end : ℕ) (out : Shards) (ite
   items-cut message agrees =
       let k = s.configuration.original_count in
       let same : out ≡ (λ i. option_map (λ x. between start end x) (missing_of s message i)) =
-          fun_ext (restored-cut start end s message out strip agrees restored) in
+      fun_ext (restored-cut start end s message out strip agrees restored) in
       ap shards_listed (lists-same (missing_of (state_of_pieces start end s) restored.message) items
-          (items_below k (missing_of (state_of_pieces start end s) restored.message))
+      (items_below k (missing_of (state_of_pieces start end s) restored.message))
       (subst (λ (g : Shards). Lists g items) (fun_ext restored.missing) listing)
-          (missing-lists (state_of_pieces start end s) restored.message))
+      (missing-lists (state_of_pieces start end s) restored.message))
       ∙ ap (λ (g : Shards). shards_listed (items_below k g)) (sym (fun_ext restored.missing) ∙ same)
       ∙ listed-changed (λ x. between start end x) k 0 (missing_of s message)
 
@@ -299,17 +304,17 @@ module _ (s : DecoderState) (grows : Bool) (start end : ℕ) (out : Shards) (ite
       let inside : All (λ x. start ≤ length x) old = (λ i d h.
       let n = before.fit i d h in
       let from = room-from grows start c.shard_bytes
-          (let le : start ≤ s.configuration.shard_bytes = omega (arith, strip.order, strip.inside) in le) in
+      (let le : start ≤ s.configuration.shard_bytes = omega (arith, strip.order, strip.inside) in le) in
       omega (arith, n, from)) in
       let as_many : length (shards_listed items) ≡ length old = omega (arith, number, all, before.number) in
       let size : (i : ℕ) → i < length old → start + length (get_or (shards_listed items) i []) ≡ end = (λ i h.
       let piece = pieces-sized i [] (omega (arith, number, all, before.number, h)) in omega (arith, piece, strip.order))
-          in
+      in
       let at : (i : ℕ) → i < length old
-          → take end (get_or new i []) ≡ take start (get_or old i []) ++ get_or (shards_listed items) i [] =
+      → take end (get_or new i []) ≡ take start (get_or old i []) ++ get_or (shards_listed items) i [] =
       (λ i h. ap₂ (λ (n : ℕ) (x : Shard). take n x) (sym (size i h)) (put.1 i h)
       ∙ take-joined start (get_or old i []) (get_or (shards_listed items) i []) (drop end (get_or old i []))
-          (inside i [] h)) in
+      (inside i [] h)) in
       record {
         consistent = λ j inside. elim (cases_lt j (start / 2)) [
           | inl low ↦ before.consistent j low
@@ -319,7 +324,7 @@ module _ (s : DecoderState) (grows : Bool) (start end : ℕ) (out : Shards) (ite
         fit = λ i d h.
             let here : i < length old = omega (arith, h, put.0) in
             ap length (get_or_default new i d [] h)
-                ∙ put-length start end (shards_listed items) old new put strip.order inside as_many pieces-sized i here
+            ∙ put-length start end (shards_listed items) old new put strip.order inside as_many pieces-sized i here
             ∙ ap (λ (n : ℕ). end + (n - end)) (before.fit i [] here)
             ∙ room-further grows start end c.shard_bytes strip.order strip.inside;
         held = λ message agrees i h.
@@ -327,14 +332,14 @@ module _ (s : DecoderState) (grows : Bool) (start end : ℕ) (out : Shards) (ite
             let n = missing-number s message in
             let shard : Shard = get_or (missing_shards s message) i [] in
             let cut : get_or (shards_listed items) i []
-                ≡ take (end - start) (drop start (get_or (missing_shards s message) i [])) =
+            ≡ take (end - start) (drop start (get_or (missing_shards s message) i [])) =
             ap (λ (l : List Shard). get_or l i []) (items-cut message agrees)
             ∙ get_or-map (λ x. between start end x) (missing_shards s message) i [] []
-                (omega (arith, here, before.number, n)) in
+            (omega (arith, here, before.number, n)) in
             at i here ∙ ap₂ (λ (a b : Shard). a ++ b) (before.held message agrees i here) cut
             ∙ sym (take-add start (end - start) (get_or (missing_shards s message) i []))
             ∙ ap (λ (n : ℕ). take n (get_or (missing_shards s message) i []))
-                (let e : start + (end - start) ≡ end = omega (arith, strip.order) in e);
+            (let e : start + (end - start) ≡ end = omega (arith, strip.order) in e);
       }
 
 -- After all strips are restored, the rooms hold the restored originals.
@@ -374,9 +379,9 @@ module _ (s : DecoderState) (rooms : List Shard) (holds : HoldRestored s rooms) 
   held-are =
       holds.held
       ∙ ap shards_listed (lists-same (missing_of s holds.restored.message) holds.items
-          (items_below s.configuration.original_count (missing_of s holds.restored.message))
+      (items_below s.configuration.original_count (missing_of s holds.restored.message))
       (subst (λ (g : Shards). Lists g holds.items) (fun_ext holds.restored.missing) holds.listed)
-          (missing-lists s holds.restored.message))
+      (missing-lists s holds.restored.message))
 
   -- Rooms that hold the restored originals are as many as originals are missing.
   pub held-number : length rooms + originals_given s ≡ s.configuration.original_count

@@ -29,8 +29,8 @@ few_originals n k r some_k small some_r large = fit k r some_k some_r (beside_fi
 pub few_recovery : (n k r : ℕ) → 0 < k → k + 2 ^ n ≤ 65536 → 0 < r → r ≤ 2 ^ n → supports default_rate k r ≡ true
 few_recovery n k r some_k large some_r small =
     fit k r some_k some_r
-        (let fits : min (next_power r) (next_power k) + max r k ≤ 65536 = beside_fit n r k some_k small large in
-        omega arith)
+    (let fits : min (next_power r) (next_power k) + max r k ≤ 65536 = beside_fit n r k some_k small large in
+    omega arith)
 
 pub half_supported : (k r : ℕ) → 0 < k → k ≤ 32768 → 0 < r → r ≤ 32768 → supports default_rate k r ≡ true
 half_supported k r some_k few_k some_r few_r = few_originals 15 k r some_k few_k some_r (omega arith)
@@ -43,7 +43,10 @@ beside few many room =
 
 pub no_other_counts : (k r : ℕ) → supports default_rate k r ≡ true → (0 < k) × (0 < r) × (AreBeside k r ⊎ AreBeside r k)
 no_other_counts k r is =
-    let fits = default_fits k r is in
-    (fits.0, fits.1, elim
-        (cases_lt (next_power r) (next_power k))
-        [ inl less ↦ inr (beside r k (omega (arith, fits.2))) | inr more ↦ inl (beside k r (omega (arith, fits.2))) ])
+    let fits = default_fits k r is in (
+      fits.0,
+      fits.1,
+      elim
+          (cases_lt (next_power r) (next_power k))
+          [ inl less ↦ inr (beside r k (omega (arith, fits.2))) | inr more ↦ inl (beside k r (omega (arith, fits.2))) ],
+    )

@@ -19,9 +19,9 @@ use Rattle.rs_field.proofs.of_words.Values.{same_from_values}
 -- In each placement, the known zeros follow the originals, up to the point of the last coefficient.
 in_line : (low : Bool) (k r i : ℕ) → k ≤ 65536 → i < (cond low (low_placement k) (high_placement k r)).degree_bound
     → ((cond low (low_placement k) (high_placement k r)).zeros_from
-        ≡ (cond low (low_placement k) (high_placement k r)).originals_from + k)
+    ≡ (cond low (low_placement k) (high_placement k r)).originals_from + k)
     × ((cond low (low_placement k) (high_placement k r)).originals_from + i <
-        (cond low (low_placement k) (high_placement k r)).zeros_to)
+    (cond low (low_placement k) (high_placement k r)).zeros_to)
     × ((cond low (low_placement k) (high_placement k r)).zeros_to ≤ 65536)
 unfolding low_placement high_placement
 in_line true k r i most hi =
@@ -36,9 +36,9 @@ pub codes_unique : (rate : Rate) (k r : ℕ) (words P Q : List ℕ) → k ≤ 65
 unfolding placement
 codes_unique rate k r words P Q most p q =
     same_from_values (placement rate k r).degree_bound P Q p.degree q.degree (words_from P p.coefficients)
-        (words_from Q q.coefficients)
+    (words_from Q q.coefficients)
     (λ i. (placement rate k r).originals_from + i) (λ i h. omega (arith, in_line (is_low rate k r) k r i most h))
-        (λ i j hi hj e. omega arith)
+    (λ i j hi hj e. omega arith)
     (λ i h. elim (cases_lt i k) [
       | inl original ↦ p.originals i original ∙ sym (q.originals i original)
       | inr zero_point ↦
@@ -52,7 +52,7 @@ recovery_words-unique : (rate : Rate) (k r : ℕ) (words a b : List ℕ) → k �
     → (i : ℕ) → i < r → slice_index a i ≡ slice_index b i
 recovery_words-unique rate k r words a b most (p, codes_p, at_p) (o, codes_o, at_o) i below =
     at_p i below ∙ ap (λ (q : List ℕ). value q ((placement rate k r).recovery_from + i))
-        (codes_unique rate k r words p o most codes_p codes_o) ∙ sym (at_o i below)
+    (codes_unique rate k r words p o most codes_p codes_o) ∙ sym (at_o i below)
 
 -- Two lists of recovery shards of one message are equal.
 pub recovery_unique : (c : Configuration) (message a b : List Shard) → c.original_count ≤ 65536 → c.shard_bytes % 2 ≡ 0
@@ -60,7 +60,7 @@ pub recovery_unique : (c : Configuration) (message a b : List Shard) → c.origi
 recovery_unique c message a b most even ha hb =
     shards_from_columns c.recovery_count c.shard_bytes a b ha.shards hb.shards even
     (λ i j below hj. recovery_words-unique c.rate c.original_count c.recovery_count (columns j message) (columns j a)
-        (columns j b) most (ha.words j hj) (hb.words j hj) i below)
+    (columns j b) most (ha.words j hj) (hb.words j hj) i below)
 
 -- Messages with equal columns have recovery shards with equal columns.
 pub columns_unique : (rate : Rate) (k r size other_size j i : ℕ) (one other one_recovery other_recovery : List Shard)
@@ -70,10 +70,10 @@ pub columns_unique : (rate : Rate) (k r size other_size j i : ℕ) (one other on
     → columns j one ≡ columns i other → columns j one_recovery ≡ columns i other_recovery
 columns_unique rate k r size other_size j i one other one_recovery other_recovery most hj hi a b same =
     let rows : (n : ℕ) (xs : List Shard) → length xs ≡ r → length (columns n xs) ≡ r = λ n xs e.
-        length-map xs (column n) ∙ e in
+    length-map xs (column n) ∙ e in
     ext_get_or 0 (columns j one_recovery) (columns i other_recovery)
-        (rows j one_recovery a.shards.length_is ∙ sym (rows i other_recovery b.shards.length_is)) (λ n h.
+    (rows j one_recovery a.shards.length_is ∙ sym (rows i other_recovery b.shards.length_is)) (λ n h.
     recovery_words-unique rate k r (columns i other) (columns j one_recovery) (columns i other_recovery) most
     (subst (λ (words : List ℕ). AreRecoveryWords rate k r words (columns j one_recovery)) same (a.words j hj))
-        (b.words i hi)
+    (b.words i hi)
     n (subst (λ (m : ℕ). n < m) (rows j one_recovery a.shards.length_is) h))

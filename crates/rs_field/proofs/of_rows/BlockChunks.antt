@@ -81,7 +81,7 @@ module _ (block : Block) (old : ShardsRefMut) (fits : Fits old)
 
       pub one_layer_made : is_halved block.size ≡ true
           → ((p : ℕ) → p < block.size / 2 * n
-              → IsButterfly direction (get_or skew (block.skew_delta + block.size / 2 - 1) 0)
+          → IsButterfly direction (get_or skew (block.skew_delta + block.size / 2 - 1) 0)
           (chunk given p) (chunk given (block.size / 2 * n + p)) (chunk part p) (chunk part (block.size / 2 * n + p)))
           → Made block.size (rows_of_part block.size)
       one_layer_made halved pairs =
@@ -90,7 +90,7 @@ module _ (block : Block) (old : ShardsRefMut) (fits : Fits old)
           let rows : block.size * n ≡ h * n + h * n = omega (arith, ap (λ v. v * n) twice) in
           let of_rows : (q : ℕ) → q < h → IsButterfly direction (get_or skew (block.skew_delta + h - 1) 0)
           (cell old k (block.pos + q)) (cell old k (block.pos + h + q)) (cell new k (block.pos + q))
-              (cell new k (block.pos + h + q)) = λ q hq.
+          (cell new k (block.pos + h + q)) = λ q hq.
           let p : ℕ = q * n + k in
           let below : p < h * n = row_within q h k n hq hk in
           let pair = pairs p below in
@@ -107,30 +107,30 @@ module _ (block : Block) (old : ShardsRefMut) (fits : Fits old)
           subst (λ (r : ℕ). Made block.size r) (sym (part_of_halved block.size halved))
           (subst (λ (v : ℕ). Made v h) (sym twice)
           (layer_of_halves direction skew h block.skew_delta block.pos k s old new
-              (subst (λ (v : ℕ). IsBlock skew v block.skew_delta) twice in_table) hs of_rows))
+          (subst (λ (v : ℕ). IsBlock skew v block.skew_delta) twice in_table) hs of_rows))
 
       pub two_layers_made : is_halved block.size ≡ false
           → ((p : ℕ) → p < block.size / 4 * n
-              → AreTwoLayers direction (get_or skew (block.skew_delta + 2 * (block.size / 4) - 1) 0)
+          → AreTwoLayers direction (get_or skew (block.skew_delta + 2 * (block.size / 4) - 1) 0)
           (get_or skew (block.skew_delta + block.size / 4 - 1) 0)
-              (get_or skew (block.skew_delta + 2 * (block.size / 4) + block.size / 4 - 1) 0)
+          (get_or skew (block.skew_delta + 2 * (block.size / 4) + block.size / 4 - 1) 0)
           (chunk given p) (chunk given (block.size / 4 * n + p)) (chunk given (2 * (block.size / 4 * n) + p))
-              (chunk given (3 * (block.size / 4 * n) + p))
+          (chunk given (3 * (block.size / 4 * n) + p))
           (chunk part p) (chunk part (block.size / 4 * n + p)) (chunk part (2 * (block.size / 4 * n) + p))
-              (chunk part (3 * (block.size / 4 * n) + p)))
+          (chunk part (3 * (block.size / 4 * n) + p)))
           → Made block.size (rows_of_part block.size)
       two_layers_made more fours =
           let h : ℕ = block.size / 4 in
           let times : block.size ≡ 4 * h = block_quarters block large more in
           let rows : block.size * n ≡ 4 * (h * n) = omega (arith, ap (λ v. v * n) times) in
           let of_rows : (q : ℕ) → q < h
-              → AreTwoLayers direction (get_or skew (block.skew_delta + 2 * h - 1) 0)
-              (get_or skew (block.skew_delta + h - 1) 0)
+          → AreTwoLayers direction (get_or skew (block.skew_delta + 2 * h - 1) 0)
+          (get_or skew (block.skew_delta + h - 1) 0)
           (get_or skew (block.skew_delta + 2 * h + h - 1) 0)
           (cell old k (block.pos + q)) (cell old k (block.pos + h + q)) (cell old k (block.pos + 2 * h + q))
-              (cell old k (block.pos + 3 * h + q))
+          (cell old k (block.pos + 3 * h + q))
           (cell new k (block.pos + q)) (cell new k (block.pos + h + q)) (cell new k (block.pos + 2 * h + q))
-              (cell new k (block.pos + 3 * h + q)) = λ q hq.
+          (cell new k (block.pos + 3 * h + q)) = λ q hq.
           let p : ℕ = q * n + k in
           let below : p < h * n = row_within q h k n hq hk in
           let four = fours p below in
@@ -155,4 +155,4 @@ module _ (block : Block) (old : ShardsRefMut) (fits : Fits old)
           subst (λ (r : ℕ). Made block.size r) (sym (part_of_more block.size more))
           (subst (λ (v : ℕ). Made v h) (sym times)
           (layers_of_four direction skew h block.skew_delta block.pos k s old new
-              (subst (λ (v : ℕ). IsBlock skew v block.skew_delta) times in_table) hs of_rows))
+          (subst (λ (v : ℕ). IsBlock skew v block.skew_delta) times in_table) hs of_rows))

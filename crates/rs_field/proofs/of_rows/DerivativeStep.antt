@@ -64,7 +64,7 @@ value-joined e f p q he words_q at_p at_q x =
     value_add (times (points 0 (2 ^ e)) q) p x
     ∙ ap₂ bit_xor
     (value-times 0 (2 ^ e) q words_q x
-        ∙ ap₂ product (subspace_from_zero e x ∙ ap (subspace e) (sym (zero-add x))) (at_q x)
+    ∙ ap₂ product (subspace_from_zero e x ∙ ap (subspace e) (sym (zero-add x))) (at_q x)
     ∙ product-comm (subspace e (0 + x)) (forward (2 ^ e) 0 (λ i. f (2 ^ e + i)) x))
     (at_p x)
     ∙ xor_comm (product (forward (2 ^ e) 0 (λ i. f (2 ^ e + i)) x) (subspace e (0 + x))) (forward (2 ^ e) 0 f x)
@@ -72,11 +72,11 @@ value-joined e f p q he words_q at_p at_q x =
 
 derivative-joined : (e : ℕ) (p q : List ℕ) → e < 16 → WordsOneByOne q → (x : ℕ) → x < 2 ^ 16
     → derivative_value (joined e p q) x ≡ bit_xor (bit_xor (product (subspace e x) (derivative_value q x)) (value q x))
-        (derivative_value p x)
+    (derivative_value p x)
 unfolding joined
 derivative-joined e p q he words_q x hx =
     derivative_add (times (points 0 (2 ^ e)) q) p x
-        ∙ ap (λ k. bit_xor k (derivative_value p x)) (derivative-subspace e q he words_q x hx)
+    ∙ ap (λ k. bit_xor k (derivative_value p x)) (derivative-subspace e q he words_q x hx)
 
 -- The rows of both halves after the step of each half, with the old rows of the second half added to the first half.
 pub derivative_halves : (e : ℕ) (f a b g : ℕ → ℕ) → e < 16
@@ -93,7 +93,7 @@ derivative_halves e f a b g he of_low of_high first second p size words at x hx 
     let words_high : WordsOneByOne high.0 = words_from high.0 high.2 in
     let is : p ≡ joined e low.0 high.0 =
     one_polynomial (2 ^ suc e) f p (joined e low.0 high.0) room size (length-joined e low.0 high.0 low.1 high.1)
-        (words_from p words)
+    (words_from p words)
     (words_joined e low.0 high.0 words_low words_high) at (value-joined e f low.0 high.0 he words_high low.3 high.3) in
     of_parts low.0 high.0 words_low words_high low.3 high.3
     (of_low low.0 low.1 low.2 (λ y hy. sym (low.3 y)) x hx)
@@ -115,15 +115,15 @@ derivative_halves e f a b g he of_low of_high first second p size words at x hx 
         forward-half e 0 g x he
         ∙ ap₂ (λ k m. bit_xor k (product m (subspace e (0 + x))))
         (forward-same (2 ^ e) 0 g (λ q. bit_xor (a q) (f (2 ^ e + q))) x first
-            ∙ forward-xor (2 ^ e) 0 a (λ q. f (2 ^ e + q)) x
+        ∙ forward-xor (2 ^ e) 0 a (λ q. f (2 ^ e + q)) x
         ∙ ap₂ bit_xor of_l (sym (at_h x)))
         (forward-same (2 ^ e) 0 (λ q. g (2 ^ e + q)) b x second ∙ of_h)
         ∙ rule (subspace e (0 + x)) (value l x) (derivative_value l x) (value h x) (derivative_value h x)
         (subspace_lt e (0 + x)) (value_lt l x words_l) (derivative_lt l x words_l) (value_lt h x words_h)
-            (derivative_lt h x words_h)
+        (derivative_lt h x words_h)
         ∙ ap (λ k. bit_xor (bit_xor (value l x) (product (value h x) (subspace e (0 + x))))
-            (bit_xor (bit_xor (product (subspace e k) (derivative_value h x)) (value h x)) (derivative_value l x)))
-            (zero-add x)
+        (bit_xor (bit_xor (product (subspace e k) (derivative_value h x)) (value h x)) (derivative_value l x)))
+        (zero-add x)
 
 -- A polynomial with one coefficient is a constant, and its derivative is zero.
 pub derivative_one : (size : ℕ) (f : ℕ → ℕ) → size ≤ 1 → (d : ℕ) × (size ≡ 2 ^ d) → IsDerivativeAdded size f f
@@ -148,7 +148,7 @@ pub derivative_rows : (old low mid new : ShardsRefMut) (k s pos size : ℕ) → 
     → IsDerivativeAdded (size / 2) (λ q. word old k s (pos + q)) (λ q. word low k s (pos + q))
     → ((q : ℕ) → q < size / 2 → cell low k (pos + size / 2 + q) ≡ cell old k (pos + size / 2 + q))
     → ((q : ℕ) → q < size / 2
-        → word mid k s (pos + q) ≡ bit_xor (word low k s (pos + q)) (word low k s (pos + size / 2 + q)))
+    → word mid k s (pos + q) ≡ bit_xor (word low k s (pos + q)) (word low k s (pos + size / 2 + q)))
     → ((q : ℕ) → q < size / 2 → cell mid k (pos + size / 2 + q) ≡ cell low k (pos + size / 2 + q))
     → IsDerivativeAdded (size / 2) (λ q. word mid k s (pos + size / 2 + q)) (λ q. word new k s (pos + size / 2 + q))
     → ((q : ℕ) → q < size / 2 → cell new k (pos + q) ≡ cell mid k (pos + q))
@@ -159,24 +159,24 @@ derivative_rows old low mid new k s pos size large power few of_low low_kept sum
     let P : ℕ → Type 0 = λ n. IsDerivativeAdded n (λ q. word old k s (pos + q)) (λ q. word new k s (pos + q)) in
     let L : ℕ → Type 0 = λ n. IsDerivativeAdded n (λ q. word old k s (pos + q)) (λ q. word low k s (pos + q)) in
     let H : ℕ → Type 0 = λ n.
-        IsDerivativeAdded n (λ q. word old k s (pos + (n + q))) (λ q. word new k s (pos + half + q)) in
+    IsDerivativeAdded n (λ q. word old k s (pos + (n + q))) (λ q. word new k s (pos + half + q)) in
     let there : (q : ℕ) → pos + half + q ≡ pos + (half + q) = λ q. add_assoc pos half q in
     let old_high : (q : ℕ) → q < half → word low k s (pos + half + q) ≡ word old k s (pos + (half + q)) =
     λ q hq. word_same low old k s (pos + half + q) (pos + half + q) (low_kept q hq) ∙ ap (word old k s) (there q) in
     subst P (sym is)
     (derivative_halves e (λ q. word old k s (pos + q)) (λ q. word low k s (pos + q))
-        (λ q. word new k s (pos + half + q)) (λ q. word new k s (pos + q))
+    (λ q. word new k s (pos + half + q)) (λ q. word new k s (pos + q))
     (few_halves size e 0 is (omega arith))
     (subst L h of_low)
     (subst H h
     (derivative_same half (λ q. word old k s (pos + (half + q))) (λ q. word mid k s (pos + half + q))
-        (λ q. word new k s (pos + half + q)) (λ q. word new k s (pos + half + q))
+    (λ q. word new k s (pos + half + q)) (λ q. word new k s (pos + half + q))
     (λ q hq. word_same mid low k s (pos + half + q) (pos + half + q) (mid_kept q hq) ∙ old_high q hq)
-        (λ q hq. refl) of_high))
+    (λ q hq. refl) of_high))
     (λ q hq.
     let below : q < half = subst (λ (n : ℕ). q < n) (sym h) hq in
     word_same new mid k s (pos + q) (pos + q) (new_kept q below) ∙ sums q below
-        ∙ ap (bit_xor (word low k s (pos + q))) (old_high q below)
+    ∙ ap (bit_xor (word low k s (pos + q))) (old_high q below)
     ∙ ap (λ n. bit_xor (word low k s (pos + q)) (word old k s (pos + (n + q)))) h)
     (λ q hq. ap (λ n. word new k s (pos + (n + q))) (sym h) ∙ ap (word new k s) (sym (there q))))
 

@@ -23,7 +23,7 @@ layer_of_halves Direction.Backward skew n shift pos k s old new block hs pairs =
 pub layers_of_four : (direction : Direction) (skew : List ℕ) (n shift pos k s : ℕ) (old new : ShardsRefMut)
     → IsBlock skew (4 * n) shift → s < 32
     → ((q : ℕ) → q < n → AreTwoLayers direction (get_or skew (shift + 2 * n - 1) 0) (get_or skew (shift + n - 1) 0)
-        (get_or skew (shift + 2 * n + n - 1) 0)
+    (get_or skew (shift + 2 * n + n - 1) 0)
     (cell old k (pos + q)) (cell old k (pos + n + q)) (cell old k (pos + 2 * n + q)) (cell old k (pos + 3 * n + q))
     (cell new k (pos + q)) (cell new k (pos + n + q)) (cell new k (pos + 2 * n + q)) (cell new k (pos + 3 * n + q)))
     → AreLayers direction (4 * n) n shift (λ q. word old k s (pos + q)) (λ q. word new k s (pos + q))
@@ -31,7 +31,7 @@ layers_of_four Direction.Forward skew n shift pos k s old new block hs fours =
     four_rows skew n shift pos (word old k s) (word new k s) block (λ q hq. fours q hq s hs)
 layers_of_four Direction.Backward skew n shift pos k s old new block hs fours =
     four_rows skew n shift pos (word new k s) (word old k s) block
-        (λ q hq. backward_undone _ _ _ _ _ _ _ _ _ _ _ (fours q hq s hs))
+    (λ q hq. backward_undone _ _ _ _ _ _ _ _ _ _ _ (fours q hq s hs))
 
 -- For at most four rows, the layers leave single rows, so they are the whole transform.
 pub layers_of_few : (direction : Direction) (used : ℕ → Bool) (size shift : ℕ) (old new : ℕ → ℕ) → 1 < size → size ≤ 4

@@ -30,8 +30,14 @@ block_halves skew n shift b large =
     let p = half_power (n + n) b.large b.power in
     let half : n ≡ 2 ^ p.0 = omega (arith, p.2) in
     let s = shift_half (n + n) p.0 shift p.1 b.aligned in (
-      record { table = b.table; large = large; power =
-          (p.0, half); aligned = subst (λ (m : ℕ). shift % m ≡ 0) (sym half) s.0; points = omega (arith, b.points) },
+      record {
+        table = b.table;
+        large = large;
+        power =
+            (p.0, half);
+        aligned = subst (λ (m : ℕ). shift % m ≡ 0) (sym half) s.0;
+        points = omega (arith, b.points);
+      },
       record {
         table = b.table;
         large = large;
@@ -65,7 +71,7 @@ layer_low skew n shift i f g b hi l =
     ap (λ m. forward m shift g i) half
     ∙ lower_half e shift f g i (few_halves (n + n) e shift is b.points) (subst (λ (m : ℕ). shift % m ≡ 0) is b.aligned)
     (subst (λ (m : ℕ). shift + m ≤ 65536) is b.points) (subst (λ (m : ℕ). i < m) half hi)
-        (made skew n e shift f g b is half l)
+    (made skew n e shift f g b is half l)
     ∙ ap (λ m. forward m shift f i) (sym is)
 
 -- Transforming the second half of the words after one layer gives the second half of the transform of the whole.
@@ -77,9 +83,9 @@ layer_high skew n shift i f g b hi l =
     let half : n ≡ 2 ^ e = omega (arith, part) in
     ap (λ m. forward m (shift + m) (λ q. g (n + q)) i) half
     ∙ upper_half e shift f g (λ q. g (n + q)) i (few_halves (n + n) e shift is b.points)
-        (subst (λ (m : ℕ). shift % m ≡ 0) is b.aligned)
+    (subst (λ (m : ℕ). shift % m ≡ 0) is b.aligned)
     (subst (λ (m : ℕ). shift + m ≤ 65536) is b.points) (subst (λ (m : ℕ). i < m) half hi)
-        (made skew n e shift f g b is half l)
+    (made skew n e shift f g b is half l)
     (λ q hq. l.second q (subst (λ (m : ℕ). q < m) (sym half) hq) ∙ ap (λ m. bit_xor (f (m + q)) (g q)) half)
     ∙ ap₂ (λ m o. forward m shift f (o + i)) (sym is) (sym half)
 
@@ -95,10 +101,10 @@ pub one_layer : (skew : List ℕ) (n shift : ℕ) (f g : ℕ → ℕ) → IsBloc
     → ArePartsOf (n + n) n shift f g
 one_layer skew n shift f g b l zero i hj hi =
     as_part (n + n) n shift 0 i shift i f g (λ q. q) (omega arith) (omega arith) (λ q. omega arith)
-        (layer_low skew n shift i f g b hi l)
+    (layer_low skew n shift i f g b hi l)
 one_layer skew n shift f g b l (suc zero) i hj hi =
     as_part (n + n) n shift 1 i (shift + n) (n + i) f g (λ q. n + q) (omega arith) (omega arith) (λ q. omega arith)
-        (layer_high skew n shift i f g b hi l)
+    (layer_high skew n shift i f g b hi l)
 one_layer skew n shift f g b l (suc (suc j)) i hj hi = let le : 2 * n ≤ suc (suc j) * n =
     mul-le-mul_right n (omega arith) in absurd (omega arith)
 
@@ -116,18 +122,18 @@ two_layers skew n shift f g h b l low high = parts (block_halves skew (n + n) sh
         (layer_low skew n shift i g h b2.0 hi low ∙ layer_low skew (n + n) shift i f g b (omega arith) l)
     parts b2 (suc zero) i hj hi =
         as_part (n + n + (n + n)) n shift 1 i (shift + n) (n + i) f h (λ q. n + q) (omega arith) (omega arith)
-            (λ q. omega arith)
+        (λ q. omega arith)
         (layer_high skew n shift i g h b2.0 hi low ∙ layer_low skew (n + n) shift (n + i) f g b (omega arith) l)
     parts b2 (suc (suc zero)) i hj hi =
         as_part (n + n + (n + n)) n shift 2 i (shift + (n + n)) (n + n + i) f h (λ q. n + n + q) (omega arith)
-            (omega arith) (λ q. omega arith)
+        (omega arith) (λ q. omega arith)
         (layer_low skew n (shift + (n + n)) i (λ q. g (n + n + q)) (λ q. h (n + n + q)) b2.1 hi high
-            ∙ layer_high skew (n + n) shift i f g b (omega arith) l)
+        ∙ layer_high skew (n + n) shift i f g b (omega arith) l)
     parts b2 (suc (suc (suc zero))) i hj hi =
         as_part (n + n + (n + n)) n shift 3 i (shift + (n + n) + n) (n + n + (n + i)) f h (λ q. n + n + (n + q))
-            (omega arith) (omega arith) (λ q. omega arith)
+        (omega arith) (omega arith) (λ q. omega arith)
         (layer_high skew n (shift + (n + n)) i (λ q. g (n + n + q)) (λ q. h (n + n + q)) b2.1 hi high
-            ∙ layer_high skew (n + n) shift (n + i) f g b (omega arith) l)
+        ∙ layer_high skew (n + n) shift (n + i) f g b (omega arith) l)
     parts b2 (suc (suc (suc (suc j)))) i hj hi = let le : 4 * n ≤ suc (suc (suc (suc j))) * n =
         mul-le-mul_right n (omega arith) in absurd (omega arith)
 
@@ -152,12 +158,12 @@ between_second log_m half f q = grind (arith, common_steps)
 abbrev pub at_quarters : (ℕ → ℕ → ℕ → ℕ → ℕ → ℕ → ℕ → ℕ → Type 0) → ℕ → (ℕ → ℕ) → (ℕ → ℕ) → Type 0
 at_quarters related n f h =
     (q : ℕ) → q < n → related (f q) (f (n + q)) (f (n + n + q)) (f (n + n + (n + q))) (h q) (h (n + q)) (h (n + n + q))
-        (h (n + n + (n + q)))
+    (h (n + n + (n + q)))
 
 -- Forward butterflies of four words leave the four parts of the transform of a block.
 pub forward_parts : (skew : List ℕ) (n shift : ℕ) (f h : ℕ → ℕ) → IsBlock skew (n + n + (n + n)) shift
     → at_quarters (IsForwardFour (factor skew (n + n) shift) (factor skew n shift) (factor skew n (shift + (n + n)))) n
-        f h
+    f h
     → ArePartsOf (n + n + (n + n)) n shift f h
 forward_parts skew n shift f h b four =
     two_layers skew n shift f g h b
@@ -215,7 +221,7 @@ pair_undone log_m x y x' y' (first, second) = search (rules, xor_undo)
 -- Butterflies between the halves of a block of rows are one layer.
 pub half_rows : (skew : List ℕ) (n shift pos : ℕ) (f g : ℕ → ℕ) → IsBlock skew (n + n) shift
     → ((q : ℕ) → q < n → IsForwardTwo (factor skew n shift) (f (pos + q)) (f (pos + n + q)) (g (pos + q))
-        (g (pos + n + q)))
+    (g (pos + n + q)))
     → ArePartsOf (n + n) n shift (λ q. f (pos + q)) (λ q. g (pos + q))
 half_rows skew n shift pos f g b pair = search (rules, one_layer)
 
@@ -226,13 +232,13 @@ FourRows m02 m01 m23 f g a b c d = IsForwardFour m02 m01 m23 (f a) (f b) (f c) (
 -- Butterflies between the quarters of a block of rows are two layers.
 pub four_rows : (skew : List ℕ) (n shift pos : ℕ) (f g : ℕ → ℕ) → IsBlock skew (4 * n) shift
     → ((q : ℕ) → q < n → FourRows (get_or skew (shift + 2 * n - 1) 0) (get_or skew (shift + n - 1) 0)
-        (get_or skew (shift + 2 * n + n - 1) 0) f g
+    (get_or skew (shift + 2 * n + n - 1) 0) f g
     (pos + q) (pos + n + q) (pos + 2 * n + q) (pos + 3 * n + q))
     → ArePartsOf (4 * n) n shift (λ q. f (pos + q)) (λ q. g (pos + q))
 four_rows skew n shift pos f g b four =
     subst (λ (m : ℕ). ArePartsOf m n shift (λ q. f (pos + q)) (λ q. g (pos + q))) (sym whole)
     (forward_parts skew n shift (λ q. f (pos + q)) (λ q. g (pos + q))
-        (subst (λ (m : ℕ). IsBlock skew m shift) whole b) placed)
+    (subst (λ (m : ℕ). IsBlock skew m shift) whole b) placed)
   where
     whole : 4 * n ≡ n + n + (n + n)
     whole = omega arith

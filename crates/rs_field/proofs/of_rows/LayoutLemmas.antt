@@ -116,7 +116,7 @@ pub laid_out-is : (size : ℕ) (chunks : ℕ → List ℕ) (s : Shard) → lengt
     → ((k b : ℕ) → k < size / 64 → b < 64 → slice_index (chunks k) b ≡ slice_index s (k * 64 + b))
     → ((b : ℕ) → b < size % 64 / 2 → slice_index (chunks (size / 64)) b ≡ slice_index s (size / 64 * 64 + b))
     → ((b : ℕ) → b < size % 64 / 2
-        → slice_index (chunks (size / 64)) (32 + b) ≡ slice_index s (size / 64 * 64 + (size % 64 / 2 + b)))
+    → slice_index (chunks (size / 64)) (32 + b) ≡ slice_index s (size / 64 * 64 + (size % 64 / 2 + b)))
     → laid_out size chunks ≡ s
 unfolding laid_out
 laid_out-is size chunks s len even whole low high =
@@ -128,14 +128,14 @@ laid_out-is size chunks s len even whole low high =
           | inl before ↦
               let e : b / 64 * 64 + b % 64 ≡ b = omega arith in
               ap (slice_index (chunks (b / 64))) (byte_offset-whole size b before)
-                  ∙ whole (b / 64) (b % 64) before (omega arith) ∙ ap (slice_index s) e
+              ∙ whole (b / 64) (b % 64) before (omega arith) ∙ ap (slice_index s) e
           | inr last ↦
               let q : b / 64 ≡ size / 64 = omega arith in
               elim (cases_lt (b % 64) (size % 64 / 2)) [
                 | inl first ↦
                     let e : size / 64 * 64 + b % 64 ≡ b = omega arith in
                     ap₂ (λ k n. slice_index (chunks k) n) q (byte_offset-tail_low size b q first) ∙ low (b % 64) first
-                        ∙ ap (slice_index s) e
+                    ∙ ap (slice_index s) e
                 | inr second ↦
                     let at : b % 64 - size % 64 / 2 + 32 ≡ 32 + (b % 64 - size % 64 / 2) = omega arith in
                     let e : size / 64 * 64 + (size % 64 / 2 + (b % 64 - size % 64 / 2)) ≡ b = omega arith in
@@ -149,7 +149,7 @@ pub in_order-is : (size : ℕ) (new old : ℕ → List ℕ) → size % 2 ≡ 0
     → ((k : ℕ) → k < size / 64 → new k ≡ old k)
     → ((b : ℕ) → b < size % 64 / 2 → slice_index (new (size / 64)) b ≡ slice_index (old (size / 64)) b)
     → ((b : ℕ) → b < size % 64 / 2
-        → slice_index (new (size / 64)) (size % 64 / 2 + b) ≡ slice_index (old (size / 64)) (32 + b))
+    → slice_index (new (size / 64)) (size % 64 / 2 + b) ≡ slice_index (old (size / 64)) (32 + b))
     → in_order size new ≡ laid_out size old
 unfolding in_order laid_out
 in_order-is size new old even whole low high = up_to-same size _ _ byte
@@ -205,7 +205,7 @@ length-flat (x ∷ rows) sized =
     let len : length x ≡ 64 = sized 0 (omega arith) in
     let more = length-flat rows (λ i g. sized (suc i) (omega arith)) in
     length-append x (flat_map (λ y. y) rows)
-        ∙ (let e : length x + length (flat_map (λ y. y) rows) ≡ suc (length rows) * 64 = omega arith in e)
+    ∙ (let e : length x + length (flat_map (λ y. y) rows) ≡ suc (length rows) * 64 = omega arith in e)
 
 -- The first bytes of joined chunks are the shard in order.
 pub take-flat : (size : ℕ) (rows : List (List ℕ)) → ((i : ℕ) → i < length rows → length (get_or rows i []) ≡ 64)

@@ -50,7 +50,7 @@ cut_at xs i n j within =
     ∙ ap (λ (l : Chunks). take n (drop_list i xs) ++ l)
     (drop-drop n i xs ∙ sym (take-append-drop (j - (i + n)) (drop_list (i + n) xs))
     ∙ ap (λ (l : Chunks). between (i + n) j xs ++ l)
-        (drop-drop (j - (i + n)) (i + n) xs ∙ ap (λ (h : ℕ). drop_list h xs) to))
+    (drop-drop (j - (i + n)) (i + n) xs ∙ ap (λ (h : ℕ). drop_list h xs) to))
 
 -- A list from chunk i on is its next n chunks and the chunks after them.
 pub cut_last : (xs : Chunks) (i n : ℕ) → drop_list i xs ≡ take n (drop_list i xs) ++ drop_list (i + n) xs

@@ -43,7 +43,7 @@ pub record PartsDone (direction : Direction) (used : ℕ → Bool) (size n shift
   pub others : SameRowsOutside pos (pos + size) old new
   pub values : (k s m : ℕ) → k < old.shard_len_64 → s < 32 → m < j
       → AreTransformed direction (λ i. used (m * n + i)) n (shift + m * n) (λ q. word old k s (pos + (m * n + q)))
-          (λ q. word new k s (pos + (m * n + q)))
+      (λ q. word new k s (pos + (m * n + q)))
   pub rest : (k i : ℕ) → k < old.shard_len_64 → j * n ≤ i → i < size → cell new k (pos + i) ≡ cell old k (pos + i)
 
 pub parts_begun : (direction : Direction) (used : ℕ → Bool) (size n shift pos : ℕ) (rows : ShardsRefMut)
@@ -57,13 +57,13 @@ pub parts_next : (direction : Direction) (used used' : ℕ → Bool) (size n shi
     → ((i : ℕ) → i < n → used' i ≡ used (j * n + i))
     → ((k s : ℕ) → k < mid.shard_len_64 → s < 32
     → AreTransformed direction used' n (shift + j * n) (λ q. word mid k s (pos + j * n + q))
-        (λ q. word new k s (pos + j * n + q)))
+    (λ q. word new k s (pos + j * n + q)))
     → PartsDone direction used size n shift pos (j + 1) old new
 parts_next direction used used' size n shift pos j old mid new p begins done extent others same step = record {
   extent = extent_then old mid new done.extent extent;
   others =
       outside_both pos (pos + size) (pos + j * n) (pos + j * n + n) pos
-          (pos + size) old mid new done.extent done.others others
+      (pos + size) old mid new done.extent done.others others
       (omega arith) (omega arith) (omega arith) (omega (arith, inside));
   values = λ k s m hk hs hm. elim (cases_lt m j) [
     | inl before ↦
@@ -72,18 +72,18 @@ parts_next direction used used' size n shift pos j old mid new p begins done ext
         transformed_same direction (λ i. used (m * n + i)) (λ i. used (m * n + i)) n (shift + m * n)
         (part old k s m) (part mid k s m) (part old k s m) (part new k s m) (λ q hq. refl)
         (λ q hq. word_same new mid k s (pos + (m * n + q)) (pos + (m * n + q))
-            (unchanged (pos + (m * n + q)) k hk (inl (omega arith))))
+        (unchanged (pos + (m * n + q)) k hk (inl (omega arith))))
         (λ q hq. refl) (done.values k s m hk hs before)
     | inr after ↦
         let last : j ≡ m = omega arith in
         subst (λ (v : ℕ). AreTransformed direction (λ i. used (v * n + i)) n (shift + v * n) (part old k s v)
-            (part new k s v)) last
+        (part new k s v)) last
         (transformed_same direction used' (λ i. used (j * n + i)) n (shift + j * n)
-            (λ q. word mid k s (pos + j * n + q)) (λ q. word new k s (pos + j * n + q))
+        (λ q. word mid k s (pos + j * n + q)) (λ q. word new k s (pos + j * n + q))
         (part old k s j) (part new k s j)
         (λ q hq.
         sym (word_same mid old k s (pos + (j * n + q)) (pos + (j * n + q))
-            (done.rest k (j * n + q) hk (omega arith) (omega (arith, inside))))
+        (done.rest k (j * n + q) hk (omega arith) (omega (arith, inside))))
         ∙ there mid k s q)
         (λ q hq. there new k s q) same (step k s (omega (arith, len)) hs))
   ];
@@ -118,7 +118,7 @@ zeros_of_part Direction.Backward used part old mid pos size start n inside len k
     let at : pos + (start + i) ≡ pos + start + i = omega arith in
     let zero = zeros (start + i) k (omega (arith, len)) (omega arith) (sym (same i hi) ∙ unused) in
     subst (λ (p : ℕ). cell mid k p ≡ replicate 64 0) at
-        (kept k (start + i) (omega (arith, len)) (omega arith) (omega arith) ∙ zero)
+    (kept k (start + i) (omega (arith, len)) (omega arith) (omega arith) ∙ zero)
 
 -- A part that begins inside the block is one of the parts of the block.
 pub part_before : (size n m j : ℕ) → j * n ≡ size → m * n < size → m < j
@@ -130,7 +130,7 @@ part_before size n m j all within = grind (arith, common_steps, cases_lt, mul-le
 joined : (size n shift i : ℕ) (values parts whole : ℕ → ℕ) → IsPart size n → ArePartsOf size n shift whole parts
     → i < size
     → ((m r : ℕ) → m * n < size → r < n → m * n + r ≡ i
-        → values (m * n + r) ≡ forward n (shift + m * n) (λ q. parts (m * n + q)) r)
+    → values (m * n + r) ≡ forward n (shift + m * n) (λ q. parts (m * n + q)) r)
     → values i ≡ forward size shift whole i
 joined size n shift i values parts whole p layers hi done =
     let m : ℕ = i / n in
@@ -143,8 +143,8 @@ joined size n shift i values parts whole p layers hi done =
 pub forward_whole : (size n shift : ℕ) (used : ℕ → Bool) (old mid new : ℕ → ℕ) → IsPart size n
     → ArePartsOf size n shift old mid
     → ((m : ℕ) → m * n < size
-        → AreTransformed Direction.Forward (λ i. used (m * n + i)) n (shift + m * n) (λ q. mid (m * n + q))
-        (λ q. new (m * n + q)))
+    → AreTransformed Direction.Forward (λ i. used (m * n + i)) n (shift + m * n) (λ q. mid (m * n + q))
+    (λ q. new (m * n + q)))
     → AreTransformed Direction.Forward used size shift old new
 forward_whole size n shift used old mid new p layers done =
     λ i hi is. joined size n shift i new mid old p layers hi (λ m r hm hr e. done m hm r hr (ap used e ∙ is))
@@ -152,8 +152,8 @@ forward_whole size n shift used old mid new p layers done =
 pub backward_whole : (size n shift : ℕ) (used : ℕ → Bool) (old mid new : ℕ → ℕ) → IsPart size n
     → ArePartsOf size n shift new mid
     → ((m : ℕ) → m * n < size
-        → AreTransformed Direction.Backward (λ i. used (m * n + i)) n (shift + m * n) (λ q. old (m * n + q))
-        (λ q. mid (m * n + q)))
+    → AreTransformed Direction.Backward (λ i. used (m * n + i)) n (shift + m * n) (λ q. old (m * n + q))
+    (λ q. mid (m * n + q)))
     → AreTransformed Direction.Backward used size shift old new
 backward_whole size n shift used old mid new p layers done = λ i hi.
     joined size n shift i old mid new p layers hi (λ m r hm hr e. done m hm r hr)
@@ -201,7 +201,7 @@ single_rows size shift i f g large few power parts hi word =
     let part = ones i 0 (omega arith) (omega arith) in
     let small : g (i * 1 + 0) < 65536 = subst (λ (n : ℕ). g n < 65536) (sym here) word in
     ap g (sym here) ∙ sym (forward-one (shift + i * 1) (λ q. g (i * 1 + q)) 0 small) ∙ part
-        ∙ ap (forward size shift f) here
+    ∙ ap (forward size shift f) here
 
 -- ---- counts
 
@@ -212,7 +212,7 @@ counts_of_layers block from to large c =
     let size = block.size in
     let p = part_found block (rows_of_part size) refl large in
     counts_within (layer_steps size) (transform_steps size) from to (let whole = p.steps in omega arith)
-        (counts_rows (layer_steps size) from to c)
+    (counts_rows (layer_steps size) from to c)
 
 -- Transforming one more part adds the bound of one part.
 pub counts_next : (t j : ℕ) (from mid to : Steps) → CountsUpTo (j * t) 0 0 from mid → CountsUpTo t 0 0 mid to

@@ -73,8 +73,12 @@ part_found block n is large =
             smaller = omega (arith, p.2, pos, whole);
             count = 2;
             whole = omega (arith, whole);
-            steps = omega (arith, steps_of_halved size halved, steps_half size p.0 (size / 2)
-                (few_halves size p.0 0 p.1 (omega arith)) p.1 p.2);
+            steps = omega (
+              arith,
+              steps_of_halved size halved,
+              steps_half size p.0 (size / 2)
+                  (few_halves size p.0 0 p.1 (omega arith)) p.1 p.2,
+            );
           })
       | inr more ↦
           let ne = not_two size more in
@@ -86,8 +90,13 @@ part_found block n is large =
             smaller = omega (arith, q.2, pos, q.3);
             count = 4;
             whole = q.3;
-            steps = omega (arith, steps_of_more size more, steps_quarters size q.0 (size / 4)
-                (omega arith) q.1 q.2, q.3);
+            steps = omega (
+              arith,
+              steps_of_more size more,
+              steps_quarters size q.0 (size / 4)
+                  (omega arith) q.1 q.2,
+              q.3,
+            );
           })
     ]
 
@@ -105,7 +114,7 @@ part_within size n j p within =
 pub part_aligned : (size n shift j : ℕ) → IsPart size n → shift % size ≡ 0 → (shift + j * n) % n ≡ 0
 part_aligned size n shift j p aligned =
     add-mul-mod_self_right shift j n ∙ ap (λ v. v % n) (aligned_parts size p.count n shift p.whole aligned)
-        ∙ mul-mod_left (shift / size * p.count) n
+    ∙ mul-mod_left (shift / size * p.count) n
 
 -- ---- the parts one by one
 

@@ -24,5 +24,5 @@ pub zero_rows : (rows : ShardsRefMut) (k s a size shift i : ℕ) → s < 32 → 
     → word rows k s (a + i) ≡ forward size shift (λ q. word rows k s (a + q)) i
 zero_rows rows k s a size shift i hs hi zeros =
     let none : (q : ℕ) → q < size → word rows k s (a + q) ≡ 0 = λ q hq.
-        ap (λ (c : List ℕ). symbol c s) (zeros q hq) ∙ symbol-zero s hs in
+    ap (λ (c : List ℕ). symbol c s) (zeros q hq) ∙ symbol-zero s hs in
     none i hi ∙ sym (forward-zero size shift (λ q. word rows k s (a + q)) i none)

@@ -20,14 +20,20 @@ row_within i m k n hi hk = let ends = row_ends i m n hi in omega arith
 -- A chunk of a row below a is before row a, and a chunk of a row from b on is at or after row b.
 pub offset_outside : (a b i k n : ℕ) → k < n → (i < a) ⊎ (b ≤ i) → (i * n + k < a * n) ⊎ (b * n ≤ i * n + k)
 offset_outside a b i k n q h =
-    elim h [ inl p ↦ inl (let r = row_ends i a n p in omega arith) | inr p ↦
-        inr (let r = mul-le-mul_right n p in omega arith) ]
+    elim h [
+      | inl p ↦ inl (let r = row_ends i a n p in omega arith)
+      | inr p ↦
+          inr (let r = mul-le-mul_right n p in omega arith)
+    ]
 
 -- A chunk of another row is outside row a.
 pub offset_apart : (a i k n : ℕ) → k < n → i ≢ a → (i * n + k < a * n) ⊎ (a * n + n ≤ i * n + k)
 offset_apart a i k n q ne =
-    elim (cases_lt i a) [ inl p ↦ inl (let r = row_ends i a n p in omega arith) | inr p ↦
-        inr (let l : a < i = omega arith in let r = row_ends a i n l in omega arith) ]
+    elim (cases_lt i a) [
+      | inl p ↦ inl (let r = row_ends i a n p in omega arith)
+      | inr p ↦
+          inr (let l : a < i = omega arith in let r = row_ends a i n l in omega arith)
+    ]
 
 -- The chunks of the rows outside the changed rows are unchanged.
 pub outside_cell : (a b : ℕ) (old new : ShardsRefMut) → SameExtent old new → SameRowsOutside a b old new
@@ -54,5 +60,10 @@ outside_both a b c d e f old mid new extent first second ea bf ec df k h =
 
 pub extent_then : (old mid new : ShardsRefMut) → SameExtent old mid → SameExtent mid new → SameExtent old new
 extent_then old mid new p q =
-    record { name = q.name ∙ p.name; count = q.count ∙ p.count; len_64 = q.len_64 ∙ p.len_64; length =
-    q.length ∙ p.length }
+    record {
+      name = q.name ∙ p.name;
+      count = q.count ∙ p.count;
+      len_64 = q.len_64 ∙ p.len_64;
+      length =
+          q.length ∙ p.length;
+    }

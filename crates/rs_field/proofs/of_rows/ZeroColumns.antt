@@ -56,7 +56,7 @@ symbol-bytes : (size : ℕ) (row : Chunks) (bytes : List ℕ) → IsRow size row
     → symbol (chunk row q) i ≡ slice_index bytes (q * 64 + i) + 256 * slice_index bytes (q * 64 + (i + 32))
 symbol-bytes size row bytes is q i low within =
     ap₂ (λ u v. u + 256 * v) (byte-of size row bytes is q i (omega arith) within)
-        (byte-of size row bytes is q (i + 32) (omega arith) within)
+    (byte-of size row bytes is q (i + 32) (omega arith) within)
 
 pub zero_columns : (size : ℕ) (row : Chunks) (bytes : List ℕ) → IsRow size row bytes
     → ZeroFrom bytes 0 (tail size + half size) → ZeroFrom bytes (tail size + 32) (half size)
@@ -100,7 +100,7 @@ zero-first size row bytes is zeros b h =
       | inr high ↦
           let at : 0 + b ≡ b / 64 * 64 + (b % 64 - 32 + 32) = omega arith in
           ap (slice_index bytes) at
-              ∙ (zero-bytes size row bytes is zeros (b / 64) (b % 64 - 32) (omega arith) (omega arith)).1
+          ∙ (zero-bytes size row bytes is zeros (b / 64) (b % 64 - 32) (omega arith) (omega arith)).1
     ]
 
 pub zero-second : (size : ℕ) (row : Chunks) (bytes : List ℕ) → IsRow size row bytes

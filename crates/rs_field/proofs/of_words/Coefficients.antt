@@ -79,9 +79,11 @@ basis_polynomial (suc e) q he hq =
     elim (cases_lt q (2 ^ e)) [
       | inl low ↦ basis_polynomial e q (omega arith) low
       | inr high ↦
-          let rest = basis_polynomial e (q - 2 ^ e) (omega arith) (omega arith) in
-          (times (points 0 (2 ^ e)) rest.0, basis_next e q (q - 2 ^ e) rest.0 (omega arith) (omega arith)
-              (omega arith) rest.1)
+          let rest = basis_polynomial e (q - 2 ^ e) (omega arith) (omega arith) in (
+            times (points 0 (2 ^ e)) rest.0,
+            basis_next e q (q - 2 ^ e) rest.0 (omega arith) (omega arith)
+                (omega arith) rest.1,
+          )
     ]
 
 -- ---- sums of n terms
@@ -103,13 +105,27 @@ record IsSum (n : ℕ) (f : ℕ → ℕ) (p : List ℕ) : Type 0 where
   at : (x : ℕ) → value p x ≡ forward n 0 f x
 
 sum_none : (f : ℕ → ℕ) → IsSum 0 f []
-sum_none f = record { size = refl; words = tt; at = λ x.
-    value-nil x ∙ sym (forward-zero 0 0 f x (λ q h. let no : ⊥ = omega arith in absurd no)) }
+sum_none f = record {
+  size = refl;
+  words = tt;
+  at = λ x.
+      value-nil x ∙ sym (forward-zero 0 0 f x (λ q h. let no : ⊥ = omega arith in absurd no));
+}
 
 sum_more : (n : ℕ) (f : ℕ → ℕ) (b p : List ℕ) → IsBasis n b → IsSum n f p → IsSum (suc n) f (add (scale (f n) b) p)
 sum_more n f b p hb hp =
-    grind (arith, common_steps, length-scale, length-add, words_add, words_scale, value_add, value_scale, xor_comm,
-        forward-more)
+    grind (
+      arith,
+      common_steps,
+      length-scale,
+      length-add,
+      words_add,
+      words_scale,
+      value_add,
+      value_scale,
+      xor_comm,
+      forward-more,
+    )
 
 sum_polynomial : (n : ℕ) (f : ℕ → ℕ) → n ≤ 65536 → (p : List ℕ) × IsSum n f p
 sum_polynomial zero f hn = ([], sum_none f)
@@ -145,10 +161,10 @@ no_last_term n f h hn word size words at =
     let s : IsSum (suc n) f (add (scale (f n) b.0) p.0) = sum_more n f b.0 p.0 b.1 p.1 in
     let same : add (scale (f n) b.0) p.0 ≡ padded 1 h =
     same_from_values (suc n) (add (scale (f n) b.0) p.0) (padded 1 h) s.size (length-padded 1 h ∙ omega arith) s.words
-        (words_padded 1 h words) (λ i. i) (λ i hi. omega arith) (λ i j hi hj e. e)
+    (words_padded 1 h words) (λ i. i) (λ i hi. omega arith) (λ i j hi hj e. e)
     (λ i hi. s.at i ∙ at i hi ∙ sym (value-padded 1 h i)) in
     sym (last_term n f b.0 p.0 word b.1 p.1) ∙ ap (λ (q : List ℕ). slice_index q n) same
-        ∙ entry-padded 1 h n (omega arith)
+    ∙ entry-padded 1 h n (omega arith)
 
 -- If a sum has the values of a polynomial of n coefficients, its terms from n on are zero.
 pub no_terms_past : (n t : ℕ) (f : ℕ → ℕ) (h : List ℕ) → n + t ≤ 65536 → ((i : ℕ) → i < n + t → f i < 2 ^ 16)
@@ -158,13 +174,13 @@ no_terms_past n zero f h hn word size words at i above below = absurd (let no : 
 no_terms_past n (suc t) f h hn word size words at i above below =
     let last : f (n + t) ≡ 0 =
     no_last_term (n + t) f (padded t h) (omega arith) (word (n + t) (omega arith)) (length-padded t h ∙ omega arith)
-        (words_padded t h words)
+    (words_padded t h words)
     (λ x hx. ap (λ k. forward k 0 f x) (sym (omega arith)) ∙ at x (omega arith) ∙ sym (value-padded t h x)) in
     elim (cases_eq i (n + t)) [
       | inl e ↦ ap f e ∙ last
       | inr apart ↦
           no_terms_past n t f h (omega arith) (λ k hk. word k (omega arith)) size words
           (λ x hx. sym (forward-fewer (n + t) 1 f x (λ j hj. ap f (omega arith) ∙ last))
-              ∙ ap (λ k. forward k 0 f x) (sym (omega arith)) ∙ at x (omega arith))
+          ∙ ap (λ k. forward k 0 f x) (sym (omega arith)) ∙ at x (omega arith))
           i above (omega arith)
     ]

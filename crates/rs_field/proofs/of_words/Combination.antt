@@ -45,7 +45,7 @@ unfolding sum_below
 sum_below-xor zero f g = refl
 sum_below-xor (suc n) f g =
     ap (λ v. bit_xor v (bit_xor (f n) (g n))) (sum_below-xor n f g)
-        ∙ xor_swap (sum_below n f) (sum_below n g) (f n) (g n)
+    ∙ xor_swap (sum_below n f) (sum_below n g) (f n) (g n)
 
 pub sum_below-product : (n : ℕ) (f : ℕ → ℕ) (c : ℕ) → sum_below n (λ q. product (f q) c) ≡ product (sum_below n f) c
 unfolding sum_below
@@ -70,14 +70,14 @@ product_below-one_more (suc n) e s f g he one is same =
       | inl last ↦
           product_below-suc n g
           ∙ ap₂ product (product_below-same n g f
-              (λ i h. same i (omega arith) (λ (x : i ≡ e). let no : ⊥ = omega arith in no))) (ap g (sym last) ∙ is)
+          (λ i h. same i (omega arith) (λ (x : i ≡ e). let no : ⊥ = omega arith in no))) (ap g (sym last) ∙ is)
           ∙ ap (λ v. product v s)
           (sym (product_below-suc n f ∙ ap (product (product_below n f)) (ap f (sym last) ∙ one)
-              ∙ product_one (product_below n f) (product_below_lt n f)))
+          ∙ product_one (product_below n f) (product_below_lt n f)))
       | inr other ↦
           product_below-suc n g
           ∙ ap₂ product (product_below-one_more n e s f g (omega arith) one is (λ d h. same d (omega arith)))
-              (same n (omega arith) (λ (x : n ≡ e). other (sym x)))
+          (same n (omega arith) (λ (x : n ≡ e). other (sym x)))
           ∙ product-assoc (product_below n f) s (f n)
           ∙ ap (product (product_below n f)) (product-comm s (f n))
           ∙ sym (product-assoc (product_below n f) (f n) s)
@@ -105,8 +105,15 @@ factor-bit q x d b e = ap (λ (b : ℕ). cond (eqb b 1) (subspace d x) 1) e
 bit_below : (d e q : ℕ) → d < e → (2 ^ e + q) / 2 ^ d % 2 ≡ q / 2 ^ d % 2
 bit_below d e q h =
     let k : ℕ = e - suc d in
-    grind (arith, common_steps, mul-add-div_right (pow_pos d) (2 ^ k * 2) q, even (2 ^ k) (q / 2 ^ d), pow-add 2 k
-        (suc d), regroup (2 ^ k) d)
+    grind (
+      arith,
+      common_steps,
+      mul-add-div_right (pow_pos d) (2 ^ k * 2) q,
+      even (2 ^ k) (q / 2 ^ d),
+      pow-add 2 k
+          (suc d),
+      regroup (2 ^ k) d,
+    )
   where
     regroup : (m d : ℕ) → m * 2 ^ suc d ≡ m * 2 * 2 ^ d
     regroup m d = omega (arith, ap (λ v. m * v) (pow-suc 2 d))
@@ -165,14 +172,14 @@ pub forward-zero : (n shift : ℕ) (f : ℕ → ℕ) (i : ℕ) → ((q : ℕ) �
 unfolding forward
 forward-zero n shift f i zeros =
     sum_below-zero n _ (λ q h. ap (λ v. product v (basis q (shift + i))) (zeros q h)
-        ∙ zero_product (basis q (shift + i)))
+    ∙ zero_product (basis q (shift + i)))
 
 pub forward-xor : (n shift : ℕ) (f g : ℕ → ℕ) (i : ℕ)
     → forward n shift (λ q. bit_xor (f q) (g q)) i ≡ bit_xor (forward n shift f i) (forward n shift g i)
 unfolding forward
 forward-xor n shift f g i =
     sum_below-same n (λ q. product (bit_xor (f q) (g q)) (basis q (shift + i)))
-        (λ q. bit_xor (product (f q) (basis q (shift + i))) (product (g q) (basis q (shift + i))))
+    (λ q. bit_xor (product (f q) (basis q (shift + i))) (product (g q) (basis q (shift + i))))
     (λ q h. product_xor_left (f q) (g q) (basis q (shift + i)))
     ∙ sum_below-xor n (λ q. product (f q) (basis q (shift + i))) (λ q. product (g q) (basis q (shift + i)))
 
@@ -181,7 +188,7 @@ pub forward-product : (n shift : ℕ) (f : ℕ → ℕ) (c i : ℕ)
 unfolding forward
 forward-product n shift f c i =
     sum_below-same n (λ q. product (product (f q) c) (basis q (shift + i)))
-        (λ q. product (product (f q) (basis q (shift + i))) c)
+    (λ q. product (product (f q) (basis q (shift + i))) c)
     (λ q h. product-right_comm (f q) c (basis q (shift + i)))
     ∙ sum_below-product n (λ q. product (f q) (basis q (shift + i))) c
 
@@ -200,7 +207,7 @@ forward-one shift f i word =
 pub forward-half : (e shift : ℕ) (f : ℕ → ℕ) (i : ℕ) → e < 16
     → forward (2 ^ suc e) shift f i
     ≡ bit_xor (forward (2 ^ e) shift f i)
-        (product (forward (2 ^ e) shift (λ q. f (2 ^ e + q)) i) (subspace e (shift + i)))
+    (product (forward (2 ^ e) shift (λ q. f (2 ^ e + q)) i) (subspace e (shift + i)))
 forward-half e shift f i he =
     let x : ℕ = shift + i in
     let s : ℕ = subspace e x in
@@ -209,7 +216,7 @@ forward-half e shift f i he =
     ∙ sum_below-add (2 ^ e) (2 ^ e) (λ q. product (f q) (basis q x))
     ∙ ap₂ bit_xor (sym (forward_is (2 ^ e) shift f i))
     (sum_below-same (2 ^ e) (λ q. product (f (2 ^ e + q)) (basis (2 ^ e + q) x))
-        (λ q. product (product (f (2 ^ e + q)) (basis q x)) s)
+    (λ q. product (product (f (2 ^ e + q)) (basis q x)) s)
     (λ q h. ap (product (f (2 ^ e + q))) (basis-half e q x he h) ∙ sym (product-assoc (f (2 ^ e + q)) (basis q x) s))
     ∙ sum_below-product (2 ^ e) (λ q. product (f (2 ^ e + q)) (basis q x)) s
     ∙ ap (λ v. product v s) (sym (forward_is (2 ^ e) shift (λ q. f (2 ^ e + q)) i)))
@@ -244,7 +251,7 @@ upper_factor e shift i he whole fits hi =
     ∙ sym (xor_shifted b.0 1 1 (omega arith))
     ∙ ap (λ v. bit_xor v 1)
     (sym (subspace_shift e shift (omega arith) (omega arith)
-        ∙ ap (λ v. v / 2 ^ e) (b.1 ∙ sym (add-zero (b.0 * 2 * 2 ^ e))) ∙ div-mul-add (b.0 * 2) (2 ^ e) 0 (pow_pos e)))
+    ∙ ap (λ v. v / 2 ^ e) (b.1 ∙ sym (add-zero (b.0 * 2 * 2 ^ e))) ∙ div-mul-add (b.0 * 2) (2 ^ e) 0 (pow_pos e)))
   where
     next : (u m i : ℕ) → u * m + (m + i) ≡ (u + 1) * m + i
     next u m i = omega arith
@@ -286,7 +293,7 @@ upper_half e shift f g h i he whole fits hi made sums =
     ∙ ap (bit_xor top) (mixed e shift f g j made)
     ∙ one_more top low c (forward_lt (2 ^ e) shift second j)
     ∙ sym (forward-half e shift f j he
-        ∙ ap (λ v. bit_xor low (product top v)) (upper_factor e shift i he whole fits hi))
+    ∙ ap (λ v. bit_xor low (product top v)) (upper_factor e shift i he whole fits hi))
   where
     one_more : (top low c : ℕ) → top < 2 ^ 16
         → bit_xor top (bit_xor low (product top c)) ≡ bit_xor low (product top (bit_xor c 1))

@@ -34,7 +34,7 @@ total-ones (suc n) = let s = total-suc n (λ y. 1) in let more = total-ones n in
 signs_at_zero : (n u : ℕ) → u ≡ 0 → signed_sum n (λ y. 1) u ≡ n
 signs_at_zero n u none =
     total-same n (λ y. sign u y * 1) (λ y. 1) (λ y hy. ap (λ v. sign v y * 1) none ∙ ap (λ v. v * 1) (sign-zero y))
-        ∙ total-ones n
+    ∙ total-ones n
 
 signs_elsewhere : (e u : ℕ) → 0 < u → u < 2 ^ e → signed_sum (2 ^ e) (λ y. 1) u % 65535 ≡ 0
 signs_elsewhere zero u some hu = absurd (let no : ⊥ = omega arith in no)
@@ -45,13 +45,13 @@ signs_elsewhere (suc e) u some hu =
           let s = sum_lower e u (λ y. 1) first in
           let none = signs_elsewhere e u some first in
           ap (λ n. signed_sum n (λ y. 1) u % 65535) two
-              ∙ (let r : signed_sum (2 ^ e + 2 ^ e) (λ y. 1) u % 65535 ≡ 0 = omega arith in r)
+          ∙ (let r : signed_sum (2 ^ e + 2 ^ e) (λ y. 1) u % 65535 ≡ 0 = omega arith in r)
       | inr second ↦
           let v : ℕ = u - 2 ^ e in
           let back : u ≡ 2 ^ e + v = omega arith in
           let s = sum_upper e v (λ y. 1) (omega arith) in
           ap₂ (λ n w. signed_sum n (λ y. 1) w % 65535) two back
-              ∙ (let r : signed_sum (2 ^ e + 2 ^ e) (λ y. 1) (2 ^ e + v) % 65535 ≡ 0 = omega arith in r)
+          ∙ (let r : signed_sum (2 ^ e + 2 ^ e) (λ y. 1) (2 ^ e + v) % 65535 ≡ 0 = omega arith in r)
     ]
 
 -- The product of the signs at two points is the sign at their XOR.
@@ -67,10 +67,10 @@ pub transform-back : (d : ℕ) (f g : ℕ → ℕ) (u : ℕ) → d ≤ 16 → Is
 transform-back d f g u hd is hu =
     total-near (2 ^ d) (λ w. sign u w * g w) (λ w. total (2 ^ d) (λ z. sign u w * (sign w z * f z)))
     (λ w hw. mul_near (sign u w) (g w) (sign u w) (signed_sum (2 ^ d) f w) refl (is w hw)
-        ∙ ap (λ v. v % 65535) (sym (total-scale (2 ^ d) (sign u w) (λ z. sign w z * f z))))
+    ∙ ap (λ v. v % 65535) (sym (total-scale (2 ^ d) (sign u w) (λ z. sign w z * f z))))
     ∙ ap (λ v. v % 65535)
-        (total-swap (2 ^ d) (2 ^ d) (λ w z. sign u w * (sign w z * f z))
-        ∙ total-same (2 ^ d) (λ z. total (2 ^ d) (λ w. sign u w * (sign w z * f z))) at_point (λ z hz. collected z))
+    (total-swap (2 ^ d) (2 ^ d) (λ w z. sign u w * (sign w z * f z))
+    ∙ total-same (2 ^ d) (λ z. total (2 ^ d) (λ w. sign u w * (sign w z * f z))) at_point (λ z hz. collected z))
     ∙ total-one (2 ^ d) u at_point hu (λ z hz apart. elsewhere z hz apart)
     ∙ here
   where
@@ -94,7 +94,7 @@ transform-back d f g u hd is hu =
     elsewhere z hz apart =
         let some = difference_pos u z apart in
         mul_near (f z) (total (2 ^ d) (λ w. sign w u * sign w z)) (f z) 0 refl
-            (signs_meet (2 ^ d) u z few ∙ signs_elsewhere d (bit_xor u z) some (xor_lt d u z hu hz))
+        (signs_meet (2 ^ d) u z few ∙ signs_elsewhere d (bit_xor u z) some (xor_lt d u z hu hz))
         ∙ ap (λ v. v % 65535) (let r : f z * 0 ≡ 0 = omega arith in r)
 
     here : f u * total (2 ^ d) (λ w. sign w u * sign w u) % 65535 ≡ f u * 2 ^ d % 65535
@@ -111,10 +111,10 @@ pub transform-products : (d : ℕ) (e l old_walsh products l_walsh : ℕ → ℕ
     → signed_sum (2 ^ d) products x % 65535 ≡ total (2 ^ d) (λ y. e y * (l (bit_xor x y) * 2 ^ d)) % 65535
 transform-products d e l old_walsh products l_walsh x hd hx is_e is_l made =
     total-near (2 ^ d) (λ w. sign x w * products w)
-        (λ w. total (2 ^ d) (λ y. (sign x w * l_walsh w) * (sign w y * e y))) (λ w hw. spread w hw)
+    (λ w. total (2 ^ d) (λ y. (sign x w * l_walsh w) * (sign w y * e y))) (λ w hw. spread w hw)
     ∙ ap (λ v. v % 65535) (total-swap (2 ^ d) (2 ^ d) (λ w y. (sign x w * l_walsh w) * (sign w y * e y)))
     ∙ total-near (2 ^ d) (λ y. total (2 ^ d) (λ w. (sign x w * l_walsh w) * (sign w y * e y)))
-        (λ y. e y * (l (bit_xor x y) * 2 ^ d)) (λ y hy. gathered y hy)
+    (λ y. e y * (l (bit_xor x y) * 2 ^ d)) (λ y hy. gathered y hy)
   where
     few : 2 ^ d ≤ 65536
     few = pow_mono hd
@@ -126,7 +126,7 @@ transform-products d e l old_walsh products l_walsh x hd hx is_e is_l made =
         (made w hw ∙ mul_near (old_walsh w) (l_walsh w) (signed_sum (2 ^ d) e w) (l_walsh w) (is_e w hw) refl)
         ∙ ap (λ v. v % 65535)
         (regroup (sign x w) (signed_sum (2 ^ d) e w) (l_walsh w)
-            ∙ sym (total-scale (2 ^ d) (sign x w * l_walsh w) (λ y. sign w y * e y)))
+        ∙ sym (total-scale (2 ^ d) (sign x w * l_walsh w) (λ y. sign w y * e y)))
       where
         regroup : (a b c : ℕ) → a * (b * c) ≡ a * c * b
         regroup a b c = omega arith
@@ -137,14 +137,14 @@ transform-products d e l old_walsh products l_walsh x hd hx is_e is_l made =
     gathered y hy =
         ap (λ v. v % 65535)
         (total-same (2 ^ d) (λ w. (sign x w * l_walsh w) * (sign w y * e y))
-            (λ w. e y * (sign w x * sign w y * l_walsh w))
+        (λ w. e y * (sign w x * sign w y * l_walsh w))
         (λ w hw. ap (λ v. v * l_walsh w * (sign w y * e y)) (sign-comm x w)
-            ∙ regroup (sign w x) (l_walsh w) (sign w y) (e y))
+        ∙ regroup (sign w x) (l_walsh w) (sign w y) (e y))
         ∙ total-scale (2 ^ d) (e y) (λ w. sign w x * sign w y * l_walsh w))
         ∙ mul_near (e y) (total (2 ^ d) (λ w. sign w x * sign w y * l_walsh w)) (e y) (l (bit_xor x y) * 2 ^ d) refl
         (total-near (2 ^ d) (λ w. sign w x * sign w y * l_walsh w) (λ w. sign (bit_xor x y) w * l_walsh w)
         (λ w hw. mul_near (sign w x * sign w y) (l_walsh w) (sign (bit_xor x y) w) (l_walsh w)
-            (sign-xor w x y (omega (arith, few)) ∙ ap (λ v. v % 65535) (sign-comm w (bit_xor x y))) refl)
+        (sign-xor w x y (omega (arith, few)) ∙ ap (λ v. v % 65535) (sign-comm w (bit_xor x y))) refl)
         ∙ transform-back d l l_walsh (bit_xor x y) hd is_l (xor_lt d x y hx hy))
       where
         regroup : (a b c d : ℕ) → a * b * (c * d) ≡ d * (a * c * b)
@@ -158,15 +158,33 @@ log_or_zero-is z = refl
 log_sum-is : (n : ℕ) (e : ℕ → ℕ) (x : ℕ) → log_sum n e x ≡ total n (λ y. e y * log_or_zero (bit_xor x y))
 log_sum-is zero e x = log_sum-zero e x ∙ sym (total-zero (λ y. e y * log_or_zero (bit_xor x y)))
 log_sum-is (suc n) e x =
-    search (rules, log_sum-suc, total-suc, cases_eq, xor_self, eq-eqb, log_or_zero-is, same_from_xor, ne_eqb, log_sum-is
-    n e x)
+    search (
+      rules,
+      log_sum-suc,
+      total-suc,
+      cases_eq,
+      xor_self,
+      eq-eqb,
+      log_or_zero-is,
+      same_from_xor,
+      ne_eqb,
+      log_sum-is
+          n e x,
+    )
 
 -- The factor 2 ^ d of two transforms and the factor 65536 / 2 ^ d of the table have the product 65536, which is 1
 -- modulo 65535.
 one_turn : (d v : ℕ) → d ≤ 16 → 65536 / 2 ^ d * v * 2 ^ d % 65535 ≡ v % 65535
 one_turn d v hd =
-    grind (arith, common_steps, regroup (2 ^ (16 - d)) v (2 ^ d), turned v, shl-shr (2 ^ (16 - d)) d, pow-add 2
-        (16 - d) d)
+    grind (
+      arith,
+      common_steps,
+      regroup (2 ^ (16 - d)) v (2 ^ d),
+      turned v,
+      shl-shr (2 ^ (16 - d)) d,
+      pow-add 2
+          (16 - d) d,
+    )
   where
     regroup : (a v b : ℕ) → a * v * b ≡ a * b * v
     regroup a v b = omega arith
@@ -184,11 +202,11 @@ pub locator-made : (d : ℕ) (old old_walsh products new l_walsh : ℕ → ℕ) 
     → IsWalsh (2 ^ d) products new → IsLocatorBelow (2 ^ d) old new
 locator-made d old old_walsh products new l_walsh hd is_old is_log made is_new x hx =
     is_new x hx ∙ transform-products d old
-        (λ z. 65536 / 2 ^ d * log_or_zero z) old_walsh products l_walsh x hd hx is_old is_log made
+    (λ z. 65536 / 2 ^ d * log_or_zero z) old_walsh products l_walsh x hd hx is_old is_log made
     ∙ total-near (2 ^ d) (λ y. old y * (65536 / 2 ^ d * log_or_zero (bit_xor x y) * 2 ^ d))
-        (λ y. old y * log_or_zero (bit_xor x y))
+    (λ y. old y * log_or_zero (bit_xor x y))
     (λ y hy. mul_near (old y) (65536 / 2 ^ d * log_or_zero (bit_xor x y) * 2 ^ d) (old y)
-        (log_or_zero (bit_xor x y)) refl (one_turn d (log_or_zero (bit_xor x y)) hd))
+    (log_or_zero (bit_xor x y)) refl (one_turn d (log_or_zero (bit_xor x y)) hd))
     ∙ ap (λ v. v % 65535) (sym (log_sum-is (2 ^ d) old x))
 
 -- ---- counts
@@ -219,8 +237,8 @@ pub counts-below : (d n : ℕ) (a b : Steps) → n ≡ 2 ^ d → n ≤ 65536 →
 counts-below d n a b is few p =
     let hd : d ≤ 16 = few_bits d (omega arith) in
     let le : 2 ^ d * log2 (2 ^ d) ≤ 1048576 =
-        leb-true (2 ^ d * log2 (2 ^ d)) 1048576
-        (from_passes_below 17 (λ d. nat_le (2 ^ d * log2 (2 ^ d)) 1048576) most_sums d (omega arith)) in
+    leb-true (2 ^ d * log2 (2 ^ d)) 1048576
+    (from_passes_below 17 (λ d. nat_le (2 ^ d * log2 (2 ^ d)) 1048576) most_sums d (omega arith)) in
     of_bound (n * log2 n) (subst (λ (m : ℕ). m * log2 m ≤ 1048576) (sym is) le) p
   where
     of_bound : (t : ℕ) → t ≤ 1048576 → CountsUpTo 0 t n a b → CountsUpTo 0 1048576 65536 a b

@@ -92,7 +92,7 @@ rule s f g p d hs hf hg hp hd =
 -- The derivative of a polynomial times the factors at n points, by the product rule.
 derivative-times : (a n : ℕ) (p : List ℕ) → WordsOneByOne p → (x : ℕ) → x < 2 ^ 16 → a + n ≤ 2 ^ 16
     → derivative_value (times (points a n) p) x ≡ bit_xor (product (factors a n x) (derivative_value p x))
-        (product (slope a n x) (value p x))
+    (product (slope a n x) (value p x))
 unfolding times points
 derivative-times a zero p w x hx hn =
     grind (arith, common_steps, product_below-zero, one_product, derivative_lt, product-comm, product_zero)
@@ -101,19 +101,19 @@ derivative-times a (suc n) p w x hx hn =
     let s_lt : bit_xor x (a + n) < 2 ^ 16 = xor_lt 16 x (a + n) hx (omega arith) in
     derivative_with_root (a + n) (times (points a n) p) x
     ∙ ap₂ bit_xor (value-times a n p w x)
-        (ap (product (bit_xor x (a + n))) (derivative-times a n p w x hx (omega arith)))
+    (ap (product (bit_xor x (a + n))) (derivative-times a n p w x hx (omega arith)))
     ∙ rule (bit_xor x (a + n)) (factors a n x) (slope a n x) (value p x) (derivative_value p x)
     s_lt (factors_lt a n x) (slope_lt a n x) (value_lt p x w) (derivative_lt p x w)
     ∙ ap (λ z. bit_xor (product z (derivative_value p x)) (product (slope a (suc n) x) (value p x)))
-        (sym (factors-suc a n x))
+    (sym (factors-suc a n x))
 
 -- The product of m + n factors is the product of the first m factors times the product of the n next factors.
 factors-add : (m n x : ℕ) → x < 2 ^ 16 → m + n ≤ 2 ^ 16 → factors 0 (m + n) x ≡ product (factors 0 m x) (factors m n x)
 factors-add m n x hx h =
     product_below-add m n (λ i. bit_xor x (0 + i)) (λ i hi. xor_lt 16 x (0 + i) hx (omega arith))
     ∙ ap (product (product_below m (λ i. bit_xor x (0 + i))))
-        (product_below-same n (λ i. bit_xor x (0 + (m + i))) (λ i. bit_xor x (m + i))
-        (λ i hi. ap (bit_xor x) (zero-add (m + i))))
+    (product_below-same n (λ i. bit_xor x (0 + (m + i))) (λ i. bit_xor x (m + i))
+    (λ i hi. ap (bit_xor x) (zero-add (m + i))))
 
 sum_rule : (s f g d e : ℕ) → s < 2 ^ 16 → f < 2 ^ 16 → g < 2 ^ 16 → d < 2 ^ 16 → e < 2 ^ 16
     → bit_xor (product f g) (product s (bit_xor (product d g) (product f e)))
@@ -132,11 +132,11 @@ slope-add m (suc n) x hx h =
     let s_lt : bit_xor x (m + n) < 2 ^ 16 = xor_lt 16 x (m + n) hx (omega arith) in
     ap (λ k. slope 0 k x) (add-suc m n)
     ∙ ap₂ bit_xor (factors-add m n x hx less)
-        (ap₂ product (ap (bit_xor x) (zero-add (m + n))) (slope-add m n x hx less))
+    (ap₂ product (ap (bit_xor x) (zero-add (m + n))) (slope-add m n x hx less))
     ∙ sum_rule (bit_xor x (m + n)) (factors 0 m x) (factors m n x) (slope 0 m x) (slope m n x)
     s_lt (factors_lt 0 m x) (factors_lt m n x) (slope_lt 0 m x) (slope_lt m n x)
     ∙ ap (λ z. bit_xor (product (slope 0 m x) z) (product (factors 0 m x) (slope m (suc n) x)))
-        (sym (factors-suc m n x))
+    (sym (factors-suc m n x))
 
 -- The points from 2 ^ e on are the points from 0 on, each XOR 2 ^ e.
 moved_point : (e i x : ℕ) → i < 2 ^ e → bit_xor x (2 ^ e + i) ≡ bit_xor (bit_xor x (2 ^ e)) (0 + i)
@@ -145,7 +145,7 @@ moved_point e i x h = cc (one-mul (2 ^ e), xor_shifted 1 e i h, zero-add i, xor_
 factors-moved : (e n x : ℕ) → n ≤ 2 ^ e → factors (2 ^ e) n x ≡ factors 0 n (bit_xor x (2 ^ e))
 factors-moved e n x h =
     product_below-same n (λ i. bit_xor x (2 ^ e + i)) (λ i. bit_xor (bit_xor x (2 ^ e)) (0 + i))
-        (λ i hi. moved_point e i x (omega arith))
+    (λ i hi. moved_point e i x (omega arith))
 
 slope-moved : (e n x : ℕ) → n ≤ 2 ^ e → slope (2 ^ e) n x ≡ slope 0 n (bit_xor x (2 ^ e))
 slope-moved e zero x h = refl
@@ -171,17 +171,17 @@ slope_subspace (suc e) x he hx =
     let double : 2 ^ suc e ≡ 2 ^ e + 2 ^ e = omega (arith, pow-suc 2 e) in
     let room : 2 ^ suc e ≤ 2 ^ 16 = pow_mono he in
     let quotient_lt : x / 2 ^ e < 2 ^ 16 =
-        subst (λ (k : ℕ). k < 2 ^ 16) (factors_lower e x (omega arith) hx) (factors_lt 0 (2 ^ e) x) in
+    subst (λ (k : ℕ). k < 2 ^ 16) (factors_lower e x (omega arith) hx) (factors_lt 0 (2 ^ e) x) in
     let one : 2 ^ e / 2 ^ e ≡ 1 = ap (λ k. k / 2 ^ e) (sym (one-mul (2 ^ e))) ∙ shl-shr 1 e in
     ap (λ k. slope 0 k x) double
     ∙ slope-add (2 ^ e) (2 ^ e) x hx (omega arith)
     ∙ ap₂ bit_xor
     (ap₂ product (slope_subspace e x (omega arith) hx)
     (factors-moved e (2 ^ e) x (omega arith) ∙ factors_lower e (bit_xor x (2 ^ e)) (omega arith) y_lt
-        ∙ xor_shr x (2 ^ e) e ∙ ap (bit_xor (x / 2 ^ e)) one)
+    ∙ xor_shr x (2 ^ e) e ∙ ap (bit_xor (x / 2 ^ e)) one)
     ∙ one_product (bit_xor (x / 2 ^ e) 1) (xor_lt 16 (x / 2 ^ e) 1 quotient_lt (omega arith)))
     (ap₂ product (factors_lower e x (omega arith) hx)
-        (slope-moved e (2 ^ e) x (omega arith) ∙ slope_subspace e (bit_xor x (2 ^ e)) (omega arith) y_lt)
+    (slope-moved e (2 ^ e) x (omega arith) ∙ slope_subspace e (bit_xor x (2 ^ e)) (omega arith) y_lt)
     ∙ product_one (x / 2 ^ e) quotient_lt)
     ∙ xor_comm (bit_xor (x / 2 ^ e) 1) (x / 2 ^ e) ∙ sym (xor_assoc (x / 2 ^ e) (x / 2 ^ e) 1)
     ∙ ap (λ k. bit_xor k 1) (xor_self (x / 2 ^ e))
@@ -190,6 +190,6 @@ slope_subspace (suc e) x he hx =
 -- itself.
 pub derivative-subspace : (e : ℕ) (p : List ℕ) → e < 16 → WordsOneByOne p → (x : ℕ) → x < 2 ^ 16
     → derivative_value (times (points 0 (2 ^ e)) p) x ≡ bit_xor (product (subspace e x) (derivative_value p x))
-        (value p x)
+    (value p x)
 derivative-subspace e p he w x hx =
     search (rules, pow_below, derivative-times, factors_subspace, slope_subspace, one_product, value_lt)

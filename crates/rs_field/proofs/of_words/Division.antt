@@ -33,7 +33,11 @@ divided_by n [] p b hn falling size words roots = let same : length p ≡ b = om
 divided_by n (a ∷ r) [] b hn falling size words roots = absurd (let no : ⊥ = omega arith in no)
 divided_by n (a ∷ r) (c ∷ cs) b hn falling size words roots =
     let rest = divided_by a r (steps a cs) b (omega arith) falling.1 (length-steps a cs ∙ omega arith)
-        (words_steps a cs words.1)
-    (other_roots a a c cs r (omega arith) (omega arith) falling.1 words.1 roots.0 roots.1) in
-    (rest.0, rest.1, rest.2, λ x. factor-root a x c cs roots.0 ∙ ap (product (bit_xor x a)) (rest.3 x)
-        ∙ sym (value_with_root a (times r rest.0) x))
+    (words_steps a cs words.1)
+    (other_roots a a c cs r (omega arith) (omega arith) falling.1 words.1 roots.0 roots.1) in (
+      rest.0,
+      rest.1,
+      rest.2,
+      λ x. factor-root a x c cs roots.0 ∙ ap (product (bit_xor x a)) (rest.3 x)
+          ∙ sym (value_with_root a (times r rest.0) x),
+    )

@@ -33,7 +33,7 @@ pub record Takes (n b : ℕ) (marks words : ℕ → ℕ) (q : List ℕ) : Type 0
 -- locator's power.
 pub are_located : (n : ℕ) (marks words f : ℕ → ℕ) → ((x : ℕ) → x < n → marks x ≡ 1 → f x ≡ 0)
     → ((x : ℕ) → x < n → marks x ≡ 0 → ((words x ≡ 0) × (f x ≡ 0))
-        ⊎ (f x ≡ product (words x) (power (log_sum n marks x)))) → AreLocated n marks words f
+    ⊎ (f x ≡ product (words x) (power (log_sum n marks x)))) → AreLocated n marks words f
 are_located n marks words f erased rest = grind (arith, common_steps, zero_product)
 
 -- ---- the marked points as roots
@@ -46,8 +46,16 @@ pub falling_marked : (n : ℕ) (marks : ℕ → ℕ) → AreMarks n marks → Ar
 unfolding marked
 falling_marked zero marks m = tt
 falling_marked (suc n) marks m =
-    grind (arith, common_steps, marked-more, marked-same, falling_more, cases_eq, falling_marked n marks
-        (record { mark = λ y hy. m.mark y (omega arith) }))
+    grind (
+      arith,
+      common_steps,
+      marked-more,
+      marked-same,
+      falling_more,
+      cases_eq,
+      falling_marked n marks
+          (record { mark = λ y hy. m.mark y (omega arith) }),
+    )
 
 pub roots_marked : (n : ℕ) (marks : ℕ → ℕ) (p : List ℕ) → AreMarks n marks
     → ((x : ℕ) → x < n → marks x ≡ 1 → value p x ≡ 0) → AreRoots p (marked n marks)
@@ -55,7 +63,7 @@ unfolding marked
 roots_marked zero marks p m at = tt
 roots_marked (suc n) marks p m at =
     let below = roots_marked n marks p (record { mark = λ y hy. m.mark y (omega arith) })
-        (λ x hx. at x (omega arith)) in
+    (λ x hx. at x (omega arith)) in
     grind (arith, common_steps, cases_eq, marked-more, marked-same, below)
 
 -- ---- the located polynomial
@@ -78,11 +86,11 @@ pub zero_rows : (n b t : ℕ) (marks words f F : ℕ → ℕ) → n ≤ 2 ^ 16 �
 zero_rows n b t marks words f F hn m count l word at (q, h) i above below =
     let k : ℕ = length (marked n marks) + b in
     let size : length (times (marked n marks) q) ≡ length (marked n marks) + b =
-        length-marked_times (marked n marks) q ∙ omega arith in
+    length-marked_times (marked n marks) q ∙ omega arith in
     no_terms_past (length (marked n marks) + b) t F (times (marked n marks) q) (omega arith)
-        (λ x hx. word x (omega arith)) size (words_times (marked n marks) q h.coefficients)
+    (λ x hx. word x (omega arith)) size (words_times (marked n marks) q h.coefficients)
     (λ x hx. ap (λ k. forward k 0 F x) count ∙ at x (omega arith)
-        ∙ located_values n b marks words f q hn m l h x (omega arith)) i (omega arith) (omega arith)
+    ∙ located_values n b marks words f q hn m l h x (omega arith)) i (omega arith) (omega arith)
 
 -- If a polynomial with one more root at each marked point has the located words as values, the polynomial has the given
 -- words as values.
@@ -100,10 +108,14 @@ few_coefficients : (n k t : ℕ) (f F : ℕ → ℕ) → n ≤ 2 ^ 16 → k + t 
     → ((i : ℕ) → n ≤ i + t → i < n → F i ≡ 0) → (h : List ℕ) × (length h ≡ k) × WordsOneByOne h
     × ((x : ℕ) → x < n → value h x ≡ f x)
 few_coefficients n k t f F hn count at none =
-    let (h, size, words, is) = polynomial_of_terms k F (omega arith) in
-    (h, size, words_from h words, λ x hx.
-        is x ∙ sym (forward-fewer k t F x (λ i a. none (k + i) (omega arith) (omega arith)))
-        ∙ ap (λ j. forward j 0 F x) count ∙ at x hx)
+    let (h, size, words, is) = polynomial_of_terms k F (omega arith) in (
+      h,
+      size,
+      words_from h words,
+      λ x hx.
+          is x ∙ sym (forward-fewer k t F x (λ i a. none (k + i) (omega arith) (omega arith)))
+          ∙ ap (λ j. forward j 0 F x) count ∙ at x hx,
+    )
 
 -- If the last rows are zero, some polynomial has the given words as values.
 pub taken_from_zero_rows : (n b t : ℕ) (marks words f F : ℕ → ℕ) → n ≤ 2 ^ 16 → AreMarks n marks
@@ -114,4 +126,4 @@ taken_from_zero_rows n b t marks words f F hn m count l given at none =
     let (h, size, are_words, same) = few_coefficients n (length (marked n marks) + b) t f F hn count at none in
     divided_takes n b marks words f h hn m l given same
     (divided_by n (marked n marks) h b hn (falling_marked n marks m) size are_words
-        (roots_marked n marks h m (λ x hx one. same x hx ∙ l.erased x hx one)))
+    (roots_marked n marks h m (λ x hx one. same x hx ∙ l.erased x hx one)))

@@ -45,7 +45,7 @@ value_add [] q x = refl
 value_add (a ∷ p) [] x = sym (xor_zero_r (bit_xor a (product x (value p x))))
 value_add (a ∷ p) (b ∷ q) x =
     rw (value_add p q x, product_xor_right x (value p x) (value q x))
-        (xor_swap a b (product x (value p x)) (product x (value q x)))
+    (xor_swap a b (product x (value p x)) (product x (value q x)))
 
 -- The value of a multiple is the multiple of the value.
 pub value_scale : (c : ℕ) (p : List ℕ) (x : ℕ) → value (scale c p) x ≡ product c (value p x)
@@ -53,14 +53,14 @@ unfolding value scale
 value_scale c [] x = sym (product_zero c)
 value_scale c (a ∷ p) x =
     ap (bit_xor (product c a)) (ap (product x) (value_scale c p x) ∙ product-left_comm x c (value p x))
-        ∙ sym (product_xor_right c a (product x (value p x)))
+    ∙ sym (product_xor_right c a (product x (value p x)))
 
 -- Multiplying a polynomial by x + a multiplies its value by the value of x + a.
 pub value_with_root : (a : ℕ) (p : List ℕ) (x : ℕ) → value (with_root a p) x ≡ product (bit_xor x a) (value p x)
 unfolding with_root value
 value_with_root a p x =
     value_add (0 ∷ p) (scale a p) x ∙ ap (bit_xor (product x (value p x))) (value_scale a p x)
-        ∙ sym (product_xor_left x a (value p x))
+    ∙ sym (product_xor_left x a (value p x))
 
 pub length-scale : (c : ℕ) (p : List ℕ) → length (scale c p) ≡ length p
 unfolding scale

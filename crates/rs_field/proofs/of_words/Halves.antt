@@ -35,8 +35,11 @@ two_halves size h power = omega (arith, half_power size h power)
 -- A power of two below another has the smaller exponent.
 pub exponent_below : (d n : ℕ) → 2 ^ d < 2 ^ n → d < n
 exponent_below d n h =
-    elim (cases_lt d n) [ inl less ↦ less | inr more ↦ let large : 2 ^ n ≤ 2 ^ d = pow_mono more in
-    absurd (omega arith) ]
+    elim (cases_lt d n) [
+      | inl less ↦ less
+      | inr more ↦ let large : 2 ^ n ≤ 2 ^ d = pow_mono more in
+          absurd (omega arith)
+    ]
 
 -- A transform has at most 65536 points.
 pub few_halves : (size e shift : ℕ) → size ≡ 2 ^ suc e → shift + size ≤ 65536 → e < 16
@@ -48,7 +51,7 @@ pub shift_half : (size e shift : ℕ) → size ≡ 2 ^ suc e → shift % size �
 shift_half size e shift is whole =
     let first : shift % 2 ^ e ≡ 0 =
     ap (λ v. v % 2 ^ e) (aligned_parts size 2 (2 ^ e) shift (omega (arith, pow-suc 2 e)) whole)
-        ∙ mul-mod_left (shift / size * 2) (2 ^ e) in
+    ∙ mul-mod_left (shift / size * 2) (2 ^ e) in
     (first, add-mod_right shift (2 ^ e) ∙ first)
 
 pub mark_zero : log_or_mark 0 ≡ 65535
@@ -80,7 +83,7 @@ table_factor skew e half shift w table is whole fits =
     let back : shift + 2 ^ e - 2 ^ e ≡ shift = omega arith in
     ap (λ v. times_factor (get_or skew (shift + v - 1) 0) w) is
     ∙ ap (λ m. times_factor m w)
-        (table.skew_entry e u (shift + 2 ^ e) odd (omega arith) ∙ ap (λ v. log_or_mark (subspace e v)) back)
+    (table.skew_entry e u (shift + 2 ^ e) odd (omega arith) ∙ ap (λ v. log_or_mark (subspace e v)) back)
     ∙ scaled_by (subspace e shift) w (subspace_lt e shift)
 
 pub xor_undo : (a b : ℕ) → bit_xor (bit_xor a b) b ≡ a
@@ -92,7 +95,7 @@ log2-power : (e : ℕ) → e < 64 → log2 (2 ^ e) ≡ e
 unfolding log2
 log2-power e he =
     first_below-is 64 (λ d. nat_le (2 ^ e) (2 ^ d)) e he (grind arith)
-        (λ j h. let small : 2 ^ j < 2 ^ e = pow_below j e h in grind arith)
+    (λ j h. let small : 2 ^ j < 2 ^ e = pow_below j e h in grind arith)
 
 -- The row steps of the butterflies between the halves and of both halves are the row steps of the whole.
 pub steps_half : (size e half : ℕ) → e < 16 → size ≡ 2 ^ suc e → half ≡ 2 ^ e
@@ -101,7 +104,7 @@ unfolding transform_steps
 steps_half size e half he is h =
     let low : log2 half ≡ e = ap log2 h ∙ log2-power e (omega arith) in
     cc (sum half (half / 2) e (size / 2) (log2 size) (log2 half) (omega arith)
-        (ap log2 is ∙ log2-power (suc e) (omega arith)) low (twice half e h))
+    (ap log2 is ∙ log2-power (suc e) (omega arith)) low (twice half e h))
   where
     twice : (half e : ℕ) → half ≡ 2 ^ e → half / 2 * 2 * e ≡ half * e
     twice half zero is = omega arith

@@ -29,16 +29,16 @@ pub sum_upper : (e w : ℕ) (f : ℕ → ℕ) → w < 2 ^ e
 sum_upper e w f hw =
     ap (λ v. v % 65535) (total-split (2 ^ e) (2 ^ e) (λ y. sign (2 ^ e + w) y * f y))
     ∙ add_near (total (2 ^ e) (λ y. sign (2 ^ e + w) y * f y))
-        (total (2 ^ e) (λ y. sign (2 ^ e + w) (2 ^ e + y) * f (2 ^ e + y)))
+    (total (2 ^ e) (λ y. sign (2 ^ e + w) (2 ^ e + y) * f (2 ^ e + y)))
     (signed_sum (2 ^ e) f w) (65534 * signed_sum (2 ^ e) (λ y. f (2 ^ e + y)) w)
     (ap (λ v. v % 65535)
-        (total-same (2 ^ e) (λ y. sign (2 ^ e + w) y * f y) (λ y. sign w y * f y)
-        (λ y hy. ap (λ v. v * f y) (sign-left e w y hw hy))))
+    (total-same (2 ^ e) (λ y. sign (2 ^ e + w) y * f y) (λ y. sign w y * f y)
+    (λ y hy. ap (λ v. v * f y) (sign-left e w y hw hy))))
     (total-near (2 ^ e) (λ y. sign (2 ^ e + w) (2 ^ e + y) * f (2 ^ e + y)) (λ y. 65534 * (sign w y * f (2 ^ e + y)))
     (λ y hy. mul_near (sign (2 ^ e + w) (2 ^ e + y)) (f (2 ^ e + y)) (65534 * sign w y) (f (2 ^ e + y))
-        (sign-both e w y hw hy) refl
+    (sign-both e w y hw hy) refl
     ∙ ap (λ v. v % 65535)
-        (let r : 65534 * sign w y * f (2 ^ e + y) ≡ 65534 * (sign w y * f (2 ^ e + y)) = omega arith in r))
+    (let r : 65534 * sign w y * f (2 ^ e + y) ≡ 65534 * (sign w y * f (2 ^ e + y)) = omega arith in r))
     ∙ ap (λ v. v % 65535) (total-scale (2 ^ e) 65534 (λ y. sign w y * f (2 ^ e + y))))
 
 -- One entry is its own transform, and zeros are their own transform.
@@ -61,14 +61,14 @@ walsh-halves e n half old low high new is h a b s w hw =
       | inl first ↦
           s.sums w first
           ∙ add_near (low w) (high w) (signed_sum half old w) (signed_sum half (λ y. old (half + y)) w) (a w first)
-              (b w first)
+          (b w first)
           ∙ ap (λ v. v % 65535) (ap (λ m. signed_sum m old w + signed_sum m (λ y. old (m + y)) w) h
           ∙ sym (sum_lower e w old (omega arith)) ∙ ap (λ m. signed_sum m old w) (sym (omega arith)))
       | inr second ↦
           let i : ℕ = w - half in
           ap (λ v. new v % 65535) (sym (omega arith)) ∙ s.differences i (omega arith)
           ∙ add_near (low i) (65534 * high i) (signed_sum half old i) (65534 * signed_sum half (λ y. old (half + y)) i)
-              (a i (omega arith))
+          (a i (omega arith))
           (mul_near 65534 (high i) 65534 (signed_sum half (λ y. old (half + y)) i) refl (b i (omega arith)))
           ∙ ap (λ m. (signed_sum m old i + 65534 * signed_sum m (λ y. old (m + y)) i) % 65535) h
           ∙ sym (sum_upper e i old (omega arith))
@@ -93,11 +93,11 @@ walsh-quarters : (e n q : ℕ) (old t0 t1 t2 t3 new : ℕ → ℕ) → n ≡ 2 ^
     → IsWalsh q old t0 → IsWalsh q (λ y. old (q + y)) t1 → IsWalsh q (λ y. old (q + q + y)) t2
     → IsWalsh q (λ y. old (q + q + (q + y))) t3
     → ((i : ℕ) → i < q → IsFourSums (t0 i) (t1 i) (t2 i) (t3 i) (new i) (new (q + i)) (new (q + q + i))
-        (new (q + q + (q + i))))
+    (new (q + q + (q + i))))
     → IsWalsh n old new
 walsh-quarters e n q old t0 t1 t2 t3 new is h done0 done1 done2 done3 sums =
     walsh-halves (suc e) n (q + q) old (joined t0 t1) (joined t2 t3) new is two (of_half old t0 t1 done0 done1)
-        (of_half (λ y. old (q + q + y)) t2 t3 done2 done3)
+    (of_half (λ y. old (q + q + y)) t2 t3 done2 done3)
     (record { sums = sums_of_halves; differences = differences_of_halves })
   where
     two : q + q ≡ 2 ^ suc e
@@ -113,7 +113,7 @@ walsh-quarters e n q old t0 t1 t2 t3 new is h done0 done1 done2 done3 sums =
     joined_second a b i =
         let back : q + i - q ≡ i = omega arith in
         ap (λ t. cond t (a (q + i) + b (q + i)) (a (q + i - q) + 65534 * b (q + i - q)))
-            (le-ltb (q + i) q (omega arith))
+        (le-ltb (q + i) q (omega arith))
         ∙ ap (λ k. a k + 65534 * b k) back
 
     of_half : (f a b : ℕ → ℕ) → IsWalsh q f a → IsWalsh q (λ y. f (q + y)) b → IsWalsh (q + q) f (joined a b)
@@ -155,11 +155,11 @@ pub walsh-two : (e half : ℕ) (old x0 x1 t0 t1 u0 u1 : List ℕ) → half ≡ 2
     → IsWalsh (half + half) (λ y. get_or old y 0) (λ w. get_or (u0 ++ u1) w 0)
 walsh-two e half old x0 x1 t0 t1 u0 u1 h size is0 is1 new_size done0 done1 sums differences =
     walsh-halves e (half + half) half (λ y. get_or old y 0) (λ w. get_or t0 w 0) (λ w. get_or t1 w 0)
-        (λ w. get_or (u0 ++ u1) w 0) (let p = pow-suc 2 e in omega arith) h
+    (λ w. get_or (u0 ++ u1) w 0) (let p = pow-suc 2 e in omega arith) h
     (walsh-same half (λ y. get_or x0 y 0) (λ y. get_or old y 0) (λ w. get_or t0 w 0)
-        (λ y hy. ap (λ (l : List ℕ). get_or l y 0) is0 ∙ get_or-take half old y 0 hy) done0)
+    (λ y hy. ap (λ (l : List ℕ). get_or l y 0) is0 ∙ get_or-take half old y 0 hy) done0)
     (walsh-same half (λ y. get_or x1 y 0) (λ y. get_or old (half + y) 0) (λ w. get_or t1 w 0)
-        (λ y hy. ap (λ (l : List ℕ). get_or l y 0) is1 ∙ get_or-drop half old y 0) done1)
+    (λ y hy. ap (λ (l : List ℕ). get_or l y 0) is1 ∙ get_or-drop half old y 0) done1)
     (record {
       sums = λ i hi. ap (λ v. v % 65535) (get_or_append_left u0 u1 0 i (omega arith)) ∙ sums i hi;
       differences = λ i hi.
@@ -192,9 +192,13 @@ pub in_quarters : {low high x0 x1 x2 x3 : List ℕ} (old : List ℕ) → 2 < len
     → x2 ≡ take (length old / 4) high → x3 ≡ drop (length old / 4) high
     → (e : ℕ) × (length old ≡ 2 ^ suc (suc e)) × (length old / 4 ≡ 2 ^ e) × AreQuarters (length old / 4) old x0 x1 x2 x3
 in_quarters {low} {high} {x0} {x1} {x2} {x3} old large power is_low is_high is0 is1 is2 is3 =
-    let (e, is, part, whole) = quarter_power (length old) large power in
-    (e, is, part, cut_in_quarters (length old / 2) (length old / 4) old low high x0 x1 x2 x3 (omega arith)
-        (omega arith) is_low is_high is0 is1 is2 is3)
+    let (e, is, part, whole) = quarter_power (length old) large power in (
+      e,
+      is,
+      part,
+      cut_in_quarters (length old / 2) (length old / 4) old low high x0 x1 x2 x3 (omega arith)
+          (omega arith) is_low is_high is0 is1 is2 is3,
+    )
 
 -- Four quarters that were transformed, and two layers between them.
 pub record AreJoined (q : ℕ) (x0 x1 x2 x3 t0 t1 t2 t3 u0 u1 u2 u3 : List ℕ) : Type 0 where
@@ -207,14 +211,14 @@ pub record AreJoined (q : ℕ) (x0 x1 x2 x3 t0 t1 t2 t3 u0 u1 u2 u3 : List ℕ) 
   pub done3 : IsWalsh q (λ y. get_or x3 y 0) (λ w. get_or t3 w 0)
   pub sums : (i : ℕ) → i < q
       → IsFourSums (get_or t0 i 0) (get_or t1 i 0) (get_or t2 i 0) (get_or t3 i 0) (get_or u0 i 0) (get_or u1 i 0)
-          (get_or u2 i 0) (get_or u3 i 0)
+      (get_or u2 i 0) (get_or u3 i 0)
 
 pub walsh-joined : (e n q : ℕ) (old x0 x1 x2 x3 t0 t1 t2 t3 u0 u1 u2 u3 : List ℕ) → n ≡ 2 ^ suc (suc e) → q ≡ 2 ^ e
     → AreQuarters q old x0 x1 x2 x3 → AreJoined q x0 x1 x2 x3 t0 t1 t2 t3 u0 u1 u2 u3
     → IsWalsh n (λ y. get_or old y 0) (λ w. get_or ((u0 ++ u1) ++ (u2 ++ u3)) w 0)
 walsh-joined e n q old x0 x1 x2 x3 t0 t1 t2 t3 u0 u1 u2 u3 is h cut j =
     walsh-quarters e n q (λ y. get_or old y 0) (λ w. get_or t0 w 0) (λ w. get_or t1 w 0) (λ w. get_or t2 w 0)
-        (λ w. get_or t3 w 0)
+    (λ w. get_or t3 w 0)
     (λ w. get_or ((u0 ++ u1) ++ (u2 ++ u3)) w 0) is h
     (walsh-same q (λ y. get_or x0 y 0) (λ y. get_or old y 0) (λ w. get_or t0 w 0) cut.entry0 j.done0)
     (walsh-same q (λ y. get_or x1 y 0) (λ y. get_or old (q + y) 0) (λ w. get_or t1 w 0) cut.entry1 j.done1)
@@ -246,13 +250,13 @@ pub walsh-pair : (old : List ℕ) (sum difference : ℕ) → length old ≡ 2
     → IsWalsh (length old) (λ y. get_or old y 0) (λ w. get_or (set (set old 0 sum) 1 difference) w 0)
 walsh-pair old sum difference two is_sum is_difference =
     walsh-halves 0 (length old) 1 entry entry (λ y. entry (1 + y)) new two refl (walsh-one 1 entry refl)
-        (walsh-one 1 (λ y. entry (1 + y)) refl) (record {
+    (walsh-one 1 (λ y. entry (1 + y)) refl) (record {
       sums = λ i hi. let z : i ≡ 0 = omega arith in ap (λ k. new k % 65535) z ∙ ap (λ v. v % 65535) first ∙ is_sum
           ∙ ap (λ k. (entry k + entry (1 + k)) % 65535) (sym z);
       differences = λ i hi.
           let z : i ≡ 0 = omega arith in
           ap (λ k. new (1 + k) % 65535) z ∙ ap (λ v. v % 65535) second ∙ is_difference
-              ∙ ap (λ k. (entry k + 65534 * entry (1 + k)) % 65535) (sym z);
+          ∙ ap (λ k. (entry k + 65534 * entry (1 + k)) % 65535) (sym z);
     })
   where
     entry : ℕ → ℕ

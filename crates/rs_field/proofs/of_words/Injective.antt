@@ -37,35 +37,41 @@ pub forward_injective : (e shift : ℕ) (f g : ℕ → ℕ) → shift % 2 ^ e �
     → ((i : ℕ) → i < 2 ^ e → forward (2 ^ e) shift f i ≡ forward (2 ^ e) shift g i) → (i : ℕ) → i < 2 ^ e → f i ≡ g i
 forward_injective zero shift f g whole fits words_f words_g same i hi =
     let one : 0 < 2 ^ 0 = omega arith in
-    grind (arith, common_steps, forward-one shift f 0 (words_f 0 one), same 0 one, forward-one shift g 0
-        (words_g 0 one))
+    grind (
+      arith,
+      common_steps,
+      forward-one shift f 0 (words_f 0 one),
+      same 0 one,
+      forward-one shift g 0
+          (words_g 0 one),
+    )
 forward_injective (suc e) shift f g whole fits words_f words_g same i hi =
     let few : e < 16 = few_halves (2 ^ suc e) e shift refl fits in
     let s = shift_half (2 ^ suc e) e shift refl whole in
     let lows : (q : ℕ) → q < 2 ^ e → low (2 ^ e) (subspace e shift) f q ≡ low (2 ^ e) (subspace e shift) g q =
     forward_injective e shift (low (2 ^ e) (subspace e shift) f) (low (2 ^ e) (subspace e shift) g) s.0 (omega arith)
     (λ q hq. low_lt (2 ^ e) (subspace e shift) f q (words_f q (omega arith)))
-        (λ q hq. low_lt (2 ^ e) (subspace e shift) g q (words_g q (omega arith)))
+    (λ q hq. low_lt (2 ^ e) (subspace e shift) g q (words_g q (omega arith)))
     (λ q hq. lower_half e shift f (low (2 ^ e) (subspace e shift) f) q few whole fits hq (λ p hp. refl)
     ∙ same q (omega arith)
     ∙ sym (lower_half e shift g (low (2 ^ e) (subspace e shift) g) q few whole fits hq (λ p hp. refl))) in
     let highs : (q : ℕ) → q < 2 ^ e → high (2 ^ e) (subspace e shift) f q ≡ high (2 ^ e) (subspace e shift) g q =
     forward_injective e (shift + 2 ^ e) (high (2 ^ e) (subspace e shift) f) (high (2 ^ e) (subspace e shift) g) s.1
-        (omega arith)
+    (omega arith)
     (λ q hq. high_lt (2 ^ e) (subspace e shift) f q (words_f q (omega arith)) (words_f (2 ^ e + q) (omega arith)))
     (λ q hq. high_lt (2 ^ e) (subspace e shift) g q (words_g q (omega arith)) (words_g (2 ^ e + q) (omega arith)))
     (λ q hq. upper_half e shift f (low (2 ^ e) (subspace e shift) f)
-        (high (2 ^ e) (subspace e shift) f) q few whole fits hq (λ p hp. refl) (λ p hp. refl)
+    (high (2 ^ e) (subspace e shift) f) q few whole fits hq (λ p hp. refl) (λ p hp. refl)
     ∙ same (2 ^ e + q) (omega arith)
     ∙ sym (upper_half e shift g (low (2 ^ e) (subspace e shift) g)
-        (high (2 ^ e) (subspace e shift) g) q few whole fits hq (λ p hp. refl) (λ p hp. refl))) in
+    (high (2 ^ e) (subspace e shift) g) q few whole fits hq (λ p hp. refl) (λ p hp. refl))) in
     let seconds : (q : ℕ) → q < 2 ^ e → f (2 ^ e + q) ≡ g (2 ^ e + q) =
     λ q hq. second_back (2 ^ e) (subspace e shift) f q ∙ ap₂ bit_xor (highs q hq) (lows q hq)
-        ∙ sym (second_back (2 ^ e) (subspace e shift) g q) in
+    ∙ sym (second_back (2 ^ e) (subspace e shift) g q) in
     elim (cases_lt i (2 ^ e)) [
       | inl below ↦
           first_back (2 ^ e) (subspace e shift) f i
-              ∙ ap₂ bit_xor (lows i below) (ap (λ v. product v (subspace e shift)) (seconds i below))
+          ∙ ap₂ bit_xor (lows i below) (ap (λ v. product v (subspace e shift)) (seconds i below))
           ∙ sym (first_back (2 ^ e) (subspace e shift) g i)
       | inr above ↦
           ap f (sym (omega arith)) ∙ seconds (i - 2 ^ e) (omega arith) ∙ ap g (omega arith)

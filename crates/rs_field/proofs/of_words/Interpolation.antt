@@ -25,9 +25,9 @@ unfolding product_below
 differences_pos a zero x hx hn apart = omega arith
 differences_pos a (suc n) x hx hn apart =
     product_pos (product_below n (λ i. bit_xor x (a + i))) (bit_xor x (a + n))
-        (differences_pos a n x hx (omega arith) (λ i h. apart i (omega arith)))
+    (differences_pos a n x hx (omega arith) (λ i h. apart i (omega arith)))
     (difference_pos x (a + n) (apart n (omega arith))) (product_below_lt n (λ i. bit_xor x (a + i)))
-        (xor_lt 16 x (a + n) hx (omega arith))
+    (xor_lt 16 x (a + n) hx (omega arith))
 
 -- The value that is missing at the next point, divided by the product of the differences.
 missing : ℕ → ℕ → List ℕ → ℕ → ℕ
@@ -60,16 +60,16 @@ comes a n p v hn hv words =
     let d : ℕ = product_below n (λ i. bit_xor (a + n) (a + i)) in
     let w : ℕ = bit_xor v (value p (a + n)) in
     let pos : 0 < product_below n (λ i. bit_xor (a + n) (a + i)) =
-        differences_pos a n (a + n) hn (omega arith) (λ i h e. omega arith) in
+    differences_pos a n (a + n) hn (omega arith) (λ i h e. omega arith) in
     let word : bit_xor v (value p (a + n)) < 2 ^ 16 = xor_lt 16 v (value p (a + n)) hv (value_lt p (a + n) words) in
     value-one_more a n p v (a + n)
     ∙ ap (λ u. bit_xor u (value p (a + n)))
     (ap (product (missing a n p v))
-        (value-times a n (1 ∷ []) (omega arith, tt) (a + n) ∙ ap (product d) (value-one 1 (a + n))
-        ∙ product_one d (product_below_lt n (λ i. bit_xor (a + n) (a + i))))
+    (value-times a n (1 ∷ []) (omega arith, tt) (a + n) ∙ ap (product d) (value-one 1 (a + n))
+    ∙ product_one d (product_below_lt n (λ i. bit_xor (a + n) (a + i))))
     ∙ product-assoc w (inverse d) d
     ∙ ap (product w) (product-comm (inverse d) d
-        ∙ product_inverse d pos (product_below_lt n (λ i. bit_xor (a + n) (a + i))))
+    ∙ product_inverse d pos (product_below_lt n (λ i. bit_xor (a + n) (a + i))))
     ∙ product_one w word)
     ∙ xor_undo v (value p (a + n))
 
@@ -77,8 +77,19 @@ has_more : (a n : ℕ) (v : ℕ → ℕ) (p : List ℕ) → a + n < 2 ^ 16 → v
     → Has a (suc n) v (one_more a n p (v n))
 unfolding one_more
 has_more a n v p hn hv h =
-    grind (arith, common_steps, length-scale, length-times, length-add, words_add, words_scale, cases_eq, one_more,
-        comes, stays)
+    grind (
+      arith,
+      common_steps,
+      length-scale,
+      length-times,
+      length-add,
+      words_add,
+      words_scale,
+      cases_eq,
+      one_more,
+      comes,
+      stays,
+    )
 
 -- There is a polynomial with n given values, in Newton's form.
 pub interpolated : (a n : ℕ) (v : ℕ → ℕ) → a + n ≤ 2 ^ 16 → ((i : ℕ) → i < n → v i < 2 ^ 16) → (p : List ℕ)

@@ -34,7 +34,7 @@ square =
 pub square_and_self : (x : ℕ) → x < 2 ^ 16 → bit_xor (product x x) x ≡ x / 2
 square_and_self x hx =
     ap (λ v. bit_xor v x) (square x hx ∙ xor_comm x (x / 2)) ∙ xor_assoc (x / 2) x x ∙ ap (bit_xor (x / 2)) (xor_self x)
-        ∙ xor_zero_r (x / 2)
+    ∙ xor_zero_r (x / 2)
 
 -- ---- x to the power 2 ^ n, and to the power 2 ^ n - 1
 
@@ -61,8 +61,16 @@ ones_raised_times : (n x : ℕ) → x < 2 ^ 16 → product (ones_raised n x) x �
 unfolding squared ones_raised
 ones_raised_times zero x h = one_product x h
 ones_raised_times (suc n) x h =
-    grind (arith, common_steps, ones_raised_lt, product_comm, product_assoc, product_lt, ones_raised_times n
-        (product x x) (product_lt x x))
+    grind (
+      arith,
+      common_steps,
+      ones_raised_lt,
+      product_comm,
+      product_assoc,
+      product_lt,
+      ones_raised_times n
+          (product x x) (product_lt x x),
+    )
 
 check_frobenius : passes_below 16 (λ i. eqb (squared 16 (2 ^ i)) (2 ^ i)) ≡ true
 unfolding squared passes_below combine bits from_bits cantor_basis monomials carryless reduce product
@@ -100,7 +108,7 @@ fermat x pos hx =
     let fixed : product (ones_raised 16 x) x ≡ x = ones_raised_times 16 x hx ∙ frobenius x hx in
     let own : product (ones_raised 16 x) (ones_raised 16 x) ≡ ones_raised 16 x =
     own_square (ones_raised 16 x) x (ones_raised 15 (product x x)) he hx (ones_raised_lt 15 (product x x))
-        (ones_raised_suc 15 x) fixed in
+    (ones_raised_suc 15 x) fixed in
     zero_or_one (ones_raised 16 x) x pos (idempotent (ones_raised 16 x) he own) fixed
 
 -- The power 65534 of a word is its inverse.

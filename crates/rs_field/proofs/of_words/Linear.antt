@@ -13,8 +13,13 @@ xor_swap a b c d = grind (arith, common_steps, xor_assoc, xor_comm)
 
 pub xor_times_pow : (k a b : ℕ) → bit_xor a b * 2 ^ k ≡ bit_xor (a * 2 ^ k) (b * 2 ^ k)
 xor_times_pow k a b =
-    cc (add-zero (bit_xor a b * 2 ^ k), xor_block k a b 0 0 (pow_pos k) (pow_pos k), add-zero (a * 2 ^ k), add-zero
-        (b * 2 ^ k))
+    cc (
+      add-zero (bit_xor a b * 2 ^ k),
+      xor_block k a b 0 0 (pow_pos k) (pow_pos k),
+      add-zero (a * 2 ^ k),
+      add-zero
+          (b * 2 ^ k),
+    )
 
 digit_xor : (a b : ℕ) → a < 2 → b < 2 → (c : ℕ) → bit_xor a b * c ≡ bit_xor (a * c) (b * c)
 digit_xor zero b ha hb c = ap (λ x. bit_xor x (b * c)) (sym (zero-mul c))
@@ -32,8 +37,13 @@ pub combine_xor : (bs : List ℕ) (a b : ℕ) → combine bs (bit_xor a b) ≡ b
 unfolding combine
 combine_xor [] a b = refl
 combine_xor (c ∷ bs) a b =
-    cc (lowest_xor a b c, xor_shr a b 1, combine_xor bs (a / 2) (b / 2), xor_swap (a % 2 * c) (b % 2 * c)
-        (combine bs (a / 2)) (combine bs (b / 2)))
+    cc (
+      lowest_xor a b c,
+      xor_shr a b 1,
+      combine_xor bs (a / 2) (b / 2),
+      xor_swap (a % 2 * c) (b % 2 * c)
+          (combine bs (a / 2)) (combine bs (b / 2)),
+    )
 
 -- A map that keeps the XOR of numbers of w bits.
 pub record IsAdditive (w : ℕ) (f : ℕ → ℕ) : Type 0 where
@@ -60,14 +70,19 @@ agree_below w f g hf hg same (suc n) hn x hx =
     let wide : 2 ^ suc n ≤ 2 ^ w = pow_mono hn in
     let top : f (x / 2 ^ n * 2 ^ n) ≡ g (x / 2 ^ n * 2 ^ n) =
     elim (digit_times (x / 2 ^ n) n
-        (shr_below x 1 n (subst (λ (p : ℕ). x < p) (ap (λ (k : ℕ). 2 ^ k) (sym (one-add n))) hx))) [
+    (shr_below x 1 n (subst (λ (p : ℕ). x < p) (ap (λ (k : ℕ). 2 ^ k) (sym (one-add n))) hx))) [
       | inl e ↦ ap f e ∙ additive_zero w f hf ∙ sym (additive_zero w g hg) ∙ ap g (sym e)
       | inr e ↦ ap f e ∙ same n hn ∙ ap g (sym e)
     ] in
     let high_lt : x / 2 ^ n * 2 ^ n < 2 ^ w = lt_of_lt_of_le (lt_of_le_of_lt (div-mul-le_self x (2 ^ n)) hx) wide in
     let low_lt : x % 2 ^ n < 2 ^ w = omega arith in
-    cc (split_top n x, hf.xor _ _ high_lt low_lt, hg.xor _ _ high_lt low_lt, agree_below w f g hf hg same n below
-        (x % 2 ^ n) (mod-lt x (pow_pos n)))
+    cc (
+      split_top n x,
+      hf.xor _ _ high_lt low_lt,
+      hg.xor _ _ high_lt low_lt,
+      agree_below w f g hf hg same n below
+          (x % 2 ^ n) (mod-lt x (pow_pos n)),
+    )
 
 -- A test of every number below n, for facts that are proved by computation.
 unfoldable pub passes_below : ℕ → (ℕ → Bool) → Bool

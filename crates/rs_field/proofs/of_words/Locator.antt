@@ -25,16 +25,16 @@ power-log_sum zero e x hn hx =
     power_zero ∙ sym (product_below-zero (λ y. if x == y then 1 else nth_power (bit_xor x y) (e y)))
 power-log_sum (suc y) e x hn hx =
     let rest : power (log_sum y e x) ≡ product_below y (λ y. if x == y then 1 else nth_power (bit_xor x y) (e y)) =
-        power-log_sum y e x (omega arith) hx in
+    power-log_sum y e x (omega arith) hx in
     let last : power (if x == y then 0 else e y * log (bit_xor x y))
-        ≡ (if x == y then 1 else nth_power (bit_xor x y) (e y)) =
+    ≡ (if x == y then 1 else nth_power (bit_xor x y) (e y)) =
     elim (eqb_tells x y) [
       | inl same ↦ ap (λ b. power (cond b 0 (e y * log (bit_xor x y)))) same.0 ∙ power_zero
           ∙ sym (ap (λ b. cond b 1 (nth_power (bit_xor x y) (e y))) same.0)
       | inr apart ↦
           ap (λ b. power (cond b 0 (e y * log (bit_xor x y)))) apart.0
           ∙ power-mul_log (bit_xor x y) (e y) (difference_pos x y (λ e. apart.1 (sym e)))
-              (xor_lt 16 x y hx (omega arith))
+          (xor_lt 16 x y hx (omega arith))
           ∙ sym (ap (λ b. cond b 1 (nth_power (bit_xor x y) (e y))) apart.0)
     ] in
     power-add (log_sum y e x) (if x == y then 0 else e y * log (bit_xor x y)) ∙ ap₂ product rest last

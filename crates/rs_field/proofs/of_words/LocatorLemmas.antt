@@ -20,33 +20,33 @@ log_sum-suc y e x = refl
 pub log_sum-itself : (y : ℕ) (e : ℕ → ℕ) (x : ℕ) → y ≡ x → log_sum (suc y) e x ≡ log_sum y e x
 log_sum-itself y e x same =
     log_sum-suc y e x ∙ ap (λ (b : Bool). log_sum y e x + cond b 0 (e y * log (bit_xor x y))) (eq-eqb x y (sym same))
-        ∙ add-zero (log_sum y e x)
+    ∙ add-zero (log_sum y e x)
 
 -- Another point adds its entry times the logarithm of the difference.
 log_sum-other : (y : ℕ) (e : ℕ → ℕ) (x : ℕ) → y ≢ x → log_sum (suc y) e x ≡ log_sum y e x + e y * log (bit_xor x y)
 log_sum-other y e x differs =
     log_sum-suc y e x ∙ ap (λ (b : Bool). log_sum y e x + cond b 0 (e y * log (bit_xor x y)))
-        (ne_eqb x y (λ (s : x ≡ y). differs (sym s)))
+    (ne_eqb x y (λ (s : x ≡ y). differs (sym s)))
 
 -- Another point that is not marked adds nothing to the sum.
 pub log_sum-unmarked : (y : ℕ) (e : ℕ → ℕ) (x : ℕ) → e y ≡ 0 → y ≢ x → log_sum (suc y) e x ≡ log_sum y e x
 log_sum-unmarked y e x none differs =
     log_sum-other y e x differs
-        ∙ ap (λ k. log_sum y e x + k) (ap (λ k. k * log (bit_xor x y)) none ∙ zero-mul (log (bit_xor x y)))
-        ∙ add-zero (log_sum y e x)
+    ∙ ap (λ k. log_sum y e x + k) (ap (λ k. k * log (bit_xor x y)) none ∙ zero-mul (log (bit_xor x y)))
+    ∙ add-zero (log_sum y e x)
 
 -- Another point that is marked adds the logarithm of the difference.
 pub log_sum-marked : (y : ℕ) (e : ℕ → ℕ) (x : ℕ) → e y ≡ 1 → y ≢ x
     → log_sum (suc y) e x ≡ log_sum y e x + log (bit_xor x y)
 log_sum-marked y e x one differs =
     log_sum-other y e x differs
-        ∙ ap (λ k. log_sum y e x + k) (ap (λ k. k * log (bit_xor x y)) one ∙ one-mul (log (bit_xor x y)))
+    ∙ ap (λ k. log_sum y e x + k) (ap (λ k. k * log (bit_xor x y)) one ∙ one-mul (log (bit_xor x y)))
 
 -- Two points differ by a nonzero word.
 pub difference_pos : (x y : ℕ) → y ≢ x → 0 < bit_xor x y
 difference_pos x y differs =
     elim (cases_eq (bit_xor x y) 0)
-        [ inl none ↦ absurd (differs (sym (same_from_xor x y none))) | inr some ↦ omega arith ]
+    [ inl none ↦ absurd (differs (sym (same_from_xor x y none))) | inr some ↦ omega arith ]
 
 -- The sum depends only on the entries below the bound.
 pub log_sum-same : (n : ℕ) (e f : ℕ → ℕ) (x : ℕ) → ((y : ℕ) → y < n → e y ≡ f y) → log_sum n e x ≡ log_sum n f x

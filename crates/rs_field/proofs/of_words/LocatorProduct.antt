@@ -30,7 +30,7 @@ pub marked-same : (n : ℕ) (e : ℕ → ℕ) → e n ≡ 0 → marked (suc n) e
 unfolding marked
 marked-same n e none =
     ap (λ (b : Bool). cond b (n ∷ marked n e) (marked n e))
-        (ne_eqb (e n) 1 (λ (one : e n ≡ 1). let no : ⊥ = omega arith in no))
+    (ne_eqb (e n) 1 (λ (one : e n ≡ 1). let no : ⊥ = omega arith in no))
 
 -- Each of the first n points is marked or not marked.
 pub record AreMarks (n : ℕ) (e : ℕ → ℕ) : Type 0 where
@@ -68,7 +68,7 @@ pub locator_value : (n : ℕ) (e : ℕ → ℕ) (p : List ℕ) (x : ℕ) → n �
 unfolding marked times
 locator_value zero e p x hn hx w m apart =
     sym (ap (λ k. product k (value p x)) (ap power (log_sum-zero e x) ∙ power_zero)
-        ∙ one_product (value p x) (value_lt p x w))
+    ∙ one_product (value p x) (value_lt p x w))
 locator_value (suc n) e p x hn hx w m apart =
     let ih : value (times (marked n e) p) x ≡ product (power (log_sum n e x)) (value p x) =
     locator_value n e p x (omega arith) hx w (fewer n e m) (λ y hy. apart y (omega arith)) in
@@ -79,7 +79,7 @@ locator_value (suc n) e p x hn hx w m apart =
           ∙ ap (λ k. product k (value p x)) (sym (grown n e x hx (omega arith) one (apart n (omega arith) one)))
       | inr none ↦
           ap (λ (r : List ℕ). value (times r p) x) (marked-same n e none) ∙ ih
-              ∙ ap (λ k. product (power k) (value p x)) (sym (kept n e x none))
+          ∙ ap (λ k. product (power k) (value p x)) (sym (kept n e x none))
     ]
 
 -- At a marked point, the polynomial with a root at each marked point is zero.
@@ -118,19 +118,19 @@ locator_derivative (suc n) e p x hn w m hx one =
             | inl same ↦
                 ap (λ k. bit_xor (value (times (marked n e) p) x) k)
                 (ap (λ k. product k (derivative_value (times (marked n e) p) x))
-                    (ap (bit_xor x) (sym same) ∙ xor_self x) ∙ zero_product (derivative_value (times (marked n e) p) x))
+                (ap (bit_xor x) (sym same) ∙ xor_self x) ∙ zero_product (derivative_value (times (marked n e) p) x))
                 ∙ xor_zero_r (value (times (marked n e) p) x)
                 ∙ locator_value n e p x (omega arith) (omega arith) w (fewer n e m)
-                    (λ y hy of_y. λ (at : y ≡ x). let no : ⊥ = omega arith in no)
+                (λ y hy of_y. λ (at : y ≡ x). let no : ⊥ = omega arith in no)
                 ∙ ap (λ k. product (power k) (value p x)) (sym (log_sum-itself n e x (sym same)))
             | inr differs ↦
                 ap₂ bit_xor (locator_root n e p x (fewer n e m) (omega arith) one)
-                    (ap (product (bit_xor x n))
-                    (locator_derivative n e p x (omega arith) w (fewer n e m) (omega arith) one))
+                (ap (product (bit_xor x n))
+                (locator_derivative n e p x (omega arith) w (fewer n e m) (omega arith) one))
                 ∙ xor_zero_l (product (bit_xor x n) (product (power (log_sum n e x)) (value p x)))
                 ∙ moved_in (bit_xor x n) (power (log_sum n e x)) (value p x)
                 ∙ ap (λ k. product k (value p x))
-                    (sym (grown n e x (omega arith) (omega arith) last (λ (at : n ≡ x). differs (sym at))))
+                (sym (grown n e x (omega arith) (omega arith) last (λ (at : n ≡ x). differs (sym at))))
           ]
       | inr none ↦
           ap (λ (r : List ℕ). derivative_value (times r p) x) (marked-same n e none)
@@ -151,15 +151,24 @@ pub unmarked_past : (m n : ℕ) (e : ℕ → ℕ) (x : ℕ) → ((y : ℕ) → m
     → log_sum (m + n) e x ≡ log_sum m e x
 unmarked_past m zero e x none = ap (λ k. log_sum k e x) (add-zero m)
 unmarked_past m (suc n) e x none =
-    cc (add-suc m n, kept (m + n) e x (none (m + n) (omega arith) (omega arith)), unmarked_past m n e x
-        (λ y a b. none y a (omega arith)))
+    cc (
+      add-suc m n,
+      kept (m + n) e x (none (m + n) (omega arith) (omega arith)),
+      unmarked_past m n e x
+          (λ y a b. none y a (omega arith)),
+    )
 
 -- If no point from 2 ^ d on is marked, the sum over all points is the sum over the points below 2 ^ d.
 pub none_marked_past : (d : ℕ) (e : ℕ → ℕ) (x : ℕ) → d ≤ 16 → ((y : ℕ) → 2 ^ d ≤ y → y < 65536 → e y ≡ 0)
     → log_sum 65536 e x ≡ log_sum (2 ^ d) e x
 none_marked_past d e x hd none =
-    grind (arith, common_steps, unmarked_past (2 ^ d) (65536 - 2 ^ d) e x
-        (λ y a b. none y a (omega arith)), pow_mono hd)
+    grind (
+      arith,
+      common_steps,
+      unmarked_past (2 ^ d) (65536 - 2 ^ d) e x
+          (λ y a b. none y a (omega arith)),
+      pow_mono hd,
+    )
 
 -- ---- powers of sums with equal residues modulo 65535
 
@@ -170,5 +179,12 @@ same_residue l s e = sym (power-mod l) ∙ ap power e ∙ power-mod s
 -- The power for 65535 minus a logarithm is the inverse of the power for the logarithm.
 pub residue_undone : (l w : ℕ) → l ≤ 65535 → w < 2 ^ 16 → product (product w (power l)) (power (65535 - l)) ≡ w
 residue_undone l w hl hw =
-    grind (arith, common_steps, product-assoc w (power l) (power (65535 - l)), power-add l
-        (65535 - l), power_turn, product_one w hw)
+    grind (
+      arith,
+      common_steps,
+      product-assoc w (power l) (power (65535 - l)),
+      power-add l
+          (65535 - l),
+      power_turn,
+      product_one w hw,
+    )

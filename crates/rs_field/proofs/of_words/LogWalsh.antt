@@ -13,7 +13,7 @@ pub part-below : (d n : ℕ) (all : List ℕ) → n ≡ 2 ^ d → d ≤ 16 → A
 part-below d n all is hd h =
     let few : 2 ^ d ≤ 2 ^ 16 = pow_mono hd in
     let left : length (drop (n - 1) all) ≡ 131071 - (n - 1) =
-        length-drop (n - 1) all ∙ ap (λ l. l - (n - 1)) h.all_length in
+    length-drop (n - 1) all ∙ ap (λ l. l - (n - 1)) h.all_length in
     subst (λ (m : ℕ). IsLogWalshBelow n (take m (drop (n - 1) all))) (sym (omega arith)) (record {
       below_length = length-take-le n (drop (n - 1) all) (omega arith);
       below_entry = λ w hw.
@@ -48,7 +48,7 @@ first-more sizes n old new is h grown kept last =
     let two : 2 ^ (sizes + 1) ≡ 2 ^ sizes * 2 = ap (λ e. 2 ^ e) (add-one sizes) ∙ pow-suc 2 sizes in
     let here : IsWalsh (2 ^ sizes) (λ z. 65536 / 2 ^ sizes * log_or_zero z) (λ w. get_or new (2 ^ sizes - 1 + w) 0) =
     subst (λ (k : ℕ). IsWalsh (2 ^ sizes) (λ z. 65536 / 2 ^ sizes * log_or_zero z) (λ w. get_or new (k + w) 0))
-        h.first_length
+    h.first_length
     (subst (λ (m : ℕ). IsWalsh m (λ z. 65536 / m * log_or_zero z) (λ w. get_or new (length old + w) 0)) is last) in
     record {
       first_length = omega arith;

@@ -38,7 +38,7 @@ past_byte low high i n h =
     let split : n ≡ suc (n - suc i) + i = omega arith in
     let top : high * 256 ^ n ≡ rest * 256 * 256 ^ i =
     ap (λ m. high * 256 ^ m) split
-        ∙ ap (λ p. high * p) (pow-add 256 (suc (n - suc i)) i ∙ ap (λ p. p * 256 ^ i) (pow-suc 256 (n - suc i)))
+    ∙ ap (λ p. high * p) (pow-add 256 (suc (n - suc i)) i ∙ ap (λ p. p * 256 ^ i) (pow-suc 256 (n - suc i)))
     ∙ sym (mul_assoc high (256 ^ (n - suc i) * 256) (256 ^ i))
     ∙ ap (λ p. p * 256 ^ i) (sym (mul_assoc high (256 ^ (n - suc i)) 256)) in
     ap (λ m. (low + m) / 256 ^ i % 256) top ∙ ap (λ m. m % 256) (add-mul-div_right low (rest * 256) (bytes_pos i))
@@ -78,7 +78,7 @@ byte_of_places : (b a x : ℕ) → a < 256 → x ≡ packed (λ (i : ℕ). i / 2
     → x / 256 ^ i % 256 ≡ i / 2 ^ b % 2 * a
 byte_of_places b a x ha e i h =
     cc (byte_of_packed (λ (i : ℕ). i / 2 ^ b % 2 * a)
-        (λ i. digit_lt (i / 2 ^ b % 2) a (mod-lt (i / 2 ^ b) (omega arith)) ha) 7 i (omega arith))
+    (λ i. digit_lt (i / 2 ^ b % 2) a (mod-lt (i / 2 ^ b) (omega arith)) ha) 7 i (omega arith))
 
 -- Byte i of the sum of four products is the sum of the words among a, b, c and d whose bit is set in i.
 pub spread_bytes : (a b c d x y z w n i : ℕ) → a < 256 → b < 256 → c < 256 → d < 256
@@ -86,7 +86,7 @@ pub spread_bytes : (a b c d x y z w n i : ℕ) → a < 256 → b < 256 → c < 2
     → bit_xor (bit_xor x y) z < 2 ^ 64
     → n ≡ bit_xor (bit_xor x y) z + 2 ^ 64 * bit_xor (bit_xor (bit_xor x y) z) w → i < 16
     → n / 256 ^ i % 256 ≡ bit_xor (bit_xor (bit_xor (i / 2 ^ 0 % 2 * a) (i / 2 ^ 1 % 2 * b)) (i / 2 ^ 2 % 2 * c))
-        (i / 2 ^ 3 % 2 * d)
+    (i / 2 ^ 3 % 2 * d)
 spread_bytes a b c d x y z w n i ha hb hc hd ex ey ez ew lt en hi =
     ap (λ n. n / 256 ^ i % 256) en
     ∙ elim (cases_lt i 8) [
@@ -99,7 +99,7 @@ spread_bytes a b c d x y z w n i ha hb hc hd ex ey ez ew lt en hi =
           let small : j < 8 = omega arith in
           ap (λ i. (low + 2 ^ 64 * high) / 256 ^ i % 256) e ∙ high_half low high j lt ∙ byte_xor low w j
           ∙ ap₂ bit_xor (three j small ∙ same j e small)
-              (byte_of_ones j small ∙ sym (ap (λ t. t * d) (let one : i / 8 % 2 ≡ 1 = omega arith in one) ∙ one-mul d))
+          (byte_of_ones j small ∙ sym (ap (λ t. t * d) (let one : i / 8 % 2 ≡ 1 = omega arith in one) ∙ one-mul d))
     ]
   where
     low : ℕ
@@ -115,15 +115,15 @@ spread_bytes a b c d x y z w n i ha hb hc hd ex ey ez ew lt en hi =
     three i h =
         byte_xor (bit_xor x y) z i
         ∙ ap₂ bit_xor (byte_xor x y i
-            ∙ ap₂ bit_xor (byte_of_places 0 a x ha (omega (arith, ex)) i h)
-            (byte_of_places 1 b y hb (omega (arith, ey)) i h))
+        ∙ ap₂ bit_xor (byte_of_places 0 a x ha (omega (arith, ex)) i h)
+        (byte_of_places 1 b y hb (omega (arith, ey)) i h))
         (byte_of_places 2 c z hc (omega (arith, ez)) i h)
 
     same : (j : ℕ) → i ≡ 8 + j → j < 8 → sum j ≡ sum i
     same j e h =
         ap₂ bit_xor
         (ap₂ bit_xor (ap (λ t. t * a) (let f : j / 1 % 2 ≡ i / 1 % 2 = omega arith in f))
-            (ap (λ t. t * b) (let f : j / 2 % 2 ≡ i / 2 % 2 = omega arith in f)))
+        (ap (λ t. t * b) (let f : j / 2 % 2 ≡ i / 2 % 2 = omega arith in f)))
         (ap (λ t. t * c) (let f : j / 4 % 2 ≡ i / 4 % 2 = omega arith in f))
 
     byte_of_ones : (j : ℕ) → j < 8 → w / 256 ^ j % 256 ≡ d

@@ -35,7 +35,7 @@ derivative-zeros : (n x : ℕ) → derivative_value (replicate n 0) x ≡ 0
 derivative-zeros zero x = derivative-nil x
 derivative-zeros (suc n) x =
     derivative-cons 0 (replicate n 0) x ∙ ap₂ (λ j k. bit_xor j (product x k)) (value-zeros n x) (derivative-zeros n x)
-        ∙ xor_zero_l (product x 0) ∙ product_zero x
+    ∙ xor_zero_l (product x 0) ∙ product_zero x
 
 pub value-padded : (n : ℕ) (p : List ℕ) (x : ℕ) → value (padded n p) x ≡ value p x
 unfolding padded
@@ -49,5 +49,5 @@ unfolding padded
 derivative-padded n [] x = derivative-zeros n x ∙ sym (derivative-nil x)
 derivative-padded n (c ∷ cs) x =
     derivative-cons c (cs ++ replicate n 0) x
-        ∙ ap₂ (λ j k. bit_xor j (product x k)) (value-padded n cs x) (derivative-padded n cs x)
-        ∙ sym (derivative-cons c cs x)
+    ∙ ap₂ (λ j k. bit_xor j (product x k)) (value-padded n cs x) (derivative-padded n cs x)
+    ∙ sym (derivative-cons c cs x)

@@ -25,14 +25,14 @@ unfolding nth_power
 nth_power-add x m zero hx = ap (nth_power x) (add-zero m) ∙ sym (product_one (nth_power x m) (raised_lt x m))
 nth_power-add x m (suc n) hx =
     ap (nth_power x) (add-suc m n) ∙ ap (λ v. product v x) (nth_power-add x m n hx)
-        ∙ product_assoc (nth_power x m) (nth_power x n) x (raised_lt x m) (raised_lt x n) hx
+    ∙ product_assoc (nth_power x m) (nth_power x n) x (raised_lt x m) (raised_lt x n) hx
 
 pub nth_power-mul : (x m n : ℕ) → x < 2 ^ 16 → nth_power (nth_power x m) n ≡ nth_power x (m * n)
 unfolding nth_power
 nth_power-mul x m zero hx = ap (nth_power x) (sym (mul-zero m))
 nth_power-mul x m (suc n) hx =
     ap (λ v. product v (nth_power x m)) (nth_power-mul x m n hx) ∙ sym (nth_power-add x (m * n) m hx)
-        ∙ ap (nth_power x) (sym (mul-suc m n))
+    ∙ ap (nth_power x) (sym (mul-suc m n))
 
 pub one_raised : (n : ℕ) → nth_power 1 n ≡ 1
 unfolding nth_power
@@ -54,8 +54,13 @@ fast_is zero x n hx hn = let z : 0 ≡ n = omega arith in ap (nth_power x) z
 fast_is (suc k) x n hx hn =
     let half : n / 2 < 2 ^ k = shr_below n k 1 (subst (λ (j : ℕ). n < 2 ^ j) (sym (add-one k)) hn) in
     let whole : n % 2 + 2 * (n / 2) ≡ n = omega arith in
-    cc (fast_is k (product x x) (n / 2) (product_lt x x) half, raised_two x hx, nth_power-mul x 2
-        (n / 2) hx, nth_power-add x (n % 2) (2 * (n / 2)) hx)
+    cc (
+      fast_is k (product x x) (n / 2) (product_lt x x) half,
+      raised_two x hx,
+      nth_power-mul x 2
+          (n / 2) hx,
+      nth_power-add x (n % 2) (2 * (n / 2)) hx,
+    )
 
 pub generator_lt : generator < 2 ^ 16
 unfolding generator
@@ -103,11 +108,11 @@ unit_from p q k m t whole bezout one =
     let exponent : k * (m * q) ≡ q + 65535 * t =
     sym (mul_assoc k m q) ∙ ap (λ v. v * q) bezout ∙ expand p q t ∙ ap (λ v. q + v * t) whole in
     let left : nth_power generator (k * (m * q)) ≡ 1 = sym (nth_power-mul generator k (m * q) generator_lt)
-        ∙ ap (λ v. nth_power v (m * q)) one ∙ one_raised (m * q) in
+    ∙ ap (λ v. nth_power v (m * q)) one ∙ one_raised (m * q) in
     let right : nth_power generator (q + 65535 * t) ≡ nth_power generator q =
     nth_power-add generator q (65535 * t) generator_lt
     ∙ ap (product (nth_power generator q))
-        (sym (nth_power-mul generator 65535 t generator_lt) ∙ ap (λ v. nth_power v t) power_turn ∙ one_raised t)
+    (sym (nth_power-mul generator 65535 t generator_lt) ∙ ap (λ v. nth_power v t) power_turn ∙ one_raised t)
     ∙ product_one (nth_power generator q) (raised_lt generator q) in
     sym right ∙ ap (nth_power generator) (sym exponent) ∙ left
 
@@ -118,7 +123,7 @@ inverse_of : (p r : ℕ) → has_inverses p ≡ true → r < p → r ≢ 0 → r
 unfolding has_inverses
 inverse_of p r h hr apart =
     eqb-true (r * r ^ (p - 2) % p) 1
-        (rw (ne_eqb r 0 apart) at (from_passes_below p (λ r. eqb r 0 || eqb (r * r ^ (p - 2) % p) 1) h r hr))
+    (rw (ne_eqb r 0 apart) at (from_passes_below p (λ r. eqb r 0 || eqb (r * r ^ (p - 2) % p) 1) h r hr))
 
 divided : (p q k : ℕ) → p * q ≡ 65535 → 0 < p → has_inverses p ≡ true → power q ≢ 1 → power k ≡ 1 → k % p ≡ 0
 divided p q k whole pos h apart one =
@@ -169,9 +174,9 @@ power_apart i j hij hj e =
     let gap : i + (j - i) ≡ j = omega arith in
     let same : product 1 (power i) ≡ product (power (j - i)) (power i) =
     one_product (power i) (power_lt i) ∙ e ∙ ap power (sym gap) ∙ power-add i (j - i)
-        ∙ product_comm (power i) (power (j - i)) (power_lt i) (power_lt (j - i)) in
+    ∙ product_comm (power i) (power (j - i)) (power_lt i) (power_lt (j - i)) in
     let one : 1 ≡ power (j - i) =
-        product_cancel (power i) 1 (power (j - i)) (power_pos i) (power_lt i) (lit< tt) (power_lt (j - i)) same in
+    product_cancel (power i) 1 (power (j - i)) (power_pos i) (power_lt i) (lit< tt) (power_lt (j - i)) same in
     let none : j - i ≡ 0 = order (j - i) (omega arith) (sym one) in
     omega arith
 

@@ -22,7 +22,7 @@ unfolding carryless
 carryless_xor_left zero a c b = refl
 carryless_xor_left (suc n) a c b =
     ap₂ bit_xor (lowest_xor a c b)
-        (ap (λ x. carryless n x (b * 2)) (xor_shr a c 1) ∙ carryless_xor_left n (a / 2) (c / 2) (b * 2))
+    (ap (λ x. carryless n x (b * 2)) (xor_shr a c 1) ∙ carryless_xor_left n (a / 2) (c / 2) (b * 2))
     ∙ xor_swap (a % 2 * b) (c % 2 * b) (carryless n (a / 2) (b * 2)) (carryless n (c / 2) (b * 2))
 
 digit_times_lt : (d b m : ℕ) → d < 2 → b < m → d * b < m
@@ -40,7 +40,7 @@ carryless_xor_right zero a b c = refl
 carryless_xor_right (suc n) a b c =
     let two : 0 < 2 = omega arith in
     ap₂ bit_xor (digit_times_xor (a % 2) b c (mod-lt a two))
-        (ap (carryless n (a / 2)) (xor_times_pow 1 b c) ∙ carryless_xor_right n (a / 2) (b * 2) (c * 2))
+    (ap (carryless n (a / 2)) (xor_times_pow 1 b c) ∙ carryless_xor_right n (a / 2) (b * 2) (c * 2))
     ∙ xor_swap (a % 2 * b) (a % 2 * c) (carryless n (a / 2) (b * 2)) (carryless n (a / 2) (c * 2))
 
 reduce_xor : (n p q : ℕ) → reduce n (bit_xor p q) ≡ bit_xor (reduce n p) (reduce n q)
@@ -74,7 +74,7 @@ combine_lt [] x h = omega arith
 combine_lt (b ∷ bs) x h =
     let first : b < 2 ^ 16 = ltb-true b (2 ^ 16) (and_parts _ _ h).0 in
     xor_lt 16 _ _ (digit_times_lt (x % 2) b (2 ^ 16) (mod-lt x (omega arith)) first)
-        (combine_lt bs (x / 2) (and_parts _ _ h).1)
+    (combine_lt bs (x / 2) (and_parts _ _ h).1)
 
 pub from_bits_lt : (v : ℕ) → from_bits v < 2 ^ 16
 unfolding from_bits entries_below monomials
@@ -91,8 +91,8 @@ pub same_on_words : (f g : ℕ → ℕ) → IsAdditive 16 f → IsAdditive 16 g
     → passes_below 16 (λ i. eqb (f (2 ^ i)) (g (2 ^ i))) ≡ true → (x : ℕ) → x < 2 ^ 16 → f x ≡ g x
 same_on_words f g hf hg same x hx =
     agree_below 16 f g hf hg
-        (λ i hi. eqb-true (f (2 ^ i)) (g (2 ^ i)) (from_passes_below 16 (λ i. eqb (f (2 ^ i)) (g (2 ^ i))) same i hi))
-        16 (omega arith) x hx
+    (λ i hi. eqb-true (f (2 ^ i)) (g (2 ^ i)) (from_passes_below 16 (λ i. eqb (f (2 ^ i)) (g (2 ^ i))) same i hi))
+    16 (omega arith) x hx
 
 -- The coordinates of a word determine the word.
 pub from_bits-bits : (x : ℕ) → x < 2 ^ 16 → from_bits (bits x) ≡ x
@@ -121,15 +121,15 @@ pub same_on_triples : (f g : ℕ → ℕ → ℕ → ℕ)
     → ((y z : ℕ) → IsAdditive 16 (λ x. g x y z)) → ((x z : ℕ) → IsAdditive 16 (λ y. g x y z))
     → ((x y : ℕ) → IsAdditive 16 (g x y))
     → passes_below 16 (λ i.
-        passes_below 16 (λ j. passes_below 16 (λ k. eqb (f (2 ^ i) (2 ^ j) (2 ^ k)) (g (2 ^ i) (2 ^ j) (2 ^ k)))))
-        ≡ true
+    passes_below 16 (λ j. passes_below 16 (λ k. eqb (f (2 ^ i) (2 ^ j) (2 ^ k)) (g (2 ^ i) (2 ^ j) (2 ^ k)))))
+    ≡ true
     → (x y z : ℕ) → x < 2 ^ 16 → y < 2 ^ 16 → z < 2 ^ 16 → f x y z ≡ g x y z
 same_on_triples f g f1 f2 f3 g1 g2 g3 same x y z hx hy hz =
     agree_below 16 (λ x. f x y z) (λ x. g x y z) (f1 y z) (g1 y z)
     (λ i hi. same_on_pairs (f (2 ^ i)) (g (2 ^ i)) (f2 (2 ^ i)) (f3 (2 ^ i)) (g2 (2 ^ i)) (g3 (2 ^ i))
     (from_passes_below 16
-        (λ i. passes_below 16 (λ j. passes_below 16 (λ k. eqb (f (2 ^ i) (2 ^ j) (2 ^ k)) (g (2 ^ i) (2 ^ j) (2 ^ k)))))
-        same i hi) y z hy hz)
+    (λ i. passes_below 16 (λ j. passes_below 16 (λ k. eqb (f (2 ^ i) (2 ^ j) (2 ^ k)) (g (2 ^ i) (2 ^ j) (2 ^ k)))))
+    same i hi) y z hy hz)
     16 (omega arith) x hx
 
 pub additive_left : (y : ℕ) → IsAdditive 16 (λ x. product x y)
@@ -142,13 +142,13 @@ additive_right x = record { xor = λ a b ha hb. product_xor_right x a b }
 check_laws : (passes_below 16 (λ i. passes_below 16 (λ j. eqb (product (2 ^ i) (2 ^ j)) (product (2 ^ j) (2 ^ i))))
     ≡ true)
     × (passes_below 16 (λ i.
-        passes_below 16 (λ j.
-        passes_below 16 (λ k.
-        eqb (product (product (2 ^ i) (2 ^ j)) (2 ^ k)) (product (2 ^ i) (product (2 ^ j) (2 ^ k)))))) ≡ true)
+    passes_below 16 (λ j.
+    passes_below 16 (λ k.
+    eqb (product (product (2 ^ i) (2 ^ j)) (2 ^ k)) (product (2 ^ i) (product (2 ^ j) (2 ^ k)))))) ≡ true)
     × (passes_below 16 (λ i. eqb (product (2 ^ i) 1) (2 ^ i)) ≡ true)
     × (passes_below 16 (λ i.
-        passes_below 16 (λ j.
-        eqb (bits (product (2 ^ i) (2 ^ j))) (reduce 16 (carryless 16 (bits (2 ^ i)) (bits (2 ^ j)))))) ≡ true)
+    passes_below 16 (λ j.
+    eqb (bits (product (2 ^ i) (2 ^ j))) (reduce 16 (carryless 16 (bits (2 ^ i)) (bits (2 ^ j)))))) ≡ true)
 unfolding passes_below combine bits from_bits cantor_basis monomials carryless reduce product
 check_laws = (refl, refl, refl, refl)
 
@@ -190,13 +190,13 @@ bits-product =
     (λ y. record {
       xor = λ a b ha hb.
           ap (reduce 16) (ap (λ v. carryless 16 v (bits y)) (bits_xor a b)
-              ∙ carryless_xor_left 16 (bits a) (bits b) (bits y))
-              ∙ reduce_xor 16 (carryless 16 (bits a) (bits y)) (carryless 16 (bits b) (bits y));
+          ∙ carryless_xor_left 16 (bits a) (bits b) (bits y))
+          ∙ reduce_xor 16 (carryless 16 (bits a) (bits y)) (carryless 16 (bits b) (bits y));
     })
     (λ x. record {
       xor = λ a b ha hb.
           ap (reduce 16) (ap (carryless 16 (bits x)) (bits_xor a b) ∙ carryless_xor_right 16 (bits x) (bits a) (bits b))
-              ∙ reduce_xor 16 (carryless 16 (bits x) (bits a)) (carryless 16 (bits x) (bits b));
+          ∙ reduce_xor 16 (carryless 16 (bits x) (bits a)) (carryless 16 (bits x) (bits b));
     })
     check_laws.3
 

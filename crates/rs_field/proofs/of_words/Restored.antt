@@ -24,8 +24,8 @@ in_basis e f p he size words at x hx =
     let room : 2 ^ e ≤ 2 ^ 16 = pow_mono he in
     let q = polynomial_of_terms (2 ^ e) f room in
     let same : p ≡ q.0 =
-        same_from_values (2 ^ e) p q.0 size q.1 words (words_from q.0 q.2) (λ i. i) (λ i hi. omega arith)
-        (λ i j hi hj k. k) (λ i hi. sym (at i hi) ∙ sym (q.3 i)) in
+    same_from_values (2 ^ e) p q.0 size q.1 words (words_from q.0 q.2) (λ i. i) (λ i hi. omega arith)
+    (λ i j hi hj k. k) (λ i hi. sym (at i hi) ∙ sym (q.3 i)) in
     sym (q.3 x) ∙ ap (λ (r : List ℕ). value r x) (sym same)
 
 -- The rows f are the coefficients of a polynomial p with one more root at each marked point, and the rows g are those
@@ -41,11 +41,11 @@ restored e f g marks p he words m size at step x hx one =
     let h : List ℕ = times (marked (2 ^ e) marks) p in
     let n : ℕ = 2 ^ e - length (times (marked (2 ^ e) marks) p) in
     let h_size : length (times (marked (2 ^ e) marks) p) ≡ length (marked (2 ^ e) marks) + length p =
-        length-marked_times (marked (2 ^ e) marks) p in
+    length-marked_times (marked (2 ^ e) marks) p in
     let full : length (padded n h) ≡ 2 ^ e = length-padded n h ∙ omega arith in
     let full_words : WordsOneByOne (padded n h) = words_padded n h (words_times (marked (2 ^ e) marks) p words) in
     step (padded n h) full (all_words (padded n h) full_words)
-        (in_basis e f (padded n h) he full full_words (λ i hi. at i hi ∙ sym (value-padded n h i))) x (omega arith)
+    (in_basis e f (padded n h) he full full_words (λ i hi. at i hi ∙ sym (value-padded n h i))) x (omega arith)
     ∙ ap₂ bit_xor (value-padded n h x ∙ locator_root (2 ^ e) marks p x m hx one)
     (derivative-padded n h x ∙ locator_derivative (2 ^ e) marks p x room words m hx one)
     ∙ xor_zero_l (product (power (log_sum (2 ^ e) marks x)) (value p x))

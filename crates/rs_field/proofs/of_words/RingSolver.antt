@@ -92,7 +92,7 @@ unfolding mono
 mono-merge ts [] m = sym (one_product (mono ts m) (mono_lt ts m))
 mono-merge ts (i ∷ l) m =
     mono-insert ts i (merge l m) ∙ ap (product (get_or ts i 0)) (mono-merge ts l m)
-        ∙ sym (product-assoc (get_or ts i 0) (mono ts l) (mono ts m))
+    ∙ sym (product-assoc (get_or ts i 0) (mono ts l) (mono ts m))
 
 total-append : (ts : List ℕ) (p q : List (List ℕ)) → total ts (p ++ q) ≡ bit_xor (total ts p) (total ts q)
 unfolding total
@@ -133,7 +133,7 @@ same_is [] (j ∷ m) h = cc
 same_is (i ∷ l) [] h = cc
 same_is (i ∷ l) (j ∷ m) h =
     ap₂ (λ (x : ℕ) (xs : List ℕ). x ∷ xs) (eqb-true i j (and_parts (eqb i j) (same l m) h).0)
-        (same_is l m (and_parts (eqb i j) (same l m) h).1)
+    (same_is l m (and_parts (eqb i j) (same l m) h).1)
 
 stripped : (ts m : List ℕ) (p : List (List ℕ)) → (strip m p).1 ≡ true
     → total ts p ≡ bit_xor (mono ts m) (total ts (strip m p).0)

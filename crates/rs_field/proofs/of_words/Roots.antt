@@ -84,9 +84,11 @@ factor-root a x c cs root = factor a x c cs ∙ ap (λ v. bit_xor v (product (bi
 zero_back : (a c : ℕ) (cs : List ℕ) → ZerosOneByOne (steps a cs) → value (c ∷ cs) a ≡ 0 → ZerosOneByOne (c ∷ cs)
 unfolding steps
 zero_back a c [] z e = (sym (value-one c a) ∙ e, tt)
-zero_back a c (d ∷ cs) z e =
-    (sym (value-cons c (d ∷ cs) a ∙ ap (bit_xor c) (ap (product a) z.0 ∙ product_zero a) ∙ xor_zero_r c)
-        ∙ e, zero_back a d cs z.1 z.0)
+zero_back a c (d ∷ cs) z e = (
+  sym (value-cons c (d ∷ cs) a ∙ ap (bit_xor c) (ap (product a) z.0 ∙ product_zero a) ∙ xor_zero_r c)
+      ∙ e,
+  zero_back a d cs z.1 z.0,
+)
 
 pub same_from_xor : (x y : ℕ) → bit_xor x y ≡ 0 → x ≡ y
 same_from_xor x y e =
@@ -103,9 +105,11 @@ next_root a x c cs ha hx h at zero_x differ =
       | inl e ↦ e
       | inr nonzero ↦ elim (cases_eq (bit_xor x a) 0) [
         | inl e ↦ absurd (differ (same_from_xor x a e))
-        | inr s ↦ absurd (omega
-            (arith, product_pos (bit_xor x a) (value (steps a cs) x) (omega arith) (omega arith)
-            (xor_lt 16 x a hx ha) hq))
+        | inr s ↦ absurd (omega (
+          arith,
+          product_pos (bit_xor x a) (value (steps a cs) x) (omega arith) (omega arith)
+              (xor_lt 16 x a hx ha) hq,
+        ))
       ]
     ]
 
@@ -123,7 +127,7 @@ zero_from_roots (suc n) (c ∷ cs) size h f words once roots =
     (zero_from_roots n (steps (f n) cs) (length-steps (f n) cs ∙ omega arith) (words_steps (f n) cs h.1) f
     (λ i hi. words i (omega arith)) (λ i j hi hj. once i j (omega arith) (omega arith))
     (λ i hi. next_root (f n) (f i) c cs ha (words i (omega arith)) h.1 at (roots i (omega arith))
-        (λ e. not_last i n hi (once i n (omega arith) last e))))
+    (λ e. not_last i n hi (once i n (omega arith) last e))))
     at
   where
     not_last : (i n : ℕ) → i < n → i ≡ n → ⊥

@@ -10,8 +10,11 @@ unfolding first_below
 first_below-is zero p i h passes before = absurd (let no : ⊥ = omega arith in no)
 first_below-is (suc n) p zero h passes before = ap (λ b. cond b 0 (suc (first_below n (λ k. p (suc k))))) passes
 first_below-is (suc n) p (suc i) h passes before =
-    cc (before 0 (omega arith), first_below-is n (λ k. p (suc k)) i (omega arith) passes
-        (λ j hj. before (suc j) (omega arith)))
+    cc (
+      before 0 (omega arith),
+      first_below-is n (λ k. p (suc k)) i (omega arith) passes
+          (λ j hj. before (suc j) (omega arith)),
+    )
 
 -- If the search ends before its limit, it ends at a number that passes the test.
 pub first_below-passes : (n : ℕ) (p : ℕ → Bool) → first_below n p < n → p (first_below n p) ≡ true

@@ -39,8 +39,16 @@ shared_ones = shared-step 1 1 ∙ ap (λ v. 1 + v) (shared_none 0 0 refl)
 
 pub sign-right : (e w y : ℕ) → w < 2 ^ e → y < 2 ^ e → sign w (2 ^ e + y) ≡ sign w y
 sign-right e w y hw hy =
-    grind (arith, common_steps, sign-is w
-        (2 ^ e + y), sign-is w y, shared_top e 0 1 w y hw hy, shared_none 0 1 refl, zero-add (shared w y))
+    grind (
+      arith,
+      common_steps,
+      sign-is w
+          (2 ^ e + y),
+      sign-is w y,
+      shared_top e 0 1 w y hw hy,
+      shared_none 0 1 refl,
+      zero-add (shared w y),
+    )
 
 pub sign-left : (e w y : ℕ) → w < 2 ^ e → y < 2 ^ e → sign (2 ^ e + w) y ≡ sign w y
 sign-left e w y hw hy = sign-comm (2 ^ e + w) y ∙ sign-right e y w hy hw ∙ sign-comm y w
@@ -50,8 +58,16 @@ sign_turns p = grind (arith, common_steps)
 
 pub sign-both : (e w y : ℕ) → w < 2 ^ e → y < 2 ^ e → sign (2 ^ e + w) (2 ^ e + y) % 65535 ≡ 65534 * sign w y % 65535
 sign-both e w y hw hy =
-    grind (arith, common_steps, sign-is (2 ^ e + w) (2 ^ e + y), sign_turns
-        (shared w y), sign-is w y, shared_top e 1 1 w y hw hy, shared_ones)
+    grind (
+      arith,
+      common_steps,
+      sign-is (2 ^ e + w) (2 ^ e + y),
+      sign_turns
+          (shared w y),
+      sign-is w y,
+      shared_top e 1 1 w y hw hy,
+      shared_ones,
+    )
 
 pub sign-zero : (w : ℕ) → sign 0 w ≡ 1
 sign-zero w =
@@ -68,7 +84,7 @@ shared-xor (suc n) w x y hw =
     let c = shared-step w y in
     let low = xor_add_and x y in
     put (w % 2) (x % 2) (y % 2) (bit_xor x y % 2) (shared (w / 2) (bit_xor (x / 2) (y / 2))) (shared (w / 2) (x / 2))
-        (shared (w / 2) (y / 2))
+    (shared (w / 2) (y / 2))
     (shared w (bit_xor x y)) (shared w x) (shared w y) (omega arith) (omega arith) (omega arith) (omega arith) a b c
     (shared-xor n (w / 2) (x / 2) (y / 2) (omega arith))
   where
@@ -85,7 +101,7 @@ pub sign-xor : (w x y : ℕ) → w < 2 ^ 16 → sign w x * sign w y % 65535 ≡ 
 sign-xor w x y hw =
     let two : 0 < 2 = omega arith in
     let parity : (shared w x % 2 + shared w y % 2) % 2 ≡ shared w (bit_xor x y) % 2 = let s = shared-xor 16 w x y hw in
-        omega arith in
+    omega arith in
     ap₂ (λ a b. a * b % 65535) (sign-is w x) (sign-is w y)
     ∙ sign_product (shared w x % 2) (shared w y % 2) (mod-lt (shared w x) two) (mod-lt (shared w y) two)
     ∙ ap (λ v. sign_at v % 65535) parity ∙ ap (λ v. v % 65535) (sym (sign-is w (bit_xor x y)))

@@ -41,7 +41,7 @@ product_below-add m (suc n) f words =
     ap (λ k. product_below k f) (add-suc m n)
     ∙ ap (λ v. product v (f (m + n))) (product_below-add m n f (λ i h. words i (omega arith)))
     ∙ product_assoc (product_below m f) (product_below n (λ i. f (m + i))) (f (m + n)) (product_below_lt m f)
-        (product_below_lt n _) (words (m + n) (omega arith))
+    (product_below_lt n _) (words (m + n) (omega arith))
 
 subspace_is : (d x : ℕ) → subspace d x ≡ product_below (2 ^ d) (λ y. bit_xor x y)
 unfolding subspace
@@ -85,7 +85,7 @@ subspace_shift (suc d) x hd hx =
     ∙ ap (λ n. product_below n (λ y. bit_xor x y)) (two-pow-succ d)
     ∙ product_below-add (2 ^ d) (2 ^ d) (λ y. bit_xor x y) words
     ∙ ap₂ product (sym (subspace_is d x) ∙ subspace_shift d x less hx)
-        (upper ∙ subspace_shift d (bit_xor x (2 ^ d)) less moved ∙ xor_shr x (2 ^ d) d ∙ ap (bit_xor u) one)
+    (upper ∙ subspace_shift d (bit_xor x (2 ^ d)) less moved ∙ xor_shr x (2 ^ d) d ∙ ap (bit_xor u) one)
     ∙ times_next u hu
     ∙ shr-shr x d 1
     ∙ ap (λ k. x / 2 ^ k) (add-suc d 0 ∙ ap suc (add-zero d))
@@ -95,8 +95,15 @@ pub product_below-mul : (m n : ℕ) (f : ℕ → ℕ) → ((i : ℕ) → i < m *
     → product_below (m * n) f ≡ product_below m (λ u. product_below n (λ i. f (u * n + i)))
 product_below-mul zero n f words = grind (arith, common_steps, zero-mul, product_below-zero)
 product_below-mul (suc m) n f words =
-    grind (arith, common_steps, suc-mul, product_below-add, product_below-suc, product_below-mul m n f
-        (λ i h. words i (omega arith)))
+    grind (
+      arith,
+      common_steps,
+      suc-mul,
+      product_below-add,
+      product_below-suc,
+      product_below-mul m n f
+          (λ i h. words i (omega arith)),
+    )
 
 -- The product of the words from 1 to 2 ^ k - 1 is 1.
 nonzero_words : (k : ℕ) → k ≤ 16 → product_below (2 ^ k - 1) (λ i. i + 1) ≡ 1
@@ -129,8 +136,8 @@ block d x v hd hx hv =
     let low : x / 2 ^ d ≡ 0 = div-eq_of_lt hx in
     product_below-same (2 ^ d) (λ i. bit_xor x (2 ^ d + (v * 2 ^ d + i))) (λ y. bit_xor (bit_xor x (suc v * 2 ^ d)) y)
     (λ i h. ap (bit_xor x)
-        (sym (add_assoc (2 ^ d) (v * 2 ^ d) i) ∙ ap (λ k. k + i) (one_more_block (2 ^ d) v)
-        ∙ sym (xor_shifted (suc v) d i h))
+    (sym (add_assoc (2 ^ d) (v * 2 ^ d) i) ∙ ap (λ k. k + i) (one_more_block (2 ^ d) v)
+    ∙ sym (xor_shifted (suc v) d i h))
     ∙ sym (xor_assoc x (suc v * 2 ^ d) i))
     ∙ sym (subspace_is d (bit_xor x (suc v * 2 ^ d)))
     ∙ subspace_shift d (bit_xor x (suc v * 2 ^ d)) hd (xor_lt 16 x (suc v * 2 ^ d) x_word hv)
@@ -146,7 +153,7 @@ outside d x hd hx =
     let pos : 0 < 2 ^ (16 - d) = pow_pos (16 - d) in
     let all : 2 ^ (16 - d) * 2 ^ d ≡ 65536 = sym (pow-add 2 (16 - d) d) ∙ ap (λ (e : ℕ). 2 ^ e) (sub-add_cancel hd) in
     let count : 65536 - 2 ^ d ≡ (2 ^ (16 - d) - 1) * 2 ^ d =
-        ap (λ v. v - 2 ^ d) (sym all) ∙ less_one (2 ^ (16 - d)) (2 ^ d) pos in
+    ap (λ v. v - 2 ^ d) (sym all) ∙ less_one (2 ^ (16 - d)) (2 ^ d) pos in
     cc (
       product_below-mul (2 ^ (16 - d) - 1) (2 ^ d) (λ i. bit_xor x (2 ^ d + i))
           (λ i h. xor_lt 16 x (2 ^ d + i) (omega arith) (omega arith)),

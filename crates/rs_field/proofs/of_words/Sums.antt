@@ -16,7 +16,7 @@ nibble_additive n f = record {
   xor = λ a b ha hb.
       let shifted : (a : ℕ) → a * 16 ^ n ≡ a * 2 ^ (4 * n) = λ a. ap (λ p. a * p) (sym (power_of 4 n)) in
       ap (λ w. product w f)
-          (shifted (bit_xor a b) ∙ xor_times_pow (4 * n) a b ∙ sym (ap₂ bit_xor (shifted a) (shifted b)))
+      (shifted (bit_xor a b) ∙ xor_times_pow (4 * n) a b ∙ sym (ap₂ bit_xor (shifted a) (shifted b)))
       ∙ product_xor_left (a * 16 ^ n) (b * 16 ^ n) f;
 }
 
@@ -25,7 +25,7 @@ abbrev sixteen_sums : ℕ → ℕ → ℕ → ℕ → List ℕ
 sixteen_sums a b c d =
     0 ∷ a ∷ b ∷ bit_xor a b ∷ c ∷ bit_xor a c ∷ bit_xor b c ∷ bit_xor (bit_xor a b) c
     ∷ d ∷ bit_xor a d ∷ bit_xor b d ∷ bit_xor (bit_xor a b) d ∷ bit_xor c d ∷ bit_xor a (bit_xor c d) ∷ bit_xor b
-        (bit_xor c d) ∷ bit_xor (bit_xor a b) (bit_xor c d) ∷ []
+    (bit_xor c d) ∷ bit_xor (bit_xor a b) (bit_xor c d) ∷ []
 
 -- Each entry of a list is the map's value at its place, counted from k on.
 abbrev AreValues : (ℕ → ℕ) → ℕ → List ℕ → Type 0
@@ -74,7 +74,7 @@ at_bits a b c d i = bit_xor (bit_xor (bit_xor (i / 2 ^ 0 % 2 * a) (i / 2 ^ 1 % 2
 at_bits_additive : (a b c d : ℕ) → IsAdditive 4 (at_bits a b c d)
 at_bits_additive a b c d =
     sum_additive 4 _ _ (sum_additive 4 _ _ (sum_additive 4 _ _ (digit_additive 4 0 a) (digit_additive 4 1 b))
-        (digit_additive 4 2 c)) (digit_additive 4 3 d)
+    (digit_additive 4 2 c)) (digit_additive 4 3 d)
 
 -- An additive map of four bits is determined by its values at 1, 2, 4 and 8.
 four_bits : (f : ℕ → ℕ) → IsAdditive 4 f → (a b c d i : ℕ) → a ≡ f 1 → b ≡ f 2 → c ≡ f 4 → d ≡ f 8 → i < 16
@@ -96,13 +96,13 @@ four_bits f hf a b c d i ea eb ec ed h =
 -- The low byte of each product, from the low bytes of the products of 1, 2, 4 and 8.
 pub low_of_four : (n f : ℕ) (words : List ℕ) (i : ℕ) → IsNibbleList n f words → i < 16
     → at_bits (bit_and (get_or words 1 0) 255) (bit_and (get_or words 2 0) 255) (bit_and (get_or words 4 0) 255)
-        (bit_and (get_or words 8 0) 255) i
+    (bit_and (get_or words 8 0) 255) i
     ≡ product (i * 16 ^ n) f % 256
 low_of_four n f words i are h =
     let at : (k : ℕ) → k < 16 → bit_and (get_or words k 0) 255 ≡ product (k * 16 ^ n) f % 256 =
     λ k hk. and_mask (get_or words k 0) 8 ∙ ap (λ w. w % 256) (are.entries k hk) in
     four_bits (λ i. product (i * 16 ^ n) f % 256) (low_nibble_additive n f) _ _ _ _ i (at 1 (omega arith))
-        (at 2 (omega arith)) (at 4 (omega arith)) (at 8 (omega arith)) h
+    (at 2 (omega arith)) (at 4 (omega arith)) (at 8 (omega arith)) h
 
 -- The high byte of each product, from the high bytes of the products of 1, 2, 4 and 8.
 pub high_of_four : (n f : ℕ) (words : List ℕ) (i : ℕ) → IsNibbleList n f words → i < 16
@@ -110,6 +110,6 @@ pub high_of_four : (n f : ℕ) (words : List ℕ) (i : ℕ) → IsNibbleList n f
     ≡ product (i * 16 ^ n) f / 256
 high_of_four n f words i are h =
     let at : (k : ℕ) → k < 16 → get_or words k 0 / 256 ≡ product (k * 16 ^ n) f / 256 = λ k hk.
-        ap (λ w. w / 256) (are.entries k hk) in
+    ap (λ w. w / 256) (are.entries k hk) in
     four_bits (λ i. product (i * 16 ^ n) f / 256) (high_nibble_additive n f) _ _ _ _ i (at 1 (omega arith))
-        (at 2 (omega arith)) (at 4 (omega arith)) (at 8 (omega arith)) h
+    (at 2 (omega arith)) (at 4 (omega arith)) (at 8 (omega arith)) h

@@ -19,7 +19,7 @@ combine-cons b bs x = refl
 
 one_more : (items : List ℕ) (i out rest : ℕ) → i < length items
     → bit_xor out (combine (drop i items) rest) ≡ bit_xor (bit_xor out (rest % 2 * get_or items i 0))
-        (combine (drop (i + 1) items) (rest / 2))
+    (combine (drop (i + 1) items) (rest / 2))
 one_more items i out rest h = grind (arith, common_steps, combine-cons, xor_assoc)
 
 -- If the lowest bit is set, the next entry is added.
@@ -46,7 +46,7 @@ check_generator = refl
 pub generator_columns : (z : ℕ) → z < 2 ^ 16 → combine generator_products z ≡ product z generator
 generator_columns =
     same_on_words (combine generator_products) (λ z. product z generator)
-        (record { xor = λ a b ha hb. combine_xor generator_products a b }) (additive_left generator) check_generator
+    (record { xor = λ a b ha hb. combine_xor generator_products a b }) (additive_left generator) check_generator
 
 combine-nil : (x : ℕ) → combine [] x ≡ 0
 unfolding combine
@@ -57,7 +57,7 @@ pub all_entries : (items : List ℕ) (i out rest v : ℕ) → length items ≤ i
     → out ≡ v
 all_entries items i out rest v h e =
     sym (xor_zero_r out)
-        ∙ ap (bit_xor out) (sym (ap (λ s. combine s rest) (drop_of_length-le items h) ∙ combine-nil rest)) ∙ e
+    ∙ ap (bit_xor out) (sym (ap (λ s. combine s rest) (drop_of_length-le items h) ∙ combine-nil rest)) ∙ e
 
 -- ---- the loop that fills both tables
 

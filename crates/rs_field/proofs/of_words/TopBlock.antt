@@ -26,7 +26,7 @@ paired-first : (half c : ℕ) (a b : ℕ → ℕ) (q : ℕ) → q < half
 unfolding paired
 paired-first half c a b q h =
     ap (λ (t : Bool). cond t (bit_xor (a q) (product (bit_xor (a q) (b q)) c)) (bit_xor (a (q - half)) (b (q - half))))
-        (lt-ltb q half h)
+    (lt-ltb q half h)
 
 paired-second : (half c : ℕ) (a b : ℕ → ℕ) (q : ℕ) → paired half c a b (half + q) ≡ bit_xor (a q) (b q)
 unfolding paired
@@ -36,7 +36,7 @@ first_of : (half c : ℕ) (a b : ℕ → ℕ) (q : ℕ) → q < half
     → a q ≡ bit_xor (paired half c a b q) (product (paired half c a b (half + q)) c)
 first_of half c a b q h =
     sym (ap₂ (λ v w. bit_xor v (product w c)) (paired-first half c a b q h) (paired-second half c a b q)
-        ∙ xor_undo (a q) (product (bit_xor (a q) (b q)) c))
+    ∙ xor_undo (a q) (product (bit_xor (a q) (b q)) c))
 
 second_of : (half c : ℕ) (a b : ℕ → ℕ) (q : ℕ) → b q ≡ bit_xor (paired half c a b (half + q)) (a q)
 second_of half c a b q =
@@ -74,7 +74,7 @@ values-joined d (suc n) u g j i whole fits hj hi =
     let b : ℕ → ℕ = joined_blocks d n (u + 2 ^ n) g in
     let all : ℕ → ℕ = paired (2 ^ (d + n)) c a b in
     let low : (q : ℕ) → q < 2 ^ (d + n) → a q ≡ bit_xor (all q) (product (all (2 ^ (d + n) + q)) c) = λ q h.
-        first_of (2 ^ (d + n)) c a b q h in
+    first_of (2 ^ (d + n)) c a b q h in
     ap (λ m. forward m (u * 2 ^ d) all (j * 2 ^ d + i)) (power_suc d n)
     ∙ elim (cases_lt j (2 ^ n)) [
       | inl below ↦
@@ -86,12 +86,12 @@ values-joined d (suc n) u g j i whole fits hj hi =
           let back : 2 ^ n + k ≡ j = omega arith in
           let at : k * 2 ^ d + i < 2 ^ (d + n) = inside k i (2 ^ n) (2 ^ d) (2 ^ (d + n)) blocks (omega arith) hi in
           ap (forward (2 ^ suc (d + n)) (u * 2 ^ d) all)
-              (ap (λ v. v * 2 ^ d + i) (sym back) ∙ moved (2 ^ n) k (2 ^ d) i (2 ^ (d + n)) blocks)
+          (ap (λ v. v * 2 ^ d + i) (sym back) ∙ moved (2 ^ n) k (2 ^ d) i (2 ^ (d + n)) blocks)
           ∙ sym (upper_half (d + n) (u * 2 ^ d) all a b (k * 2 ^ d + i) few aligned room at low
-              (λ q h. second_of (2 ^ (d + n)) c a b q))
+          (λ q h. second_of (2 ^ (d + n)) c a b q))
           ∙ ap (λ s. forward (2 ^ (d + n)) s b (k * 2 ^ d + i)) next
           ∙ values-joined d n (u + 2 ^ n) g k i (subst (λ (s : ℕ). s % 2 ^ (d + n) ≡ 0) next halves.1) (omega arith)
-              (omega arith) hi
+          (omega arith) hi
           ∙ ap (λ v. forward (2 ^ d) (v * 2 ^ d) (g v) i) (omega arith)
     ]
   where
@@ -124,5 +124,5 @@ last-joined d (suc n) u g before q is =
     ∙ ap₂ bit_xor (last-joined d n u g rest q whole) (last-joined d n (u + 2 ^ n) g rest q whole)
     ∙ sym (ap (λ m. sum_below m (λ j. g (u + j) q)) double ∙ sum_below-add (2 ^ n) (2 ^ n) (λ j. g (u + j) q)
     ∙ ap (bit_xor (sum_below (2 ^ n) (λ j. g (u + j) q)))
-        (sum_below-same (2 ^ n) (λ j. g (u + (2 ^ n + j)) q) (λ j. g (u + 2 ^ n + j) q)
-        (λ j h. ap (λ v. g v q) (sym (add_assoc u (2 ^ n) j)))))
+    (sum_below-same (2 ^ n) (λ j. g (u + (2 ^ n + j)) q) (λ j. g (u + 2 ^ n + j) q)
+    (λ j h. ap (λ v. g v q) (sym (add_assoc u (2 ^ n) j)))))

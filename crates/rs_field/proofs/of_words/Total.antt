@@ -12,7 +12,7 @@ unfolding combine
 combine_high [] h = refl
 combine_high (b ∷ bs) h =
     ap₂ bit_xor (ap (λ d. d * b) (shifted_even h (length bs)) ∙ zero-mul b)
-        (ap (combine bs) (shifted_half h (length bs)) ∙ combine_high bs h)
+    (ap (combine bs) (shifted_half h (length bs)) ∙ combine_high bs h)
 
 bits_high : (h : ℕ) → bits (h * 2 ^ 16) ≡ 0
 unfolding bits cantor_basis
@@ -21,7 +21,7 @@ bits_high h = combine_high cantor_basis h
 bits_low : (x : ℕ) → bits (x % 2 ^ 16) ≡ bits x
 bits_low x =
     sym (ap bits (split_top 16 x) ∙ bits_xor (x / 2 ^ 16 * 2 ^ 16) (x % 2 ^ 16)
-        ∙ ap (λ v. bit_xor v (bits (x % 2 ^ 16))) (bits_high (x / 2 ^ 16)))
+    ∙ ap (λ v. bit_xor v (bits (x % 2 ^ 16))) (bits_high (x / 2 ^ 16)))
 
 low_left : (x y : ℕ) → product (x % 2 ^ 16) y ≡ product x y
 unfolding product
@@ -37,7 +37,7 @@ low_lt x = mod-lt x (pow_pos 16)
 pub product-comm : (x y : ℕ) → product x y ≡ product y x
 product-comm x y =
     sym (low_left x y) ∙ sym (low_right (x % 2 ^ 16) y) ∙ product_comm (x % 2 ^ 16) (y % 2 ^ 16) (low_lt x) (low_lt y)
-        ∙ low_right (y % 2 ^ 16) x ∙ low_left y x
+    ∙ low_right (y % 2 ^ 16) x ∙ low_left y x
 
 pub product-assoc : (x y z : ℕ) → product (product x y) z ≡ product x (product y z)
 product-assoc x y z =

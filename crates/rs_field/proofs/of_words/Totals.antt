@@ -18,7 +18,7 @@ pub total-same : (n : ℕ) (g h : ℕ → ℕ) → ((y : ℕ) → y < n → g y 
 total-same zero g h same = total-zero g ∙ sym (total-zero h)
 total-same (suc n) g h same =
     total-suc n g ∙ ap₂ (λ a b. a + b) (total-same n g h (λ y hy. same y (omega arith))) (same n (omega arith))
-        ∙ sym (total-suc n h)
+    ∙ sym (total-suc n h)
 
 -- Sums of numbers with equal residues modulo 65535 have equal residues.
 pub add_near : (a b c d : ℕ) → a % 65535 ≡ c % 65535 → b % 65535 ≡ d % 65535 → (a + b) % 65535 ≡ (c + d) % 65535
@@ -33,8 +33,8 @@ pub total-near : (n : ℕ) (g h : ℕ → ℕ) → ((y : ℕ) → y < n → g y 
 total-near zero g h near = ap (λ v. v % 65535) (total-zero g ∙ sym (total-zero h))
 total-near (suc n) g h near =
     ap (λ v. v % 65535) (total-suc n g)
-        ∙ add_near (total n g) (g n) (total n h) (h n) (total-near n g h (λ y hy. near y (omega arith)))
-        (near n (omega arith))
+    ∙ add_near (total n g) (g n) (total n h) (h n) (total-near n g h (λ y hy. near y (omega arith)))
+    (near n (omega arith))
     ∙ ap (λ v. v % 65535) (sym (total-suc n h))
 
 pub total-none : (n : ℕ) (g : ℕ → ℕ) → ((y : ℕ) → y < n → g y ≡ 0) → total n g ≡ 0
@@ -50,15 +50,22 @@ total-split h (suc m) g =
     let more = total-split h m g in
     let s = total-suc (h + m) g in
     let t = total-suc m (λ y. g (h + y)) in
-    grind (arith, common_steps,
-        (let r : total (suc (h + m)) g ≡ total h g + total (suc m) (λ y. g (h + y)) = omega arith in r))
+    grind (
+      arith,
+      common_steps,
+      (let r : total (suc (h + m)) g ≡ total h g + total (suc m) (λ y. g (h + y)) = omega arith in r),
+    )
 
 pub total-scale : (n c : ℕ) (g : ℕ → ℕ) → total n (λ y. c * g y) ≡ c * total n g
 total-scale zero c g =
     total-zero (λ y. c * g y) ∙ sym (ap (λ v. c * v) (total-zero g) ∙ (let r : c * 0 ≡ 0 = omega arith in r))
 total-scale (suc n) c g =
-    cc (total-suc n (λ y. c * g y), total-scale n c g, total-suc n g,
-        (let r : c * (total n g + g n) ≡ c * total n g + c * g n = omega arith in r))
+    cc (
+      total-suc n (λ y. c * g y),
+      total-scale n c g,
+      total-suc n g,
+      (let r : c * (total n g + g n) ≡ c * total n g + c * g n = omega arith in r),
+    )
 
 pub total-plus : (n : ℕ) (g h : ℕ → ℕ) → total n (λ y. g y + h y) ≡ total n g + total n h
 total-plus zero g h = total-zero (λ y. g y + h y) ∙ sym (ap₂ (λ a b. a + b) (total-zero g) (total-zero h))
@@ -68,13 +75,13 @@ total-plus (suc n) g h = omega (arith, total-suc n (λ y. g y + h y), total-plus
 pub total-swap : (n m : ℕ) (g : ℕ → ℕ → ℕ) → total n (λ x. total m (λ y. g x y)) ≡ total m (λ y. total n (λ x. g x y))
 total-swap zero m g =
     total-zero (λ x. total m (λ y. g x y))
-        ∙ sym (total-none m (λ y. total zero (λ x. g x y)) (λ y hy. total-zero (λ x. g x y)))
+    ∙ sym (total-none m (λ y. total zero (λ x. g x y)) (λ y hy. total-zero (λ x. g x y)))
 total-swap (suc n) m g =
     total-suc n (λ x. total m (λ y. g x y))
     ∙ ap (λ v. v + total m (λ y. g n y)) (total-swap n m g)
     ∙ sym (total-plus m (λ y. total n (λ x. g x y)) (λ y. g n y))
     ∙ total-same m (λ y. total n (λ x. g x y) + g n y) (λ y. total (suc n) (λ x. g x y))
-        (λ y hy. sym (total-suc n (λ x. g x y)))
+    (λ y hy. sym (total-suc n (λ x. g x y)))
 
 -- If all terms except one are zero modulo 65535, the sum is this term.
 pub total-one : (n x : ℕ) (g : ℕ → ℕ) → x < n → ((y : ℕ) → y < n → y ≢ x → g y % 65535 ≡ 0)
@@ -85,7 +92,7 @@ total-one (suc n) x g hx others =
     elim (cases_eq x n) [
       | inl same ↦
           let none : total n g % 65535 ≡ total n (λ y. 0) % 65535 =
-              total-near n g (λ y. 0) (λ y hy. others y (omega arith) (λ e. let no : ⊥ = omega arith in no)) in
+          total-near n g (λ y. 0) (λ y hy. others y (omega arith) (λ e. let no : ⊥ = omega arith in no)) in
           let nothing = total-none n (λ y. 0) (λ y hy. refl) in
           let at : g n ≡ g x = ap g (sym same) in
           omega arith

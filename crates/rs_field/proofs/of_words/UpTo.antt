@@ -16,7 +16,7 @@ get-up_to (suc n) f i d h =
     elim (cases_lt i n) [
       | inl low ↦
           get_or_append_left (up_to n f) (f n ∷ []) d i (subst (λ k. i < k) (sym (length-up_to n f)) low)
-              ∙ get-up_to n f i d low
+          ∙ get-up_to n f i d low
       | inr high ↦
           let last : i ≡ n = omega arith in
           let seam = get_or-append_seam (up_to n f) (f n) [] d in

@@ -21,6 +21,6 @@ pub same_from_values : (n : ℕ) (p q : List ℕ) → length p ≡ n → length 
 same_from_values n p q size_p size_q words_p words_q f words once same =
     let size : length p ≡ length q = size_p ∙ sym size_q in
     cc (same_from_add p q size
-        (zero_from_roots n (add p q) (length-add p q (omega arith) ∙ size_p)
-        (words_add p q words_p words_q) f words once
+    (zero_from_roots n (add p q) (length-add p q (omega arith) ∙ size_p)
+    (words_add p q words_p words_q) f words once
     (λ i hi. value_add p q (f i) ∙ ap (λ v. bit_xor v (value q (f i))) (same i hi) ∙ xor_self (value q (f i)))))

@@ -46,7 +46,7 @@ summed : (v w : List ℕ) (r m k : ℕ) → length v ≡ 16 → m < 16 → k < 1
     → r % 65535 ≡ (get_or v m 0 + get_or v k 0) % 65535
 summed v w r m k size hm hk e =
     e ∙ ap₂ (λ a b. (a + b) % 65535) (get_or_append_left v v 0 m (omega arith))
-        (get_or_append_left v w 0 k (omega arith))
+    (get_or_append_left v w 0 k (omega arith))
 
 -- A sum with a complemented lane is a difference, because the complement is the negative modulo 65535.
 subtracted : (v : List ℕ) (r m k : ℕ) → length v ≡ 16 → Each1 (Fits w16) v → m < 16 → k < 16
@@ -70,7 +70,7 @@ pub layer_joined : (d : ℕ) (v new ms ns : List ℕ) → length v ≡ 16 → Ea
     → passes_below 16 (λ k. joins d k (get_or ms k 0) (get_or ns k 0) (k / d % 2 == 0)) ≡ true
     → ((k : ℕ) → k < 16 → get_or new k 0 % 65535
     ≡ (get_or (map (λ m. get_or (v ++ v) m 0) ms) k 0 + get_or
-        (map (λ n. get_or (v ++ map (λ x. 65535 - x) v) n 0) ns) k 0) % 65535)
+    (map (λ n. get_or (v ++ map (λ x. 65535 - x) v) n 0) ns) k 0) % 65535)
     → IsLayer d v new
 layer_joined d v new ms ns size fits hm hn test e k h =
     joined v (get_or new k 0) d k (get_or ms k 0) (get_or ns k 0) (k / d % 2 == 0) size fits h
@@ -92,20 +92,20 @@ stage : (e n half a : ℕ) (f g new : List ℕ) → n ≡ 2 ^ suc e → half ≡
     → IsWalsh n (λ y. get_or f (a + y) 0) (λ w. get_or new (a + w) 0)
 stage e n half a f g new is h room first second layer low high =
     walsh-halves e n half (λ y. get_or f (a + y) 0) (λ w. get_or g (a + w) 0) (λ w. get_or g (a + half + w) 0)
-        (λ w. get_or new (a + w) 0) is h low
+    (λ w. get_or new (a + w) 0) is h low
     (walsh-same half (λ y. get_or f (a + half + y) 0) (λ y. get_or f (a + (half + y)) 0)
-        (λ w. get_or g (a + half + w) 0) (λ y hy. ap (λ k. get_or f k 0) (omega arith)) high)
+    (λ w. get_or g (a + half + w) 0) (λ y hy. ap (λ k. get_or f k 0) (omega arith)) high)
     (record {
       sums = λ i hi.
           let there : a + i + half ≡ a + half + i = omega arith in
           layer (a + i) (omega arith)
           ∙ ap (λ b. by_parity b (get_or g (a + i + half) 0 + get_or g (a + i) 0)
-              (get_or g (a + i - half) 0 + 65534 * get_or g (a + i) 0)) (first i hi)
+          (get_or g (a + i - half) 0 + 65534 * get_or g (a + i) 0)) (first i hi)
           ∙ ap (λ k. (get_or g k 0 + get_or g (a + i) 0) % 65535) there ∙ ap (λ v. v % 65535) (omega arith);
       differences = λ i hi.
           layer (a + (half + i)) (omega arith)
           ∙ ap (λ b. by_parity b (get_or g (a + (half + i) + half) 0 + get_or g (a + (half + i)) 0)
-              (get_or g (a + (half + i) - half) 0 + 65534 * get_or g (a + (half + i)) 0)) (second i hi)
+          (get_or g (a + (half + i) - half) 0 + 65534 * get_or g (a + (half + i)) 0)) (second i hi)
           ∙ ap₂ (λ k m. (get_or g k 0 + 65534 * get_or g m 0) % 65535) (omega arith) (omega arith);
     })
 

@@ -62,7 +62,7 @@ narrowed e b p he size words none =
     let count = length-points (2 ^ e) (65536 - 2 ^ e) in
     let (q, degree, coefficients, at) = divided_by 65536 (points (2 ^ e) (65536 - 2 ^ e)) p b (omega arith)
     (subst (λ (n : ℕ). AreFalling n (points (2 ^ e) (65536 - 2 ^ e))) (omega arith)
-        (falling_points (2 ^ e) (65536 - 2 ^ e))) (omega arith) words
+    (falling_points (2 ^ e) (65536 - 2 ^ e))) (omega arith) words
     (roots_points (2 ^ e) (65536 - 2 ^ e) p (λ i hi. none (2 ^ e + i) (omega arith) (omega arith))) in
     (q, degree, coefficients, λ x hx. sym (at x ∙ value-inside e q he coefficients x hx))
 

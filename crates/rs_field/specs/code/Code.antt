@@ -31,7 +31,7 @@ pub record AreRecovery (c : Configuration) (message recovery : List Shard) : Typ
 abbrev pub HasOnePolynomial : Type 0
 HasOnePolynomial =
     (rate : Rate) (k r : ℕ) (words one other : List ℕ) → k ≤ 65536 → Codes rate k r words one
-        → Codes rate k r words other → one ≡ other
+    → Codes rate k r words other → one ≡ other
 
 -- two lists of recovery shards of one message are equal
 abbrev pub HasOneRecovery : Type 0

@@ -14,7 +14,7 @@ use Rattle.rs_field.specs.code.Pieces.{pieces, IsStrip}
 abbrev pub HasRecovery : Type 0
 HasRecovery =
     (c : Configuration) (message : List Shard) → supports c.rate c.original_count c.recovery_count ≡ true
-        → c.shard_bytes % 2 ≡ 0
+    → c.shard_bytes % 2 ≡ 0
     → AreShards c.original_count c.shard_bytes message → (recovery : List Shard) × AreRecovery c message recovery
 
 -- the bytewise XOR of two shards of one size
@@ -38,7 +38,7 @@ IsLinear =
 abbrev pub IsColumnwise : Type 0
 IsColumnwise =
     (rate : Rate) (k r size other_size j i : ℕ) (one other one_recovery other_recovery : List Shard) → k ≤ 65536
-        → j < size / 2 → i < other_size / 2
+    → j < size / 2 → i < other_size / 2
     → AreRecovery (configuration rate k r size) one one_recovery
     → AreRecovery (configuration rate k r other_size) other other_recovery
     → columns j one ≡ columns i other → columns j one_recovery ≡ columns i other_recovery
@@ -48,21 +48,21 @@ IsColumnwise =
 abbrev pub IsCodedByStrips : Type 0
 IsCodedByStrips =
     (c : Configuration) (start end : ℕ) (message all : List Shard) → IsStrip start end c.shard_bytes
-        → AreShards c.original_count c.shard_bytes message
+    → AreShards c.original_count c.shard_bytes message
     → AreRecovery c message all
     → AreRecovery (configuration c.rate c.original_count c.recovery_count (end - start)) (pieces start end message)
-        (pieces start end all)
+    (pieces start end all)
 
 -- shards are the recovery shards of a message if each byte lies in a strip in which they are the recovery shards of the
 -- same strip of the message
 abbrev pub CodesWhereStripsDo : Type 0
 CodesWhereStripsDo =
     (c : Configuration) (message all : List Shard) → AreShards c.original_count c.shard_bytes message
-        → AreShards c.recovery_count c.shard_bytes all
+    → AreShards c.recovery_count c.shard_bytes all
     → ((byte : ℕ) → byte < c.shard_bytes → (start : ℕ) × (end : ℕ) × IsStrip start end c.shard_bytes × (start ≤ byte)
-        × (byte < end)
+    × (byte < end)
     × AreRecovery (configuration c.rate c.original_count c.recovery_count (end - start)) (pieces start end message)
-        (pieces start end all))
+    (pieces start end all))
     → AreRecovery c message all
 
 -- if the two counts have the same power and both rates support them, a message has the same recovery shards at the low
@@ -70,9 +70,9 @@ CodesWhereStripsDo =
 abbrev pub HasOneCodeAtOnePower : Type 0
 HasOneCodeAtOnePower =
     (k r size : ℕ) (message recovery : List Shard) → supports low_rate k r ≡ true → supports high_rate k r ≡ true
-        → next_power k ≡ next_power r
+    → next_power k ≡ next_power r
     → AreRecovery (configuration low_rate k r size) message recovery
-        ↔ AreRecovery (configuration high_rate k r size) message recovery
+    ↔ AreRecovery (configuration high_rate k r size) message recovery
 
 -- n different places below a bound
 pub record ArePlaces (n bound : ℕ) (place : ℕ → ℕ) : Type 0 where
@@ -89,7 +89,7 @@ IsFixedByPlaces =
     → AreRecovery c one one_recovery → AreRecovery c other other_recovery
     → ArePlaces c.original_count (c.original_count + c.recovery_count) place
     → ((i : ℕ) → i < c.original_count
-        → shard_at (one ++ one_recovery) (place i) ≡ shard_at (other ++ other_recovery) (place i)) → one ≡ other
+    → shard_at (one ++ one_recovery) (place i) ≡ shard_at (other ++ other_recovery) (place i)) → one ≡ other
 
 -- two results of decoding the same state are equal
 abbrev pub HasOneRestoration : Type 0
@@ -107,8 +107,8 @@ NoticesChanges =
     → supports c.rate c.original_count c.recovery_count ≡ true → c.shard_bytes % 2 ≡ 0
     → AreShards c.original_count c.shard_bytes message → AreRecovery c message all
     → 0 < count_below c.original_count (changed_shards originals message) + count_below c.recovery_count
-        (changed_shards recovery all)
+    (changed_shards recovery all)
     → count_below c.original_count (changed_shards originals message) + count_below c.recovery_count
-        (changed_shards recovery all) + c.original_count
+    (changed_shards recovery all) + c.original_count
     ≤ count_below c.original_count originals + count_below c.recovery_count recovery
     → Consistent c originals recovery → ⊥

@@ -67,7 +67,7 @@ encoding_outcome k r [] = result_and_then (λ _. Err (TooFewOriginalShards k 0))
 encoding_outcome k r (shard ∷ shards) =
     let c = default_of k r (length shard) in
     result_and_then (λ _. with_shards (fresh_encoder c) (shard ∷ shards))
-        (start_outcome (encoder_rows default_rate k r) c)
+    (start_outcome (encoder_rows default_rate k r) c)
 
 -- a result is `OutOfMemory`, and the checks before the first allocation find no error
 abbrev pub LacksMemory : {T : Type 0} → Result (Unit {0}) Error → Result T Error → Type 0
@@ -105,7 +105,7 @@ abbrev pub decoding_outcome : ℕ → ℕ → Items → ℕ × Shard → Items �
 decoding_outcome k r originals first rest =
     let c = default_of k r (length first.1) in
     result_and_then (λ _. with_both (fresh_decoder c) originals (first ∷ rest))
-        (start_outcome (decoder_rows default_rate k r) c)
+    (start_outcome (decoder_rows default_rate k r) c)
 
 -- the relation of received shards to the result of one-call `decode` if memory can be allocated
 abbrev pub OneDecodes : ℕ → ℕ → Items → Items → Result Shards Error → Type 0

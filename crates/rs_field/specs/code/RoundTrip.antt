@@ -72,7 +72,7 @@ RestoresLeft =
     → AreShards c.original_count c.shard_bytes message → AreRecovery c message recovery → AreLeft message kept
     → AreLeft recovery received
     → IsOkAnd (with_both (fresh_decoder c) kept received)
-        (λ s. (result : Result Shards Error) → DecodeAnswers s result → GivesBack message kept received result)
+    (λ s. (result : Result Shards Error) → DecodeAnswers s result → GivesBack message kept received result)
 
 -- ---- one call
 
@@ -87,13 +87,13 @@ pub record AreCoded (k r : ℕ) (originals recovery : List Shard) : Type 0 where
 abbrev pub CodesInOneCall : Type 0
 CodesInOneCall =
     (k r : ℕ) (originals recovery : List Shard) → All (All (λ b. b < 256)) originals
-        → OneEncodeAnswers k r originals (Ok recovery) → AreCoded k r originals recovery
+    → OneEncodeAnswers k r originals (Ok recovery) → AreCoded k r originals recovery
 
 -- one-call `encode` of k shards of a valid size can only fail with `OutOfMemory`
 abbrev pub EncodesInOneCall : Type 0
 EncodesInOneCall =
     (k r size : ℕ) (originals : List Shard) (result : Result (List Shard) Error)
-        → validation_outcome (default_of k r size) ≡ Ok tt
+    → validation_outcome (default_of k r size) ≡ Ok tt
     → length originals ≡ k → All (λ shard. length shard ≡ size) originals → OneEncodeAnswers k r originals result
     → IfErr result (λ e. e ≡ OutOfMemory)
 

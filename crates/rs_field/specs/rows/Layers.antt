@@ -18,4 +18,4 @@ layer_steps size = if is_halved size then size / 2 else size
 abbrev pub ArePartsOf : ℕ → ℕ → ℕ → (ℕ → ℕ) → (ℕ → ℕ) → Type 0
 ArePartsOf size n shift f g =
     (j i : ℕ) → j * n < size → i < n
-        → forward n (shift + j * n) (λ q. g (j * n + q)) i ≡ forward size shift f (j * n + i)
+    → forward n (shift + j * n) (λ q. g (j * n + q)) i ≡ forward size shift f (j * n + i)

@@ -62,7 +62,7 @@ LendsTwoRows rows i j lent = let n = rows.now.shard_len_64 in LendsTwoRuns rows 
 abbrev pub LendsHalves : MutBor ShardsRefMut → ℕ → ShardsRefMut × ShardsRefMut → Fml
 LendsHalves rows mid lent =
     let n = rows.now.shard_len_64 in
-        LendsTwoRuns rows 0 (mid * n) (mid * n) ((rows.now.shard_count - mid) * n) (lent.0.chunks, lent.1.chunks)
+    LendsTwoRuns rows 0 (mid * n) (mid * n) ((rows.now.shard_count - mid) * n) (lent.0.chunks, lent.1.chunks)
 
 -- s ends as F v w x y, where v, w, x and y are the last values of the four parts of r: `LendsBoth` for four parts
 abbrev pub LendsFour : (R T : RattleType) → MutBor R.Denot → MutBor T.Denot × MutBor T.Denot × MutBor T.Denot
@@ -72,7 +72,7 @@ LendsFour R T s r F =
     let ends = λ (x : MutBor T.Denot) (last : T.Denot). fres x.ghost_name (T.coded.code last) in
     fall (T.Denot × T.Denot × T.Denot × T.Denot) (λ v.
     fwand (fsep (fsep (ends r.0 v.0) (ends r.1 v.1)) (fsep (ends r.2 v.2) (ends r.3 v.3)))
-        (fres s.ghost_name (R.coded.code (F v.0 v.1 v.2 v.3))))
+    (fres s.ghost_name (R.coded.code (F v.0 v.1 v.2 v.3))))
 
 -- four runs of n chunks are lent, one from each of four places on: afterwards the chunks hold what was written to these
 -- runs
@@ -81,7 +81,7 @@ abbrev pub LendsFourRuns : MutBor ShardsRefMut → ℕ → ℕ → ℕ → ℕ �
 LendsFourRuns rows a b c d n lent =
     LendsFour (the_row (record { mir = named 1; lft = [] })) (Array (Array u8 64) 0) rows lent
     (λ first second third fourth.
-        with_chunks rows.now (with_four rows.now.chunks.now a b c d n first second third fourth))
+    with_chunks rows.now (with_four rows.now.chunks.now a b c d n first second third fourth))
 
 -- rows i, j, k and l are lent: afterwards the rows hold what was written to the lent chunks
 abbrev pub LendsFourRows : MutBor ShardsRefMut → ℕ → ℕ → ℕ → ℕ → MutBor Chunks × MutBor Chunks × MutBor Chunks

@@ -35,7 +35,7 @@ IsForwardFour log_m02 log_m01 log_m23 x0 x1 x2 x3 y0 y1 y2 y3 =
     let z2 = forward_second log_m02 x0 x2 in
     let z3 = forward_second log_m02 x1 x3 in
     (y0 ≡ forward_first log_m01 z0 z1) × (y1 ≡ forward_second log_m01 z0 z1) × (y2 ≡ forward_first log_m23 z2 z3)
-        × (y3 ≡ forward_second log_m23 z2 z3)
+    × (y3 ≡ forward_second log_m23 z2 z3)
 
 -- backward butterflies of words 0 and 1 and of 2 and 3, and then of 0 and 2 and of 1 and 3
 abbrev pub IsBackwardFour : ℕ → ℕ → ℕ → OnFourWords
@@ -45,7 +45,7 @@ IsBackwardFour log_m02 log_m01 log_m23 x0 x1 x2 x3 y0 y1 y2 y3 =
     let z2 = backward_first log_m23 x2 x3 in
     let z3 = backward_second x2 x3 in
     (y0 ≡ backward_first log_m02 z0 z2) × (y1 ≡ backward_first log_m02 z1 z3) × (y2 ≡ backward_second z0 z2)
-        × (y3 ≡ backward_second z1 z3)
+    × (y3 ≡ backward_second z1 z3)
 
 -- a relation of symbol s of four old chunks and of the four new ones
 abbrev pub at_four_symbols : ℕ → OnFourWords → OnFourChunks

@@ -34,7 +34,7 @@ abbrev pub IsLayer : ℕ → List ℕ → List ℕ → Type 0
 IsLayer distance old new =
     (k : ℕ) → k < 16 → slice_index new k % 65535
     ≡ (if k / distance % 2 == 0 then slice_index old (k + distance) + slice_index old k else slice_index old
-        (k - distance) + 65534 * slice_index old k) % 65535
+    (k - distance) + 65534 * slice_index old k) % 65535
 
 -- the logarithm of a word, or 0 for the word 0
 unfoldable pub log_or_zero : ℕ → ℕ

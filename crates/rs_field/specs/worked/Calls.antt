@@ -25,7 +25,7 @@ zeros n = replicate n 0
 abbrev pub EncodeOrder : Type 0
 EncodeOrder =
     (encoding_outcome 0 1 [] ≡ Err (UnsupportedShardCount 0 1))
-        × (encoding_outcome 0 1 (zeros 3 ∷ []) ≡ Err (UnsupportedShardCount 0 1))
+    × (encoding_outcome 0 1 (zeros 3 ∷ []) ≡ Err (UnsupportedShardCount 0 1))
     × (encoding_outcome 1 1 [] ≡ Err (TooFewOriginalShards 1 0))
     × (encoding_outcome 1 1 (zeros 3 ∷ zeros 2 ∷ []) ≡ Err (InvalidShardSize 3))
     × (encoding_outcome 1 1 (zeros 64 ∷ zeros 128 ∷ []) ≡ Err (TooManyOriginalShards 1))
@@ -37,10 +37,10 @@ EncodeOrder =
 abbrev pub DecodeOrder : Type 0
 DecodeOrder =
     (decoding_outcome 1 1 ((0, zeros 64) ∷ []) (0, []) [] ≡ Err (InvalidShardSize 0))
-        × (decoding_outcome 0 1 [] (0, []) [] ≡ Err (UnsupportedShardCount 0 1))
+    × (decoding_outcome 0 1 [] (0, []) [] ≡ Err (UnsupportedShardCount 0 1))
     × (decoding_outcome 1 1 ((0, zeros 64) ∷ []) (1, zeros 64) [] ≡ Err (InvalidRecoveryShardIndex 1 1))
     × (decoding_outcome 2 1 ((0, zeros 64) ∷ (0, zeros 128) ∷ []) (0, zeros 64) []
-        ≡ Err (DuplicateOriginalShardIndex 0))
+    ≡ Err (DuplicateOriginalShardIndex 0))
     × (decoding_outcome 2 1 ((0, zeros 64) ∷ (1, zeros 128) ∷ []) (5, zeros 64) [] ≡ Err (DifferentShardSize 64 128))
     × (decoding_outcome 2 1 ((2, zeros 128) ∷ []) (0, zeros 64) [] ≡ Err (InvalidOriginalShardIndex 2 2))
     × (decoding_outcome 2 2 [] (1, zeros 64) ((1, zeros 128) ∷ []) ≡ Err (DuplicateRecoveryShardIndex 1))
@@ -66,7 +66,7 @@ abbrev pub EncoderRound : Type 0
 EncoderRound =
     (validation_outcome (default_of 2 3 3) ≡ Err (InvalidShardSize 3))
     × (state_after (encoder_with (zeros 2 ∷ [])) (with_shard (encoder_with (zeros 2 ∷ [])) [])
-        ≡ encoder_with (zeros 2 ∷ []))
+    ≡ encoder_with (zeros 2 ∷ []))
     × (with_shard (encoder_with (zeros 2 ∷ [])) (1 ∷ 0 ∷ []) ≡ Ok (encoder_with (zeros 2 ∷ (1 ∷ 0 ∷ []) ∷ [])))
     × (message_of (encoder_with (zeros 2 ∷ (1 ∷ 0 ∷ []) ∷ [])) ≡ Ok (zeros 2 ∷ (1 ∷ 0 ∷ []) ∷ []))
     × (after_encode (encoder_with (zeros 2 ∷ (1 ∷ 0 ∷ []) ∷ [])) ≡ fresh_encoder (default_of 2 3 2))
@@ -77,8 +77,8 @@ EncoderRound =
 abbrev pub DecoderRound : Type 0
 DecoderRound =
     (enough_given (record
-        { configuration = default_of 2 3 2; originals = nothing; recovery = with_entry nothing 2 (zeros 2) })
-        ≡ Err (NotEnoughShards 2 0 1))
+    { configuration = default_of 2 3 2; originals = nothing; recovery = with_entry nothing 2 (zeros 2) })
+    ≡ Err (NotEnoughShards 2 0 1))
     × (enough_given state_of_two ≡ Ok tt) × (after_decode state_of_two ≡ fresh_decoder (default_of 2 3 2))
     × (after_decode (state_of_surplus (7 ∷ 8 ∷ [])) ≡ fresh_decoder (default_of 1 2 2))
     × (enough_given (fresh_decoder (default_of 2 3 2)) ≡ Err (NotEnoughShards 2 0 0))
@@ -87,15 +87,15 @@ DecoderRound =
 abbrev pub LargestIndex : Type 0
 LargestIndex =
     (answer_of (with_original (fresh_decoder (default_of 1 1 2)) 18446744073709551615 (zeros 2))
-        ≡ Err (InvalidOriginalShardIndex 1 18446744073709551615))
+    ≡ Err (InvalidOriginalShardIndex 1 18446744073709551615))
     × (answer_of (with_recovery (fresh_decoder (default_of 1 1 2)) 18446744073709551615 (zeros 2))
-        ≡ Err (InvalidRecoveryShardIndex 1 18446744073709551615))
+    ≡ Err (InvalidRecoveryShardIndex 1 18446744073709551615))
 
 -- `OutOfMemory` can replace a success or a later error of a one-call function, but never its first errors
 abbrev pub MemoryOrder : Type 0
 MemoryOrder =
     (UpToMemory (validation_outcome (default_of 2 3 3)) (Err OutOfMemory) → ⊥)
-        × UpToMemory (validation_outcome (default_of 2 3 2)) (Err OutOfMemory)
+    × UpToMemory (validation_outcome (default_of 2 3 2)) (Err OutOfMemory)
     × (OneEncodeAnswers 0 1 [] (Err OutOfMemory) → ⊥) × (OneEncodeAnswers 1 1 [] (Err OutOfMemory) → ⊥)
     × (OneEncodeAnswers 1 1 (zeros 3 ∷ []) (Err OutOfMemory) → ⊥)
     × OneEncodeAnswers 1 1 (zeros 64 ∷ zeros 128 ∷ []) (Err OutOfMemory)

@@ -134,4 +134,4 @@ state_of_surplus recovery = record {
 abbrev pub SurplusExample : Type 0
 SurplusExample =
     DecodeAnswers (state_of_surplus (7 ∷ 9 ∷ [])) (Ok nothing)
-        × DecodeAnswers (state_of_surplus (7 ∷ 8 ∷ [])) (Err (InconsistentShards 1 1))
+    × DecodeAnswers (state_of_surplus (7 ∷ 8 ∷ [])) (Err (InconsistentShards 1 1))

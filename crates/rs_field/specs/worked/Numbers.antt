@@ -27,7 +27,7 @@ ColumnsOfShards =
     (map (λ j. column j (numbers 0 4)) (0 ∷ 1 ∷ []) ≡ (0 + 256 * 2) ∷ (1 + 256 * 3) ∷ [])
     × (map (λ j. column j (numbers 0 66)) (0 ∷ 31 ∷ 32 ∷ []) ≡ (0 + 256 * 32) ∷ (31 + 256 * 63) ∷ (64 + 256 * 65) ∷ [])
     × (map (λ j. column j (numbers 0 132)) (32 ∷ 63 ∷ 64 ∷ 65 ∷ [])
-        ≡ (64 + 256 * 96) ∷ (95 + 256 * 127) ∷ (128 + 256 * 130) ∷ (129 + 256 * 131) ∷ [])
+    ≡ (64 + 256 * 96) ∷ (95 + 256 * 127) ∷ (128 + 256 * 130) ∷ (129 + 256 * 131) ∷ [])
 
 -- powers of counts
 abbrev pub Powers : Type 0
@@ -38,7 +38,7 @@ Powers = map next_power (0 ∷ 1 ∷ 3 ∷ 4 ∷ 65536 ∷ 65537 ∷ 18446744073
 abbrev pub Supported : Type 0
 Supported =
     (supports default_rate 60000 4000 ≡ true) × (supports default_rate 4096 61440 ≡ true)
-        × (supports default_rate 8192 57344 ≡ true)
+    × (supports default_rate 8192 57344 ≡ true)
     × (supports default_rate 16384 49152 ≡ true) × (supports default_rate 49152 16384 ≡ true)
     × (supports default_rate 57344 8192 ≡ true)
     × (supports default_rate 61440 4096 ≡ true) × (supports default_rate 32768 32768 ≡ true)
@@ -47,7 +47,7 @@ Supported =
 abbrev pub Unsupported : Type 0
 Unsupported =
     (supports default_rate 60000 5000 ≡ false) × (supports default_rate 4096 61441 ≡ false)
-        × (supports default_rate 4097 61440 ≡ false)
+    × (supports default_rate 4097 61440 ≡ false)
     × (supports default_rate 61440 4097 ≡ false) × (supports default_rate 0 1 ≡ false)
     × (supports default_rate 1 0 ≡ false)
     × (supports default_rate 18446744073709551615 18446744073709551615 ≡ false)
@@ -69,7 +69,7 @@ Choices =
 abbrev pub Validated : Type 0
 Validated =
     (validation_outcome (configuration low_rate 1 1 123) ≡ Err (InvalidShardSize 123))
-        × (validation_outcome (configuration low_rate 1 1 0) ≡ Err (InvalidShardSize 0))
+    × (validation_outcome (configuration low_rate 1 1 0) ≡ Err (InvalidShardSize 0))
     × (validation_outcome (configuration high_rate 1 1 123) ≡ Err (InvalidShardSize 123))
     × (validation_outcome (configuration low_rate 61440 4096 64) ≡ Err (UnsupportedShardCount 61440 4096))
     × (validation_outcome (configuration low_rate 61440 4096 123) ≡ Err (UnsupportedShardCount 61440 4096))
@@ -80,32 +80,32 @@ Validated =
 abbrev pub TooManyBytes : Type 0
 TooManyBytes =
     (start_outcome (encoder_rows default_rate 1 1) (configuration default_rate 1 1 18446744073709551614)
-        ≡ Err OutOfMemory)
+    ≡ Err OutOfMemory)
     × (start_outcome (decoder_rows default_rate 1 1) (configuration default_rate 1 1 18446744073709551614)
-        ≡ Err OutOfMemory)
+    ≡ Err OutOfMemory)
     × (start_outcome (encoder_rows default_rate 1 1) (configuration default_rate 1 1 18446744073709551552) ≡ Ok tt)
     × (start_outcome (decoder_rows default_rate 1 1) (configuration default_rate 1 1 18446744073709551552)
-        ≡ Err OutOfMemory)
+    ≡ Err OutOfMemory)
 
 -- rows of encoders
 abbrev pub EncoderRowsExamples : Type 0
 EncoderRowsExamples =
     (encoder_rows low_rate 1 1 ≡ 1) × (encoder_rows low_rate 2 3 ≡ 4) × (encoder_rows low_rate 1024 4097 ≡ 5120)
-        × (encoder_rows low_rate 1025 4097 ≡ 6144)
+    × (encoder_rows low_rate 1025 4097 ≡ 6144)
     × (encoder_rows high_rate 4097 1024 ≡ 5120) × (encoder_rows high_rate 4097 1025 ≡ 6144)
 
 -- rows of a block
 abbrev pub BlockRowsExamples : Type 0
 BlockRowsExamples =
     (block_rows low_rate 1 1 ≡ 1) × (block_rows low_rate 2 3 ≡ 2) × (block_rows low_rate 1025 4097 ≡ 2048)
-        × (block_rows high_rate 3 2 ≡ 2)
+    × (block_rows high_rate 3 2 ≡ 2)
     × (block_rows high_rate 4097 1025 ≡ 2048) × (block_rows default_rate 4 3 ≡ 4) × (block_rows default_rate 5 3 ≡ 4)
 
 -- rows of decoders
 abbrev pub DecoderRowsExamples : Type 0
 DecoderRowsExamples =
     (decoder_rows low_rate 4 4 ≡ 8) × (decoder_rows low_rate 1024 3072 ≡ 4096)
-        × (decoder_rows low_rate 1025 2049 ≡ 8192) × (decoder_rows low_rate 32768 32768 ≡ 65536)
+    × (decoder_rows low_rate 1025 2049 ≡ 8192) × (decoder_rows low_rate 32768 32768 ≡ 65536)
     × (decoder_rows high_rate 1 1 ≡ 2) × (decoder_rows high_rate 2049 1025 ≡ 8192)
     × (decoder_rows high_rate 32768 32768 ≡ 65536)
 

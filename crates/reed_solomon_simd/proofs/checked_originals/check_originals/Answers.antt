@@ -38,18 +38,18 @@ returns-in_err-check_original c =
     let all = number xs in
     let few : c.loop-index.index ≤ c.args.counts.original_count = c.loop-index.invariant.few in
     let told : Err c.in_err-check_original.field-0.0
-        ≡ answer_of (with_shard (record { configuration = default_of k r size; given = take i (shards_of xs) })
-        (get_or xs i d).now) =
+    ≡ answer_of (with_shard (record { configuration = default_of k r size; given = take i (shards_of xs) })
+    (get_or xs i d).now) =
     c.in_err-check_original.ensures.answer
-        (record { configuration = default_of k r size; given = take i (shards_of xs) }) refl refl
-        (length-take-le i (shards_of xs) (omega (arith, inside, all))) in
+    (record { configuration = default_of k r size; given = take i (shards_of xs) }) refl refl
+    (length-take-le i (shards_of xs) (omega (arith, inside, all))) in
     let fact = checked-refused k r size (shards_of xs) (omega (arith, some, all))
-        (ap length (at xs 0 d some)) c.in_ok-check_encoder_rows.ensures i e (omega (arith, inside, all)) few
+    (ap length (at xs 0 d some)) c.in_ok-check_encoder_rows.ensures i e (omega (arith, inside, all)) few
     (λ j h. (c.loop-index.invariant.sized j h).length_is)
     (subst (λ (s : Shard).
-        Err c.in_err-check_original.field-0.0
-        ≡ answer_of (with_shard (record { configuration = default_of k r size; given = take i (shards_of xs) }) s))
-        (sym (at xs i d inside)) told) in
+    Err c.in_err-check_original.field-0.0
+    ≡ answer_of (with_shard (record { configuration = default_of k r size; given = take i (shards_of xs) }) s))
+    (sym (at xs i d inside)) told) in
     search rules
 
 pub loop-index-preserved : goal.loop-index-preserved
@@ -62,10 +62,10 @@ loop-index-preserved c =
         | inr not_before ↦
             let same : j ≡ c.loop-index.index = omega (arith, h, not_before) in
             subst (λ (n : ℕ). IsShard (length (get_or c.args.originals.now 0 d).now)
-                (get_or (shards_of c.args.originals.now) n [])) (sym same)
+            (get_or (shards_of c.args.originals.now) n [])) (sym same)
             (subst (IsShard (length (get_or c.args.originals.now 0 d).now))
-                (sym (at c.args.originals.now c.loop-index.index d c.loop-index-test.true))
-                c.in_ok-check_original.ensures.shard)
+            (sym (at c.args.originals.now c.loop-index.index d c.loop-index-test.true))
+            c.in_ok-check_original.ensures.shard)
       ];
     }
 
@@ -79,11 +79,11 @@ returns-then-originals-original_count c =
     let all = number xs in let done = c.loop-index-test.false in
     let less : length c.args.originals.now < c.args.counts.original_count = c.if-originals-original_count.true in
     let sized = all-long size c.loop-index.index (shards_of xs)
-        (omega (arith, all, done)) c.loop-index.invariant.sized in
+    (omega (arith, all, done)) c.loop-index.invariant.sized in
     subst (λ (n : ℕ). OneEncodeAnswers c.args.counts.original_count c.args.counts.recovery_count
-        (shards_of c.args.originals.now) (Err (TooFewOriginalShards c.args.counts.original_count n))) all
+    (shards_of c.args.originals.now) (Err (TooFewOriginalShards c.args.counts.original_count n))) all
     (checked-few k r size (shards_of xs) (omega (arith, some, all))
-        (ap length (at xs 0 d some)) c.in_ok-check_encoder_rows.ensures
+    (ap length (at xs 0 d some)) c.in_ok-check_encoder_rows.ensures
     (omega (arith, all, less)) (λ j f h. (sized j f h).length_is) (omega (arith, all, less)))
 
 pub returns : goal.returns
@@ -97,7 +97,7 @@ returns c =
     let few = c.loop-index.invariant.few in
     let enough = c.if-originals-original_count.false in
     let sized = all-long size c.loop-index.index (shards_of xs)
-        (omega (arith, all, done)) c.loop-index.invariant.sized in
+    (omega (arith, all, done)) c.loop-index.invariant.sized in
     record {
       led = checked-all k r size (shards_of xs) (omega (arith, some, all))
           (ap length (at xs 0 d some)) c.in_ok-check_encoder_rows.ensures (omega (arith, all, done, few))

@@ -20,44 +20,44 @@ returns-in_err-counts-clause-answer g c =
     let own = lent c.args.original.now in let other = lent c.args.recovery.now in
     let e = c.in_err-counts.field-0.0 in
     decodes-refused k r own other e (bytes_in c.args.restored.now) _
-        (decoding-refused k r own other e (decoding-uncounted k r own other e c.in_err-counts.ensures)) (search rules)
+    (decoding-refused k r own other e (decoding-uncounted k r own other e c.in_err-counts.ensures)) (search rules)
 
 pub returns-in_err-received-clause-answer : goal.returns-in_err-received-clause-answer
 returns-in_err-received-clause-answer g c =
     let own = YieldsList-from_map_by _ (λ item. (item.0, item.1.now)) (λ item. (item.0, item.1.now))
-        (YieldsList-from_slice c.args.original.now cc) c.map-own.ensures.closure (λ x r q k. search rules) in
+    (YieldsList-from_slice c.args.original.now cc) c.map-own.ensures.closure (λ x r q k. search rules) in
     let other = YieldsList-from_map_by _ (λ item. (item.0, item.1.now)) (λ item. (item.0, item.1.now))
-        (YieldsList-from_slice c.args.recovery.now cc) c.map-other.ensures.closure (λ x r q k. search rules) in
+    (YieldsList-from_slice c.args.recovery.now cc) c.map-other.ensures.closure (λ x r q k. search rules) in
     let led = always-both (λ item. (item.0, item.1.now)) (λ item. (item.0, item.1.now)) _
-        (rw (c.in_ok-counts.ensures.0, c.in_ok-counts.ensures.1) at c.in_err-received.ensures)
-        (lent c.args.original.now) (lent c.args.recovery.now) own.runs other.runs in
+    (rw (c.in_ok-counts.ensures.0, c.in_ok-counts.ensures.1) at c.in_err-received.ensures)
+    (lent c.args.original.now) (lent c.args.recovery.now) own.runs other.runs in
     let e = c.in_err-received.field-0.0 in
     decodes-refused c.args.original_count c.args.recovery_count (lent c.args.original.now) (lent c.args.recovery.now) e
-        (bytes_in c.args.restored.now) _
+    (bytes_in c.args.restored.now) _
     (decoding-refused c.args.original_count c.args.recovery_count _ _ e led) (search rules)
 
 pub returns-in_default-clause-answer : goal.returns-in_default-clause-answer
 returns-in_default-clause-answer g c =
     let own = YieldsList-from_map_by _ (λ item. (item.0, item.1.now)) (λ item. (item.0, item.1.now))
-        (YieldsList-from_slice c.args.original.now cc) c.map-own.ensures.closure (λ x r q k. search rules) in
+    (YieldsList-from_slice c.args.original.now cc) c.map-own.ensures.closure (λ x r q k. search rules) in
     let other = YieldsList-from_map_by _ (λ item. (item.0, item.1.now)) (λ item. (item.0, item.1.now))
-        (YieldsList-from_slice c.args.recovery.now cc) c.map-other.ensures.closure (λ x r q k. search rules) in
+    (YieldsList-from_slice c.args.recovery.now cc) c.map-other.ensures.closure (λ x r q k. search rules) in
     let led = always-both (λ item. (item.0, item.1.now)) (λ item. (item.0, item.1.now)) _
-        (rw (c.in_ok-counts.ensures.0, c.in_ok-counts.ensures.1, c.in_default.is) at c.in_ok-received.ensures)
-        (lent c.args.original.now) (lent c.args.recovery.now) own.runs other.runs in
+    (rw (c.in_ok-counts.ensures.0, c.in_ok-counts.ensures.1, c.in_default.is) at c.in_ok-received.ensures)
+    (lent c.args.original.now) (lent c.args.recovery.now) own.runs other.runs in
     decodes-nothing c.args.original_count c.args.recovery_count (lent c.args.original.now) (lent c.args.recovery.now)
-        (bytes_in c.args.restored.now) _ led
+    (bytes_in c.args.restored.now) _ led
     (c.check_rooms.ensures.answer [] refl (All-nil (λ shard. length shard ≡ 0)))
 
 pub returns-clause-answer : goal.returns-clause-answer
 returns-clause-answer g c =
     let own = YieldsList-from_map_by _ (λ item. (item.0, item.1.now)) (λ item. (item.0, item.1.now))
-        (YieldsList-from_slice c.args.original.now cc) c.map-own.ensures.closure (λ x r q k. search rules) in
+    (YieldsList-from_slice c.args.original.now cc) c.map-own.ensures.closure (λ x r q k. search rules) in
     let other = YieldsList-from_map_by _ (λ item. (item.0, item.1.now)) (λ item. (item.0, item.1.now))
-        (YieldsList-from_slice c.args.recovery.now cc) c.map-other.ensures.closure (λ x r q k. search rules) in
+    (YieldsList-from_slice c.args.recovery.now cc) c.map-other.ensures.closure (λ x r q k. search rules) in
     let led = always-both (λ item. (item.0, item.1.now)) (λ item. (item.0, item.1.now)) _
-        (rw (c.in_ok-counts.ensures.0, c.in_ok-counts.ensures.1, c.in-Some.is) at c.in_ok-received.ensures)
-        (lent c.args.original.now) (lent c.args.recovery.now) own.runs other.runs in
+    (rw (c.in_ok-counts.ensures.0, c.in_ok-counts.ensures.1, c.in-Some.is) at c.in_ok-received.ensures)
+    (lent c.args.original.now) (lent c.args.recovery.now) own.runs other.runs in
     decodes-restored c.args.original_count c.args.recovery_count (lent c.args.original.now) (lent c.args.recovery.now)
-        (received_state c.in-Some.received)
+    (received_state c.in-Some.received)
     (bytes_in c.args.restored.now) (bytes_in c.restore_into.new.rooms) _ led c.restore_into.ensures.answer

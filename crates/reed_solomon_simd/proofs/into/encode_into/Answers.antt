@@ -13,28 +13,32 @@ pub returns-in_err-counts-clause-answer : goal.returns-in_err-counts-clause-answ
 returns-in_err-counts-clause-answer g c =
     let k = c.args.original_count in let r = c.args.recovery_count in
     let e = c.in_err-counts.field-0.0 in
-    let shards = shards_of c.args.original.now in
-        (Err e, encoding-refused k r shards e (encoding-uncounted k r shards e c.in_err-counts.ensures),
-        (search rules, refl))
+    let shards = shards_of c.args.original.now in (
+      Err e,
+      encoding-refused k r shards e (encoding-uncounted k r shards e c.in_err-counts.ensures),
+      (search rules, refl),
+    )
 
 pub returns-in_err-shard_bytes-clause-answer : goal.returns-in_err-shard_bytes-clause-answer
 returns-in_err-shard_bytes-clause-answer g c =
-    let e = c.in_err-shard_bytes.field-0.0 in
-    (Err e, rw (c.in_ok-counts.ensures.0, c.in_ok-counts.ensures.1) at c.in_err-shard_bytes.ensures,
-        (search rules, refl))
+    let e = c.in_err-shard_bytes.field-0.0 in (
+      Err e,
+      rw (c.in_ok-counts.ensures.0, c.in_ok-counts.ensures.1) at c.in_err-shard_bytes.ensures,
+      (search rules, refl),
+    )
 
 pub returns-in_err-check_rooms-clause-answer : goal.returns-in_err-check_rooms-clause-answer
 returns-in_err-check_rooms-clause-answer g c =
     let is = rw (c.in_ok-counts.ensures.0, c.in_ok-counts.ensures.1) at c.in_ok-shard_bytes.ensures in
     let made = checked-made c.args.original_count c.args.recovery_count c.in_ok-shard_bytes.shard_bytes
-        (shards_of c.args.original.now) is in
+    (shards_of c.args.original.now) is in
     let old = bytes_in c.args.recovery.now in (
       Ok made.0,
       checked-encodes c.args.original_count c.args.recovery_count c.in_ok-shard_bytes.shard_bytes
           (shards_of c.args.original.now) is (Ok made.0) made.1,
       fills made.0 old old _ (Err c.in_err-check_rooms.field-0.0)
           (c.in_err-check_rooms.ensures.answer made.0 made.1.shards.length_is
-              (λ i d h. (made.1.shards.each i d h).length_is)) (search rules, refl),
+          (λ i d h. (made.1.shards.each i d h).length_is)) (search rules, refl),
     )
 
 pub encode_lent-requires-clause-originals : goal.encode_lent-requires-clause-originals
@@ -56,7 +60,7 @@ returns-in_err-encode_lent-clause-answer g c =
     let is = rw (c.in_ok-counts.ensures.0, c.in_ok-counts.ensures.1) at c.in_ok-shard_bytes.ensures in
     let e = c.in_err-encode_lent.field-0.0 in
     let lacks : c.in_err-encode_lent.field-0.0 ≡ OutOfMemory =
-        (let refused = c.in_err-encode_lent.ensures.refused in cc) in
+    (let refused = c.in_err-encode_lent.ensures.refused in cc) in
     let same = c.in_err-encode_lent.ensures.untouched in (
       Err e,
       checked-encodes c.args.original_count c.args.recovery_count c.in_ok-shard_bytes.shard_bytes

@@ -12,8 +12,8 @@ returns-in_err-counts-clause-calls g c = (
   no-calls c.args.recovery,
   λ originals recoveries begins further.
       let led = decoding-refused c.args.original_count c.args.recovery_count originals recoveries _
-          (decoding-uncounted c.args.original_count c.args.recovery_count originals recoveries _
-          c.in_err-counts.ensures) in search rules,
+      (decoding-uncounted c.args.original_count c.args.recovery_count originals recoveries _
+      c.in_err-counts.ensures) in search rules,
 )
 
 pub returns-in_err-counts-clause-answer : goal.returns-in_err-counts-clause-answer
@@ -22,10 +22,13 @@ returns-in_err-counts-clause-answer g c =
 
 pub returns-in_err-received-clause-calls : goal.returns-in_err-received-clause-calls
 returns-in_err-received-clause-calls g c =
-    let run = rw (c.in_ok-counts.ensures.0, c.in_ok-counts.ensures.1) at c.in_err-received.ensures in
-    (run.0, run.1, λ originals recoveries begins further. let led =
-        decoding-refused c.args.original_count c.args.recovery_count originals recoveries _
-        (run.2 originals recoveries begins further) in search rules)
+    let run = rw (c.in_ok-counts.ensures.0, c.in_ok-counts.ensures.1) at c.in_err-received.ensures in (
+      run.0,
+      run.1,
+      λ originals recoveries begins further. let led =
+          decoding-refused c.args.original_count c.args.recovery_count originals recoveries _
+          (run.2 originals recoveries begins further) in search rules,
+    )
 
 pub returns-in_err-received-clause-answer : goal.returns-in_err-received-clause-answer
 returns-in_err-received-clause-answer g c =
@@ -39,9 +42,9 @@ returns-in_default-clause-calls g c =
       run.1,
       λ originals recoveries begins further.
           subst (λ restored. OneDecodeAnswers c.args.original_count c.args.recovery_count originals recoveries
-              (Ok restored)) (sym (shards_in-empty c.new-in_default.result c.new-in_default.ensures.empty))
+          (Ok restored)) (sym (shards_in-empty c.new-in_default.result c.new-in_default.ensures.empty))
           (decoding-nothing c.args.original_count c.args.recovery_count originals recoveries
-              (run.2 originals recoveries begins further)),
+          (run.2 originals recoveries begins further)),
     )
 
 pub returns-in_default-clause-answer : goal.returns-in_default-clause-answer
@@ -55,8 +58,8 @@ returns-in_err-surplus-clause-calls g c =
       run.1,
       λ originals recoveries begins further.
           let led = decoding-few c.args.original_count c.args.recovery_count originals recoveries _
-              (run.2 originals recoveries begins further) c.in_err-surplus.field-0.0 c.in_err-surplus.ensures.answer in
-              search rules,
+          (run.2 originals recoveries begins further) c.in_err-surplus.field-0.0 c.in_err-surplus.ensures.answer in
+          search rules,
     )
 
 pub returns-in_err-surplus-clause-answer : goal.returns-in_err-surplus-clause-answer
@@ -71,9 +74,9 @@ returns-in_err-restored-clause-calls g c =
       run.1,
       λ originals recoveries begins further.
           let led = decoding-none-agrees c.args.original_count c.args.recovery_count originals recoveries _
-              (run.2 originals recoveries begins further)
-              (sym c.in_ok-surplus.ensures.answer) c.in_err-restored.field-0.0 c.in_err-restored.ensures in
-              search rules,
+          (run.2 originals recoveries begins further)
+          (sym c.in_ok-surplus.ensures.answer) c.in_err-restored.field-0.0 c.in_err-restored.ensures in
+          search rules,
     )
 
 pub returns-in_err-restored-clause-answer : goal.returns-in_err-restored-clause-answer
@@ -88,7 +91,7 @@ returns-clause-calls g c =
       run.1,
       λ originals recoveries begins further.
           decoding-restored c.args.original_count c.args.recovery_count originals recoveries _
-              (run.2 originals recoveries begins further) (sym c.in_ok-surplus.ensures.answer) _ c.by_index.ensures,
+          (run.2 originals recoveries begins further) (sym c.in_ok-surplus.ensures.answer) _ c.by_index.ensures,
     )
 
 pub returns-clause-answer : goal.returns-clause-answer

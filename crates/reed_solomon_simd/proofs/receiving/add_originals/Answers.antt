@@ -6,13 +6,13 @@ use Rattle.reed_solomon_simd.proofs.receiving.add_originals.Goals as goal
 pub loop-index-preserved : goal.loop-index-preserved
 loop-index-preserved g c =
     leads-taken {item = (c.in-Some.index, c.in-Some.shard)} c.loop-index.invariant c.in-Some.ensures.steps
-        (outcome-ok _ _ _ c.in_ok-add_original.ensures.answer c.in_ok-add_original.ensures.left)
+    (outcome-ok _ _ _ c.in_ok-add_original.ensures.answer c.in_ok-add_original.ensures.left)
 
 pub returns-in_err-add_original : goal.returns-in_err-add_original
 returns-in_err-add_original g c =
     leads-refused {item = (c.in-Some.index, c.in-Some.shard)}
-        (λ s. received_state c.add_original.new.self ≡ s) c.loop-index.invariant c.in-Some.ensures.steps
-        (outcome-err _ _ c.in_err-add_original.ensures.answer) (search rules)
+    (λ s. received_state c.add_original.new.self ≡ s) c.loop-index.invariant c.in-Some.ensures.steps
+    (outcome-err _ _ c.in_err-add_original.ensures.answer) (search rules)
 
 pub returns : goal.returns
 returns g c = leads-ended

@@ -17,9 +17,9 @@ use Rattle.reed_solomon_simd.proofs.restoring.by_index.Goals as goal
 pub loop-index-init : goal.loop-index-init
 loop-index-init c =
     entered-none (received_state c.args.received.now) (map (λ v. v.items) c.args.restored.items)
-        (map (λ v. v.items) (into_iter_items c.into_iter-left.result))
+    (map (λ v. v.items) (into_iter_items c.into_iter-left.result))
     (shards_in c.new-vectors.result) c.requires (ap (map (λ v. v.items)) (search rules))
-        (shards_in-empty c.new-vectors.result c.new-vectors.ensures.empty)
+    (shards_in-empty c.new-vectors.result c.new-vectors.ensures.empty)
 
 pub loop-index-preserved : goal.loop-index-preserved
 loop-index-preserved c =
@@ -30,46 +30,46 @@ loop-index-preserved c =
       | then-is_none+in-Some+in_ok-insert+in-Some-1 w ↦
           let free : given_in c.args.received.now.originals.shards.items c.loop-index.index ≡ None = search rules in
           let items : into_iter_items c.loop-index.left ≡ w.in-Some.shard ∷ into_iter_items w.next.new.self =
-              search rules in
+          search rules in
           subst (λ left. AreEntered (received_state c.args.received.now) (c.loop-index.index + 1)
-              (map (λ v. v.items) (into_iter_items left)) (shards_in c.if-is_none.vectors)) (sym w.left-is)
+          (map (λ v. v.items) (into_iter_items left)) (shards_in c.if-is_none.vectors)) (sym w.left-is)
           (subst (λ vectors. AreEntered (received_state c.args.received.now) (c.loop-index.index + 1)
-              (map (λ v. v.items) (into_iter_items w.next.new.self)) (shards_in vectors)) (sym w.vectors-is)
+          (map (λ v. v.items) (into_iter_items w.next.new.self)) (shards_in vectors)) (sym w.vectors-is)
           (entered-next s i _ (shards_in c.loop-index.vectors) now c.loop-index-test.true free w.in-Some.shard.items
-              (map (λ v. v.items) (into_iter_items w.next.new.self)) (shards_in w.insert.new.self)
+          (map (λ v. v.items) (into_iter_items w.next.new.self)) (shards_in w.insert.new.self)
           (ap (map (λ v. v.items)) items)
           (λ all others is. with_entries-inserted c.loop-index.vectors w.insert.new.self i w.in-Some.shard
-              w.in-Some.shard.items all others is refl w.in_ok-insert.ensures.updates)))
+          w.in-Some.shard.items all others is refl w.in_ok-insert.ensures.updates)))
       | then-is_none+in-Some+in_ok-insert+in-None-1 w ↦
           let free : given_in c.args.received.now.originals.shards.items c.loop-index.index ≡ None = search rules in
           let items : into_iter_items c.loop-index.left ≡ w.in-Some.shard ∷ into_iter_items w.next.new.self =
-              search rules in
+          search rules in
           subst (λ left. AreEntered (received_state c.args.received.now) (c.loop-index.index + 1)
-              (map (λ v. v.items) (into_iter_items left)) (shards_in c.if-is_none.vectors)) (sym w.left-is)
+          (map (λ v. v.items) (into_iter_items left)) (shards_in c.if-is_none.vectors)) (sym w.left-is)
           (subst (λ vectors. AreEntered (received_state c.args.received.now) (c.loop-index.index + 1)
-              (map (λ v. v.items) (into_iter_items w.next.new.self)) (shards_in vectors)) (sym w.vectors-is)
+          (map (λ v. v.items) (into_iter_items w.next.new.self)) (shards_in vectors)) (sym w.vectors-is)
           (entered-next s i _ (shards_in c.loop-index.vectors) now c.loop-index-test.true free w.in-Some.shard.items
-              (map (λ v. v.items) (into_iter_items w.next.new.self)) (shards_in w.insert.new.self)
+          (map (λ v. v.items) (into_iter_items w.next.new.self)) (shards_in w.insert.new.self)
           (ap (map (λ v. v.items)) items)
           (λ all others is. with_entries-inserted c.loop-index.vectors w.insert.new.self i w.in-Some.shard
-              w.in-Some.shard.items all others is refl w.in_ok-insert.ensures.updates)))
+          w.in-Some.shard.items all others is refl w.in_ok-insert.ensures.updates)))
       | then-is_none+in_default w ↦
           let free : given_in c.args.received.now.originals.shards.items c.loop-index.index ≡ None = search rules in
           let zero : length (into_iter_items c.loop-index.left) ≡ 0 = search rules in
           let none : into_iter_items c.loop-index.left ≡ [] =
-              nil_from_length (into_iter_items c.loop-index.left) zero in
+          nil_from_length (into_iter_items c.loop-index.left) zero in
           absurd (entered-short s i _ (shards_in c.loop-index.vectors) now c.loop-index-test.true free
-              (ap (map (λ v. v.items)) none))
+          (ap (map (λ v. v.items)) none))
       | else-is_none w ↦
           let found : is_some c.index.result.now ≡ true = search rules in
           let place : get_or c.args.received.now.originals.shards.items c.loop-index.index c.index.result.now
-              ≡ c.index.result.now = search rules in
+          ≡ c.index.result.now = search rules in
           let some = some-place c.args.received.now.originals.shards.items i c.index.result.now place
-              (omega (arith, c.loop-index-test.true, c.args.received.now.original_places)) found in
+          (omega (arith, c.loop-index-test.true, c.args.received.now.original_places)) found in
           subst (λ left. AreEntered (received_state c.args.received.now) (c.loop-index.index + 1)
-              (map (λ v. v.items) (into_iter_items left)) (shards_in c.if-is_none.vectors)) (sym w.left-is)
+          (map (λ v. v.items) (into_iter_items left)) (shards_in c.if-is_none.vectors)) (sym w.left-is)
           (subst (λ vectors. AreEntered (received_state c.args.received.now) (c.loop-index.index + 1)
-              (map (λ v. v.items) (into_iter_items c.loop-index.left)) (shards_in vectors)) (sym w.vectors-is)
+          (map (λ v. v.items) (into_iter_items c.loop-index.left)) (shards_in vectors)) (sym w.vectors-is)
           (entered-skipped s i _ (shards_in c.loop-index.vectors) now c.loop-index-test.true some))
     ]
 

@@ -11,6 +11,6 @@ returns-clause-filled c =
     let many = length-map c.args.rooms.now (λ room. room.now) in
     let fact : bytes_in c.put_all.new.rooms.rooms.now ≡ map (λ vector. vector.items) c.args.vectors.now =
     put-whole c.args.shard_bytes (map (λ vector. vector.items) c.args.vectors.now) (bytes_in c.args.rooms.now)
-        (bytes_in c.put_all.new.rooms.rooms.now) put
+    (bytes_in c.put_all.new.rooms.rooms.now) put
     (omega (arith, long, many, c.requires.number)) c.requires.fit in
     search rules

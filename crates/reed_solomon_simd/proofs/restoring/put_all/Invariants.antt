@@ -9,7 +9,7 @@ invariant-loop-index g l =
       put : (i : ℕ) → i < l.index → get_or (g.R.Rooms.held l.rooms) i []
           ≡ take 0 (get_or (g.R.Rooms.held l.initial.rooms) i [])
           ++ (get_or (map (λ v. v.items) l.vectors) i []
-              ++ drop l.shard_bytes (get_or (g.R.Rooms.held l.initial.rooms) i []));
+          ++ drop l.shard_bytes (get_or (g.R.Rooms.held l.initial.rooms) i []));
       others : (i : ℕ) → l.index ≤ i
           → get_or (g.R.Rooms.held l.rooms) i [] ≡ get_or (g.R.Rooms.held l.initial.rooms) i [];
       places : g.R.Rooms.places l.rooms ≡ g.R.Rooms.places l.initial.rooms;

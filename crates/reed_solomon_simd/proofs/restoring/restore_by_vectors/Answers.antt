@@ -12,7 +12,7 @@ pub returns-in_err-vectors-clause-answer : goal.returns-in_err-vectors-clause-an
 returns-in_err-vectors-clause-answer g c =
     let s : DecoderState = received_state c.args.received.now in
     restores-refused s c.requires.enough c.in_err-vectors.field-0.0 (bytes_in c.args.rooms.now)
-        (bytes_in c.args.rooms.now) _ c.in_err-vectors.ensures (search rules) refl
+    (bytes_in c.args.rooms.now) _ c.in_err-vectors.ensures (search rules) refl
 
 pub returns-in_err-check_rooms-clause-answer : goal.returns-in_err-check_rooms-clause-answer
 returns-in_err-check_rooms-clause-answer g c =
@@ -21,7 +21,7 @@ returns-in_err-check_rooms-clause-answer g c =
     let holds = c.in_ok-vectors.ensures in
     let many = held-number s made holds in
     let number : length (map (λ v. v.items) c.in_ok-vectors.vectors.items) ≡ c.missing-missing.result =
-        omega (arith, many, c.missing-missing.ensures) in
+    omega (arith, many, c.missing-missing.ensures) in
     restores-filled s c.requires.enough made (bytes_in c.args.rooms.now) _ _ holds (Err c.in_err-check_rooms.field-0.0)
     (c.in_err-check_rooms.ensures.answer made number (held-sized s made holds)) (search rules, refl)
 
@@ -32,7 +32,7 @@ fill_rooms-requires-clause-number g c =
     let many = held-number s made c.in_ok-vectors.ensures in
     let long = length-map c.in_ok-vectors.vectors.items (λ v. v.items) in
     ap length c.as_slice.ensures.value
-        ∙ omega (arith, many, long, c.missing-missing.ensures, c.in_ok-check_rooms.ensures.number)
+    ∙ omega (arith, many, long, c.missing-missing.ensures, c.in_ok-check_rooms.ensures.number)
 
 pub fill_rooms-requires-clause-sized : goal.fill_rooms-requires-clause-sized
 fill_rooms-requires-clause-sized g c =
@@ -51,8 +51,8 @@ returns-clause-answer g c =
     let holds = c.in_ok-vectors.ensures in
     let many = held-number s made holds in
     let number : length (map (λ v. v.items) c.in_ok-vectors.vectors.items) ≡ c.missing-missing.result =
-        omega (arith, many, c.missing-missing.ensures) in
+    omega (arith, many, c.missing-missing.ensures) in
     restores-filled s c.requires.enough made (bytes_in c.args.rooms.now) (bytes_in c.fill_rooms.new.rooms) (Ok tt) holds
-        (Ok tt)
+    (Ok tt)
     (c.in_ok-check_rooms.ensures.answer made number (held-sized s made holds))
     (refl, c.fill_rooms.ensures.filled ∙ ap (map (λ v. v.items)) c.as_slice.ensures.value)

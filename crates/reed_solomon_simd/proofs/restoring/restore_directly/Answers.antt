@@ -13,9 +13,9 @@ returns-in_err-restore_lent-clause-answer g c =
     let s : DecoderState = received_state c.args.received.now in
     let e = c.in_err-restore_lent.field-0.0 in
     let lacks : c.in_err-restore_lent.field-0.0 ≡ OutOfMemory =
-        (let refused = c.in_err-restore_lent.ensures.refused in cc) in
+    (let refused = c.in_err-restore_lent.ensures.refused in cc) in
     restores-refused s c.requires.enough e (bytes_in c.args.rooms.now) (bytes_in c.restore_lent.new.rooms) _ (inr lacks)
-        (search rules) c.in_err-restore_lent.ensures.untouched
+    (search rules) c.in_err-restore_lent.ensures.untouched
 
 pub returns-clause-answer : goal.returns-clause-answer
 returns-clause-answer g c =
@@ -24,8 +24,8 @@ returns-clause-answer g c =
     let made : List Shard = bytes_in c.restore_lent.new.rooms in
     let holds = c.in_ok-restore_lent.ensures.restored in
     let number : length (bytes_in c.args.rooms.now) + originals_given (received_state c.args.received.now)
-        ≡ c.args.received.now.counts.original_count =
+    ≡ c.args.received.now.counts.original_count =
     ap (λ n. n + originals_given (received_state c.args.received.now)) (length-map c.args.rooms.now (λ room. room.now))
-        ∙ c.requires.number in
+    ∙ c.requires.number in
     restores-filled s c.requires.enough made old made (Ok tt) holds (Ok tt)
-        (sym (restored-fit s made old holds number c.requires.fit)) (refl, refl)
+    (sym (restored-fit s made old holds number c.requires.fit)) (refl, refl)

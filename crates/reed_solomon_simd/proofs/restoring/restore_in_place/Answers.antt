@@ -36,7 +36,7 @@ returns-clause-restored g c =
     was-done-if c.put_all.result (λ put.
     let same : g.S.Rooms.held c.put_all.new.rooms ≡ map (λ v. v.items) c.in_ok-vectors.vectors.items =
     put-whole c.shard_bytes-shard_bytes.result made old new (rw c.as_slice.ensures.value at put)
-        (omega (arith, many, c.requires.missing, c.requires.number))
+    (omega (arith, many, c.requires.missing, c.requires.number))
     (λ i d h. c.requires.fit i d h ∙ sym c.shard_bytes-shard_bytes.ensures) in
     subst (λ (l : List Shard). HoldRestored (g.S.Pieces.received c.args.store.now) l)
-        (sym same) c.in_ok-vectors.ensures) c.put_all.ensures.put
+    (sym same) c.in_ok-vectors.ensures) c.put_all.ensures.put

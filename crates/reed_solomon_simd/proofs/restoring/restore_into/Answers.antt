@@ -8,4 +8,4 @@ pub returns-in_err-surplus-clause-answer : goal.returns-in_err-surplus-clause-an
 returns-in_err-surplus-clause-answer g c =
     let old = bytes_in c.args.rooms.now in
     restores-few (received_state c.args.received.now) c.in_err-surplus.field-0.0 old old _
-        c.in_err-surplus.ensures.answer (search rules) refl
+    c.in_err-surplus.ensures.answer (search rules) refl

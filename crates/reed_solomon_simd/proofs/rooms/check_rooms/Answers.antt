@@ -21,11 +21,11 @@ returns-then-rooms-index-clause-answer c = λ shards number sized.
     let many : length c.args.rooms.now ≡ c.args.count = search rules in
     let other : length (get_or (bytes_in c.args.rooms.now) c.loop-index.index []) ≡ c.args.shard_bytes → ⊥ =
     (λ same. let fact : length (get_or c.args.rooms.now c.loop-index.index d).now ≡ c.args.shard_bytes =
-        ap length (sym here) ∙ same in let no : ⊥ = search rules in no) in
+    ap length (sym here) ∙ same in let no : ⊥ = search rules in no) in
     ap (λ (n : ℕ). Err (WrongLength c.args.shard_bytes n)) (ap length (sym here))
     ∙ sym (fits-many shards (bytes_in c.args.rooms.now) (number ∙ sym many ∙ sym all)
     ∙ fits-first c.args.shard_bytes i shards (bytes_in c.args.rooms.now) (number ∙ sym many ∙ sym all) sized
-        (omega (arith, inside, all)) c.loop-index.invariant other)
+    (omega (arith, inside, all)) c.loop-index.invariant other)
 
 pub loop-index-preserved : goal.loop-index-preserved
 loop-index-preserved c = λ i h.
@@ -46,4 +46,4 @@ returns-clause-answer c = λ shards number sized.
     let done = c.loop-index-test.false in
     sym (fits-many shards (bytes_in c.args.rooms.now) (number ∙ sym many ∙ sym all)
     ∙ fits-all c.args.shard_bytes shards (bytes_in c.args.rooms.now) sized
-        (λ i h. c.loop-index.invariant i (omega (arith, h, all, done))))
+    (λ i h. c.loop-index.invariant i (omega (arith, h, all, done))))

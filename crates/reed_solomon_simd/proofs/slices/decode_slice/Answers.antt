@@ -6,10 +6,10 @@ pub returns : goal.returns
 returns g c =
     let originals =
     YieldsList-from_map_by _ (λ item. (item.0, item.1.now)) (λ item. (item.0, g.O.AsSlice.items item.1))
-        (YieldsList-from_slice c.args.original.now cc) c.map.ensures.closure (λ x r q k. search rules)
+    (YieldsList-from_slice c.args.original.now cc) c.map.ensures.closure (λ x r q k. search rules)
     in
     let recoveries =
     YieldsList-from_map_by _ (λ item. (item.0, item.1.now)) (λ item. (item.0, g.R.AsSlice.items item.1))
-        (YieldsList-from_slice c.args.recovery.now cc) c.map-2.ensures.closure (λ x r q k. search rules)
+    (YieldsList-from_slice c.args.recovery.now cc) c.map-2.ensures.closure (λ x r q k. search rules)
     in
     c.decode.ensures.answer _ _ originals.runs recoveries.runs

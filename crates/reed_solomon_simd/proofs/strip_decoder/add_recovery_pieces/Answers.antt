@@ -31,9 +31,9 @@ returns-in_err-add_recovery_shard g c =
     let inside : c.loop-index.index < s.configuration.recovery_count =
     omega (arith, count, c.counts-index-end.ensures.recovery, c.loop-index-test.true) in
     let long = long-enough end x.configuration.recovery_count x.configuration.shard_bytes x.recovery
-        c.requires.set_up.recovery_within c.requires.inside in
+    c.requires.set_up.recovery_within c.requires.inside in
     absurd (recovery-refused s
-        (decoder_state default_rate c.loop-index.decoder.rows) c.loop-index.index given c.in-Some.piece.now found
+    (decoder_state default_rate c.loop-index.decoder.rows) c.loop-index.index given c.in-Some.piece.now found
     (piece-sized start end c.loop-index.index x.recovery c.in-Some.piece.now c.requires.order long found ∙ sym size)
     c.loop-index.invariant inside c.in_err-add_recovery_shard.field-0.0 c.in_err-add_recovery_shard.ensures.answer)
 
@@ -48,22 +48,22 @@ loop-index-preserved g c =
     let inside : c.loop-index.index < s.configuration.recovery_count =
     omega (arith, count, c.counts-index-end.ensures.recovery, c.loop-index-test.true) in
     let long = long-enough end x.configuration.recovery_count x.configuration.shard_bytes x.recovery
-        c.requires.set_up.recovery_within c.requires.inside in
+    c.requires.set_up.recovery_within c.requires.inside in
     elim c.match-recovery_piece.branch [
       | in-Some+in_ok-add_recovery_shard w ↦
           let found : pieces_of c.args.start c.args.end x.recovery c.loop-index.index ≡ Some w.in-Some.piece.now =
-              sym w.in-Some.ensures in
+          sym w.in-Some.ensures in
           ap (λ d. decoder_state default_rate d.rows) w.decoder-is
           ∙ recovery-next s (decoder_state default_rate c.loop-index.decoder.rows) c.loop-index.index given
-              w.in-Some.piece.now found
+          w.in-Some.piece.now found
           (piece-sized start end c.loop-index.index x.recovery w.in-Some.piece.now c.requires.order long found
-              ∙ sym size)
+          ∙ sym size)
           c.loop-index.invariant inside
-              (decoder_state default_rate w.add_recovery_shard.new.self.rows) w.in_ok-add_recovery_shard.ensures.left
+          (decoder_state default_rate w.add_recovery_shard.new.self.rows) w.in_ok-add_recovery_shard.ensures.left
       | in_default w ↦
           ap (λ d. decoder_state default_rate d.rows) w.decoder-is ∙ c.loop-index.invariant
           ∙ ap (λ (given : Shards). record s { recovery = given })
-              (first-skipped c.loop-index.index given (sym w.in_default.ensures))
+          (first-skipped c.loop-index.index given (sym w.in_default.ensures))
     ]
 
 pub returns-clause-added : goal.returns-clause-added
@@ -73,9 +73,9 @@ returns-clause-added g c =
     let start : ℕ = c.args.start in let end : ℕ = c.args.end in
     let n : ℕ = c.loop-index.index in
     let all : x.configuration.recovery_count ≤ n =
-        omega (arith, c.counts-index-end.ensures.recovery, c.loop-index-test.false) in
+    omega (arith, c.counts-index-end.ensures.recovery, c.loop-index-test.false) in
     c.loop-index.invariant
     ∙ ap (λ (given : Shards). record s { recovery = given })
     (first-all n (pieces_of start end x.recovery)
     (pieces-past start end n x.configuration.recovery_count x.configuration.shard_bytes x.recovery
-        c.requires.set_up.recovery_within all))
+    c.requires.set_up.recovery_within all))

@@ -13,10 +13,10 @@ returns-in_err-restored_count-clause-refused g c =
     let x : DecoderState = g.S.Pieces.received c.args.store.now in
     let state : DecoderState = decoder_state default_rate c.add_recovery_pieces.new.decoder.rows in
     let is = pieces-added start end x (decoder_state default_rate c.args.decoder.now.rows)
-        (decoder_state default_rate c.add_original_pieces.new.decoder.rows) state
+    (decoder_state default_rate c.add_original_pieces.new.decoder.rows) state
     c.requires.fresh c.in_ok-add_original_pieces.ensures.added c.in_ok-add_recovery_pieces.ensures.added in
     let none = round-refused start end x state is c.requires.enough c.in_err-restored_count.field-0.0
-        c.in_err-restored_count.ensures.answer in
+    c.in_err-restored_count.ensures.answer in
     let refused : c.from_residual-in_err-restored_count.result ≡ Err c.in_err-restored_count.field-0.0 = search rules in
     rw refused (inl none)
 
@@ -26,7 +26,7 @@ returns-in_err-restored_count-clause-fresh g c =
     let x : DecoderState = g.S.Pieces.received c.args.store.now in
     let state : DecoderState = decoder_state default_rate c.add_recovery_pieces.new.decoder.rows in
     let is = pieces-added start end x (decoder_state default_rate c.args.decoder.now.rows)
-        (decoder_state default_rate c.add_original_pieces.new.decoder.rows) state
+    (decoder_state default_rate c.add_original_pieces.new.decoder.rows) state
     c.requires.fresh c.in_ok-add_original_pieces.ensures.added c.in_ok-add_recovery_pieces.ensures.added in
     c.in_err-restored_count.ensures.state ∙ round-ends start end x state is c.requires.enough ∙ sym c.requires.fresh
 
@@ -36,15 +36,17 @@ put_pieces-requires-clause-pieces g c =
     let x : DecoderState = g.S.Pieces.received c.args.store.now in
     let state : DecoderState = decoder_state default_rate c.add_recovery_pieces.new.decoder.rows in
     let is = pieces-added start end x (decoder_state default_rate c.args.decoder.now.rows)
-        (decoder_state default_rate c.add_original_pieces.new.decoder.rows) state
+    (decoder_state default_rate c.add_original_pieces.new.decoder.rows) state
     c.requires.fresh c.in_ok-add_original_pieces.ensures.added c.in_ok-add_recovery_pieces.ensures.added in
     let made = round-made start end x state is c.requires.enough
-        (restored_by_rows c.decode_round.new.decoder.rows) c.in_ok-restored_count.ensures.answer in
+    (restored_by_rows c.decode_round.new.decoder.rows) c.in_ok-restored_count.ensures.answer in
     λ items listing.
     let here : Lists (restored_by_rows c.decode_round.new.decoder.rows) items =
-        subst (λ (out : Shards). Lists out items) c.lent_originals.ensures listing in
+    subst (λ (out : Shards). Lists out items) c.lent_originals.ensures listing in
     let grows = g.S.Rooms.grows in
     let number = pieces-number x grows start end
-        (restored_by_rows c.decode_round.new.decoder.rows) items c.requires.strip made here in
-    (omega (arith, number, c.requires.number), pieces-sized x grows start end
-        (restored_by_rows c.decode_round.new.decoder.rows) items c.requires.strip made here)
+    (restored_by_rows c.decode_round.new.decoder.rows) items c.requires.strip made here in (
+      omega (arith, number, c.requires.number),
+      pieces-sized x grows start end
+          (restored_by_rows c.decode_round.new.decoder.rows) items c.requires.strip made here,
+    )

@@ -20,12 +20,12 @@ returns-in_err-decode_strip-clause-refused g c =
     let start : ℕ = c.loop-start.start in
     let held = c.loop-start.invariant in
     let strip = is_strip start 2048 size c.min-width.result c.min.result c.min-width.ensures c.min.ensures refl
-        held.begins c.loop-start-test.true in
+    held.begins c.loop-start-test.true in
     let refused : c.from_residual-in_err-decode_strip.result ≡ Err c.in_err-decode_strip.field-0.0 = search rules in
     rw refused (strip-refused start (start + c.min.result) size x
-        (g.S.Pieces.received c.loop-start.store) g.S.Rooms.grows
+    (g.S.Pieces.received c.loop-start.store) g.S.Rooms.grows
     held.received c.shard_bytes-shard_bytes.ensures strip c.in_err-decode_strip.field-0.0
-        c.in_err-decode_strip.ensures.refused)
+    c.in_err-decode_strip.ensures.refused)
 
 pub loop-start-preserved : goal.loop-start-preserved
 loop-start-preserved g c =
@@ -34,7 +34,7 @@ loop-start-preserved g c =
     let start : ℕ = c.loop-start.start in
     let held = c.loop-start.invariant in
     let strip = is_strip start 2048 size c.min-width.result c.min.result c.min-width.ensures c.min.ensures refl
-        held.begins c.loop-start-test.true in
+    held.begins c.loop-start-test.true in
     let now = c.in_ok-decode_strip.ensures in
     record {
       received = c.requires.kept c.decode_strip.new.store c.loop-start.store now.places ∙ held.received;
@@ -43,16 +43,16 @@ loop-start-preserved g c =
       fresh = λ more. elim c.if-left-width.branch [
         | then-left-width+in_ok-reset w ↦
             let less : c.shard_bytes-shard_bytes.result - c.loop-start.start < c.min-width.result =
-                w.if-left-width.true in
+            w.if-left-width.true in
             let last : c.min.result ≡ c.shard_bytes-shard_bytes.result - c.loop-start.start =
-                c.min.ensures ∙ min-eq_right (omega (arith, less)) in
+            c.min.ensures ∙ min-eq_right (omega (arith, less)) in
             absurd (let no : ⊥ = omega (arith, more, last) in no)
         | else-left-width w ↦ now.fresh ∙ ap (λ d. decoder_state default_rate d.rows) w.decoder-is
             ∙ held.fresh c.loop-start-test.true
       ];
       done = strip-restored start (start + c.min.result) size x (g.S.Pieces.received c.loop-start.store) g.S.Rooms.grows
           held.received c.shard_bytes-shard_bytes.ensures strip (g.S.Rooms.held c.loop-start.store)
-              (g.S.Rooms.held c.decode_strip.new.store) now.put held.done;
+          (g.S.Rooms.held c.decode_strip.new.store) now.put held.done;
       places = now.places ∙ held.places;
       loan = now.loan ∙ held.loan;
     }
@@ -62,8 +62,8 @@ returns-clause-restored g c =
     let x : DecoderState = g.S.Pieces.received c.args.store.now in
     let held = c.loop-start.invariant in
     let ends : c.loop-start.start ≡ c.shard_bytes-shard_bytes.result =
-        omega (arith, held.inside, c.loop-start-test.false) in
+    omega (arith, held.inside, c.loop-start-test.false) in
     strips-restored x g.S.Rooms.grows (g.S.Rooms.held c.loop-start.store) c.requires.set_up c.requires.enough
     (subst (λ (n : ℕ). IsRestoredBelow (g.S.Pieces.received c.args.store.now) g.S.Rooms.grows n
-        (g.S.Rooms.held c.loop-start.store))
+    (g.S.Rooms.held c.loop-start.store))
     (ends ∙ c.shard_bytes-shard_bytes.ensures) held.done)

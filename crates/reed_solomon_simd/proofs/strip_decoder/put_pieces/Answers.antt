@@ -12,13 +12,13 @@ put-requires-clause-fits g c =
     let held = c.loop-piece.invariant in
     let n : ℕ = c.loop-piece.room in
     let begins : c.loop-piece.piece-iterator ≡ (c.in-Some.field-0-0, c.in-Some.piece.now) ∷ c.next.new.self =
-        search rules in
+    search rules in
     let next = left-next n held.items c.next.new.self (c.in-Some.field-0-0, c.in-Some.piece.now) held.most
-        (held.left ∙ begins) in
+    (held.left ∙ begins) in
     let all = c.requires.pieces held.items held.listed in
     let number = length-map held.items (λ (x : ℕ × Shard). x.1) in
     let long : length c.in-Some.piece.now ≡ c.args.end - c.args.start =
-        ap length (sym next.1) ∙ all.1 n [] (omega (arith, number, next.0)) in
+    ap length (sym next.1) ∙ all.1 n [] (omega (arith, number, next.0)) in
     let inside : c.loop-piece.room < length (g.R.Rooms.held c.args.rooms.now) = omega (arith, next.0, all.0) in (
       c.requires.fit.0,
       omega (arith, long, c.requires.order, c.requires.fit.1),
@@ -31,16 +31,16 @@ loop-piece-preserved g c =
     let held = c.loop-piece.invariant in
     let n : ℕ = c.loop-piece.room in
     let begins : c.loop-piece.piece-iterator ≡ (c.in-Some.field-0-0, c.in-Some.piece.now) ∷ c.next.new.self =
-        search rules in
+    search rules in
     let next = left-next n held.items c.next.new.self (c.in-Some.field-0-0, c.in-Some.piece.now) held.most
-        (held.left ∙ begins) in
+    (held.left ∙ begins) in
     let all = c.requires.pieces held.items held.listed in
     let number = length-map held.items (λ (x : ℕ × Shard). x.1) in
     let long : length c.in-Some.piece.now ≡ c.args.end - c.args.start =
-        ap length (sym next.1) ∙ all.1 n [] (omega (arith, number, next.0)) in
+    ap length (sym next.1) ∙ all.1 n [] (omega (arith, number, next.0)) in
     let ends : c.args.start + length c.in-Some.piece.now ≡ c.args.end = omega (arith, long, c.requires.order) in
     let same : get_or (g.R.Rooms.held c.loop-piece.rooms) c.loop-piece.room []
-        ≡ get_or (g.R.Rooms.held c.args.rooms.now) c.loop-piece.room [] =
+    ≡ get_or (g.R.Rooms.held c.args.rooms.now) c.loop-piece.room [] =
     held.others n (omega arith) in
     record {
       items = held.items;
@@ -54,11 +54,11 @@ loop-piece-preserved g c =
             ∙ c.in_ok-put.ensures.here
             ∙ ap₂ (λ (old : Shard) (m : ℕ). take c.args.start old ++ (c.in-Some.piece.now ++ drop m old)) same ends
             ∙ ap (λ (piece : Shard).
-                take c.args.start (get_or (g.R.Rooms.held c.args.rooms.now) n [])
+            take c.args.start (get_or (g.R.Rooms.held c.args.rooms.now) n [])
             ++ (piece ++ drop c.args.end (get_or (g.R.Rooms.held c.args.rooms.now) n []))) (sym next.1)
             ∙ ap (λ (m : ℕ). take c.args.start (get_or (g.R.Rooms.held c.args.rooms.now) m [])
             ++ (get_or (shards_listed held.items) m []
-                ++ drop c.args.end (get_or (g.R.Rooms.held c.args.rooms.now) m []))) (sym here)
+            ++ drop c.args.end (get_or (g.R.Rooms.held c.args.rooms.now) m []))) (sym here)
         | inr other ↦ c.in_ok-put.ensures.others i other ∙ held.put i (omega (arith, h, other))
       ];
       others = λ i h. c.in_ok-put.ensures.others i (λ here. let e : i ≡ n = here in omega (arith, h, e))

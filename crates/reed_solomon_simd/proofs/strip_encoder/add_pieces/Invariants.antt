@@ -10,5 +10,5 @@ use Rattle.reed_solomon_simd.proofs.strip_encoder.add_pieces.Given as goal
 abbrev pub invariant-loop-shard : goal.invariant-loop-shard
 invariant-loop-shard g l =
     with_shards (encoder_state default_rate l.initial.encoder.rows)
-        (pieces l.start l.end (shards_of (take l.shard-index l.originals)))
+    (pieces l.start l.end (shards_of (take l.shard-index l.originals)))
     ≡ Ok (encoder_state default_rate l.encoder.rows)

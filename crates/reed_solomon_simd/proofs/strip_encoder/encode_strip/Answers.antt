@@ -16,35 +16,35 @@ use Rattle.reed_solomon_simd.proofs.strip_encoder.encode_strip.Goals as goal
 pub returns-in_err-add_pieces-clause-refused : goal.returns-in_err-add_pieces-clause-refused
 returns-in_err-add_pieces-clause-refused g c =
     absurd (strip-added c.args.start c.args.end
-        (length (g.R.Rooms.held c.args.rooms.now)) c.args.originals.now c.requires.order c.requires.originals
+    (length (g.R.Rooms.held c.args.rooms.now)) c.args.originals.now c.requires.order c.requires.originals
     (encoder_state default_rate c.args.encoder.now.rows) c.requires.fresh
-        (λ s. encoder_state default_rate c.add_pieces.new.encoder.rows ≡ s)
+    (λ s. encoder_state default_rate c.add_pieces.new.encoder.rows ≡ s)
     c.in_err-add_pieces.field-0.0 c.in_err-add_pieces.ensures)
 
 pub returns-in_err-add_pieces-clause-fresh : goal.returns-in_err-add_pieces-clause-fresh
 returns-in_err-add_pieces-clause-fresh g c =
     absurd (strip-added c.args.start c.args.end
-        (length (g.R.Rooms.held c.args.rooms.now)) c.args.originals.now c.requires.order c.requires.originals
+    (length (g.R.Rooms.held c.args.rooms.now)) c.args.originals.now c.requires.order c.requires.originals
     (encoder_state default_rate c.args.encoder.now.rows) c.requires.fresh
-        (λ s. encoder_state default_rate c.add_pieces.new.encoder.rows ≡ s)
+    (λ s. encoder_state default_rate c.add_pieces.new.encoder.rows ≡ s)
     c.in_err-add_pieces.field-0.0 c.in_err-add_pieces.ensures)
 
 pub returns-in_err-encode_round-clause-refused : goal.returns-in_err-encode_round-clause-refused
 returns-in_err-encode_round-clause-refused g c =
     let led = reached-ok _ (encoder_state default_rate c.add_pieces.new.encoder.rows) c.in_ok-add_pieces.ensures in
     absurd (strip-encoded c.args.start c.args.end
-        (length (g.R.Rooms.held c.args.rooms.now)) c.args.originals.now c.requires.order c.requires.originals
+    (length (g.R.Rooms.held c.args.rooms.now)) c.args.originals.now c.requires.order c.requires.originals
     (encoder_state default_rate c.args.encoder.now.rows) c.requires.fresh
-        (encoder_state default_rate c.add_pieces.new.encoder.rows) led
+    (encoder_state default_rate c.add_pieces.new.encoder.rows) led
     c.in_err-encode_round.field-0.0 c.in_err-encode_round.ensures.answer)
 
 pub returns-in_err-encode_round-clause-fresh : goal.returns-in_err-encode_round-clause-fresh
 returns-in_err-encode_round-clause-fresh g c =
     let led = reached-ok _ (encoder_state default_rate c.add_pieces.new.encoder.rows) c.in_ok-add_pieces.ensures in
     absurd (strip-encoded c.args.start c.args.end
-        (length (g.R.Rooms.held c.args.rooms.now)) c.args.originals.now c.requires.order c.requires.originals
+    (length (g.R.Rooms.held c.args.rooms.now)) c.args.originals.now c.requires.order c.requires.originals
     (encoder_state default_rate c.args.encoder.now.rows) c.requires.fresh
-        (encoder_state default_rate c.add_pieces.new.encoder.rows) led
+    (encoder_state default_rate c.add_pieces.new.encoder.rows) led
     c.in_err-encode_round.field-0.0 c.in_err-encode_round.ensures.answer)
 
 pub put_pieces-requires-clause-number : goal.put_pieces-requires-clause-number
@@ -52,11 +52,11 @@ put_pieces-requires-clause-number g c =
     let led = reached-ok _ (encoder_state default_rate c.add_pieces.new.encoder.rows) c.in_ok-add_pieces.ensures in
     let object = c.add_pieces.new.encoder in
     let coded = strip-codes c.args.start c.args.end
-        (length (g.R.Rooms.held c.args.rooms.now)) c.args.originals.now c.requires.order c.requires.originals
+    (length (g.R.Rooms.held c.args.rooms.now)) c.args.originals.now c.requires.order c.requires.originals
     (encoder_state default_rate c.args.encoder.now.rows) c.requires.fresh
-        (encoder_state default_rate c.add_pieces.new.encoder.rows) led
+    (encoder_state default_rate c.add_pieces.new.encoder.rows) led
     (lent_shards c.encode_round.new.encoder.rows)
-        (is_encoder default_rate object.rows object.set_up) c.in_ok-encode_round.ensures.answer in
+    (is_encoder default_rate object.rows object.set_up) c.in_ok-encode_round.ensures.answer in
     ap length c.lent_recovery.ensures ∙ coded.shards.length_is
 
 pub put_pieces-requires-clause-sized : goal.put_pieces-requires-clause-sized
@@ -64,11 +64,11 @@ put_pieces-requires-clause-sized g c =
     let led = reached-ok _ (encoder_state default_rate c.add_pieces.new.encoder.rows) c.in_ok-add_pieces.ensures in
     let object = c.add_pieces.new.encoder in
     let coded = strip-codes c.args.start c.args.end
-        (length (g.R.Rooms.held c.args.rooms.now)) c.args.originals.now c.requires.order c.requires.originals
+    (length (g.R.Rooms.held c.args.rooms.now)) c.args.originals.now c.requires.order c.requires.originals
     (encoder_state default_rate c.args.encoder.now.rows) c.requires.fresh
-        (encoder_state default_rate c.add_pieces.new.encoder.rows) led
+    (encoder_state default_rate c.add_pieces.new.encoder.rows) led
     (lent_shards c.encode_round.new.encoder.rows)
-        (is_encoder default_rate object.rows object.set_up) c.in_ok-encode_round.ensures.answer in
+    (is_encoder default_rate object.rows object.set_up) c.in_ok-encode_round.ensures.answer in
     subst (λ (l : List Shard). All (λ s. length s ≡ c.args.end - c.args.start) l) (sym c.lent_recovery.ensures)
     (λ i d h. (coded.shards.each i d h).length_is)
 
@@ -77,20 +77,20 @@ returns-clause-fresh g c =
     let led = reached-ok _ (encoder_state default_rate c.add_pieces.new.encoder.rows) c.in_ok-add_pieces.ensures in
     c.in_ok-encode_round.ensures.state
     ∙ strip-ends c.args.start c.args.end
-        (length (g.R.Rooms.held c.args.rooms.now)) c.args.originals.now c.requires.order c.requires.originals
+    (length (g.R.Rooms.held c.args.rooms.now)) c.args.originals.now c.requires.order c.requires.originals
     (encoder_state default_rate c.args.encoder.now.rows) c.requires.fresh
-        (encoder_state default_rate c.add_pieces.new.encoder.rows) led
+    (encoder_state default_rate c.add_pieces.new.encoder.rows) led
 
 pub returns-clause-coded : goal.returns-clause-coded
 returns-clause-coded g c =
     let led = reached-ok _ (encoder_state default_rate c.add_pieces.new.encoder.rows) c.in_ok-add_pieces.ensures in
     let object = c.add_pieces.new.encoder in
     let coded = strip-codes c.args.start c.args.end
-        (length (g.R.Rooms.held c.args.rooms.now)) c.args.originals.now c.requires.order c.requires.originals
+    (length (g.R.Rooms.held c.args.rooms.now)) c.args.originals.now c.requires.order c.requires.originals
     (encoder_state default_rate c.args.encoder.now.rows) c.requires.fresh
-        (encoder_state default_rate c.add_pieces.new.encoder.rows) led
+    (encoder_state default_rate c.add_pieces.new.encoder.rows) led
     (lent_shards c.encode_round.new.encoder.rows)
-        (is_encoder default_rate object.rows object.set_up) c.in_ok-encode_round.ensures.answer in
+    (is_encoder default_rate object.rows object.set_up) c.in_ok-encode_round.ensures.answer in
     on_ok_weaker c.put_pieces.result (λ put. (
       recovery_shards c.lent_recovery.result,
       subst (λ (l : List Shard).

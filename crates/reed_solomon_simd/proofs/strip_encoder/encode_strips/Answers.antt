@@ -20,14 +20,14 @@ further : (grows : Bool) (k r size start end : ℕ) (originals : List (Bor Shard
     → All (λ shard. length shard.now ≡ size) originals
     → IsDone k r size start grows default_rate (shards_of originals) old
     → AreRecovery (default_of (length originals) (length old) (end - start))
-        (pieces start end (shards_of originals)) made → ArePut start end made old new
+    (pieces start end (shards_of originals)) made → ArePut start end made old new
     → IsDone k r size end grows default_rate (shards_of originals) new
 further grows k r size start end originals made old new count strip sized done recovery put =
     done-further grows default_rate k r size start end (shards_of originals) made old new strip
     (All-map (λ s. length s ≡ size) (λ (x : Bor Shard). x.now) originals sized) done
     (subst (λ (n : ℕ). AreRecovery (default_of n r (end - start)) (pieces start end (shards_of originals)) made) count
     (subst (λ (n : ℕ). AreRecovery (default_of (length originals) n (end - start))
-        (pieces start end (shards_of originals)) made) done.number recovery)) put
+    (pieces start end (shards_of originals)) made) done.number recovery)) put
 
 pub loop-start-init : goal.loop-start-init
 loop-start-init g c =
@@ -46,7 +46,7 @@ pub encode_strip-requires-clause-fit : goal.encode_strip-requires-clause-fit
 encode_strip-requires-clause-fit g c =
     let begins = c.loop-start.invariant.begins in
     let strip = is_strip c.loop-start.start 4096 c.args.shard_bytes c.min-width.result c.min.result c.min-width.ensures
-        c.min.ensures refl begins c.loop-start-test.true in
+    c.min.ensures refl begins c.loop-start-test.true in
     (c.args.shard_bytes, strip.inside, c.loop-start.invariant.done.fit)
 
 pub loop-start-preserved : goal.loop-start-preserved
@@ -56,7 +56,7 @@ loop-start-preserved g c =
     let end : ℕ = c.loop-start.start + c.min.result in
     let held = c.loop-start.invariant in
     let strip = is_strip start 4096 size c.min-width.result c.min.result c.min-width.ensures c.min.ensures refl
-        held.begins c.loop-start-test.true in
+    held.begins c.loop-start-test.true in
     let now = c.in_ok-encode_strip.ensures in
     record {
       inside = strip.inside;
@@ -65,7 +65,7 @@ loop-start-preserved g c =
         | then-left-width+in_ok-reset w ↦
             let less : c.args.shard_bytes - c.loop-start.start < c.min-width.result = w.if-left-width.true in
             let last : c.min.result ≡ c.args.shard_bytes - c.loop-start.start =
-                c.min.ensures ∙ min-eq_right (omega (arith, less)) in
+            c.min.ensures ∙ min-eq_right (omega (arith, less)) in
             absurd (let no : ⊥ = omega (arith, more, last) in no)
         | else-left-width w ↦ now.fresh ∙ ap (λ e. encoder_state default_rate e.rows) w.encoder-is
             ∙ held.fresh c.loop-start-test.true
@@ -73,8 +73,8 @@ loop-start-preserved g c =
       done = further g.R.Rooms.grows c.args.counts.original_count c.args.counts.recovery_count size start end
           c.args.originals.now now.coded.0
           (g.R.Rooms.held c.loop-start.rooms)
-              (g.R.Rooms.held c.encode_strip.new.rooms) c.requires.originals strip c.requires.sized held.done
-              now.coded.1 now.coded.2;
+          (g.R.Rooms.held c.encode_strip.new.rooms) c.requires.originals strip c.requires.sized held.done
+          now.coded.1 now.coded.2;
       places = now.places ∙ held.places;
       loan = now.loan ∙ held.loan;
     }
@@ -84,8 +84,8 @@ returns-clause-coded g c =
     let held = c.loop-start.invariant in
     let ends : c.loop-start.start ≡ c.args.shard_bytes = omega (arith, held.inside, c.loop-start-test.false) in
     done-all g.R.Rooms.grows default_rate c.args.counts.original_count c.args.counts.recovery_count c.args.shard_bytes
-        (shards_of c.args.originals.now)
+    (shards_of c.args.originals.now)
     (g.R.Rooms.held c.loop-start.rooms)
     (subst (λ (n : ℕ). IsDone c.args.counts.original_count c.args.counts.recovery_count c.args.shard_bytes n
-        g.R.Rooms.grows default_rate
+    g.R.Rooms.grows default_rate
     (shards_of c.args.originals.now) (g.R.Rooms.held c.loop-start.rooms)) ends held.done)

@@ -8,4 +8,4 @@ use Rattle.rs.proofs.command.read_items.Given as goal
 abbrev pub invariant-loop-text : goal.invariant-loop-text
 invariant-loop-text l =
     option_map (with_items (given_items l.given)) (items_of (map string_bytes (drop l.text-index l.words)))
-        ≡ items_of (map string_bytes l.words)
+    ≡ items_of (map string_bytes l.words)

@@ -8,4 +8,4 @@ use Rattle.rs.proofs.command.read_shards.Given as goal
 abbrev pub invariant-loop-text : goal.invariant-loop-text
 invariant-loop-text l =
     option_map (λ left. as_shards l.shards ++ left) (shards_of (map string_bytes (drop l.text-index l.words)))
-        ≡ shards_of (map string_bytes l.words)
+    ≡ shards_of (map string_bytes l.words)

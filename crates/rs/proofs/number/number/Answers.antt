@@ -13,4 +13,4 @@ returns c =
       | else-not-is_empty-via-else-not-is_empty w ↦ no_plus_in-empty _ (sym (w.if-not-is_empty.ensures))
     ] in
     c.ok.ensures.value ∙ number_of-parsed text c.parse.result c.parse.ensures.value.0
-        (subst (λ (t : List ℕ). get_or t 0 0 ≢ 43) same no_plus)
+    (subst (λ (t : List ℕ). get_or t 0 0 ≢ 43) same no_plus)

@@ -7,4 +7,4 @@ use Rattle.rs.proofs.writing.write_texts.Given as goal
 abbrev pub invariant-loop-text : goal.invariant-loop-text
 invariant-loop-text g l =
     Appends (g.W.Write.contents l.initial.writer) (g.W.Write.contents l.writer)
-        (flat_map string_bytes (take l.text-index l.texts))
+    (flat_map string_bytes (take l.text-index l.texts))

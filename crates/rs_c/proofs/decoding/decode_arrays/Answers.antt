@@ -20,14 +20,16 @@ pub returns-in_err-counts-clause-answer : goal.returns-in_err-counts-clause-answ
 returns-in_err-counts-clause-answer c =
     let k = c.args.original_count in let r = c.args.recovery_count in
     let own = items_of c.args.originals.now in let other = items_of c.args.recovery.now in
-    let e = c.in_err-counts.field-0.0 in
-        (Err e, decoding-refused k r own other e (decoding-uncounted k r own other e c.in_err-counts.ensures),
-        (search rules, refl))
+    let e = c.in_err-counts.field-0.0 in (
+      Err e,
+      decoding-refused k r own other e (decoding-uncounted k r own other e c.in_err-counts.ensures),
+      (search rules, refl),
+    )
 
 pub check_alone-requires : goal.check_alone-requires
 check_alone-requires c =
     let fits = default_fits c.in_ok-counts.counts.original_count c.in_ok-counts.counts.recovery_count
-        c.in_ok-counts.counts.supported in
+    c.in_ok-counts.counts.supported in
     omega (arith, fits, c.in_ok-counts.ensures.0, c.in_ok-counts.ensures.1)
 
 pub returns-in_err-check_alone-clause-answer : goal.returns-in_err-check_alone-clause-answer
@@ -37,10 +39,13 @@ returns-in_err-check_alone-clause-answer c =
     let none : length c.args.recovery.now ≡ 0 = search rules in
     let e = c.in_err-check_alone.field-0.0 in
     let led = decoding-none k r own (Err e)
-        (rw (c.in_ok-counts.ensures.0, c.in_ok-counts.ensures.1) at c.in_ok-counts.counts.supported)
-        (inl c.in_err-check_alone.ensures.answer) in
-    (Err e, subst (λ l. OneDecodeAnswers k r own (items_of l) (Err e)) (sym (nil_from_length c.args.recovery.now none))
-        (decoding-refused k r own [] e led), (search rules, refl))
+    (rw (c.in_ok-counts.ensures.0, c.in_ok-counts.ensures.1) at c.in_ok-counts.counts.supported)
+    (inl c.in_err-check_alone.ensures.answer) in (
+      Err e,
+      subst (λ l. OneDecodeAnswers k r own (items_of l) (Err e)) (sym (nil_from_length c.args.recovery.now none))
+          (decoding-refused k r own [] e led),
+      (search rules, refl),
+    )
 
 pub returns-in_err-check_alone-clause-memory : goal.returns-in_err-check_alone-clause-memory
 returns-in_err-check_alone-clause-memory c none lacks =
@@ -54,53 +59,63 @@ returns-then-is_empty-clause-answer c =
     let own = items_of c.args.originals.now in
     let none : length c.args.recovery.now ≡ 0 = search rules in
     let led = decoding-none k r own (Ok tt)
-        (rw (c.in_ok-counts.ensures.0, c.in_ok-counts.ensures.1) at c.in_ok-counts.counts.supported)
-        (inl c.in_ok-check_alone.ensures.answer) in (
+    (rw (c.in_ok-counts.ensures.0, c.in_ok-counts.ensures.1) at c.in_ok-counts.counts.supported)
+    (inl c.in_ok-check_alone.ensures.answer) in (
       Ok nothing,
       subst (λ l. OneDecodeAnswers k r own (items_of l) (Ok nothing)) (sym (nil_from_length c.args.recovery.now none))
           (decoding-nothing k r own [] led),
-      ([], lists-none, fills-none (bytes_in c.args.restored.now) _
-          (c.check_number.ensures ∙ ap (as_many 0) (sym (bytes-count c.args.restored.now)))),
+      (
+        [],
+        lists-none,
+        fills-none (bytes_in c.args.restored.now) _
+            (c.check_number.ensures ∙ ap (as_many 0) (sym (bytes-count c.args.restored.now))),
+      ),
     )
 
 pub returns-in_err-received-clause-answer : goal.returns-in_err-received-clause-answer
 returns-in_err-received-clause-answer c =
     let own = YieldsList-from_map_by _ (λ item. (item.0, item.1.now)) (λ shard. (shard.index, shard.bytes.now))
-        (YieldsList-from_slice c.args.originals.now cc) c.map-own.ensures.closure (λ x r q k. search rules) in
+    (YieldsList-from_slice c.args.originals.now cc) c.map-own.ensures.closure (λ x r q k. search rules) in
     let other = YieldsList-from_map_by _ (λ item. (item.0, item.1.now)) (λ shard. (shard.index, shard.bytes.now))
-        (YieldsList-from_slice c.args.recovery.now cc) c.map-other.ensures.closure (λ x r q k. search rules) in
+    (YieldsList-from_slice c.args.recovery.now cc) c.map-other.ensures.closure (λ x r q k. search rules) in
     let led = always-both (λ item. (item.0, item.1.now)) (λ item. (item.0, item.1.now)) _
-        (rw (c.in_ok-counts.ensures.0, c.in_ok-counts.ensures.1) at c.in_err-received.ensures)
-        (items_of c.args.originals.now) (items_of c.args.recovery.now) own.runs other.runs in
+    (rw (c.in_ok-counts.ensures.0, c.in_ok-counts.ensures.1) at c.in_err-received.ensures)
+    (items_of c.args.originals.now) (items_of c.args.recovery.now) own.runs other.runs in
     let e = c.in_err-received.field-0.0 in
-        (Err e, decoding-refused c.args.original_count c.args.recovery_count _ _ e led, (search rules, refl))
+    (Err e, decoding-refused c.args.original_count c.args.recovery_count _ _ e led, (search rules, refl))
 
 pub returns-in_default-clause-answer : goal.returns-in_default-clause-answer
 returns-in_default-clause-answer c =
     let own = YieldsList-from_map_by _ (λ item. (item.0, item.1.now)) (λ shard. (shard.index, shard.bytes.now))
-        (YieldsList-from_slice c.args.originals.now cc) c.map-own.ensures.closure (λ x r q k. search rules) in
+    (YieldsList-from_slice c.args.originals.now cc) c.map-own.ensures.closure (λ x r q k. search rules) in
     let other = YieldsList-from_map_by _ (λ item. (item.0, item.1.now)) (λ shard. (shard.index, shard.bytes.now))
-        (YieldsList-from_slice c.args.recovery.now cc) c.map-other.ensures.closure (λ x r q k. search rules) in
+    (YieldsList-from_slice c.args.recovery.now cc) c.map-other.ensures.closure (λ x r q k. search rules) in
     let led = always-both (λ item. (item.0, item.1.now)) (λ item. (item.0, item.1.now)) _
-        (rw (c.in_ok-counts.ensures.0, c.in_ok-counts.ensures.1, c.in_default.is) at c.in_ok-received.ensures)
-        (items_of c.args.originals.now) (items_of c.args.recovery.now) own.runs other.runs in
-    (Ok nothing, decoding-nothing c.args.original_count c.args.recovery_count _ _ led,
-        ([], lists-none, fills-none (bytes_in c.args.restored.now) _
-        (c.check_number-in_default.ensures ∙ ap (as_many 0) (sym (bytes-count c.args.restored.now)))))
+    (rw (c.in_ok-counts.ensures.0, c.in_ok-counts.ensures.1, c.in_default.is) at c.in_ok-received.ensures)
+    (items_of c.args.originals.now) (items_of c.args.recovery.now) own.runs other.runs in (
+      Ok nothing,
+      decoding-nothing c.args.original_count c.args.recovery_count _ _ led,
+      (
+        [],
+        lists-none,
+        fills-none (bytes_in c.args.restored.now) _
+            (c.check_number-in_default.ensures ∙ ap (as_many 0) (sym (bytes-count c.args.restored.now))),
+      ),
+    )
 
 pub returns-in_err-restore_into-clause-answer : goal.returns-in_err-restore_into-clause-answer
 returns-in_err-restore_into-clause-answer c =
     let own = YieldsList-from_map_by _ (λ item. (item.0, item.1.now)) (λ shard. (shard.index, shard.bytes.now))
-        (YieldsList-from_slice c.args.originals.now cc) c.map-own.ensures.closure (λ x r q k. search rules) in
+    (YieldsList-from_slice c.args.originals.now cc) c.map-own.ensures.closure (λ x r q k. search rules) in
     let other = YieldsList-from_map_by _ (λ item. (item.0, item.1.now)) (λ shard. (shard.index, shard.bytes.now))
-        (YieldsList-from_slice c.args.recovery.now cc) c.map-other.ensures.closure (λ x r q k. search rules) in
+    (YieldsList-from_slice c.args.recovery.now cc) c.map-other.ensures.closure (λ x r q k. search rules) in
     let led = always-both (λ item. (item.0, item.1.now)) (λ item. (item.0, item.1.now)) _
-        (rw (c.in_ok-counts.ensures.0, c.in_ok-counts.ensures.1, c.in-Some.is) at c.in_ok-received.ensures)
-        (items_of c.args.originals.now) (items_of c.args.recovery.now) own.runs other.runs in
+    (rw (c.in_ok-counts.ensures.0, c.in_ok-counts.ensures.1, c.in-Some.is) at c.in_ok-received.ensures)
+    (items_of c.args.originals.now) (items_of c.args.recovery.now) own.runs other.runs in
     decodes-told c.args.original_count c.args.recovery_count (items_of c.args.originals.now)
-        (items_of c.args.recovery.now) (bytes_in c.args.restored.now) _ _ _ (search rules)
+    (items_of c.args.recovery.now) (bytes_in c.args.restored.now) _ _ _ (search rules)
     (decodes-restored c.args.original_count c.args.recovery_count (items_of c.args.originals.now)
-        (items_of c.args.recovery.now) (received_state c.in-Some.received) (bytes_in c.args.restored.now) _ _ led
+    (items_of c.args.recovery.now) (received_state c.in-Some.received) (bytes_in c.args.restored.now) _ _ led
     c.in_err-restore_into.ensures.answer)
 
 pub returns-in_err-restore_into-clause-kept : goal.returns-in_err-restore_into-clause-kept
@@ -109,16 +124,16 @@ returns-in_err-restore_into-clause-kept c = keeps-rooms c.args.restored.now _ c.
 pub returns-clause-answer : goal.returns-clause-answer
 returns-clause-answer c =
     let own = YieldsList-from_map_by _ (λ item. (item.0, item.1.now)) (λ shard. (shard.index, shard.bytes.now))
-        (YieldsList-from_slice c.args.originals.now cc) c.map-own.ensures.closure (λ x r q k. search rules) in
+    (YieldsList-from_slice c.args.originals.now cc) c.map-own.ensures.closure (λ x r q k. search rules) in
     let other = YieldsList-from_map_by _ (λ item. (item.0, item.1.now)) (λ shard. (shard.index, shard.bytes.now))
-        (YieldsList-from_slice c.args.recovery.now cc) c.map-other.ensures.closure (λ x r q k. search rules) in
+    (YieldsList-from_slice c.args.recovery.now cc) c.map-other.ensures.closure (λ x r q k. search rules) in
     let led = always-both (λ item. (item.0, item.1.now)) (λ item. (item.0, item.1.now)) _
-        (rw (c.in_ok-counts.ensures.0, c.in_ok-counts.ensures.1, c.in-Some.is) at c.in_ok-received.ensures)
-        (items_of c.args.originals.now) (items_of c.args.recovery.now) own.runs other.runs in
+    (rw (c.in_ok-counts.ensures.0, c.in_ok-counts.ensures.1, c.in-Some.is) at c.in_ok-received.ensures)
+    (items_of c.args.originals.now) (items_of c.args.recovery.now) own.runs other.runs in
     decodes-told c.args.original_count c.args.recovery_count (items_of c.args.originals.now)
-        (items_of c.args.recovery.now) (bytes_in c.args.restored.now) _ (Ok tt) (Ok tt) refl
+    (items_of c.args.recovery.now) (bytes_in c.args.restored.now) _ (Ok tt) (Ok tt) refl
     (decodes-restored c.args.original_count c.args.recovery_count (items_of c.args.originals.now)
-        (items_of c.args.recovery.now) (received_state c.in-Some.received) (bytes_in c.args.restored.now) _ (Ok tt) led
+    (items_of c.args.recovery.now) (received_state c.in-Some.received) (bytes_in c.args.restored.now) _ (Ok tt) led
     c.in_ok-restore_into.ensures.answer)
 
 pub returns-clause-kept : goal.returns-clause-kept

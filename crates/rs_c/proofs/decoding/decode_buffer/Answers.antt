@@ -17,7 +17,7 @@ use Rattle.rs_c.proofs.decoding.decode_buffer.Goals as goal
 pub overflow_add-original_count : goal.overflow_add-original_count
 overflow_add-original_count c =
     let fits = default_fits c.in_ok-counts.counts.original_count c.in_ok-counts.counts.recovery_count
-        c.in_ok-counts.counts.supported in
+    c.in_ok-counts.counts.supported in
     omega (arith, fits, c.in_ok-counts.ensures.0, c.in_ok-counts.ensures.1)
 
 pub returns-in_err-check_all_marked-clause-answer : goal.returns-in_err-check_all_marked-clause-answer
@@ -29,16 +29,16 @@ returns-in_err-check_all_marked-clause-answer c =
     let e = c.in_err-check_all_marked.field-0.0 in
     let many : length marks ≡ (k + r) * 1 = fits-length (k + r) 1 (length marks) c.in_ok-check_length-3.ensures in
     let led = decodes-unmarked k r size (take k marks) (drop k marks) old recovery (Err e)
-        (rw (c.in_ok-counts.ensures.0, c.in_ok-counts.ensures.1) at c.in_ok-counts.counts.supported)
-        (length-take-le k marks (omega (arith, many)))
+    (rw (c.in_ok-counts.ensures.0, c.in_ok-counts.ensures.1) at c.in_ok-counts.counts.supported)
+    (length-take-le k marks (omega (arith, many)))
     (ap (count_by (λ mark. not (mark == 0))) (sym back) ∙ sym c.count_marked.ensures ∙ c.if-count_marked-eq0.true)
-        (c.in_err-check_all_marked.ensures
-        ∙ ap (λ l. all_or_refused (length l) (count_by (λ mark. not (mark == 0)) l)) front) in
+    (c.in_err-check_all_marked.ensures
+    ∙ ap (λ l. all_or_refused (length l) (count_by (λ mark. not (mark == 0)) l)) front) in
     decodes k r size marks recovery old _ _ (Err e)
-        (rw (c.in_ok-counts.ensures.0, c.in_ok-counts.ensures.1) at c.in_ok-counts.counts.supported)
-        c.in_ok-check_length.ensures c.in_ok-check_length-2.ensures c.in_ok-check_length-3.ensures
+    (rw (c.in_ok-counts.ensures.0, c.in_ok-counts.ensures.1) at c.in_ok-counts.counts.supported)
+    c.in_ok-check_length.ensures c.in_ok-check_length-2.ensures c.in_ok-check_length-3.ensures
     (decoding-refused k r (marked_shards 0 size (take k marks) old)
-        (marked_shards 0 size (drop k marks) recovery) e led) (search rules, refl)
+    (marked_shards 0 size (drop k marks) recovery) e led) (search rules, refl)
 
 pub returns-then-count_marked-eq0-clause-answer : goal.returns-then-count_marked-eq0-clause-answer
 returns-then-count_marked-eq0-clause-answer c =
@@ -48,16 +48,16 @@ returns-then-count_marked-eq0-clause-answer c =
     let back : c.split_at.result.1.now ≡ drop k marks = search rules in
     let many : length marks ≡ (k + r) * 1 = fits-length (k + r) 1 (length marks) c.in_ok-check_length-3.ensures in
     let led = decodes-unmarked k r size (take k marks) (drop k marks) old recovery (Ok tt)
-        (rw (c.in_ok-counts.ensures.0, c.in_ok-counts.ensures.1) at c.in_ok-counts.counts.supported)
-        (length-take-le k marks (omega (arith, many)))
+    (rw (c.in_ok-counts.ensures.0, c.in_ok-counts.ensures.1) at c.in_ok-counts.counts.supported)
+    (length-take-le k marks (omega (arith, many)))
     (ap (count_by (λ mark. not (mark == 0))) (sym back) ∙ sym c.count_marked.ensures ∙ c.if-count_marked-eq0.true)
-        (c.in_ok-check_all_marked.ensures
-        ∙ ap (λ l. all_or_refused (length l) (count_by (λ mark. not (mark == 0)) l)) front) in
+    (c.in_ok-check_all_marked.ensures
+    ∙ ap (λ l. all_or_refused (length l) (count_by (λ mark. not (mark == 0)) l)) front) in
     decodes k r size marks recovery old _ _ (Ok nothing)
-        (rw (c.in_ok-counts.ensures.0, c.in_ok-counts.ensures.1) at c.in_ok-counts.counts.supported)
-        c.in_ok-check_length.ensures c.in_ok-check_length-2.ensures c.in_ok-check_length-3.ensures
+    (rw (c.in_ok-counts.ensures.0, c.in_ok-counts.ensures.1) at c.in_ok-counts.counts.supported)
+    c.in_ok-check_length.ensures c.in_ok-check_length-2.ensures c.in_ok-check_length-3.ensures
     (decoding-nothing k r (marked_shards 0 size (take k marks) old) (marked_shards 0 size (drop k marks) recovery) led)
-        (search rules, sym (with-nothing 0 size k old (fits-length k size (length old) c.in_ok-check_length.ensures)))
+    (search rules, sym (with-nothing 0 size k old (fits-length k size (length old) c.in_ok-check_length.ensures)))
 
 pub returns-in_err-check_decoder_rows-clause-answer : goal.returns-in_err-check_decoder_rows-clause-answer
 returns-in_err-check_decoder_rows-clause-answer c =
@@ -68,9 +68,9 @@ returns-in_err-check_decoder_rows-clause-answer c =
     let back : c.split_at.result.1.now ≡ drop k marks = search rules in
     let many : length marks ≡ (k + r) * 1 = fits-length (k + r) 1 (length marks) c.in_ok-check_length-3.ensures in
     let own_number : length c.split_at.result.0.now ≡ c.args.original_count =
-        ap length front ∙ length-take-le k marks (omega (arith, many)) in
+    ap length front ∙ length-take-le k marks (omega (arith, many)) in
     let other_number : length c.split_at.result.1.now ≡ c.args.recovery_count =
-        ap length back ∙ length-drop k marks ∙ omega (arith, many) in
+    ap length back ∙ length-drop k marks ∙ omega (arith, many) in
     let own_whole = fits-length k size (length old) c.in_ok-check_length.ensures in
     let other_whole = fits-length r size (length recovery) c.in_ok-check_length-2.ensures in
     let counted = c.count_marked.ensures ∙ sym (count-present other) in
@@ -79,10 +79,10 @@ returns-in_err-check_decoder_rows-clause-answer c =
     let e = c.in_err-check_decoder_rows.field-0.0 in
     let unset = rw (c.in_ok-counts.ensures.0, c.in_ok-counts.ensures.1) at c.in_err-check_decoder_rows.ensures in
     let answers = rw (front, back) at
-        (unset-answers k r size own other old recovery own_number other_number own_whole other_whole some e (sym unset))
-        in
+    (unset-answers k r size own other old recovery own_number other_number own_whole other_whole some e (sym unset))
+    in
     decodes k r size marks recovery old _ _
-        (Err e) supported c.in_ok-check_length.ensures c.in_ok-check_length-2.ensures c.in_ok-check_length-3.ensures
+    (Err e) supported c.in_ok-check_length.ensures c.in_ok-check_length-2.ensures c.in_ok-check_length-3.ensures
     answers (search rules, refl)
 
 pub restore_marked-requires-clause-own_marks : goal.restore_marked-requires-clause-own_marks
@@ -94,9 +94,9 @@ restore_marked-requires-clause-own_marks c =
     let back : c.split_at.result.1.now ≡ drop k marks = search rules in
     let many : length marks ≡ (k + r) * 1 = fits-length (k + r) 1 (length marks) c.in_ok-check_length-3.ensures in
     let own_number : length c.split_at.result.0.now ≡ c.args.original_count =
-        ap length front ∙ length-take-le k marks (omega (arith, many)) in
+    ap length front ∙ length-take-le k marks (omega (arith, many)) in
     let other_number : length c.split_at.result.1.now ≡ c.args.recovery_count =
-        ap length back ∙ length-drop k marks ∙ omega (arith, many) in
+    ap length back ∙ length-drop k marks ∙ omega (arith, many) in
     let own_whole = fits-length k size (length old) c.in_ok-check_length.ensures in
     let other_whole = fits-length r size (length recovery) c.in_ok-check_length-2.ensures in
     let counted = c.count_marked.ensures ∙ sym (count-present other) in
@@ -113,9 +113,9 @@ restore_marked-requires-clause-other_marks c =
     let back : c.split_at.result.1.now ≡ drop k marks = search rules in
     let many : length marks ≡ (k + r) * 1 = fits-length (k + r) 1 (length marks) c.in_ok-check_length-3.ensures in
     let own_number : length c.split_at.result.0.now ≡ c.args.original_count =
-        ap length front ∙ length-take-le k marks (omega (arith, many)) in
+    ap length front ∙ length-take-le k marks (omega (arith, many)) in
     let other_number : length c.split_at.result.1.now ≡ c.args.recovery_count =
-        ap length back ∙ length-drop k marks ∙ omega (arith, many) in
+    ap length back ∙ length-drop k marks ∙ omega (arith, many) in
     let own_whole = fits-length k size (length old) c.in_ok-check_length.ensures in
     let other_whole = fits-length r size (length recovery) c.in_ok-check_length-2.ensures in
     let counted = c.count_marked.ensures ∙ sym (count-present other) in
@@ -132,9 +132,9 @@ restore_marked-requires-clause-own_whole c =
     let back : c.split_at.result.1.now ≡ drop k marks = search rules in
     let many : length marks ≡ (k + r) * 1 = fits-length (k + r) 1 (length marks) c.in_ok-check_length-3.ensures in
     let own_number : length c.split_at.result.0.now ≡ c.args.original_count =
-        ap length front ∙ length-take-le k marks (omega (arith, many)) in
+    ap length front ∙ length-take-le k marks (omega (arith, many)) in
     let other_number : length c.split_at.result.1.now ≡ c.args.recovery_count =
-        ap length back ∙ length-drop k marks ∙ omega (arith, many) in
+    ap length back ∙ length-drop k marks ∙ omega (arith, many) in
     let own_whole = fits-length k size (length old) c.in_ok-check_length.ensures in
     let other_whole = fits-length r size (length recovery) c.in_ok-check_length-2.ensures in
     let counted = c.count_marked.ensures ∙ sym (count-present other) in
@@ -151,9 +151,9 @@ restore_marked-requires-clause-other_whole c =
     let back : c.split_at.result.1.now ≡ drop k marks = search rules in
     let many : length marks ≡ (k + r) * 1 = fits-length (k + r) 1 (length marks) c.in_ok-check_length-3.ensures in
     let own_number : length c.split_at.result.0.now ≡ c.args.original_count =
-        ap length front ∙ length-take-le k marks (omega (arith, many)) in
+    ap length front ∙ length-take-le k marks (omega (arith, many)) in
     let other_number : length c.split_at.result.1.now ≡ c.args.recovery_count =
-        ap length back ∙ length-drop k marks ∙ omega (arith, many) in
+    ap length back ∙ length-drop k marks ∙ omega (arith, many) in
     let own_whole = fits-length k size (length old) c.in_ok-check_length.ensures in
     let other_whole = fits-length r size (length recovery) c.in_ok-check_length-2.ensures in
     let counted = c.count_marked.ensures ∙ sym (count-present other) in
@@ -170,9 +170,9 @@ returns-in_err-restore_marked-clause-answer c =
     let back : c.split_at.result.1.now ≡ drop k marks = search rules in
     let many : length marks ≡ (k + r) * 1 = fits-length (k + r) 1 (length marks) c.in_ok-check_length-3.ensures in
     let own_number : length c.split_at.result.0.now ≡ c.args.original_count =
-        ap length front ∙ length-take-le k marks (omega (arith, many)) in
+    ap length front ∙ length-take-le k marks (omega (arith, many)) in
     let other_number : length c.split_at.result.1.now ≡ c.args.recovery_count =
-        ap length back ∙ length-drop k marks ∙ omega (arith, many) in
+    ap length back ∙ length-drop k marks ∙ omega (arith, many) in
     let own_whole = fits-length k size (length old) c.in_ok-check_length.ensures in
     let other_whole = fits-length r size (length recovery) c.in_ok-check_length-2.ensures in
     let counted = c.count_marked.ensures ∙ sym (count-present other) in
@@ -182,10 +182,10 @@ returns-in_err-restore_marked-clause-answer c =
     let made = rw (c.in_ok-counts.ensures.0, c.in_ok-counts.ensures.1) at c.in_ok-check_decoder_rows.ensures in
     let does = rw (c.in_ok-counts.ensures.0, c.in_ok-counts.ensures.1) at c.in_err-restore_marked.ensures.answer in
     let answers = rw (front, back) at
-        (failed-answers k r size own other old recovery own_number other_number own_whole other_whole some (sym made)
+    (failed-answers k r size own other old recovery own_number other_number own_whole other_whole some (sym made)
     (map (λ i. shard_place c.args.shard_bytes c.restore_marked.new.originals i) (lost_indexes 0 own)) e does) in
     decodes k r size marks recovery old _ _
-        (Err e) supported c.in_ok-check_length.ensures c.in_ok-check_length-2.ensures c.in_ok-check_length-3.ensures
+    (Err e) supported c.in_ok-check_length.ensures c.in_ok-check_length-2.ensures c.in_ok-check_length-3.ensures
     answers (search rules, c.in_err-restore_marked.ensures.untouched)
 
 pub returns-clause-answer : goal.returns-clause-answer
@@ -197,9 +197,9 @@ returns-clause-answer c =
     let back : c.split_at.result.1.now ≡ drop k marks = search rules in
     let many : length marks ≡ (k + r) * 1 = fits-length (k + r) 1 (length marks) c.in_ok-check_length-3.ensures in
     let own_number : length c.split_at.result.0.now ≡ c.args.original_count =
-        ap length front ∙ length-take-le k marks (omega (arith, many)) in
+    ap length front ∙ length-take-le k marks (omega (arith, many)) in
     let other_number : length c.split_at.result.1.now ≡ c.args.recovery_count =
-        ap length back ∙ length-drop k marks ∙ omega (arith, many) in
+    ap length back ∙ length-drop k marks ∙ omega (arith, many) in
     let own_whole = fits-length k size (length old) c.in_ok-check_length.ensures in
     let other_whole = fits-length r size (length recovery) c.in_ok-check_length-2.ensures in
     let counted = c.count_marked.ensures ∙ sym (count-present other) in
@@ -208,17 +208,17 @@ returns-clause-answer c =
     let made = rw (c.in_ok-counts.ensures.0, c.in_ok-counts.ensures.1) at c.in_ok-check_decoder_rows.ensures in
     let does = rw (c.in_ok-counts.ensures.0, c.in_ok-counts.ensures.1) at c.in_ok-restore_marked.ensures.answer in
     let (holds, one) = done-answers k r size own other old recovery own_number other_number own_whole other_whole some
-        (sym made)
+    (sym made)
     (map (λ i. shard_place c.args.shard_bytes c.restore_marked.new.originals i) (lost_indexes 0 own)) does in
     let new_is = buffer-restored k r size own old other recovery c.restore_marked.new.originals own_number own_whole
     c.in_ok-restore_marked.ensures.long c.in_ok-restore_marked.ensures.marked holds in
     let answers = subst (λ (l : List ℕ).
-        OneDecodeAnswers k r (marked_shards 0 size l old) (marked_shards 0 size (drop k marks) recovery) (Ok holds.out))
-        front
+    OneDecodeAnswers k r (marked_shards 0 size l old) (marked_shards 0 size (drop k marks) recovery) (Ok holds.out))
+    front
     (subst (λ (l : List ℕ).
-        OneDecodeAnswers k r (marked_shards 0 size own old) (marked_shards 0 size l recovery) (Ok holds.out)) back one)
-        in
+    OneDecodeAnswers k r (marked_shards 0 size own old) (marked_shards 0 size l recovery) (Ok holds.out)) back one)
+    in
     decodes k r size marks recovery old _ _
-        (Ok holds.out) supported c.in_ok-check_length.ensures c.in_ok-check_length-2.ensures
-        c.in_ok-check_length-3.ensures
+    (Ok holds.out) supported c.in_ok-check_length.ensures c.in_ok-check_length-2.ensures
+    c.in_ok-check_length-3.ensures
     answers (refl, new_is)

@@ -14,9 +14,9 @@ surplus_of-requires c =
     let own = present-most x.original_marks.now in
     let other = present-most x.recovery_marks.now in
     let own_count = c.count_marked-original_received_count.ensures
-        ∙ sym (count-present c.args.buffers.now.original_marks.now) in
+    ∙ sym (count-present c.args.buffers.now.original_marks.now) in
     let other_count = c.count_marked-recovery_received_count.ensures
-        ∙ sym (count-present c.args.buffers.now.recovery_marks.now) in
+    ∙ sym (count-present c.args.buffers.now.recovery_marks.now) in
     let fits = default_fits x.counts.original_count x.counts.recovery_count x.counts.supported in
     record { total = omega (arith, fits, own, other, own_count, other_count, x.originals_number, x.recovery_number) }
 
@@ -24,20 +24,20 @@ pub returns-in_err-surplus-clause-answer : goal.returns-in_err-surplus-clause-an
 returns-in_err-surplus-clause-answer c =
     let x = c.args.buffers.now in
     let own_count = c.count_marked-original_received_count.ensures
-        ∙ sym (count-present c.args.buffers.now.original_marks.now) in
+    ∙ sym (count-present c.args.buffers.now.original_marks.now) in
     let other_count = c.count_marked-recovery_received_count.ensures
-        ∙ sym (count-present c.args.buffers.now.recovery_marks.now) in
+    ∙ sym (count-present c.args.buffers.now.recovery_marks.now) in
     let few : enough_given (state_in c.args.buffers.now) ≡ Err c.in_err-surplus.field-0.0 =
-        enough-marked x _ _ own_count other_count ∙ sym c.in_err-surplus.ensures.answer in
+    enough-marked x _ _ own_count other_count ∙ sym c.in_err-surplus.ensures.answer in
     rw few (search rules)
 
 pub restore_in_place-requires-clause-enough : goal.restore_in_place-requires-clause-enough
 restore_in_place-requires-clause-enough c =
     let x = c.args.buffers.now in
     let own_count = c.count_marked-original_received_count.ensures
-        ∙ sym (count-present c.args.buffers.now.original_marks.now) in
+    ∙ sym (count-present c.args.buffers.now.original_marks.now) in
     let other_count = c.count_marked-recovery_received_count.ensures
-        ∙ sym (count-present c.args.buffers.now.recovery_marks.now) in
+    ∙ sym (count-present c.args.buffers.now.recovery_marks.now) in
     let own = originals-counted x in
     let other = recovery-counted x in
     omega (arith, own, other, own_count, other_count, c.in_ok-surplus.ensures.number)
@@ -48,17 +48,17 @@ restore_in_place-requires-clause-missing c =
     let own = originals-counted x in
     let lost = lost-count 0 x.original_marks.now in
     let long : length c.args.buffers.now.lost.now ≡ length (lost_indexes 0 c.args.buffers.now.original_marks.now) =
-        ap length x.listed in
+    ap length x.listed in
     omega (arith, own, lost, long, x.originals_number)
 
 pub returns-clause-answer : goal.returns-clause-answer
 returns-clause-answer c =
     let x = c.args.buffers.now in
     let own_count = c.count_marked-original_received_count.ensures
-        ∙ sym (count-present c.args.buffers.now.original_marks.now) in
+    ∙ sym (count-present c.args.buffers.now.original_marks.now) in
     let other_count = c.count_marked-recovery_received_count.ensures
-        ∙ sym (count-present c.args.buffers.now.recovery_marks.now) in
+    ∙ sym (count-present c.args.buffers.now.recovery_marks.now) in
     let enough : enough_given (state_in c.args.buffers.now) ≡ Ok tt =
-        enough-marked x _ _ own_count other_count ∙ sym c.in_ok-surplus.ensures.answer in
+    enough-marked x _ _ own_count other_count ∙ sym c.in_ok-surplus.ensures.answer in
     rw enough (both-outcomes _ _ c.restore_in_place.result c.restore_in_place.ensures.restored
-        c.restore_in_place.ensures.refused)
+    c.restore_in_place.ensures.refused)

@@ -9,15 +9,15 @@ loop-index-preserved c = elim c.if-marks-index-eq0.branch [
   | then-marks-index-eq0+in_ok-push w ↦
       let pushed : w.push.new.self.items ≡ c.loop-index.lost.items ++ (c.loop-index.index ∷ []) = search rules in
       ap (λ l. l.items ++ lost_indexes (c.loop-index.index + 1) (drop (c.loop-index.index + 1) c.args.marks.now))
-          w.lost-is
+      w.lost-is
       ∙ ap (λ l. l ++ lost_indexes (c.loop-index.index + 1) (drop (c.loop-index.index + 1) c.args.marks.now)) pushed
       ∙ lost-next c.loop-index.index c.args.marks.now c.loop-index.lost.items c.loop-index-test.true (search rules)
       ∙ c.loop-index.invariant
   | else-marks-index-eq0 w ↦
       ap (λ l. l.items ++ lost_indexes (c.loop-index.index + 1) (drop (c.loop-index.index + 1) c.args.marks.now))
-          w.lost-is
+      w.lost-is
       ∙ ap (λ l. c.loop-index.lost.items ++ l)
-          (kept-next c.loop-index.index c.args.marks.now c.loop-index-test.true (search rules))
+      (kept-next c.loop-index.index c.args.marks.now c.loop-index-test.true (search rules))
       ∙ c.loop-index.invariant
 ]
 

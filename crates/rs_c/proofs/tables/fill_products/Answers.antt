@@ -14,7 +14,7 @@ loop-m-preserved c k h =
     elim (cases_eq k m) [
       | inl same ↦ subst (λ (n : ℕ). IsNibbleBytes (power n) (products_of (get_or (set table m entry) n []))) (sym same)
           (subst (λ (e : List ℕ). IsNibbleBytes (power m) (products_of e))
-              (sym (get_or-set_same table m entry [] (omega arith))) (c.halves.ensures (power m) (search rules)))
+          (sym (get_or-set_same table m entry [] (omega arith))) (c.halves.ensures (power m) (search rules)))
       | inr other ↦ subst (λ (e : List ℕ). IsNibbleBytes (power k) (products_of e))
           (sym (get_or-set_other table m k entry [] other))
           (c.loop-m.invariant k (let below : k < m = by_cases k m h other in below))

@@ -7,5 +7,5 @@ pub returns-clause-next : goal.returns-clause-next
 returns-clause-next g c enough =
     let s = g.X.RateDecoder.state c.args.decoder.now in
     let few = ap enough_given (c.decode_just_enough-first.ensures.state ∙ ended s enough)
-        ∙ fresh-too_few s.configuration (g.met.X.RateDecoder.valid c.args.decoder.now).valid in
+    ∙ fresh-too_few s.configuration (g.met.X.RateDecoder.valid c.args.decoder.now).valid in
     search rules

@@ -27,8 +27,10 @@ use Rattle.rs_callers.specs.contracts.lent_rows.swap_four as g'
 use Rattle.rs_callers.proofs.lent_rows.swap_four.Met.{met as met'}
 
 abbrev stayed : Stays f.ended.signature.params f.ended.kept
-stayed = (stay_ref (0 ∷ []) tt (plain (λ κs. the_row (named_lft 2 1 tt κs))),
-    (stay_dropped _ yes, (stay_dropped _ yes, tt)))
+stayed = (
+  stay_ref (0 ∷ []) tt (plain (λ κs. the_row (named_lft 2 1 tt κs))),
+  (stay_dropped _ yes, (stay_dropped _ yes, tt)),
+)
 
 pub swap_pairs_spec : {M : Type 1} → statement M
 swap_pairs_spec 𝓤 𝓛 𝓜 𝓡 wired =
@@ -38,7 +40,7 @@ swap_pairs_spec 𝓤 𝓛 𝓜 𝓡 wired =
     f.Key.name code.function (code.unfolded 𝓤 𝓛.H 𝓜 𝓡 wired)
     (λ κs. (mut_vals, (uint_vals w64, (uint_vals w64, tt))))
     (λ κs. (mut_Tells (named 0) κs.0 (the_row (named_lft 2 1 tt κs)), (uint_Tells w64, (uint_Tells w64, tt))))
-        (λ κs qs bounds a _ are.
+    (λ κs qs bounds a _ are.
     let self = a.0 in let pos = a.1.0 in let dist = a.1.1.0 in
     let κ₀ : Lft = κs.0 in let κ₁ : Lft = κs.1.0 in let q₁ = qs.1.0 in
     let Row : RattleType = the_row (named_lft 2 1 tt κs) in
@@ -47,48 +49,56 @@ swap_pairs_spec 𝓤 𝓛 𝓜 𝓡 wired =
     let vals : Valss (usize ∷ usize ∷ []) = (uint_vals w64 pos, (uint_vals w64 dist, tt)) in
     let y : W.Ghost = ((κs, qs, bounds, a, (vs, vals)), tt) in
     qed 𝓛 (((‵ (flft κ₀ qs.0) ⊛ ‵ (flft κ₁ q₁) ⊛ ‵ ftrue) ⊛ ‵ ((MutRef (named 0) κ₀ Row).own_val self vs) ⊛ ‵
-        (owns (usize ∷ usize ∷ []) a.1 vals))
+    (owns (usize ∷ usize ∷ []) a.1 vals))
     ∷ (raw (fact 𝓤 (h.shard_count * n ≤ length ch)) ⊛ raw (fact 𝓤 (0 < dist)) ⊛ raw
-        (fact 𝓤 (pos + 3 * dist < h.shard_count))) ∷ []) ∵
+    (fact 𝓤 (pos + 3 * dist < h.shard_count))) ∷ []) ∵
     move ! (1 ∷ []) $ split ! $ heard ! _
-        (λ fits. split ! $ heard ! _ (λ apart. heard ! _ (λ within. split ! $ split3 ! $
+    (λ fits. split ! $ heard ! _ (λ apart. heard ! _ (λ within. split ! $ split3 ! $
     move ! (3 ∷ []) $ split ! $ keep ! (0 ∷ 2 ∷ 3 ∷ 4 ∷ []) $
     -- [self; its token; the list's; the other tokens]
     enter ! _ _ _ _ _ $
     alloc_all ! (λ l. pass_all ! refl
-        ((tt, tt), ((tt, record { fits = are.1.0.1 }), ((tt, record { fits = are.1.1.0.1 }), tt))) $
+    ((tt, tt), ((tt, record { fits = are.1.0.1 }), ((tt, record { fits = are.1.1.0.1 }), tt))) $
     sets ! (addr ! (through ! refl (stop !))) refl (tt, tt) $
     move ! (2 ∷ 0 ∷ 1 ∷ []) $ use3 𝓛 (later (some (Lent 𝓛 Row κ₀ κ₁ qs.0 q₁ self)))
-        (lends 𝓛 Row κ₀ κ₁ qs.0 q₁ self) $ await ! tt $ pick ! (λ loan. split3 ! $
+    (lends 𝓛 Row κ₀ κ₁ qs.0 q₁ self) $ await ! tt $ pick ! (λ loan. split3 ! $
     let κ : Lft = loan.0 ∷ κ₁ in let ql = Share.left q₁ in let qr = Share.right q₁ in let δ : GName = loan.1 in
     let lent : MutBor ShardsRefMut = record self { ghost_name = δ } in
     move ! (2 ∷ []) $ split ! $ move ! (2 ∷ 3 ∷ 0 ∷ 1 ∷ []) $
     -- [the loan; its token; what is left of the list's; what the lender keeps; the other tokens]
     let G = triple_of 𝓛 g.signature (g.spec 𝓛 𝓜.mem 𝓡.returns) in
-    let z : G.Ghost = (((κ, (κ₁, tt)), (ql, (qr, tt)), (meet_⊑_right (loan.0 ∷ []) κ₁, tt), (lent, (pos, (dist, tt))),
-        (vs, vals)), tt) in
+    let z : G.Ghost = (
+      (
+        (κ, (κ₁, tt)),
+        (ql, (qr, tt)),
+        (meet_⊑_right (loan.0 ∷ []) κ₁, tt),
+        (lent, (pos, (dist, tt))),
+        (vs, vals),
+      ),
+      tt,
+    ) in
     nothing ! $ owned ! usize _ (uint_Makes 𝓛 w64) dist _ (refl, are.1.1.0.1) $ fjoin ! $
     owned ! usize _ (uint_Makes 𝓛 w64) pos _ (refl, are.1.0.1) $ fjoin ! $
     move ! (1 ∷ 0 ∷ []) $ join ! $ nothing ! $ move ! (3 ∷ 0 ∷ []) $ join ! $ move ! (2 ∷ 0 ∷ []) $ join ! $ join ! $
     use0 𝓛 (raw (fact 𝓤 (pos + 3 * dist < h.shard_count))) (fact_i 𝓤 (pos + 3 * dist < h.shard_count) (emp 𝓤) within) $
     use0 𝓛 (raw (fact 𝓤 (0 < dist))) (fact_i 𝓤 (0 < dist) (emp 𝓤) apart) $ join ! $
     use0 𝓛 (raw (fact 𝓤 (h.shard_count * n ≤ length ch)))
-        (fact_i 𝓤 (h.shard_count * n ≤ length ch) (emp 𝓤) fits) $ join ! $
+    (fact_i 𝓤 (h.shard_count * n ≤ length ch) (emp 𝓤) fits) $ join ! $
     move ! (1 ∷ 0 ∷ []) $ use2 𝓛 (raw (G.pre z)) (id⊢ 𝓤 _) $
     calls_at ! (framed 𝓤 𝓛.H 𝓜 𝓣) G
-        (met 𝓤 𝓛 𝓜 𝓡 (code.calls-rs_field::rows::shards::ShardsRefMut::dist4_mut 𝓡.env wired)) z
+    (met 𝓤 𝓛 𝓜 𝓡 (code.calls-rs_field::rows::shards::ShardsRefMut::dist4_mut 𝓡.env wired)) z
     (and_then ! (get ! refl) (and_then ! (get ! refl) (and_then ! (get ! refl) (no_more !)))) (λ v.
     let second = pos + dist in let third = pos + 2 * dist in let fourth = pos + 3 * dist in
     use1 𝓛 (later (some (λ (x : MutBor Chunks × MutBor Chunks × MutBor Chunks × MutBor Chunks).
-        ((‵ (flft κ ql) ⊛ ‵ (flft κ₁ qr) ⊛ ‵ ftrue) ⊛ ‵ ((Fours κ).own_val x (v ∷ []))) ⊛
+    ((‵ (flft κ ql) ⊛ ‵ (flft κ₁ qr) ⊛ ‵ ftrue) ⊛ ‵ ((Fours κ).own_val x (v ∷ []))) ⊛
     some (λ (ws : Unit {0} × (Unit {0} × (Unit {0} × Unit {0}))).
-        ‵ (lasts g.ended z.0.0 z.0.3 ws) ⊛ ‵ (LendsFourRows lent pos second third fourth x)
+    ‵ (lasts g.ended z.0.0 z.0.3 ws) ⊛ ‵ (LendsFourRows lent pos second third fourth x)
     ⊛ raw (fact 𝓤 (x.0.now ≡ row_at h pos)) ⊛ raw (fact 𝓤 (x.1.now ≡ row_at h second)) ⊛ raw
-        (fact 𝓤 (x.2.now ≡ row_at h third)) ⊛ raw (fact 𝓤 (x.3.now ≡ row_at h fourth)))))) (id⊢ 𝓤 _) $
+    (fact 𝓤 (x.2.now ≡ row_at h third)) ⊛ raw (fact 𝓤 (x.3.now ≡ row_at h fourth)))))) (id⊢ 𝓤 _) $
     await ! tt $ pick ! (λ x.
-        split ! $ split ! $ move ! (2 ∷ []) $ pick ! (λ ws. split ! $ drop ! $ split ! $ move ! (1 ∷ []) $
+    split ! $ split ! $ move ! (2 ∷ []) $ pick ! (λ ws. split ! $ drop ! $ split ! $ move ! (1 ∷ []) $
     split ! $ heard ! _ (λ now₁.
-        split ! $ heard ! _ (λ now₂. split ! $ heard ! _ (λ now₃. heard ! _ (λ now₄. move ! (2 ∷ []) $
+    split ! $ heard ! _ (λ now₂. split ! $ heard ! _ (λ now₃. heard ! _ (λ now₄. move ! (2 ∷ []) $
     -- [the rows; what the loan follows; its tokens; what the lender keeps; the other tokens]
     peeks ! (Fours κ) (Is (Fours κ)) (shows 𝓛 (Fours κ)) x (v ∷ []) (λ shown.
     lands_as ! refl refl ((fours 𝓛 κ).typed x (v ∷ []) shown).0 $
@@ -99,54 +109,54 @@ swap_pairs_spec 𝓤 𝓛 𝓜 𝓡 wired =
     let long₃ = ap length now₃ ∙ row-long h third fits (omega (arith, within)) in
     let long₄ = ap length now₄ ∙ row-long h fourth fits within in
     move ! (2 ∷ []) $ split3 ! $ move ! (0 ∷ 2 ∷ []) $ join ! $ nothing ! $ move ! (3 ∷ 0 ∷ []) $ join ! $ move !
-        (1 ∷ 0 ∷ []) $ join ! $
+    (1 ∷ 0 ∷ []) $ join ! $
     use0 𝓛 (raw (fact 𝓤 (length x.2.now ≡ length x.3.now)))
-        (fact_i 𝓤 (length x.2.now ≡ length x.3.now) (emp 𝓤) (long₃ ∙ sym long₄)) $
+    (fact_i 𝓤 (length x.2.now ≡ length x.3.now) (emp 𝓤) (long₃ ∙ sym long₄)) $
     use0 𝓛 (raw (fact 𝓤 (length x.0.now ≡ length x.1.now)))
-        (fact_i 𝓤 (length x.0.now ≡ length x.1.now) (emp 𝓤) (long₁ ∙ sym long₂)) $ join ! $
+    (fact_i 𝓤 (length x.0.now ≡ length x.1.now) (emp 𝓤) (long₁ ∙ sym long₂)) $ join ! $
     move ! (1 ∷ 0 ∷ []) $ use2 𝓛 (raw (G'.pre z')) (id⊢ 𝓤 _) $
     calls_at ! (framed 𝓤 𝓛.H 𝓜 𝓣) G' (met' 𝓤 𝓛 𝓜 𝓡 (code.calls-rs_callers::lent_rows::swap_four 𝓡.env wired)) z'
     (and_then ! (get ! refl) (no_more !)) (λ v'.
     use1 𝓛 (later (some (λ (u : Unit {0}). ((‵ (flft κ ql) ⊛ ‵ ftrue) ⊛ ‵ (unit.own_val u (v' ∷ []))) ⊛
     some (λ (ws' : (Chunks × (Chunks × (Chunks × (Chunks × Unit {0})))) × Unit {0}).
-        ‵ (lasts g'.ended z'.0.0 z'.0.3 ws')
+    ‵ (lasts g'.ended z'.0.0 z'.0.3 ws')
     ⊛ raw (fact 𝓤 (ws'.0.0 ≡ x.1.now)) ⊛ raw (fact 𝓤 (ws'.0.1.0 ≡ x.0.now)) ⊛ raw (fact 𝓤 (ws'.0.1.1.0 ≡ x.3.now)) ⊛ raw
-        (fact 𝓤 (ws'.0.1.1.1.0 ≡ x.2.now)))))) (id⊢ 𝓤 _) $
+    (fact 𝓤 (ws'.0.1.1.1.0 ≡ x.2.now)))))) (id⊢ 𝓤 _) $
     await ! tt $ pick ! (λ u.
-        split ! $ split ! $ move ! (1 ∷ []) $ feq_l ! (λ is_unit. lands_as ! (ap only is_unit) refl (tt, tt) $
+    split ! $ split ! $ move ! (1 ∷ []) $ feq_l ! (λ is_unit. lands_as ! (ap only is_unit) refl (tt, tt) $
     move ! (1 ∷ []) $ pick !
-        (λ ws'. split ! $ move ! (1 ∷ []) $ split ! $ heard ! _
-        (λ is₁. split ! $ heard ! _ (λ is₂. split ! $ heard ! _ (λ is₃. heard ! _ (λ is₄.
+    (λ ws'. split ! $ move ! (1 ∷ []) $ split ! $ heard ! _
+    (λ is₁. split ! $ heard ! _ (λ is₂. split ! $ heard ! _ (λ is₃. heard ! _ (λ is₄.
     fsplit ! $ fsplit ! $ fsplit ! $ fsplit ! $
     use1 𝓛 (‵ (fres x.0.ghost_name (code₀ (row_at h second))))
-        (row-ended 𝓛 x.0.ghost_name ws'.0.0 (row_at h second) (is₁ ∙ now₂)) $
+    (row-ended 𝓛 x.0.ghost_name ws'.0.0 (row_at h second) (is₁ ∙ now₂)) $
     move ! (3 ∷ []) $ fsplit ! $ fsplit ! $ fsplit ! $
     use1 𝓛 (‵ (fres x.1.ghost_name (code₀ (row_at h pos))))
-        (row-ended 𝓛 x.1.ghost_name ws'.0.1.0 (row_at h pos) (is₂ ∙ now₁)) $
+    (row-ended 𝓛 x.1.ghost_name ws'.0.1.0 (row_at h pos) (is₂ ∙ now₁)) $
     move ! (3 ∷ []) $ fsplit ! $ fsplit ! $ fsplit ! $
     use1 𝓛 (‵ (fres x.2.ghost_name (code₀ (row_at h fourth))))
-        (row-ended 𝓛 x.2.ghost_name ws'.0.1.1.0 (row_at h fourth) (is₃ ∙ now₄)) $
+    (row-ended 𝓛 x.2.ghost_name ws'.0.1.1.0 (row_at h fourth) (is₃ ∙ now₄)) $
     move ! (3 ∷ []) $ fsplit ! $ fsplit ! $ fsplit ! $
     use1 𝓛 (‵ (fres x.3.ghost_name (code₀ (row_at h third))))
-        (row-ended 𝓛 x.3.ghost_name ws'.0.1.1.1.0 (row_at h third) (is₄ ∙ now₃)) $
+    (row-ended 𝓛 x.3.ghost_name ws'.0.1.1.1.0 (row_at h third) (is₄ ∙ now₃)) $
     let ends : Chunks → Chunks → Chunks → Chunks → ShardsRefMut = λ s t u r.
-        with_chunks h (with_four ch (pos * n) (second * n) (third * n) (fourth * n) n s t u r) in
+    with_chunks h (with_four ch (pos * n) (second * n) (third * n) (fourth * n) n s t u r) in
     let end : ShardsRefMut = swapped_four h pos second third fourth in
     -- [the last values, each before three more; the tokens; ..]
     move ! (4 ∷ 0 ∷ []) $ join ! $ move ! (9 ∷ 6 ∷ []) $ join ! $ join ! $ move ! (0 ∷ 13 ∷ []) $
     use2 𝓛 (‵ (fres δ (Row.coded.code end)))
     (followed₄ 𝓛 ShardsRefMut Bare.coded.code E δ x.0.ghost_name x.1.ghost_name x.2.ghost_name x.3.ghost_name ends
-        (row_at h second, row_at h pos, row_at h fourth, row_at h third)) $
+    (row_at h second, row_at h pos, row_at h fourth, row_at h third)) $
     move ! (11 ∷ []) $ split ! $ move ! (0 ∷ 13 ∷ []) $ join ! $ move ! (2 ∷ 0 ∷ 13 ∷ []) $
     use3 𝓛 (later (Back 𝓛 Row κ₀ κ₁ qs.0 q₁ self end))
-        (gives_back 𝓛 Row κ₀ κ₁ qs.0 q₁ self loan.0 δ end) $ await ! tt $ split3 ! $
+    (gives_back 𝓛 Row κ₀ κ₁ qs.0 q₁ self loan.0 δ end) $ await ! tt $ split3 ! $
     -- [self; its token; the list's; the other tokens]
     sets ! (of_opd ! (unit_lit !)) refl (tt, tt) $
     returns ! (look_at ! 0 refl) $ free_all ! refl $ keep ! (0 ∷ 1 ∷ 2 ∷ 3 ∷ []) $
     suffices ! _ (ends_at 𝓛 f.ended stayed c y vunit tt (end, (tt, (tt, tt))) (tt, (tt, (tt, tt)))) $
     says ! (swapped-twice h pos second third fourth fits (omega (arith, apart)) (omega (arith, apart))
-        (omega (arith, apart)) within) $
+    (omega (arith, apart)) within) $
     move ! (2 ∷ 3 ∷ []) $ join ! $ move ! (2 ∷ 0 ∷ []) $ join ! $
     nothing ! $ nothing ! $ fjoin ! $ nothing ! $ fjoin ! $ move ! (2 ∷ 0 ∷ []) $ join ! $
     feq_i ! _ (vunit ∷ []) _ refl $ move ! (1 ∷ 0 ∷ []) $ join ! $ move !
-        (1 ∷ 0 ∷ []) $ join ! $ done !))))))))))))))))))))))
+    (1 ∷ 0 ∷ []) $ join ! $ done !))))))))))))))))))))))

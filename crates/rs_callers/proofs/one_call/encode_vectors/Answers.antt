@@ -5,5 +5,5 @@ use Rattle.rs_callers.proofs.one_call.encode_vectors.Goals as goal
 pub returns : goal.returns
 returns c =
     let runs = YieldsList-from_map_by _ (λ shard. shard.now) (λ vector. vector.items)
-        (YieldsList-from_slice c.args.original.now cc) c.map-shards.ensures.closure (λ x r q k. search rules) in
+    (YieldsList-from_slice c.args.original.now cc) c.map-shards.ensures.closure (λ x r q k. search rules) in
     c.encode.ensures.answer _ runs.runs

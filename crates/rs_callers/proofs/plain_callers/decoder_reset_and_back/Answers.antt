@@ -18,7 +18,7 @@ returns-clause-answer c =
     let own = (state_of c.args.decoder.now).configuration in
     let rows = decoder_rows default_rate c.args.original_count c.args.recovery_count in
     let same : rows ≡ decoder_rows default_rate own.original_count own.recovery_count =
-        ap₂ (decoder_rows default_rate) c.requires.within.0 c.requires.within.1 in
+    ap₂ (decoder_rows default_rate) c.requires.within.0 c.requires.within.1 in
     let chunks = ap (λ n. chunk_count n own.shard_bytes) same in
     let less = chunk_count-size rows c.args.shard_bytes own.shard_bytes c.requires.within.2 in
     let room = own_room-decoder c.args.decoder.now in
@@ -32,11 +32,11 @@ returns-clause-answer c =
     let fits = (valid-decoder c.args.decoder.now).fits in
     c.reset-2.ensures.roomy has
     ∙ start_outcome-roomy rows
-        (default_of c.args.original_count c.args.recovery_count c.args.shard_bytes) c.requires.valid
-        (omega (arith, chunks, less, fits))
+    (default_of c.args.original_count c.args.recovery_count c.args.shard_bytes) c.requires.valid
+    (omega (arith, chunks, less, fits))
 
 pub returns-clause-state : goal.returns-clause-state
 returns-clause-state c =
     subst (λ r. OnOk r (state_of c.reset-2.new.self
-        ≡ fresh_decoder (default_of c.args.original_count c.args.recovery_count c.args.shard_bytes)))
-        (returns-clause-answer c) c.reset-2.ensures.ok
+    ≡ fresh_decoder (default_of c.args.original_count c.args.recovery_count c.args.shard_bytes)))
+    (returns-clause-answer c) c.reset-2.ensures.ok

@@ -9,5 +9,5 @@ pub returns-clause-answer : goal.returns-clause-answer
 returns-clause-answer c =
     let s = state_of c.args.decoder.now in
     let few = ap enough_given (c.decode_only.ensures.state ∙ ended s c.requires)
-        ∙ fresh-too_few s.configuration (valid-decoder c.args.decoder.now).valid in
+    ∙ fresh-too_few s.configuration (valid-decoder c.args.decoder.now).valid in
     search rules

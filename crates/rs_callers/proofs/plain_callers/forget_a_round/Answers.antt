@@ -8,5 +8,5 @@ use Rattle.rs_callers.proofs.plain_callers.forget_a_round.Goals as goal
 pub returns-clause-answer : goal.returns-clause-answer
 returns-clause-answer c =
     let some : 0 < (state_of c.args.encoder.now).configuration.original_count =
-        valid-some (state_of c.args.encoder.now).configuration (valid-encoder c.args.encoder.now).valid in
+    valid-some (state_of c.args.encoder.now).configuration (valid-encoder c.args.encoder.now).valid in
     grind (arith, common_steps)

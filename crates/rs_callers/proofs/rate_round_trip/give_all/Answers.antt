@@ -6,5 +6,5 @@ use Rattle.rs_callers.proofs.rate_round_trip.give_all.Goals as goal
 pub returns : goal.returns
 returns g c =
     let shards = YieldsList-from_map_by _ (λ shard. shard.now) (λ vector. vector.items)
-        (YieldsList-from_slice c.args.originals.now cc) c.map-shards.ensures.closure (λ x r q k. search rules) in
+    (YieldsList-from_slice c.args.originals.now cc) c.map-shards.ensures.closure (λ x r q k. search rules) in
     always-run c.add_shards.ensures _ shards.runs

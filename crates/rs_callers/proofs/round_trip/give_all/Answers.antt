@@ -14,9 +14,9 @@ loop-original-preserved c =
     let item = c.original-item.result in
     let same = c.deref.ensures.value ∙ ap (λ v. v.items) c.original-item.is in
     let taken = ap (with_shard s) (sym same)
-        ∙ outcome-ok s next (with_shard s c.deref.result.now) c.in_ok-add_original_shard.ensures.answer
-        c.add_original_shard.ensures.left in
+    ∙ outcome-ok s next (with_shard s c.deref.result.now) c.in_ok-add_original_shard.ensures.answer
+    c.add_original_shard.ensures.left in
     c.loop-original.invariant
     ∙ ap (with_shards s) (shards_from-next i c.args.originals.now item c.loop-original-test.true)
     ∙ taken-next with_shard s next (get_or c.args.originals.now i item).items
-        (shards_from (i + 1) c.args.originals.now) taken
+    (shards_from (i + 1) c.args.originals.now) taken

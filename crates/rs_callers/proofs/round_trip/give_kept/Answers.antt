@@ -14,9 +14,9 @@ loop-index-preserved-then-contains c =
     let item = c.index-originals-index.result in
     c.loop-index.invariant
     ∙ lost-next (λ now one. with_original now one.0 one.1) (is_left c.args.lost.now) s i (i + 1) i
-        (get_or originals i item).items (shards_from i originals) (shards_from (i + 1) originals)
+    (get_or originals i item).items (shards_from i originals) (shards_from (i + 1) originals)
     (shards_from-next i originals item c.loop-index-test.true) refl refl
-        (ap not (sym c.contains.ensures.value ∙ c.if-contains.true))
+    (ap not (sym c.contains.ensures.value ∙ c.if-contains.true))
 
 pub loop-index-preserved : goal.loop-index-preserved
 loop-index-preserved c =
@@ -28,11 +28,11 @@ loop-index-preserved c =
     let same = c.deref.ensures.value ∙ ap (λ v. v.items) c.index-originals-index.is in
     let taken =
     ap (with_original s i) (sym same)
-        ∙ outcome-ok s next (with_original s i c.deref.result.now) c.in_ok-add_original_shard.ensures.answer
-        c.add_original_shard.ensures.left
+    ∙ outcome-ok s next (with_original s i c.deref.result.now) c.in_ok-add_original_shard.ensures.answer
+    c.add_original_shard.ensures.left
     in
     c.loop-index.invariant
     ∙ kept-next (λ now one. with_original now one.0 one.1) (is_left c.args.lost.now) s next i (i + 1) i
-        (get_or originals i item).items (shards_from i originals) (shards_from (i + 1) originals)
+    (get_or originals i item).items (shards_from i originals) (shards_from (i + 1) originals)
     (shards_from-next i originals item c.loop-index-test.true) refl refl
-        (ap not (sym c.contains.ensures.value ∙ c.if-contains.false)) taken
+    (ap not (sym c.contains.ensures.value ∙ c.if-contains.false)) taken

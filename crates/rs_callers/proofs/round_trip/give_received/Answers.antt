@@ -14,9 +14,9 @@ loop-index-preserved-then-contains c =
     let taken_here = c.in-Some.ensures.steps in
     c.loop-index.invariant
     ∙ lost-next (λ s one. with_recovery s one.0 one.1) (is_left c.args.lost.now) (state_of c.loop-index.decoder)
-        (enumerate_count now) (enumerate_count after) c.in-Some.index c.in-Some.shard.now
+    (enumerate_count now) (enumerate_count after) c.in-Some.index c.in-Some.shard.now
     (enumerate_source now) (enumerate_source after) taken_here.0 taken_here.1 taken_here.2
-        (ap not (sym c.contains.ensures.value ∙ c.if-contains.true))
+    (ap not (sym c.contains.ensures.value ∙ c.if-contains.true))
 
 pub loop-index-preserved : goal.loop-index-preserved
 loop-index-preserved c =
@@ -26,13 +26,13 @@ loop-index-preserved c =
     let after = c.next.new.self in
     let taken_here = c.in-Some.ensures.steps in
     let taken = outcome-ok s next
-        (with_recovery s c.in-Some.index c.in-Some.shard.now) c.in_ok-add_recovery_shard.ensures.answer
-        c.add_recovery_shard.ensures.left in
+    (with_recovery s c.in-Some.index c.in-Some.shard.now) c.in_ok-add_recovery_shard.ensures.answer
+    c.add_recovery_shard.ensures.left in
     c.loop-index.invariant
     ∙ kept-next (λ t one. with_recovery t one.0 one.1) (is_left c.args.lost.now) s next (enumerate_count now)
-        (enumerate_count after) c.in-Some.index c.in-Some.shard.now
+    (enumerate_count after) c.in-Some.index c.in-Some.shard.now
     (enumerate_source now) (enumerate_source after) taken_here.0 taken_here.1 taken_here.2
-        (ap not (sym c.contains.ensures.value ∙ c.if-contains.false)) taken
+    (ap not (sym c.contains.ensures.value ∙ c.if-contains.false)) taken
 
 pub returns-in_err-add_recovery_shard : goal.returns-in_err-add_recovery_shard
 returns-in_err-add_recovery_shard c =
@@ -42,13 +42,13 @@ returns-in_err-add_recovery_shard c =
     let e = c.in_err-add_recovery_shard.field-0.0 in
     let told : c.from_residual.result ≡ Err e = search rules in
     let refused = outcome-err
-        (with_recovery s c.in-Some.index c.in-Some.shard.now) e c.in_err-add_recovery_shard.ensures.answer in
+    (with_recovery s c.in-Some.index c.in-Some.shard.now) e c.in_err-add_recovery_shard.ensures.answer in
     reaches-err _ (λ t. (state_of c.add_recovery_shard.new.self) ≡ t) c.from_residual.result e
     (
     c.loop-index.invariant
     ∙ kept-refused (λ t one. with_recovery t one.0 one.1) (is_left c.args.lost.now) s
-        (enumerate_count now) c.in-Some.index c.in-Some.shard.now (enumerate_source now)
-        (enumerate_source c.next.new.self)
+    (enumerate_count now) c.in-Some.index c.in-Some.shard.now (enumerate_source now)
+    (enumerate_source c.next.new.self)
     e taken_here.0 taken_here.1 (ap not (sym c.contains.ensures.value ∙ c.if-contains.false)) refused
     )
     told

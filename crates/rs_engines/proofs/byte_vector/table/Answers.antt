@@ -11,8 +11,8 @@ digit_at zero x i h = absurd (omega arith)
 digit_at (suc n) x zero h = let e : x % 256 ≡ x / 1 % 256 = omega arith in e
 digit_at (suc n) x (suc i) h =
     digit_at n (x / 256) i (omega arith)
-        ∙ ap (λ y. y % 256) (div-div-eq-div-mul x 256 (256 ^ i)
-        ∙ ap (λ p. x / p) (mul_comm 256 (256 ^ i) ∙ sym (pow-suc 256 i)))
+    ∙ ap (λ y. y % 256) (div-div-eq-div-mul x 256 (256 ^ i)
+    ∙ ap (λ p. x / p) (mul_comm 256 (256 ^ i) ∙ sym (pow-suc 256 i)))
 
 pub returns : goal.returns
 returns c i h =

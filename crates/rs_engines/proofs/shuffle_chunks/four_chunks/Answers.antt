@@ -8,18 +8,18 @@ returns-then-LANES-lt32 g c s h =
     let width = g.met.V.ByteVector.width in
     let factors = c.args.factors in
     let layers = g.D.Butterflies.four (g.F02.Factor.log factors.f02) (g.F01.Factor.log factors.f01)
-        (g.F23.Factor.log factors.f23) in
+    (g.F23.Factor.log factors.f23) in
     elim (cases_lt s 16) [
       | inl low ↦
           let next = c.lanes_of_four-then-LANES-lt32.ensures in
           four_kept_after layers _ _ _ _ _ _ _ _ _ _ _ _ (next.kept_0 s h (inl low)) (next.kept_1 s h (inl low))
-              (next.kept_2 s h (inl low)) (next.kept_3 s h (inl low))
+          (next.kept_2 s h (inl low)) (next.kept_3 s h (inl low))
           (c.lanes_of_four.ensures.layers s s (omega arith) (omega arith))
       | inr high ↦
           let past = c.lanes_of_four.ensures in
           four_kept_before layers _ _ _ _ _ _ _ _ _ _ _ _
           (past.kept_0 s h (inr (omega arith))) (past.kept_1 s h (inr (omega arith)))
-              (past.kept_2 s h (inr (omega arith))) (past.kept_3 s h (inr (omega arith)))
+          (past.kept_2 s h (inr (omega arith))) (past.kept_3 s h (inr (omega arith)))
           (c.lanes_of_four-then-LANES-lt32.ensures.layers (s - 16) s (omega arith) (omega arith))
     ]
 

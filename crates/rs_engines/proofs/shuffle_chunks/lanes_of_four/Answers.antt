@@ -5,10 +5,10 @@ pub returns-clause-layers : goal.returns-clause-layers
 returns-clause-layers g c i s h e =
     let factors = c.args.factors in
     let layers = g.D.Butterflies.four (g.F02.Factor.log factors.f02) (g.F01.Factor.log factors.f01)
-        (g.F23.Factor.log factors.f23) in
+    (g.F23.Factor.log factors.f23) in
     four_kept_after layers _ _ _ _ _ _ _ _ _ _ _ _
     (c.put_words.ensures.stored i s h e) (c.put_words-2.ensures.stored i s h e) (c.put_words-3.ensures.stored i s h e)
-        (c.put_words-4.ensures.stored i s h e)
+    (c.put_words-4.ensures.stored i s h e)
     (four_kept_before layers _ _ _ _ _ _ _ _ _ _ _ _ (c.words_at-x0.ensures i s h e) (c.words_at-x1.ensures i s h e)
-        (c.words_at-x2.ensures i s h e) (c.words_at-x3.ensures i s h e)
+    (c.words_at-x2.ensures i s h e) (c.words_at-x3.ensures i s h e)
     (c.of_four-y0.ensures i h))

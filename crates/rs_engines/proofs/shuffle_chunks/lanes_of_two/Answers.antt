@@ -6,4 +6,4 @@ returns-clause-butterfly g c i s h e =
     let butterfly = g.D.Butterflies.two (g.F.Factor.log c.args.factor) in
     two_kept_after butterfly _ _ _ _ _ _ (c.put_words.ensures.stored i s h e) (c.put_words-2.ensures.stored i s h e)
     (two_kept_before butterfly _ _ _ _ _ _ (c.words_at-x0.ensures i s h e) (c.words_at-x1.ensures i s h e)
-        (c.of_two-y0.ensures i h))
+    (c.of_two-y0.ensures i h))

@@ -11,11 +11,11 @@ returns-then-LANES-lt32 g c s h =
       | inl low ↦
           let next = c.lanes_of_two-then-LANES-lt32.ensures in
           two_kept_after butterfly _ _ _ _ _ _ (next.kept_0 s h (inl low)) (next.kept_1 s h (inl low))
-              (c.lanes_of_two.ensures.butterfly s s (omega arith) (omega arith))
+          (c.lanes_of_two.ensures.butterfly s s (omega arith) (omega arith))
       | inr high ↦
           let past = c.lanes_of_two.ensures in
           two_kept_before butterfly _ _ _ _ _ _ (past.kept_0 s h (inr (omega arith)))
-              (past.kept_1 s h (inr (omega arith)))
+          (past.kept_1 s h (inr (omega arith)))
           (c.lanes_of_two-then-LANES-lt32.ensures.butterfly (s - 16) s (omega arith) (omega arith))
     ]
 

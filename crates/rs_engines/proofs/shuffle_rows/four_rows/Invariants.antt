@@ -7,7 +7,7 @@ abbrev pub invariant-loop-k : goal.invariant-loop-k
 invariant-loop-k g l = record {
   done : (j s : ℕ) → j < l.k → s < 32
       → at_four_symbols s (g.D.Butterflies.four (g.F02.Factor.log l.factors.f02) (g.F01.Factor.log l.factors.f01)
-          (g.F23.Factor.log l.factors.f23))
+      (g.F23.Factor.log l.factors.f23))
       (chunk l.initial.x0 j) (chunk l.initial.x1 j) (chunk l.initial.x2 j) (chunk l.initial.x3 j)
       (chunk l.x0 j) (chunk l.x1 j) (chunk l.x2 j) (chunk l.x3 j);
   rest_0 : (j : ℕ) → l.k ≤ j → chunk l.x0 j ≡ chunk l.initial.x0 j;

@@ -7,7 +7,7 @@ abbrev pub invariant-loop-k : goal.invariant-loop-k
 invariant-loop-k g l = record {
   done : (j s : ℕ) → j < l.k → s < 32
       → at_two_symbols s (g.D.Butterflies.two (g.F.Factor.log l.factor)) (chunk l.initial.x0 j) (chunk l.initial.x1 j)
-          (chunk l.x0 j) (chunk l.x1 j);
+      (chunk l.x0 j) (chunk l.x1 j);
   rest_0 : (j : ℕ) → l.k ≤ j → chunk l.x0 j ≡ chunk l.initial.x0 j;
   rest_1 : (j : ℕ) → l.k ≤ j → chunk l.x1 j ≡ chunk l.initial.x1 j;
 }

@@ -17,12 +17,12 @@ of_nibbles g c f additive are i h =
     let l = get_or (g.V.ByteVector.bytes c.args.low) i 0 in
     let u = get_or (g.V.ByteVector.bytes c.args.high) i 0 in
     sum_of_nibbles f additive l u (c.at_high_nibbles.ensures.small i h)
-        (c.at_high_nibbles-2.ensures.small i h) _ _ _ _ _ _ _
+    (c.at_high_nibbles-2.ensures.small i h) _ _ _ _ _ _ _
     (c.sum.ensures.lanes i h) (c.sum-first.ensures.lanes i h) (c.sum-second.ensures.lanes i h)
     (c.at_low_nibbles.ensures i h ∙ are 0 (l % 16) (omega arith) (omega arith))
-        (c.at_high_nibbles.ensures.lanes i h ∙ are 1 (l / 16) (omega arith) (omega arith))
+    (c.at_high_nibbles.ensures.lanes i h ∙ are 1 (l / 16) (omega arith) (omega arith))
     (c.at_low_nibbles-2.ensures i h ∙ are 2 (u % 16) (omega arith) (omega arith))
-        (c.at_high_nibbles-2.ensures.lanes i h ∙ are 3 (u / 16) (omega arith) (omega arith))
+    (c.at_high_nibbles-2.ensures.lanes i h ∙ are 3 (u / 16) (omega arith) (omega arith))
 
 pub returns-clause-low : goal.returns-clause-low
 returns-clause-low g c f i are h =

@@ -16,7 +16,7 @@ returns g c f i are h =
     let u = get_or (g.V.ByteVector.bytes c.args.words.high) i 0 in
     let s = get_or (g.V.ByteVector.bytes c.sum.result) i 0 in
     let high = sum_of_nibbles (λ x. product x f / 256) (high_additive f) l u (c.product_bytes.ensures.small i h)
-        (c.at_high_nibbles.ensures.small i h) 0 0 _ _ 0 s s
+    (c.at_high_nibbles.ensures.small i h) 0 0 _ _ 0 s s
     (sym (xor_comm 0 s ∙ xor_zero_r s)) (sym (xor_zero_r 0)) (c.sum.ensures.lanes i h)
     (sym (zero_byte _ (l % 16) c.requires.first) ∙ are.hi.high 0 (l % 16) (omega arith) (omega arith))
     (sym (zero_byte _ (l / 16) c.requires.second) ∙ are.hi.high 1 (l / 16) (omega arith) (omega arith))

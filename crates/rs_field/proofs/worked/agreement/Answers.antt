@@ -52,8 +52,12 @@ agrees : IsAgreeing state_of_two message
 agrees = record {
   shards = message_shards;
   own = nothing_among message;
-  coded = (recovered, line, entered_among _ 1 (3 ∷ 0 ∷ []) recovered
-      (entered_among nothing 0 (2 ∷ 0 ∷ []) recovered (nothing_among recovered) refl) refl);
+  coded = (
+    recovered,
+    line,
+    entered_among _ 1 (3 ∷ 0 ∷ []) recovered
+        (entered_among nothing 0 (2 ∷ 0 ∷ []) recovered (nothing_among recovered) refl) refl,
+  );
 }
 
 -- No other message of two originals agrees with these two recovery shards.
@@ -105,8 +109,12 @@ mixture : MixtureExample
 mixture = record {
   shards = shards_from 4 2 four refl;
   own = entered_among _ 1 (0 ∷ 0 ∷ []) four (entered_among nothing 3 (3 ∷ 0 ∷ []) four (nothing_among four) refl) refl;
-  coded = (four_more, cubic, entered_among _ 0 (11 ∷ 0 ∷ []) four_more
-      (entered_among nothing 2 (14 ∷ 0 ∷ []) four_more (nothing_among four_more) refl) refl);
+  coded = (
+    four_more,
+    cubic,
+    entered_among _ 0 (11 ∷ 0 ∷ []) four_more
+        (entered_among nothing 2 (14 ∷ 0 ∷ []) four_more (nothing_among four_more) refl) refl,
+  );
 }
 
 -- A message of one original.
@@ -131,7 +139,7 @@ unfolding supports next_power first_below with_entry count_below changed_shards
 inconsistent =
     let given = state_of_surplus (7 ∷ 8 ∷ []) in
     changes_noticed given.configuration original copied given.originals given.recovery refl refl
-        (shards_from 1 2 original refl) copies (lit< tt) (lit≤ tt)
+    (shards_from 1 2 original refl) copies (lit< tt) (lit≤ tt)
 
 -- No other message of one original agrees with the original and its copy.
 only_original : (m : List Shard) → IsAgreeing (state_of_surplus (7 ∷ 9 ∷ [])) m → m ≡ original
@@ -146,8 +154,8 @@ unfolding with_entry missing_of
 none_missing zero = refl
 none_missing (suc i) =
     sym (ap (λ (b : Bool).
-        cond (b && not (is_some ((state_of_surplus (7 ∷ 9 ∷ [])).originals (suc i))))
-        (Some (shard_at original (suc i))) None) (le-ltb (suc i) 1 (omega arith)))
+    cond (b && not (is_some ((state_of_surplus (7 ∷ 9 ∷ [])).originals (suc i))))
+    (Some (shard_at original (suc i))) None) (le-ltb (suc i) 1 (omega arith)))
 
 -- A decode of the original and its copy restores no original.
 agreed : DecodeAnswers (state_of_surplus (7 ∷ 9 ∷ [])) (Ok nothing)

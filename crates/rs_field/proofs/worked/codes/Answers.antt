@@ -23,15 +23,23 @@ low = (
   (
     (codes_from _ _ _ _ _ refl, recovery_from _ _ _ ((2311 ∷ []) ∷ []) refl),
     (codes_from _ _ _ _ _ refl, recovery_from _ _ _ ((0 ∷ 1 ∷ []) ∷ []) refl),
-    ((codes_from _ _ _ _ _ refl, recovery_from _ _ _ ((1 ∷ 0 ∷ []) ∷ []) refl), refl,
-        (codes_from _ _ _ _ _ refl, recovery_from _ _ _ ((1 ∷ 1 ∷ []) ∷ []) refl), refl),
+    (
+      (codes_from _ _ _ _ _ refl, recovery_from _ _ _ ((1 ∷ 0 ∷ []) ∷ []) refl),
+      refl,
+      (codes_from _ _ _ _ _ refl, recovery_from _ _ _ ((1 ∷ 1 ∷ []) ∷ []) refl),
+      refl,
+    ),
     (codes_from _ _ _ _ _ refl, recovery_from _ _ _ ((0 ∷ 3 ∷ 2 ∷ 1 ∷ []) ∷ []) refl),
   ),
   (
     (codes_from _ _ _ _ _ refl, recovery_from _ _ _ ((2311 ∷ []) ∷ []) refl),
     (codes_from _ _ _ _ _ refl, recovery_from _ _ _ ((0 ∷ 1 ∷ []) ∷ []) refl),
-    ((codes_from _ _ _ _ _ refl, recovery_from _ _ _ ((1 ∷ 0 ∷ []) ∷ []) refl), refl,
-        (codes_from _ _ _ _ _ refl, recovery_from _ _ _ ((1 ∷ 1 ∷ []) ∷ []) refl), refl),
+    (
+      (codes_from _ _ _ _ _ refl, recovery_from _ _ _ ((1 ∷ 0 ∷ []) ∷ []) refl),
+      refl,
+      (codes_from _ _ _ _ _ refl, recovery_from _ _ _ ((1 ∷ 1 ∷ []) ∷ []) refl),
+      refl,
+    ),
     (codes_from _ _ _ _ _ refl, recovery_from _ _ _ ((0 ∷ 3 ∷ 2 ∷ 1 ∷ []) ∷ []) refl),
   ),
   (codes_from _ _ _ _ _ refl, recovery_from _ _ _ ((0 ∷ 1 ∷ []) ∷ []) refl),

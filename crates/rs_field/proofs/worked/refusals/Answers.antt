@@ -45,5 +45,13 @@ memory = (
 )
 
 pub returns : goal.returns
-returns c = record { encode = encode; decode = decode; no_recovery = no_recovery; encoder = encoder; decoder =
-    decoder; index = index; memory = memory }
+returns c = record {
+  encode = encode;
+  decode = decode;
+  no_recovery = no_recovery;
+  encoder = encoder;
+  decoder =
+      decoder;
+  index = index;
+  memory = memory;
+}

@@ -16,7 +16,7 @@ basis_shift : (q x : ℕ) → x < 2 ^ 16 → basis q x ≡ by_shift q x
 unfolding basis by_shift
 basis_shift q x h =
     product_below-same 16 (λ d. if q / 2 ^ d % 2 == 1 then subspace d x else 1)
-        (λ d. if q / 2 ^ d % 2 == 1 then x / 2 ^ d else 1)
+    (λ d. if q / 2 ^ d % 2 == 1 then x / 2 ^ d else 1)
     (λ d hd. ap (λ v. cond (q / 2 ^ d % 2 == 1) v 1) (subspace_shift d x (omega arith) h))
 
 -- The transform of two words at a point.
@@ -25,7 +25,7 @@ at_point : (f : ℕ → ℕ) (shift i x : ℕ) → shift + i ≡ x → x < 2 ^ 1
 unfolding forward sum_below
 at_point f shift i x e h =
     ap₂ (λ u v. bit_xor (bit_xor 0 (product (f 0) u)) (product (f 1) v)) (ap (basis 0) e ∙ basis_shift 0 x h)
-        (ap (basis 1) e ∙ basis_shift 1 x h)
+    (ap (basis 1) e ∙ basis_shift 1 x h)
 
 -- The values of 2 + 4 * x at the points 4 and 5 are 4 and 0.
 values : (bit_xor (bit_xor 0 (product 2 (by_shift 0 4))) (product 4 (by_shift 1 4)) ≡ 4)

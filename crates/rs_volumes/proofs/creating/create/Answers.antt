@@ -28,15 +28,15 @@ loop-start-preserved g c =
     let start : ℕ = c.loop-start.start in
     let size : ℕ = c.args.shape.block_bytes in
     let strip : IsStrip start (start + c.min.result) size =
-        subst (λ (n : ℕ). IsStrip start (start + n) size) (sym c.min.ensures)
+    subst (λ (n : ℕ). IsStrip start (start + n) size) (sym c.min.ensures)
     (next_strip start c.args.piece_bytes size held.inside held.begins c.requires.chunks c.requires.some
-        c.loop-start-test.true) in
+    c.loop-start-test.true) in
     let now = c.in_ok-create_piece.ensures in
     let made = subst (λ (known : Shards).
-        MakesPiece c.args.shape c.loop-start.start (c.loop-start.start + c.min.result) known
-        (g.W.BlockSink.written c.loop-start.sink)
+    MakesPiece c.args.shape c.loop-start.start (c.loop-start.start + c.min.result) known
+    (g.W.BlockSink.written c.loop-start.sink)
     (g.W.BlockSink.written c.create_piece.new.sink) c.loop-start.hashers.originals.items
-        c.create_piece.new.hashers.originals.items c.loop-start.hashers.recovery.items
+    c.create_piece.new.hashers.originals.items c.loop-start.hashers.recovery.items
     c.create_piece.new.hashers.recovery.items) held.kept now.made in
     record {
       inside = strip.inside;
@@ -47,7 +47,7 @@ loop-start-preserved g c =
       done = created_more c.args.shape start (start + c.min.result) (g.S.BlockSource.blocks c.args.source.now)
           (g.W.BlockSink.written c.args.sink.now) (g.W.BlockSink.written c.loop-start.sink)
           (g.W.BlockSink.written c.create_piece.new.sink) c.loop-start.hashers.originals.items
-              c.create_piece.new.hashers.originals.items c.loop-start.hashers.recovery.items
+          c.create_piece.new.hashers.originals.items c.loop-start.hashers.recovery.items
           c.create_piece.new.hashers.recovery.items strip held.done made;
     }
 
@@ -56,9 +56,9 @@ returns g c =
     let held = c.loop-start.invariant in
     let ends : c.loop-start.start ≡ c.args.shape.block_bytes = omega (arith, held.inside, c.loop-start-test.false) in
     created_all c.args.shape c.loop-start.start (g.S.BlockSource.blocks c.args.source.now)
-        (g.W.BlockSink.written c.args.sink.now) (g.W.BlockSink.written c.loop-start.sink)
+    (g.W.BlockSink.written c.args.sink.now) (g.W.BlockSink.written c.loop-start.sink)
     c.loop-start.hashers.originals.items c.loop-start.hashers.recovery.items c.finish-2.new.digests.items ends held.done
     (λ blocks is others are. c.in_ok-finish-2.ensures others are
     ∙ ap (λ (d : List ℕ). d ++ flat_map sha256 others)
-        (c.in_ok-finish.ensures blocks is
-        ∙ ap (λ (d : List ℕ). d ++ flat_map sha256 blocks) c.new-digests.ensures.items))
+    (c.in_ok-finish.ensures blocks is
+    ∙ ap (λ (d : List ℕ). d ++ flat_map sha256 blocks) c.new-digests.ensures.items))

@@ -17,22 +17,22 @@ returns-clause-made g c =
     let pieces : List Shard = map (λ (p : Vec ℕ). p.items) c.in_ok-pieces.pieces.items in
     let made : List Shard = map (λ (p : Vec ℕ). p.items) c.in_ok-made.made.items in
     let sized : All (λ p. length p ≡ size) pieces =
-        All-map (λ (p : Shard). length p ≡ size)
-        (λ (p : Vec ℕ). p.items) c.in_ok-pieces.pieces.items c.in_ok-pieces.ensures.sized in
+    All-map (λ (p : Shard). length p ≡ size)
+    (λ (p : Vec ℕ). p.items) c.in_ok-pieces.pieces.items c.in_ok-pieces.ensures.sized in
     let coded : AreCoded k r pieces made =
-        subst (λ (l : List (Vec ℕ)). AreCoded k r (map (λ p. p.items) l) made) c.as_slice.ensures.value
-        c.in_ok-made.ensures.coded in
+    subst (λ (l : List (Vec ℕ)). AreCoded k r (map (λ p. p.items) l) made) c.as_slice.ensures.value
+    c.in_ok-made.ensures.coded in
     let both = coded_sized k r size pieces made coded sized in
     let first : Puts 0 pieces (g.W.BlockSink.written c.args.sink.now) (g.W.BlockSink.written c.put_pieces.new.sink) =
     subst (λ (l : List (Vec ℕ)).
-        Puts 0 (map (λ p. p.items) l) (g.W.BlockSink.written c.args.sink.now)
-        (g.W.BlockSink.written c.put_pieces.new.sink)) c.as_slice-4.ensures.value
+    Puts 0 (map (λ p. p.items) l) (g.W.BlockSink.written c.args.sink.now)
+    (g.W.BlockSink.written c.put_pieces.new.sink)) c.as_slice-4.ensures.value
     (puts_from 0 c.as_slice-4.result.now _ _ c.in_ok-put_pieces.ensures.put c.in_ok-put_pieces.ensures.others) in
     let second : Puts k made (g.W.BlockSink.written c.put_pieces.new.sink)
-        (g.W.BlockSink.written c.put_pieces-2.new.sink) =
+    (g.W.BlockSink.written c.put_pieces-2.new.sink) =
     subst (λ (l : List (Vec ℕ)).
-        Puts k (map (λ p. p.items) l) (g.W.BlockSink.written c.put_pieces.new.sink)
-        (g.W.BlockSink.written c.put_pieces-2.new.sink)) c.as_slice-5.ensures.value
+    Puts k (map (λ p. p.items) l) (g.W.BlockSink.written c.put_pieces.new.sink)
+    (g.W.BlockSink.written c.put_pieces-2.new.sink)) c.as_slice-5.ensures.value
     (puts_from k c.as_slice-5.result.now _ _ c.in_ok-put_pieces-2.ensures.put c.in_ok-put_pieces-2.ensures.others) in
     record {
       pieces = pieces;

@@ -10,17 +10,17 @@ pub returns-in_err-file : goal.returns-in_err-file
 returns-in_err-file c =
     let p = err_from_is_err_and c.from_residual.result c.from_residual.ensures.1 in
     rw (p.1, p.2) (ends c.in_err-file.field-0.0
-        (files_of c.loop.files.items) c.args.count c.loop.counter c.loop.rest.now
-        (files_at c.args.count c.args.bytes.now) c.loop-test.true c.in_err-file.ensures c.loop.invariant)
+    (files_of c.loop.files.items) c.args.count c.loop.counter c.loop.rest.now
+    (files_at c.args.count c.args.bytes.now) c.loop-test.true c.in_err-file.ensures c.loop.invariant)
 
 pub loop-preserved : goal.loop-preserved
 loop-preserved c =
     let f = c.in_ok-file.file in
     let e : files_of c.push.new.self.items ≡ files_of c.loop.files.items ++ file_of f ∷ [] =
-        rw c.in_ok-push.ensures.items (map_push _ c.loop.files.items f) in
+    rw c.in_ok-push.ensures.items (map_push _ c.loop.files.items f) in
     rw e (goes_on (files_of c.loop.files.items) c.args.count c.loop.counter c.loop.rest.now
-        (file_of f) c.in_ok-file.after.now
-        (files_at c.args.count c.args.bytes.now) c.loop-test.true c.in_ok-file.ensures c.loop.invariant)
+    (file_of f) c.in_ok-file.after.now
+    (files_at c.args.count c.args.bytes.now) c.loop-test.true c.in_ok-file.ensures c.loop.invariant)
 
 pub returns : goal.returns
 returns c = is_done (files_of c.loop.files.items) c.args.count c.loop.counter c.loop.rest.now

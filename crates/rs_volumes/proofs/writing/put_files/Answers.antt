@@ -17,19 +17,19 @@ files_further : (files : List FileEntry) (i : ℕ) (file : FileEntry) → i < le
     ++ file_spelling (file_of file)
 files_further files i file h e =
     ap (λ (fs : List FileEntry). flat_map file_spelling (files_of fs))
-        (take_more files i file h ∙ ap (λ (f : FileEntry). take i files ++ f ∷ []) (sym e))
+    (take_more files i file h ∙ ap (λ (f : FileEntry). take i files ++ f ∷ []) (sym e))
     ∙ ap (λ (fs : _). flat_map file_spelling fs) (map-append file_of (take i files) (file ∷ []))
     ∙ flat_map-append file_spelling (files_of (take i files)) (file_of file ∷ [])
     ∙ ap (λ (bytes : List ℕ). flat_map file_spelling (files_of (take i files)) ++ bytes)
-        (flat_map-cons file_spelling (file_of file) [] ∙ append-nil (file_spelling (file_of file)))
+    (flat_map-cons file_spelling (file_of file) [] ∙ append-nil (file_spelling (file_of file)))
 
 pub loop-file-preserved : goal.loop-file-preserved
 loop-file-preserved c =
     c.in_ok-put_file.ensures
     ∙ ap (λ (bytes : List ℕ). bytes ++ file_spelling (file_of c.file-item.result)) c.loop-file.invariant
     ∙ append_assoc c.args.out.now.items
-        (flat_map file_spelling (files_of (take c.loop-file.file-index c.args.files.now)))
-        (file_spelling (file_of c.file-item.result))
+    (flat_map file_spelling (files_of (take c.loop-file.file-index c.args.files.now)))
+    (file_spelling (file_of c.file-item.result))
     ∙ ap (λ (bytes : List ℕ). c.args.out.now.items ++ bytes)
-        (sym (files_further c.args.files.now c.loop-file.file-index c.file-item.result c.loop-file-test.true
-        c.file-item.is))
+    (sym (files_further c.args.files.now c.loop-file.file-index c.file-item.result c.loop-file-test.true
+    c.file-item.is))

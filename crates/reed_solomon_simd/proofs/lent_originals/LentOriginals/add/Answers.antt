@@ -10,7 +10,7 @@ invariant_of-self-clause-sized c =
     let long : length c.args.shard.now ≡ c.args.self.now.shard_bytes = search rules in
     subst (λ (l : List Shard). All (IsShard c.args.self.now.shard_bytes) l)
     (sym (ap shards_of c.push_reserved.ensures.items
-        ∙ map-append (λ x. x.now) c.args.self.now.shards.items (c.args.shard ∷ [])))
+    ∙ map-append (λ x. x.now) c.args.self.now.shards.items (c.args.shard ∷ [])))
     (All-push (IsShard c.args.self.now.shard_bytes)
-        (shards_of c.args.self.now.shards.items) c.args.shard.now c.args.self.now.sized
+    (shards_of c.args.self.now.shards.items) c.args.shard.now c.args.self.now.sized
     (record { length_is = long; bytes = c.are_bytes.ensures.all }))

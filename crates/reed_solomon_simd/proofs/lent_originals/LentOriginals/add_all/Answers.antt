@@ -14,7 +14,7 @@ loop-shard-preserved g c =
 pub returns-in_err-add-clause-reaches : goal.returns-in_err-add-clause-reaches
 returns-in_err-add-clause-reaches g c =
     leads-refused (λ s. lent_state c.add.new.self ≡ s) c.loop-shard.invariant.led c.in-Some.ensures.steps
-        (outcome-err _ _ c.in_err-add.ensures.answer) (search rules)
+    (outcome-err _ _ c.in_err-add.ensures.answer) (search rules)
 
 pub returns-clause-reaches : goal.returns-clause-reaches
 returns-clause-reaches g c =

@@ -5,5 +5,5 @@ use Rattle.reed_solomon_simd.proofs.lent_originals.LentOriginals.encode.Goals as
 pub encode_strips-requires-clause-sized : goal.encode_strips-requires-clause-sized
 encode_strips-requires-clause-sized g c =
     subst (λ (l : List (Bor (List ℕ))). All (λ x. length x.now ≡ c.args.self.now.shard_bytes) l)
-        (sym c.as_slice.ensures.value)
+    (sym c.as_slice.ensures.value)
     (shards-long c.args.self.now.shard_bytes c.args.self.now.shards.items c.args.self.now.sized)

@@ -18,7 +18,7 @@ returns-in_err-originals-clause-gathered g c =
       no-calls c.next.new.self,
       λ others begins.
           let led = encoding-unset c.args.counts.original_count c.args.counts.recovery_count c.in-Some.first.now others
-              _ c.in_err-originals.ensures.answer in search rules,
+          _ c.in_err-originals.ensures.answer in search rules,
     )
 
 pub returns-in_err-add-clause-gathered : goal.returns-in_err-add-clause-gathered
@@ -27,9 +27,9 @@ returns-in_err-add-clause-gathered g c =
       no-calls c.next.new.self,
       λ others begins.
           let led = encoding-given c.args.counts.original_count c.args.counts.recovery_count c.in-Some.first.now others
-              _ c.in_ok-originals.ensures.answer c.in_ok-originals.ensures.made _
+          _ c.in_ok-originals.ensures.answer c.in_ok-originals.ensures.made _
           (adds-err with_shard _ c.in-Some.first.now others _ (outcome-err _ _ c.in_err-add.ensures.answer)) in
-              search rules,
+          search rules,
     )
 
 pub returns-in_err-add_all-clause-gathered : goal.returns-in_err-add_all-clause-gathered
@@ -38,10 +38,10 @@ returns-in_err-add_all-clause-gathered g c =
       c.in_err-add_all.ensures.reaches.0,
       λ others begins.
           let led = encoding-given c.args.counts.original_count c.args.counts.recovery_count c.in-Some.first.now others
-              _ c.in_ok-originals.ensures.answer c.in_ok-originals.ensures.made _
+          _ c.in_ok-originals.ensures.answer c.in_ok-originals.ensures.made _
           (adds-ok with_shard _ _ c.in-Some.first.now others _
-              (outcome-ok _ _ _ c.in_ok-add.ensures.answer c.in_ok-add.ensures.left)
-              (reached-err _ _ _ (c.in_err-add_all.ensures.reaches.1 others begins))) in search rules,
+          (outcome-ok _ _ _ c.in_ok-add.ensures.answer c.in_ok-add.ensures.left)
+          (reached-err _ _ _ (c.in_err-add_all.ensures.reaches.1 others begins))) in search rules,
     )
 
 pub returns-clause-gathered : goal.returns-clause-gathered
@@ -50,8 +50,8 @@ returns-clause-gathered g c =
       c.in_ok-add_all.ensures.reaches.0,
       λ others begins.
           encoding-given c.args.counts.original_count c.args.counts.recovery_count c.in-Some.first.now others _
-              c.in_ok-originals.ensures.answer c.in_ok-originals.ensures.made _
+          c.in_ok-originals.ensures.answer c.in_ok-originals.ensures.made _
           (adds-ok with_shard _ _ c.in-Some.first.now others _
-              (outcome-ok _ _ _ c.in_ok-add.ensures.answer c.in_ok-add.ensures.left)
-              (reached-ok _ _ (c.in_ok-add_all.ensures.reaches.1 others begins))),
+          (outcome-ok _ _ _ c.in_ok-add.ensures.answer c.in_ok-add.ensures.left)
+          (reached-ok _ _ (c.in_ok-add_all.ensures.reaches.1 others begins))),
     )

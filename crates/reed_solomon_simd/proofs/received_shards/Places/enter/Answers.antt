@@ -12,7 +12,7 @@ invariant_of-self c =
     record {
       counted = ap (λ n. n + 1) c.args.self.now.counted
           ∙ sym (places-counted c.args.self.now.shards.items c.args.index c.args.shard c.requires.inside
-              c.requires.free);
+          c.requires.free);
     }
 
 pub returns-clause-entered : goal.returns-clause-entered

@@ -9,4 +9,4 @@ invariant_of-self-clause-originals_within c =
     let inside : c.args.index < x.counts.original_count = omega (arith, c.if-index-original_count.false) in
     subst (AreWithin x.counts.original_count x.shard_bytes) (sym c.enter.ensures.entered)
     (entered-within x.counts.original_count x.shard_bytes _ c.args.index c.args.shard.now inside
-        c.in_ok-check_size.ensures.shard x.originals_within)
+    c.in_ok-check_size.ensures.shard x.originals_within)

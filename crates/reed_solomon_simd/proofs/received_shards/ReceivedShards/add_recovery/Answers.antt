@@ -9,4 +9,4 @@ invariant_of-self-clause-recovery_within c =
     let inside : c.args.index < x.counts.recovery_count = omega (arith, c.if-index-recovery_count.false) in
     subst (AreWithin x.counts.recovery_count x.shard_bytes) (sym c.enter.ensures.entered)
     (entered-within x.counts.recovery_count x.shard_bytes _ c.args.index c.args.shard.now inside
-        c.in_ok-check_size.ensures.shard x.recovery_within)
+    c.in_ok-check_size.ensures.shard x.recovery_within)

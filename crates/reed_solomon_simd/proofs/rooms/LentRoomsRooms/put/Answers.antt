@@ -20,12 +20,12 @@ returns-clause-here c =
     let d : MutBor (List ℕ) = record { ref_ptr = (0, 0); ghost_name = 0; now = [] } in
     let inside : c.args.index < length rooms = omega (arith, long, c.requires.room) in
     let was : get_or (bytes_in rooms) c.args.index [] ≡ (get_or rooms c.args.index d).now =
-        get_or-map (λ room. room.now) rooms c.args.index d [] inside in
+    get_or-map (λ room. room.now) rooms c.args.index d [] inside in
     ap (λ (l : List (List ℕ)). get_or l c.args.index []) (map-set (λ room. room.now) rooms c.args.index _)
     ∙ get_or-set_same (bytes_in rooms) c.args.index _ [] c.requires.room
     ∙ c.put.ensures
     ∙ ap (λ (s : List ℕ). take c.args.start s ++ (c.args.piece.now ++ drop (c.args.start + length c.args.piece.now) s))
-        (sym was)
+    (sym was)
 
 pub returns-clause-others : goal.returns-clause-others
 returns-clause-others c = λ i other.

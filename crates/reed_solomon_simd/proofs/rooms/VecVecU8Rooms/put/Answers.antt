@@ -19,16 +19,16 @@ returns-clause-here c =
     let all : length old ≡ c.args.start = c.requires.fits.2 in
     let was : c.index_mut.result.now.items ≡ old =
     ap (λ v. v.items) c.index_mut.ensures.value
-        ∙ sym (get_or-map (λ room. room.items) c.args.self.now.items c.args.index _ [] inside) in
+    ∙ sym (get_or-map (λ room. room.items) c.args.self.now.items c.args.index _ [] inside) in
     let now : c.extend_from_slice.new.self.items ≡ old ++ c.args.piece.now =
     pushed c.args.piece.now was c.in_ok-extend_from_slice.was c.extend_from_slice.ensures.items in
     let front : take c.args.start old ≡ old =
-        take_all c.args.start old (let le : length old ≤ c.args.start = omega (arith, all) in le) in
+    take_all c.args.start old (let le : length old ≤ c.args.start = omega (arith, all) in le) in
     let back : drop (c.args.start + length c.args.piece.now) old ≡ [] =
     drop_all (c.args.start + length c.args.piece.now) old
-        (let le : length old ≤ c.args.start + length c.args.piece.now = omega (arith, all) in le) in
+    (let le : length old ≤ c.args.start + length c.args.piece.now = omega (arith, all) in le) in
     ap (λ (l : List (List ℕ)). get_or l c.args.index [])
-        (map-set (λ room. room.items) c.args.self.now.items c.args.index _)
+    (map-set (λ room. room.items) c.args.self.now.items c.args.index _)
     ∙ get_or-set_same held c.args.index _ [] c.requires.room
     ∙ now ∙ ap (λ (l : List ℕ). old ++ l) (sym (append-nil c.args.piece.now))
     ∙ ap₂ (λ (first rest : List ℕ). first ++ (c.args.piece.now ++ rest)) (sym front) (sym back)

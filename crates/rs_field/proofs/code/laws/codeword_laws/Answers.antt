@@ -11,7 +11,7 @@ use Rattle.rs_field.proofs.code.laws.codeword_laws.Goals as goal
 one_restoration : HasOneRestoration
 one_restoration s one other a b =
     fun_ext (λ i. a.missing i ∙ ap (λ (m : List Shard). missing_of s m i) (b.only a.message a.agrees)
-        ∙ sym (b.missing i))
+    ∙ sym (b.missing i))
 
 pub returns : goal.returns
 returns c = record { places = fixed_by_places; restored = one_restoration; changes = changes_noticed }

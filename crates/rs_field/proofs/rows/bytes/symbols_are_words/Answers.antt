@@ -8,5 +8,5 @@ returns c k s q r =
     let whole : length (chunk c.args.chunks.now k) ≡ 64 = c.told-chunks k q in
     let low = byte_fits c.args.chunks.now _ c.as_flattened.ensures.value c.are_bytes.ensures.each k s q (omega arith) in
     let high = byte_fits c.args.chunks.now _ c.as_flattened.ensures.value c.are_bytes.ensures.each k (s + 32) q
-        (omega arith) in
+    (omega arith) in
     omega arith

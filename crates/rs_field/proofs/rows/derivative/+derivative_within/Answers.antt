@@ -19,7 +19,7 @@ derivative_within-requires-then-size-gt1 t c =
     let extent_low = c.derivative_within.ensures.extent in
     let extent_mid = c.xor_within.ensures.extent in
     let fits = fits_kept c.derivative_within.new.data c.xor_within.new.data extent_mid
-        (fits_kept c.args.data.now c.derivative_within.new.data extent_low c.requires.fits) in
+    (fits_kept c.args.data.now c.derivative_within.new.data extent_low c.requires.fits) in
     (omega arith, (fits, ((p.0, p.2), (omega arith, omega arith))))
 
 pub returns-then-size-gt1-clause-derivative : goal.returns-then-size-gt1-clause-derivative
@@ -30,14 +30,14 @@ returns-then-size-gt1-clause-derivative t c k s hk hs =
     let pos = c.args.pos in
     let half = c.args.size / 2 in
     let kept_low = outside_cell pos
-        (pos + half) c.args.data.now c.derivative_within.new.data extent_low c.derivative_within.ensures.others in
+    (pos + half) c.args.data.now c.derivative_within.new.data extent_low c.derivative_within.ensures.others in
     let kept_mid = outside_cell pos
-        (pos + half) c.derivative_within.new.data c.xor_within.new.data extent_mid c.xor_within.ensures.others in
+    (pos + half) c.derivative_within.new.data c.xor_within.new.data extent_mid c.xor_within.ensures.others in
     let kept_high = outside_cell (pos + half)
-        (pos + half + half) c.xor_within.new.data c.derivative_within-then-size-gt1.new.data
-        c.derivative_within-then-size-gt1.ensures.extent c.derivative_within-then-size-gt1.ensures.others in
+    (pos + half + half) c.xor_within.new.data c.derivative_within-then-size-gt1.new.data
+    c.derivative_within-then-size-gt1.ensures.extent c.derivative_within-then-size-gt1.ensures.others in
     derivative_rows c.args.data.now c.derivative_within.new.data c.xor_within.new.data
-        c.derivative_within-then-size-gt1.new.data k s c.args.pos c.args.size
+    c.derivative_within-then-size-gt1.new.data k s c.args.pos c.args.size
     c.if-size-gt1.true c.requires.power c.requires.words
     (c.derivative_within.ensures.derivative k s hk hs)
     (λ q hq. kept_low (c.args.pos + c.args.size / 2 + q) k hk (inr (omega arith)))
@@ -52,9 +52,12 @@ returns-then-size-gt1-clause-counts t c =
     let whole = steps_half c.args.size p.0 (c.args.size / 2) (few_halves c.args.size p.0 0 p.1 (omega arith)) p.1 p.2 in
     let low = c.derivative_within.ensures.counts in
     let sums = c.xor_within.ensures.counts in
-    let high = c.derivative_within-then-size-gt1.ensures.counts in
-    (omega (arith, whole, low.0, sums.0, high.0), omega (arith, low.1, sums.1, high.1), omega
-        (arith, low.2, sums.2, high.2))
+    let high = c.derivative_within-then-size-gt1.ensures.counts in (
+      omega (arith, whole, low.0, sums.0, high.0),
+      omega (arith, low.1, sums.1, high.1),
+      omega
+          (arith, low.2, sums.2, high.2),
+    )
 
 pub returns-else-size-gt1-clause-counts : goal.returns-else-size-gt1-clause-counts
 returns-else-size-gt1-clause-counts t c = let none = no_steps c.args.size (omega (arith, c.if-size-gt1.false)) in

@@ -28,10 +28,12 @@ returns-then-half-eq0 c =
     let size = c.args.shard_bytes in
     let bytes = c.as_flattened-bytes.result.now in
     let is = is_row (goal.at.returns-then-half-eq0 c).After-as_flattened-bytes in
-    let fits = first-fits size c.args.row.now bytes is in
-    (λ yes. zero_columns size c.args.row.now bytes is
-        (zero-from bytes 0 _ fits (c.are_zero_bytes.ensures.0 c.if-are_zero_bytes.true))
-        (λ b h. absurd (omega (arith, h, c.if-half-eq0.true))), λ zeros. ap (λ n. nat_eq n 0) c.if-half-eq0.true)
+    let fits = first-fits size c.args.row.now bytes is in (
+      λ yes. zero_columns size c.args.row.now bytes is
+          (zero-from bytes 0 _ fits (c.are_zero_bytes.ensures.0 c.if-are_zero_bytes.true))
+          (λ b h. absurd (omega (arith, h, c.if-half-eq0.true))),
+      λ zeros. ap (λ n. nat_eq n 0) c.if-half-eq0.true,
+    )
 
 pub returns-else-half-eq0 : goal.returns-else-half-eq0
 returns-else-half-eq0 c =
@@ -41,20 +43,23 @@ returns-else-half-eq0 c =
     let is = is_row (goal.at.returns-else-half-eq0 c).After-as_flattened-bytes in
     let part = λ (n : ℕ). AreZero (take n (drop start bytes)) in
     let half : start + size % 64 / 2 - start ≡ size % 64 / 2 = omega arith in
-    let fits = second-fits size c.args.row.now bytes is c.if-half-eq0.false in
-    (λ yes. zero_columns size c.args.row.now bytes is
-        (zero-from bytes 0 _ (first-fits size c.args.row.now bytes is)
-        (c.are_zero_bytes.ensures.0 c.if-are_zero_bytes.true))
-        (zero-from bytes start (size % 64 / 2) fits (subst part half (c.are_zero_bytes-else-half-eq0.ensures.0 yes))),
-        λ zeros. c.are_zero_bytes-else-half-eq0.ensures.1
-        (subst part (sym half)
-        (zero-part bytes start (size % 64 / 2) fits (zero-second size c.args.row.now bytes is zeros))))
+    let fits = second-fits size c.args.row.now bytes is c.if-half-eq0.false in (
+      λ yes. zero_columns size c.args.row.now bytes is
+          (zero-from bytes 0 _ (first-fits size c.args.row.now bytes is)
+          (c.are_zero_bytes.ensures.0 c.if-are_zero_bytes.true))
+          (zero-from bytes start (size % 64 / 2) fits (subst part half (c.are_zero_bytes-else-half-eq0.ensures.0 yes))),
+      λ zeros. c.are_zero_bytes-else-half-eq0.ensures.1
+          (subst part (sym half)
+          (zero-part bytes start (size % 64 / 2) fits (zero-second size c.args.row.now bytes is zeros))),
+    )
 
 pub returns-else-are_zero_bytes : goal.returns-else-are_zero_bytes
 returns-else-are_zero_bytes c =
     let size = c.args.shard_bytes in
     let bytes = c.as_flattened-bytes.result.now in
-    let is = is_row (goal.at.returns-else-are_zero_bytes c).After-as_flattened-bytes in
-    (λ yes. absurd (true≢false (sym yes ∙ c.if-are_zero_bytes.false)), λ zeros.
-        c.are_zero_bytes.ensures.1
-        (zero-part bytes 0 _ (first-fits size c.args.row.now bytes is) (zero-first size c.args.row.now bytes is zeros)))
+    let is = is_row (goal.at.returns-else-are_zero_bytes c).After-as_flattened-bytes in (
+      λ yes. absurd (true≢false (sym yes ∙ c.if-are_zero_bytes.false)),
+      λ zeros.
+          c.are_zero_bytes.ensures.1
+          (zero-part bytes 0 _ (first-fits size c.args.row.now bytes is) (zero-first size c.args.row.now bytes is zeros)),
+    )

@@ -12,7 +12,7 @@ byte_of_chunk zero k b bytes h hb = absurd (omega arith)
 byte_of_chunk (suc count) zero b bytes h hb = get_or-take 64 bytes b 0 hb ∙ ap (λ i. get_or bytes i 0) (omega arith)
 byte_of_chunk (suc count) (suc k) b bytes h hb =
     byte_of_chunk count k b (drop 64 bytes) (omega arith) hb ∙ get_or-drop 64 bytes (k * 64 + b) 0
-        ∙ ap (λ i. get_or bytes i 0) (omega arith)
+    ∙ ap (λ i. get_or bytes i 0) (omega arith)
 
 -- Byte b of chunk k of the first bytes of a shard is byte 64 k + b of the shard.
 byte_of_shard : (count k b : ℕ) (shard : List ℕ) (chunks : List (List ℕ))
@@ -31,17 +31,17 @@ returns-then-whole-eq1 c k b h hb =
     let first : k ≡ 0 = omega arith in
     let some : 0 < length row = omega arith in
     let laid : get_or (set row 0 x) k [] ≡ x =
-        ap (λ i. get_or (set row 0 x) i []) first ∙ get_or-set_same row 0 x [] some in
+    ap (λ i. get_or (set row 0 x) i []) first ∙ get_or-set_same row 0 x [] some in
     let put = byte_of_shard c.args.whole 0 b c.args.shard.now c.as_chunks.result.0.now c.as_chunks.ensures.front
-        c.requires.within (omega arith) hb in
+    c.requires.within (omega arith) hb in
     ap (λ chunk. get_or chunk b 0) laid ∙ put ∙ ap (λ i. get_or c.args.shard.now (i * 64 + b) 0) (sym first)
 
 pub returns-else-whole-eq1 : goal.returns-else-whole-eq1
 returns-else-whole-eq1 c k b h hb =
     let laid : length c.copy_from_slice.new.self ≡ c.args.whole =
-        c.copy_from_slice.ensures.len ∙ length-take-le c.args.whole c.args.row.now (omega arith) in
+    c.copy_from_slice.ensures.len ∙ length-take-le c.args.whole c.args.row.now (omega arith) in
     ap (λ chunk. get_or chunk b 0)
     (get_or_append_left c.copy_from_slice.new.self (drop c.args.whole c.args.row.now) [] k (omega arith)
     ∙ ap (λ chunks. get_or chunks k []) c.copy_from_slice.ensures.after)
     ∙ byte_of_shard c.args.whole k b c.args.shard.now c.as_chunks.result.0.now c.as_chunks.ensures.front
-        c.requires.within h hb
+    c.requires.within h hb

@@ -5,4 +5,4 @@ use Rattle.rs_field.proofs.rows.layout.shard_of.Goals as goal
 pub returns : goal.returns
 returns c =
     ap (take c.args.shard_bytes) c.as_flattened-bytes.ensures.value
-        ∙ take-flat c.args.shard_bytes c.args.row.now c.told-row c.requires
+    ∙ take-flat c.args.shard_bytes c.args.row.now c.told-row c.requires

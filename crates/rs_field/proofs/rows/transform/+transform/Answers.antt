@@ -18,7 +18,7 @@ pub transform-returns-then-are_none-clause-values : goal.transform-returns-then-
 transform-returns-then-are_none-clause-values g t c k s hk hs =
     let block = c.args.block in
     none_used c.args.direction c.args.used c.args.data.now k s block.pos block.size block.skew_delta hk hs
-        (c.are_none.ensures.none c.if-are_none.true) c.requires.zeros
+    (c.are_none.ensures.none c.if-are_none.true) c.requires.zeros
 
 pub transform_many-transform_parts-requires : goal.transform_many-transform_parts-requires
 transform_many-transform_parts-requires g t c κs within =
@@ -37,11 +37,11 @@ transform-returns-then-block-gt1-clause-values g t c k s hk hs =
     let extent = c.layers.ensures.extent in let len = extent.len_64 in let count = extent.count in
     let within = c.requires.within in
     layers_of_few c.args.direction (is_used c.args.used) block.size block.skew_delta
-        (λ (q : ℕ). word c.args.data.now k s (block.pos + q))
+    (λ (q : ℕ). word c.args.data.now k s (block.pos + q))
     (λ (q : ℕ). word c.layers.new.data k s (block.pos + q)) (omega arith) (omega arith) (block_power block)
     (λ i hi. c.row_symbols_are_words.ensures k s (block.pos + i) hk hs (omega (arith, within)))
     (λ i hi. c.row_symbols_are_words-then-block-gt1.ensures k s (block.pos + i) (omega (arith, len)) hs
-        (omega (arith, count, within)))
+    (omega (arith, count, within)))
     (c.layers.ensures.parts k s hk hs)
 
 pub transform-returns-then-block-gt1-clause-counts : goal.transform-returns-then-block-gt1-clause-counts
@@ -52,7 +52,7 @@ pub transform-returns-else-block-gt1-clause-values : goal.transform-returns-else
 transform-returns-else-block-gt1-clause-values g t c k s hk hs =
     let block = c.args.block in
     one_used c.args.direction (is_used c.args.used) block.size block.skew_delta
-        (λ q. word c.args.data.now k s (block.pos + q)) (omega arith)
+    (λ q. word c.args.data.now k s (block.pos + q)) (omega arith)
     (λ some. c.row_symbols_are_words.ensures k s (block.pos + 0) hk hs (omega arith))
 
 pub transform_many-returns-in-Forward-clause-values : goal.transform_many-returns-in-Forward-clause-values
@@ -61,22 +61,22 @@ transform_many-returns-in-Forward-clause-values g t c k s hk hs =
     let len = c.layers.ensures.extent.len_64 in
     let layers = c.layers.ensures.parts k s hk hs in
     rw c.in-Forward.is (forward_whole block.size (rows_of_part block.size) block.skew_delta (is_used c.args.used)
-        (λ q. word c.args.data.now k s (block.pos + q))
+    (λ q. word c.args.data.now k s (block.pos + q))
     (λ q. word c.layers.new.data k s (block.pos + q)) (λ q. word c.transform_parts.new.data k s (block.pos + q))
-        (part_found block _ refl c.requires.large)
+    (part_found block _ refl c.requires.large)
     (rw c.in-Forward.is at layers)
     (λ m hm. let parts = c.transform_parts.ensures.parts k s m (omega (arith, len)) hs hm in
-        rw c.in-Forward.is at parts))
+    rw c.in-Forward.is at parts))
 
 pub transform_many-returns-in-Forward-clause-counts : goal.transform_many-returns-in-Forward-clause-counts
 transform_many-returns-in-Forward-clause-counts g t c =
     let block = c.args.block in let size = block.size in
     let few = (part_found block _ refl c.requires.large).steps in
     counts_of_whole size (layer_steps size)
-        (transform_steps size - layer_steps size) c.args.steps.now c.layers.new.steps c.transform_parts.new.steps
-        (omega (arith, few))
+    (transform_steps size - layer_steps size) c.args.steps.now c.layers.new.steps c.transform_parts.new.steps
+    (omega (arith, few))
     (counts_rows (layer_steps block.size) c.args.steps.now c.layers.new.steps c.layers.ensures.counts)
-        c.transform_parts.ensures.counts
+    c.transform_parts.ensures.counts
 
 pub transform_many-returns-in-Backward-clause-values : goal.transform_many-returns-in-Backward-clause-values
 transform_many-returns-in-Backward-clause-values g t c k s hk hs =
@@ -84,9 +84,9 @@ transform_many-returns-in-Backward-clause-values g t c k s hk hs =
     let len = c.transform_parts-in-Backward.ensures.extent.len_64 in
     let layers = c.layers-in-Backward.ensures.parts k s (omega (arith, len)) hs in
     rw c.in-Backward.is (backward_whole block.size (rows_of_part block.size) block.skew_delta (is_used c.args.used)
-        (λ q. word c.args.data.now k s (block.pos + q))
+    (λ q. word c.args.data.now k s (block.pos + q))
     (λ q. word c.transform_parts-in-Backward.new.data k s (block.pos + q))
-        (λ q. word c.layers-in-Backward.new.data k s (block.pos + q)) (part_found block _ refl c.requires.large)
+    (λ q. word c.layers-in-Backward.new.data k s (block.pos + q)) (part_found block _ refl c.requires.large)
     (rw c.in-Backward.is at layers)
     (λ m hm. let parts = c.transform_parts-in-Backward.ensures.parts k s m hk hs hm in rw c.in-Backward.is at parts))
 
@@ -96,9 +96,9 @@ transform_many-returns-in-Backward-clause-counts g t c =
     let few = (part_found block _ refl c.requires.large).steps in
     let mid = c.transform_parts-in-Backward.new.steps in
     counts_of_whole size (transform_steps size - layer_steps size)
-        (layer_steps size) c.args.steps.now mid c.layers-in-Backward.new.steps (omega (arith, few))
+    (layer_steps size) c.args.steps.now mid c.layers-in-Backward.new.steps (omega (arith, few))
     c.transform_parts-in-Backward.ensures.counts
-        (counts_rows (layer_steps block.size) mid c.layers-in-Backward.new.steps c.layers-in-Backward.ensures.counts)
+    (counts_rows (layer_steps block.size) mid c.layers-in-Backward.new.steps c.layers-in-Backward.ensures.counts)
 
 pub transform_parts-nonzero_div-j-end : goal.transform_parts-nonzero_div-j-end
 transform_parts-nonzero_div-j-end g t c = let part =
@@ -127,11 +127,17 @@ transform_parts-transform-requires g t c κs within =
     let rows = c.part.ensures.rows in let size = c.part.ensures.size in
     let marks = subst (HasMarks c.part-in-loop-j.result) (sym size) c.part-in-loop-j.ensures.marks in
     let zeros = zeros_of_part c.args.direction c.args.used c.part-in-loop-j.result c.args.data.now c.loop-j.data
-        block.pos block.size start n
-    inside extent.len_64 done.rest c.part-in-loop-j.ensures.used c.requires.zeros in
-    (omega arith, (within,
-        (fits_kept c.args.data.now c.loop-j.data extent c.requires.fits,
-        (marks, (omega arith, rw (rows, size) zeros)))))
+    block.pos block.size start n
+    inside extent.len_64 done.rest c.part-in-loop-j.ensures.used c.requires.zeros in (
+      omega arith,
+      (
+        within,
+        (
+          fits_kept c.args.data.now c.loop-j.data extent c.requires.fits,
+          (marks, (omega arith, rw (rows, size) zeros)),
+        ),
+      ),
+    )
 
 pub transform_parts-loop-j-preserved : goal.transform_parts-loop-j-preserved
 transform_parts-loop-j-preserved g t c =
@@ -144,10 +150,10 @@ transform_parts-loop-j-preserved g t c =
     record {
       done =
           parts_next c.args.direction (is_used c.args.used)
-              (is_used c.part-in-loop-j.result) block.size n block.skew_delta block.pos j c.args.data.now c.loop-j.data
-              c.transform.new.data
+          (is_used c.part-in-loop-j.result) block.size n block.skew_delta block.pos j c.args.data.now c.loop-j.data
+          c.transform.new.data
           part begins c.loop-j.invariant.done c.transform.ensures.extent
-              (rw (rows, size) at c.transform.ensures.others) c.part-in-loop-j.ensures.used
+          (rw (rows, size) at c.transform.ensures.others) c.part-in-loop-j.ensures.used
           (rw (rows, size, shift) at c.transform.ensures.values);
       counts = counts_next
           (transform_steps n) j c.args.steps.now c.loop-j.steps c.transform.new.steps c.loop-j.invariant.counts
@@ -167,13 +173,13 @@ transform_parts-returns-clause-parts g t c k s m hk hs hm =
     let is = c.part_rows-part.ensures in
     let part = part_found block n is c.requires.large in
     let last : c.loop-j.j ≡ block.size / n = let end = c.loop-j.auto.j-end in let past = c.loop-j-test.false in
-        omega arith in
+    omega arith in
     let all = parts_whole block.size n c.loop-j.j part last in
     let within : m * n < block.size = subst (λ (v : ℕ). m * v < block.size) (sym is) hm in
     subst (λ (v : ℕ). AreTransformed c.args.direction (λ i. is_used c.args.used (m * v + i)) v
-        (block.skew_delta + m * v)
+    (block.skew_delta + m * v)
     (λ q. word c.args.data.now k s (block.pos + (m * v + q))) (λ q. word c.loop-j.data k s (block.pos + (m * v + q))))
-        is
+    is
     (c.loop-j.invariant.done.values k s m hk hs (part_before block.size n m c.loop-j.j all within))
 
 pub transform_parts-returns-clause-counts : goal.transform_parts-returns-clause-counts
@@ -183,4 +189,4 @@ transform_parts-returns-clause-counts g t c =
     let part = part_found block n c.part_rows-part.ensures c.requires.large in
     let end = c.loop-j.auto.j-end in
     counts_of_parts block.size n c.loop-j.j c.args.steps.now c.loop-j.steps part
-        (omega (arith, parts_number block.size n part, end)) c.loop-j.invariant.counts
+    (omega (arith, parts_number block.size n part, end)) c.loop-j.invariant.counts

@@ -7,7 +7,7 @@ abbrev pub invariant-loop-i : goal.invariant-loop-i
 invariant-loop-i l = record {
   sums : (k : ℕ) → k < l.i
       → IsFourSums (get_or l.initial.x0 k 0) (get_or l.initial.x1 k 0) (get_or l.initial.x2 k 0)
-          (get_or l.initial.x3 k 0)
+      (get_or l.initial.x3 k 0)
       (get_or l.x0 k 0) (get_or l.x1 k 0) (get_or l.x2 k 0) (get_or l.x3 k 0);
   rest0 : (k : ℕ) → l.i ≤ k → get_or l.x0 k 0 ≡ get_or l.initial.x0 k 0;
   rest1 : (k : ℕ) → l.i ≤ k → get_or l.x1 k 0 ≡ get_or l.initial.x1 k 0;

@@ -31,4 +31,4 @@ pub returns : goal.returns
 returns c =
     let i = c.loop-n.invariant in
     filled_tables c.loop-n.exp.items c.loop-n.log.items c.loop-n.n i.exp_length i.log_length
-        (omega arith) i.exp_so_far i.log_so_far i.log_zero
+    (omega arith) i.exp_so_far i.log_so_far i.log_zero

@@ -12,13 +12,13 @@ loop-entry-preserved c =
       | then-rest-eq1 w ↦
           ap (λ o. bit_xor o later) w.out-is
           ∙ take_entry generator_products c.loop-entry.entry-index c.loop-entry.out c.loop-entry.rest
-              c.loop-entry-test.true w.if-rest-eq1.true
+          c.loop-entry-test.true w.if-rest-eq1.true
           ∙ c.loop-entry.invariant
       | else-rest-eq1 w ↦
           let even : c.loop-entry.rest % 2 ≡ 0 = omega (arith, w.if-rest-eq1.false) in
           ap (λ o. bit_xor o later) w.out-is
           ∙ leave_entry generator_products c.loop-entry.entry-index c.loop-entry.out c.loop-entry.rest
-              c.loop-entry-test.true even
+          c.loop-entry-test.true even
           ∙ c.loop-entry.invariant
     ]
 
@@ -26,5 +26,5 @@ pub returns : goal.returns
 unfolding generator_products
 returns c =
     all_entries generator_products c.loop-entry.entry-index c.loop-entry.out c.loop-entry.rest
-        (combine generator_products c.args.z) c.loop-entry-test.false c.loop-entry.invariant
+    (combine generator_products c.args.z) c.loop-entry-test.false c.loop-entry.invariant
     ∙ generator_columns c.args.z (omega arith)

@@ -15,10 +15,10 @@ by_tables : (exp_table log_table : List ℕ) → IsExpLog exp_table log_table �
     → place % 65535 ≡ (get_or log_table x 0 + n) % 65535 → get_or exp_table place 0 ≡ product x (power n)
 by_tables exp_table log_table h x n place pos hx hp e =
     h.exp_entry place hp ∙ sym (power-mod place) ∙ ap power (e ∙ ap (λ v. (v + n) % 65535) (h.log_entry x pos hx))
-        ∙ power-mod (log x + n)
+    ∙ power-mod (log x + n)
     ∙ product-log x n pos hx
 
 pub returns-else-x-eq0 : goal.returns-else-x-eq0
 returns-else-x-eq0 c =
     by_tables c.args.exp.now c.args.log.now c.requires c.args.x c.args.log_m c.add_mod.result (omega arith)
-        (omega arith) (omega arith) c.add_mod.ensures
+    (omega arith) (omega arith) c.add_mod.ensures

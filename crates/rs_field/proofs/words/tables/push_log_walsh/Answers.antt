@@ -18,18 +18,23 @@ returns-clause-entries c = λ w hw.
     let from : ℕ = c.len-from.result in
     let last : List ℕ = c.split_at_mut-last.result.1.now in
     let size : length c.split_at_mut-last.result.1.now ≡ c.args.points =
-    omega (arith, c.split_at_mut-last.ensures.back_len, c.deref_mut.ensures.len, c.in_ok-push_logs.ensures.length,
-        c.len-from.ensures) in
+    omega (
+      arith,
+      c.split_at_mut-last.ensures.back_len,
+      c.deref_mut.ensures.len,
+      c.in_ok-push_logs.ensures.length,
+      c.len-from.ensures,
+    ) in
     let read = λ (y : ℕ).
     ap (λ (xs : List ℕ). get_or xs y 0) c.split_at_mut-last.ensures.back ∙ get_or-drop from c.deref_mut.result.now y 0
     ∙ ap (λ (xs : List ℕ). get_or xs (from + y) 0) c.deref_mut.ensures.value
     ∙ ap (λ k. get_or c.push_logs.new.table.items (k + y) 0) c.len-from.ensures in
     ap (λ v. v % 65535) (behind c.split_at_mut-last.result.0.now c.fwht.new.entries
-        (drop (length (c.split_at_mut-last.result.0.now ++ c.fwht.new.entries)) c.push_logs.new.table.items)
+    (drop (length (c.split_at_mut-last.result.0.now ++ c.fwht.new.entries)) c.push_logs.new.table.items)
     c.push_logs.new.table.len (vec_len c.args.table.now) w (c.split_at_mut-last.ensures.front_len ∙ c.len-from.ensures)
     (omega (arith, c.fwht.auto.entries)) (omega (arith, c.in_ok-push_logs.ensures.length)))
     ∙ walsh-near c.args.points (λ y. get_or last y 0) (λ z. 65536 / c.args.points * log_or_zero z)
-        (λ w. get_or c.fwht.new.entries w 0)
+    (λ w. get_or c.fwht.new.entries w 0)
     (λ y hy. ap (λ v. v % 65535) (read y) ∙ c.in_ok-push_logs.ensures.entries y hy)
     (walsh-at (length last) c.args.points (λ y. get_or last y 0)
-        (λ w. get_or c.fwht.new.entries w 0) size c.fwht.ensures.values) w hw
+    (λ w. get_or c.fwht.new.entries w 0) size c.fwht.ensures.values) w hw

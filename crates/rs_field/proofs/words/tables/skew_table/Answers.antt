@@ -31,7 +31,7 @@ subspace_word d u j is hj =
 
 pushed : (items exps logs : List ℕ) (i x word : ℕ) → IsExpLog exps logs → length items ≡ i → i < 65535 → word < 65536
     → ((d u j : ℕ) → j ≡ (2 * u + 1) * 2 ^ d → j < i + 1
-        → get_or items (j - 1) 0 ≡ log_or_mark (subspace d (j - 2 ^ d)))
+    → get_or items (j - 1) 0 ≡ log_or_mark (subspace d (j - 2 ^ d)))
     → ((d u : ℕ) → i + 1 ≡ (2 * u + 1) * 2 ^ d → word ≡ 2 * u)
     → x ≡ get_or logs word x
     → (d u j : ℕ) → j ≡ (2 * u + 1) * 2 ^ d → j < i + 1 + 1
@@ -40,7 +40,7 @@ pushed items exps logs i x word h size hi hw sofar odd at d u j is hj =
     elim (cases_eq j (i + 1)) [
       | inl e ↦
           get_or_push items x 0 (j - 1) (omega arith) ∙ at ∙ any_default logs word x 0 (omega (arith, h.log_length))
-              ∙ read exps logs word h hw
+          ∙ read exps logs word h hw
           ∙ ap log_or_mark ((odd d u (sym e ∙ is)) ∙ sym (subspace_word d u j is (omega arith)))
       | inr apart ↦
           let positive : 0 < (2 * u + 1) * 2 ^ d = product_positive u d in
@@ -57,5 +57,5 @@ loop-i-preserved c =
       so_far = pushed c.loop-i.table.items c.args.exp_log.now.exp.items c.args.exp_log.now.log.items c.loop-i.i
           c.index.result.now c.skew_word-word.result
           c.requires c.loop-i.invariant.size c.loop-i-test.true
-              (omega arith) c.loop-i.invariant.so_far c.skew_word-word.ensures c.index.ensures;
+          (omega arith) c.loop-i.invariant.so_far c.skew_word-word.ensures c.index.ensures;
     })

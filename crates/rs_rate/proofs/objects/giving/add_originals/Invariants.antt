@@ -7,5 +7,5 @@ use Rattle.rs_rate.proofs.objects.giving.add_originals.Given as goal
 abbrev pub invariant-loop-index : goal.invariant-loop-index
 invariant-loop-index g l =
     LeadsOn {T = ℕ × Shard} g.I.Iterator.next_gives (λ item. (item.0, item.1.now))
-        (λ now item. with_original now item.0 item.1)
+    (λ now item. with_original now item.0 item.1)
     l.fn.originals (g.X.RateDecoder.state l.initial.decoder) l.index-iterator (g.X.RateDecoder.state l.decoder)

@@ -5,12 +5,12 @@ use Rattle.rs_rate.proofs.objects.giving.add_shards.Goals as goal
 pub loop-shard-preserved : goal.loop-shard-preserved
 loop-shard-preserved g c =
     leads-taken c.loop-shard.invariant c.in-Some.ensures.steps
-        (outcome-ok _ _ _ c.in_ok-add_original_shard.ensures.answer c.in_ok-add_original_shard.ensures.left)
+    (outcome-ok _ _ _ c.in_ok-add_original_shard.ensures.answer c.in_ok-add_original_shard.ensures.left)
 
 pub returns-in_err-add_original_shard : goal.returns-in_err-add_original_shard
 returns-in_err-add_original_shard g c =
     leads-refused (λ s. g.X.RateEncoder.state c.add_original_shard.new.self ≡ s) c.loop-shard.invariant
-        c.in-Some.ensures.steps (outcome-err _ _ c.in_err-add_original_shard.ensures.answer) (search rules)
+    c.in-Some.ensures.steps (outcome-err _ _ c.in_err-add_original_shard.ensures.answer) (search rules)
 
 pub returns : goal.returns
 returns g c = leads-ended

@@ -16,10 +16,12 @@ returns-in_err-note_all g c =
     let e = c.in_err-note_all.field-0.0 in
     let refused : c.from_residual-in_err-note_all.result ≡ Err e = search rules in
     let run = c.in_err-note_all.ensures []
-        (subst (AreNoted []) (sym filled) (note_outcome-none c.args.original_count)) in
-    (run.0, λ items begins.
-        inl (refused ∙ originals_alone-refused c.args.original_count items _ _ (Err e) filled
-        (run.1 items begins) e refl))
+    (subst (AreNoted []) (sym filled) (note_outcome-none c.args.original_count)) in (
+      run.0,
+      λ items begins.
+          inl (refused ∙ originals_alone-refused c.args.original_count items _ _ (Err e) filled
+          (run.1 items begins) e refl),
+    )
 
 pub returns-then-original_received_count-original_count : goal.returns-then-original_received_count-original_count
 returns-then-original_received_count-original_count g c =
@@ -27,7 +29,7 @@ returns-then-original_received_count-original_count g c =
     let same : c.deref.result.now ≡ c.note_all.new.given = grind (arith, common_steps) in
     let number = c.count_noted-original_received_count.ensures ∙ ap (count_by (λ noted. noted)) same in
     let run = c.in_ok-note_all.ensures []
-        (subst (AreNoted []) (sym filled) (note_outcome-none c.args.original_count)) in (
+    (subst (AreNoted []) (sym filled) (note_outcome-none c.args.original_count)) in (
       run.0,
       λ items begins.
           inl (cond_below _ _ _ _ c.if-original_received_count-original_count.true
@@ -40,7 +42,7 @@ returns g c =
     let same : c.deref.result.now ≡ c.note_all.new.given = grind (arith, common_steps) in
     let number = c.count_noted-original_received_count.ensures ∙ ap (count_by (λ noted. noted)) same in
     let run = c.in_ok-note_all.ensures []
-        (subst (AreNoted []) (sym filled) (note_outcome-none c.args.original_count)) in (
+    (subst (AreNoted []) (sym filled) (note_outcome-none c.args.original_count)) in (
       run.0,
       λ items begins.
           inl (cond_above _ _ _ _ _ c.if-original_received_count-original_count.false refl

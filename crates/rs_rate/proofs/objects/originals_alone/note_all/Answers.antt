@@ -21,10 +21,10 @@ pub returns-in_err-note : goal.returns-in_err-note
 returns-in_err-note g c indexes are =
     let so_far = c.loop-index.invariant.1 indexes are in
     leads-refused {item = (c.in-Some.index, c.in-Some.field-0-1)}
-        (λ all. AreNoted all c.note.new.given) so_far.2 c.in-Some.ensures.steps
+    (λ all. AreNoted all c.note.new.given) so_far.2 c.in-Some.ensures.steps
     (note_outcome-refused c.in-Some.index c.loop-index.invariant.0 so_far.1 c.in_err-note.ensures.answer) (search rules)
 
 pub returns : goal.returns
 returns g c indexes are =
     let so_far = c.loop-index.invariant.1 indexes are in
-        leads-ended (λ all. AreNoted all c.loop-index.given) so_far.2 c.in-None.ensures.steps so_far.1
+    leads-ended (λ all. AreNoted all c.loop-index.given) so_far.2 c.in-None.ensures.steps so_far.1

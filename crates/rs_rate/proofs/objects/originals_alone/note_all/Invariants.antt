@@ -11,5 +11,5 @@ invariant-loop-index g l =
     × ((first : List ℕ) → AreNoted first l.fn.given
     → (now : List ℕ) × AreNoted now l.given
     × LeadsOn {T = ℕ × Shard} g.I.Iterator.next_gives (λ item. (item.0, item.1.now))
-        (λ so_far item. note_outcome (length l.fn.given) so_far item.0)
+    (λ so_far item. note_outcome (length l.fn.given) so_far item.0)
     l.fn.originals first l.index-iterator now)

@@ -17,32 +17,32 @@ returns-in_err-check_enough_given-clause-answer g c =
 pub returns-in_err-check_enough_given-clause-state : goal.returns-in_err-check_enough_given-clause-state
 returns-in_err-check_enough_given-clause-state g c =
     after_decode-refused (decoder_state g.C.RateMarker.rate c.args.decoder.now.rows) _
-        (c.in_err-check_enough_given.ensures g.C.RateMarker.rate)
+    (c.in_err-check_enough_given.ensures g.C.RateMarker.rate)
 
 pub decode_rows-requires : goal.decode_rows-requires
 decode_rows-requires g c =
     let rows = c.args.decoder.now.rows in
     let least = enough-least (decoder_state g.C.RateMarker.rate rows)
-        (c.in_ok-check_enough_given.ensures g.C.RateMarker.rate) in
+    (c.in_ok-check_enough_given.ensures g.C.RateMarker.rate) in
     let given = rows_given g.C.RateMarker.rate rows in
     omega (arith, least, given.0, given.1)
 
 pub returns-clause-answer : goal.returns-clause-answer
 returns-clause-answer g c =
     decode_answers-made (decoder_state g.C.RateMarker.rate c.args.decoder.now.rows)
-        (restored_by_rows c.decode_rows.new.rows) c.decode_rows.result
-        (c.in_ok-check_enough_given.ensures g.C.RateMarker.rate)
+    (restored_by_rows c.decode_rows.new.rows) c.decode_rows.result
+    (c.in_ok-check_enough_given.ensures g.C.RateMarker.rate)
     (c.decode_rows.ensures.answer g.C.RateMarker.rate c.args.decoder.now.set_up)
 
 pub returns-clause-counts : goal.returns-clause-counts
 returns-clause-counts g c =
     subst (λ (n : ℕ). DecodeCounts n c.args.steps.now c.decode_rows.new.steps)
-        (c.args.decoder.now.rows.laid.rows
-        ∙ decoder_rows_set_up g.C.RateMarker.rate c.args.decoder.now.rows.shape.configuration c.args.decoder.now.set_up)
-        c.decode_rows.ensures.counts
+    (c.args.decoder.now.rows.laid.rows
+    ∙ decoder_rows_set_up g.C.RateMarker.rate c.args.decoder.now.rows.shape.configuration c.args.decoder.now.set_up)
+    c.decode_rows.ensures.counts
 
 pub returns-clause-state : goal.returns-clause-state
 returns-clause-state g c =
     c.decode_rows.ensures.state g.C.RateMarker.rate
-        ∙ sym (after_decode-made (decoder_state g.C.RateMarker.rate c.args.decoder.now.rows)
-        (c.in_ok-check_enough_given.ensures g.C.RateMarker.rate))
+    ∙ sym (after_decode-made (decoder_state g.C.RateMarker.rate c.args.decoder.now.rows)
+    (c.in_ok-check_enough_given.ensures g.C.RateMarker.rate))

@@ -20,15 +20,15 @@ returns-in_err-check_all_given-clause-answer g c =
 pub returns-in_err-check_all_given-clause-state : goal.returns-in_err-check_all_given-clause-state
 returns-in_err-check_all_given-clause-state g c =
     after_encode-refused (encoder_state g.C.RateMarker.rate c.args.encoder.now.rows) _
-        (c.in_err-check_all_given.ensures g.C.RateMarker.rate)
+    (c.in_err-check_all_given.ensures g.C.RateMarker.rate)
 
 pub encode_rows-requires : goal.encode_rows-requires
 encode_rows-requires g c =
     let rows = c.args.encoder.now.rows in
     let whole = message-whole (encoder_state g.C.RateMarker.rate rows)
-        (c.in_ok-check_all_given.ensures g.C.RateMarker.rate) in
+    (c.in_ok-check_all_given.ensures g.C.RateMarker.rate) in
     let given = length-up_to rows.originals_given
-        (shard_laid_out rows.chunks.items rows.shape.configuration.shard_bytes) in
+    (shard_laid_out rows.chunks.items rows.shape.configuration.shard_bytes) in
     omega (arith, whole.0, given, rows.no_more)
 
 pub returns-clause-answer : goal.returns-clause-answer
@@ -38,7 +38,7 @@ returns-clause-answer g c =
     let state = encoder_state g.C.RateMarker.rate rows in
     encode_answers-made state (lent_shards c.encode_rows.new.rows) (c.in_ok-check_all_given.ensures g.C.RateMarker.rate)
     (shards_alike (low_or_high own.is_low) g.C.RateMarker.rate own.original_count own.recovery_count own.shard_bytes
-        (given_originals rows) (lent_shards c.encode_rows.new.rows) c.args.encoder.now.set_up.alike
+    (given_originals rows) (lent_shards c.encode_rows.new.rows) c.args.encoder.now.set_up.alike
     c.encode_rows.ensures.recovery)
 
 pub returns-clause-counts : goal.returns-clause-counts
@@ -46,8 +46,8 @@ returns-clause-counts g c =
     let rows = c.args.encoder.now.rows in
     let own = rows.shape.configuration in
     subst (λ (n : ℕ). CountsUpTo n 0 0 c.args.steps.now c.encode_rows.new.steps)
-        (steps_alike (low_or_high own.is_low) g.C.RateMarker.rate own.original_count own.recovery_count
-        c.args.encoder.now.set_up.alike) c.encode_rows.ensures.counts
+    (steps_alike (low_or_high own.is_low) g.C.RateMarker.rate own.original_count own.recovery_count
+    c.args.encoder.now.set_up.alike) c.encode_rows.ensures.counts
 
 pub returns-clause-state : goal.returns-clause-state
 returns-clause-state g c =
@@ -55,4 +55,4 @@ returns-clause-state g c =
     let coded = c.encode_rows.ensures in
     encoder_state-fresh g.C.RateMarker.rate c.encode_rows.new.rows rows.shape coded.shape coded.none
     ∙ sym (after_encode-made (encoder_state g.C.RateMarker.rate rows)
-        (c.in_ok-check_all_given.ensures g.C.RateMarker.rate))
+    (c.in_ok-check_all_given.ensures g.C.RateMarker.rate))

@@ -41,7 +41,7 @@ pub returns-clause-state : goal.returns-clause-state
 returns-clause-state g c = λ rate.
     let new = c.restore-agrees.new.memory in
     nothing-given rate c.args.rows.now.shape (given_marks new.marks) new.chunks.items
-        (none_told new.marks c.restore-agrees.ensures.marks.shards)
+    (none_told new.marks c.restore-agrees.ensures.marks.shards)
 
 pub returns-clause-answer : goal.returns-clause-answer
 returns-clause-answer g c = λ rate is.
@@ -56,51 +56,53 @@ returns-clause-answer g c = λ rate is.
     let counts = tally_counts s c.tally-tally.result old.memory.marks tally.shape tally.facts in
     let missing : WantsMissing c.args.rows.now.shape c.args.rows.now.memory.marks c.restore-agrees.new.memory.marks =
     subst (λ (x : DecoderShape). WantsMissing x old.memory.marks c.restore-agrees.new.memory.marks) tally.shape
-        c.restore-agrees.ensures.marks in
+    c.restore-agrees.ensures.marks in
     let most_too = given_row_count-most given s.frame.recovery_from s.configuration.recovery_count in
     let sized = λ (i : ℕ) (inside : i < s.configuration.original_count).
     subst (λ (xs : Chunks).
-        IsShard s.configuration.shard_bytes (shard_in_order xs s.configuration.shard_bytes (from + i)))
-        c.as_slice.ensures.value
+    IsShard s.configuration.shard_bytes (shard_in_order xs s.configuration.shard_bytes (from + i)))
+    c.as_slice.ensures.value
     (subst (λ (x : DecoderShape).
-        IsShard x.configuration.shard_bytes
-        (shard_in_order c.as_slice.result.now x.configuration.shard_bytes (from + i))) tally.shape
+    IsShard x.configuration.shard_bytes
+    (shard_in_order c.as_slice.result.now x.configuration.shard_bytes (from + i))) tally.shape
     (c.in_order_are_bytes.ensures (from + i)
-        (omega (arith, inside, old.laid.places.originals, ap (λ (x : DecoderShape). x.frame.row_count) tally.shape))))
-        in
+    (omega (arith, inside, old.laid.places.originals, ap (λ (x : DecoderShape). x.frame.row_count) tally.shape))))
+    in
     let told : ((c.restore-agrees.result ≡ true)
-        × (c.if-agrees.answer ≡ Ok (s.configuration.original_count - old.originals_given)))
+    × (c.if-agrees.answer ≡ Ok (s.configuration.original_count - old.originals_given)))
     ⊎ ((c.restore-agrees.result ≡ false)
-        × (c.if-agrees.answer
-        ≡ Err (InconsistentShards c.args.rows.now.originals_given c.args.rows.now.recovery_given))) =
+    × (c.if-agrees.answer
+    ≡ Err (InconsistentShards c.args.rows.now.originals_given c.args.rows.now.recovery_given))) =
     elim c.if-agrees.branch [
-      | then-agrees w ↦ inl
-          (w.if-agrees.true, w.answer-is
-          ∙ ap Ok (let is : c.tally-tally.result.missing
-          ≡ c.args.rows.now.shape.configuration.original_count - c.args.rows.now.originals_given =
-          omega (arith, counts.0, old.given.originals_counted) in is))
+      | then-agrees w ↦ inl (
+        w.if-agrees.true,
+        w.answer-is
+            ∙ ap Ok (let is : c.tally-tally.result.missing
+            ≡ c.args.rows.now.shape.configuration.original_count - c.args.rows.now.originals_given =
+            omega (arith, counts.0, old.given.originals_counted) in is),
+      )
       | else-agrees w ↦ inr (w.if-agrees.false, w.answer-is)
     ] in
     let over : AnswersOver rate c.args.rows.now.shape (given_marks c.args.rows.now.memory.marks)
-        (restored_marks c.restore-agrees.new.memory.marks) c.args.rows.now.memory.chunks.items
-        c.restore-agrees.new.memory.chunks.items c.restore-agrees.result =
+    (restored_marks c.restore-agrees.new.memory.marks) c.args.rows.now.memory.chunks.items
+    c.restore-agrees.new.memory.chunks.items c.restore-agrees.result =
     elim (cases_eq (c.tally-tally.result.missing + c.tally-tally.result.surplus) 0) [
       | inl none ↦
           subst (λ b. AnswersOver rate s given marks before chunks b)
-              (sym (c.restore-agrees.ensures.nothing (omega arith) (omega arith)))
+          (sym (c.restore-agrees.ensures.nothing (omega arith) (omega arith)))
           (complete_answers rate s given marks before chunks is.valid
-              (decoder_shape-is rate c.args.rows.now.shape is c.args.rows.now.laid) old.laid.configured.even
-              old.given.shards
+          (decoder_shape-is rate c.args.rows.now.shape is c.args.rows.now.laid) old.laid.configured.even
+          old.given.shards
           (omega (arith, none, most_too, counts.0, counts.1))
           (omega (arith, none, most_too, counts.0, counts.1)) missing.missing)
       | inr some ↦
           let made =
           subst (λ (x : DecoderShape). (locator : List ℕ) × IsLocatorOf x.frame given locator
           × RestoresShards x given locator c.tally-tally.result.surplus before chunks c.restore-agrees.result)
-              tally.shape
+          tally.shape
           (c.restore-agrees.ensures.restored (omega arith)) in
           decode_answers rate s given marks made.0 c.tally-tally.result.surplus before chunks c.restore-agrees.result
-              is.valid (decoder_shape-is rate c.args.rows.now.shape is c.args.rows.now.laid)
+          is.valid (decoder_shape-is rate c.args.rows.now.shape is c.args.rows.now.laid)
           (record {
             even = old.laid.configured.even;
             placed = old.given.placed;
@@ -113,8 +115,8 @@ returns-clause-answer g c = λ rate is.
           })
     ] in
     told_answer (s.configuration.original_count - old.originals_given) rate s given marks before chunks
-        old.originals_given old.recovery_given c.restore-agrees.result c.if-agrees.answer told
-        old.given.originals_counted old.given.recovery_counted over
+    old.originals_given old.recovery_given c.restore-agrees.result c.if-agrees.answer told
+    old.given.originals_counted old.given.recovery_counted over
 
 pub returns-clause-counted : goal.returns-clause-counted
 returns-clause-counted g c =
@@ -123,13 +125,13 @@ returns-clause-counted g c =
     let given = given_marks old.memory.marks in
     let new = c.restore-agrees.new.memory in
     let counts = tally_counts s c.tally-tally.result old.memory.marks c.tally-tally.ensures.shape
-        c.tally-tally.ensures.facts in
+    c.tally-tally.ensures.facts in
     let missing : WantsMissing c.args.rows.now.shape c.args.rows.now.memory.marks c.restore-agrees.new.memory.marks =
     subst (λ (x : DecoderShape). WantsMissing x old.memory.marks new.marks) c.tally-tally.ensures.shape
-        c.restore-agrees.ensures.marks in
+    c.restore-agrees.ensures.marks in
     let counted = length-restored given
-        (restored_marks new.marks) new.chunks.items s.configuration.shard_bytes s.frame.originals_from
-        s.configuration.original_count missing.missing in
+    (restored_marks new.marks) new.chunks.items s.configuration.shard_bytes s.frame.originals_from
+    s.configuration.original_count missing.missing in
     elim c.if-agrees.branch [
       | then-agrees w ↦ let is : c.if-agrees.answer ≡ Ok c.tally-tally.result.missing = w.answer-is in
           rw (is, sub-zero) (omega (arith, counted, counts.0))

@@ -15,12 +15,12 @@ pub returns-clause-locator : goal.returns-clause-locator
 returns-clause-locator g c =
     let frame = c.args.shape.frame in
     let size : length c.mark_erased.new.entries ≡ c.args.shape.frame.row_count =
-        c.mark_erased.auto.entries ∙ c.requires.entries in
+    c.mark_erased.auto.entries ∙ c.requires.entries in
     record {
       are_words = c.are_words.ensures;
       values = locator_same frame.row_count (erasure frame.zeros_from frame.zeros_to c.args.given.now)
           (λ y. slice_index c.mark_erased.new.entries y) (λ x. slice_index c.locate.new.erasures x)
           c.mark_erased.ensures
           (subst (λ (n : ℕ). IsLocatorBelow n (λ y. slice_index c.mark_erased.new.entries y)
-              (λ x. slice_index c.locate.new.erasures x)) size c.locate.ensures.values);
+          (λ x. slice_index c.locate.new.erasures x)) size c.locate.ensures.values);
     }

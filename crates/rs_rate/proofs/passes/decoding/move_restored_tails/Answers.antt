@@ -16,9 +16,9 @@ pub move_tail-requires-clause-room : goal.move_tail-requires-clause-room
 move_tail-requires-clause-room c =
     let s = c.args.shape in
     let below : c.original_row-row.result < s.frame.row_count =
-        omega (arith, c.loop-i-test.true, c.original_row-row.ensures, c.requires.laid.places.originals) in
+    omega (arith, c.loop-i-test.true, c.original_row-row.ensures, c.requires.laid.places.originals) in
     let within = chunk_count-within c.original_row-row.result s.frame.row_count s.configuration.shard_bytes
-        (length c.args.chunks.now) below c.requires.whole in
+    (length c.args.chunks.now) below c.requires.whole in
     omega (arith, within, c.loop-i.auto.chunks)
 
 pub loop-i-preserved : goal.loop-i-preserved
@@ -32,14 +32,18 @@ loop-i-preserved c =
     let new = c.if-is_restored.chunks in
     let before = c.loop-i.invariant in
     let step : TailMoved
-        (restored_marks c.args.marks.now) c.args.shape.configuration.shard_bytes c.original_row-row.result
-        c.loop-i.chunks c.if-is_restored.chunks c.loop-i.steps c.if-is_restored.steps =
+    (restored_marks c.args.marks.now) c.args.shape.configuration.shard_bytes c.original_row-row.result
+    c.loop-i.chunks c.if-is_restored.chunks c.loop-i.steps c.if-is_restored.steps =
     elim c.if-is_restored.branch [
       | then-is_restored w ↦
           subst (λ (r : Chunks). TailMoved marks size p mid r c.loop-i.steps c.if-is_restored.steps) (sym w.chunks-is)
           (subst (λ (t : Steps). TailMoved marks size p mid w.move_tail.new.chunks c.loop-i.steps t) (sym w.steps-is)
-          (record { moved_here = λ _. w.move_tail.ensures.here; others = w.move_tail.ensures.others; counts =
-              counts_rows 1 c.loop-i.steps w.row_step.new.self w.row_step.ensures }))
+          (record {
+            moved_here = λ _. w.move_tail.ensures.here;
+            others = w.move_tail.ensures.others;
+            counts =
+                counts_rows 1 c.loop-i.steps w.row_step.new.self w.row_step.ensures;
+          }))
       | else-is_restored w ↦
           subst (λ (r : Chunks). TailMoved marks size p mid r c.loop-i.steps c.if-is_restored.steps) (sym w.chunks-is)
           (subst (λ (t : Steps). TailMoved marks size p mid mid c.loop-i.steps t) (sym w.steps-is)
@@ -54,14 +58,14 @@ loop-i-preserved c =
       moved = λ j hj marked. elim (cases_lt j c.loop-i.i) [
         | inl low ↦
             in_order-same size (row_chunk new size (from + j)) (row_chunk mid size (from + j))
-                (λ k inside. step.others (from + j) k (let apart : from + j ≢ p = omega arith in apart) inside)
+            (λ k inside. step.others (from + j) k (let apart : from + j ≢ p = omega arith in apart) inside)
             ∙ before.moved j low marked
         | inr high ↦
             let here : c.original_row-row.result ≡ c.args.shape.frame.originals_from + j = omega arith in
             subst (λ (q : ℕ). shard_in_order new size q ≡ shard_laid_out old size q) here
             (step.moved_here (ap (is_marked marks) here ∙ marked)
-                ∙ laid_out-same size (row_chunk mid size p) (row_chunk old size p)
-                (λ k inside. before.left p k (omega arith) inside))
+            ∙ laid_out-same size (row_chunk mid size p) (row_chunk old size p)
+            (λ k inside. before.left p k (omega arith) inside))
       ];
       left = λ q k above inside. step.others q k (let apart : q ≢ p = omega arith in apart) inside
           ∙ before.left q k (omega arith) inside;

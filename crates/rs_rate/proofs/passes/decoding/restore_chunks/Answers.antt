@@ -21,11 +21,11 @@ returns-then-agrees-clause-shards g c =
           (given_marks c.args.marks.now) c.args.locator.now c.args.tally.surplus n c.args.chunks.now mid
           c.new-rows.result c.restore_rows-agrees.new.rows c.restore_rows-agrees.result
           len (c.restore_rows-agrees.ensures.extent.len_64 ∙ len) c.new-rows.ensures.chunks
-              (search rules) c.restore_rows-agrees.ensures.words;
+          (search rules) c.restore_rows-agrees.ensures.words;
       shards = λ _ i j inside hj none.
           ap (column j) (c.move_restored_tails.ensures.moved i inside (missing.missing i inside ∙ ap not none))
           ∙ column-put mid s.configuration.shard_bytes
-              (s.frame.originals_from + i) j c.requires.facts.laid.configured.even hj;
+          (s.frame.originals_from + i) j c.requires.facts.laid.configured.even hj;
     }
 
 pub returns-else-agrees-clause-shards : goal.returns-else-agrees-clause-shards
@@ -40,6 +40,6 @@ returns-else-agrees-clause-shards g c =
           (given_marks c.args.marks.now) c.args.locator.now c.args.tally.surplus n c.args.chunks.now mid
           c.new-rows.result c.restore_rows-agrees.new.rows c.restore_rows-agrees.result
           len (c.restore_rows-agrees.ensures.extent.len_64 ∙ len) c.new-rows.ensures.chunks
-              (search rules) c.restore_rows-agrees.ensures.words;
+          (search rules) c.restore_rows-agrees.ensures.words;
       shards = λ agreed. absurd (true≢false (sym agreed ∙ c.if-agrees.false));
     }

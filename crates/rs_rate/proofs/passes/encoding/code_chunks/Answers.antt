@@ -18,12 +18,12 @@ returns-then-configuration-clause-words g c = λ k s inside symbols.
     let n : ℕ = row_len own.shard_bytes in
     let len : c.new-rows.result.shard_len_64 ≡ n = c.new-rows.ensures.len_64 ∙ c.row_len-len.ensures in
     subst (λ (low : Bool).
-        CodesWords (low_or_high low) own.original_count own.recovery_count (word_in c.args.chunks.now n k s)
-        (word_in c.chunks-1.given.0 n k s)) (sym c.if-configuration.true)
+    CodesWords (low_or_high low) own.original_count own.recovery_count (word_in c.args.chunks.now n k s)
+    (word_in c.chunks-1.given.0 n k s)) (sym c.if-configuration.true)
     (rows-read low_rate own.original_count own.recovery_count n k s c.args.chunks.now c.chunks-1.given.0
-        c.new-rows.result c.code_low.new.rows
+    c.new-rows.result c.code_low.new.rows
     len (c.code_low.ensures.extent.len_64 ∙ len) c.new-rows.ensures.chunks (search rules)
-        (c.code_low.ensures.words k s (omega arith) symbols))
+    (c.code_low.ensures.words k s (omega arith) symbols))
 
 pub code_high-requires-clause-block : goal.code_high-requires-clause-block
 code_high-requires-clause-block g c =
@@ -35,9 +35,9 @@ returns-else-configuration-clause-words g c = λ k s inside symbols.
     let n : ℕ = row_len own.shard_bytes in
     let len : c.new-rows.result.shard_len_64 ≡ n = c.new-rows.ensures.len_64 ∙ c.row_len-len.ensures in
     subst (λ (low : Bool).
-        CodesWords (low_or_high low) own.original_count own.recovery_count (word_in c.args.chunks.now n k s)
-        (word_in c.chunks-else-configuration-1.given.0 n k s)) (sym c.if-configuration.false)
+    CodesWords (low_or_high low) own.original_count own.recovery_count (word_in c.args.chunks.now n k s)
+    (word_in c.chunks-else-configuration-1.given.0 n k s)) (sym c.if-configuration.false)
     (rows-read high_rate own.original_count own.recovery_count n k s c.args.chunks.now
-        c.chunks-else-configuration-1.given.0 c.new-rows.result c.code_high.new.rows
+    c.chunks-else-configuration-1.given.0 c.new-rows.result c.code_high.new.rows
     len (c.code_high.ensures.extent.len_64 ∙ len) c.new-rows.ensures.chunks (search rules)
-        (c.code_high.ensures.words k s (omega arith) symbols))
+    (c.code_high.ensures.words k s (omega arith) symbols))

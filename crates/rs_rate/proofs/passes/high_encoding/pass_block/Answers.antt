@@ -14,7 +14,7 @@ returns-clause-values g c = λ k s i inside symbols low given.
     sym (c.ifft.ensures.values k s i (omega arith) symbols low)
     ∙ ap (λ x. symbol x s)
     (outside_cell _ _ c.args.rows.now c.clear_rows.new.rows c.clear_rows.ensures.extent c.clear_rows.ensures.others
-        (c.args.start + i) k inside (inl (omega arith)))
+    (c.args.start + i) k inside (inl (omega arith)))
 
 pub returns-clause-zeros : goal.returns-clause-zeros
 returns-clause-zeros g c = λ k s i inside symbols low past.

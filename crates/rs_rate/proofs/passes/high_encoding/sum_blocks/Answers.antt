@@ -41,14 +41,14 @@ pub pass_block-requires-in-loop-start-clause-within :
 pass_block-requires-in-loop-start-clause-within g c =
     let loop = c.loop-start.invariant in
     let next = next_block c.loop-start.start c.args.rows.now.shard_count c.args.block
-        (omega (arith, c.requires.enough)) loop.whole c.requires.whole in
+    (omega (arith, c.requires.enough)) loop.whole c.requires.whole in
     omega (arith, next, loop.extent.count)
 
 pub xor_within-requires-clause-y_in : goal.xor_within-requires-clause-y_in
 xor_within-requires-clause-y_in g c =
     let loop = c.loop-start.invariant in
     let next = next_block c.loop-start.start c.args.rows.now.shard_count c.args.block
-        (omega (arith, c.requires.enough)) loop.whole c.requires.whole in
+    (omega (arith, c.requires.enough)) loop.whole c.requires.whole in
     omega (arith, next, loop.extent.count, c.pass_block-in-loop-start.ensures.extent.count)
 
 pub loop-start-preserved : goal.loop-start-preserved
@@ -60,12 +60,12 @@ loop-start-preserved g c =
     let some : 0 < c.args.block = (let p = pow_pos c.requires.power.0 in omega (arith, c.requires.power.1)) in
     let len : c.loop-start.rows.shard_len_64 ≡ c.args.rows.now.shard_len_64 = loop.extent.len_64 in
     let len_too : c.pass_block-in-loop-start.new.rows.shard_len_64 ≡ c.args.rows.now.shard_len_64 =
-        pass.extent.len_64 ∙ len in
+    pass.extent.len_64 ∙ len in
     let block : ℕ = c.args.block in
     let turn : ℕ = 2 * c.args.block + transform_steps c.args.block in
     let first : ℕ = c.args.block + transform_steps c.args.block in
     let next = further-next c.loop-start.start c.args.block
-        (2 * c.args.block + transform_steps c.args.block) some loop.first in
+    (2 * c.args.block + transform_steps c.args.block) some loop.first in
     let step = extent_then now passed c.xor_within.new.data pass.extent c.xor_within.ensures.extent in
     record {
       first = omega arith;
@@ -76,24 +76,24 @@ loop-start-preserved g c =
       extent = extent_then c.args.rows.now now c.xor_within.new.data loop.extent step;
       left = λ i k inside from.
           outside_cell _ _ passed c.xor_within.new.data c.xor_within.ensures.extent c.xor_within.ensures.others i k
-              (omega arith) (inr (omega arith))
+          (omega arith) (inr (omega arith))
           ∙ outside_cell _ _ now passed pass.extent pass.others i k (omega arith) (inr from)
           ∙ loop.left i k inside (omega arith);
       sums = λ k s inside symbols.
           sums-next c.args.block c.loop-start.start c.args.original_count (word c.args.rows.now k s) (word now k s)
-              (word passed k s) (word c.xor_within.new.data k s) some loop.whole
+          (word passed k s) (word c.xor_within.new.data k s) some loop.whole
           (λ i from. ap (λ x. symbol x s) (loop.left i k inside from))
           (λ i few given. pass.values k s i (omega arith) symbols few given)
           (λ i few past. pass.zeros k s i (omega arith) symbols few past)
           (λ q few. ap (λ x. symbol x s)
-              (outside_cell _ _ now passed pass.extent pass.others q k (omega arith) (inl (omega arith))))
+          (outside_cell _ _ now passed pass.extent pass.others q k (omega arith) (inl (omega arith))))
           (λ q few. c.xor_within.ensures.sums q k s few (omega arith) symbols)
           (loop.sums k s inside symbols);
       counts = counts_both (first + further_blocks block c.loop-start.start * turn) turn
           (first + further_blocks block (c.loop-start.start + block) * turn)
           c.args.steps.now c.loop-start.steps c.xor_within.new.steps (omega (arith, next)) loop.counts
           (counts_both first block turn c.loop-start.steps c.pass_block-in-loop-start.new.steps c.xor_within.new.steps
-              (omega arith) pass.counts
+          (omega arith) pass.counts
           (counts_rows block c.pass_block-in-loop-start.new.steps c.xor_within.new.steps c.xor_within.ensures.counts));
     }
 
@@ -101,7 +101,7 @@ pub returns-clause-sums : goal.returns-clause-sums
 returns-clause-sums g c =
     let loop = c.loop-start.invariant in
     let parts : c.loop-start.start / c.args.block * c.args.block + c.loop-start.start % c.args.block
-        ≡ c.loop-start.start = div-add-mod' c.loop-start.start c.args.block in
+    ≡ c.loop-start.start = div-add-mod' c.loop-start.start c.args.block in
     (c.loop-start.start / c.args.block, omega (arith, loop.whole), omega (arith, loop.whole), loop.sums)
 
 pub returns-clause-counts : goal.returns-clause-counts
@@ -113,6 +113,6 @@ returns-clause-counts g c =
     let loop = c.loop-start.invariant in
     let some : 0 < c.args.block = (let p = pow_pos c.requires.power.0 in omega (arith, c.requires.power.1)) in
     let less = further-within c.loop-start.start c.args.rows.now.shard_count c.args.block
-        (2 * c.args.block + transform_steps c.args.block) some (omega (arith, loop.within)) in
+    (2 * c.args.block + transform_steps c.args.block) some (omega (arith, loop.within)) in
     counts_within (first + further_blocks block c.loop-start.start * turn) (first + further_blocks block rows * turn)
     c.args.steps.now c.loop-start.steps (omega (arith, less)) loop.counts

@@ -17,21 +17,21 @@ pub copy_rows-requires-clause-within : goal.copy_rows-requires-clause-within
 copy_rows-requires-clause-within g c =
     let loop = c.loop-start.invariant in
     let next = next_block c.loop-start.start c.args.rows.now.shard_count c.args.block
-        (omega (arith, c.requires.enough)) loop.whole c.requires.whole in
+    (omega (arith, c.requires.enough)) loop.whole c.requires.whole in
     omega (arith, next, loop.extent.count)
 
 pub fft-requires-clause-within : goal.fft-requires-clause-within
 fft-requires-clause-within g c =
     let loop = c.loop-start.invariant in
     let next = next_block c.loop-start.start c.args.rows.now.shard_count c.args.block
-        (omega (arith, c.requires.enough)) loop.whole c.requires.whole in
+    (omega (arith, c.requires.enough)) loop.whole c.requires.whole in
     omega (arith, next, loop.extent.count, c.copy_rows.ensures.extent.count)
 
 pub fft-requires-clause-points : goal.fft-requires-clause-points
 fft-requires-clause-points g c =
     let loop = c.loop-start.invariant in
     let next = next_block c.loop-start.start c.args.rows.now.shard_count c.args.block
-        (omega (arith, c.requires.enough)) loop.whole c.requires.whole in
+    (omega (arith, c.requires.enough)) loop.whole c.requires.whole in
     omega (arith, next, c.requires.points)
 
 pub fft-requires-clause-shift : goal.fft-requires-clause-shift
@@ -44,20 +44,20 @@ loop-start-preserved g c =
     let some : 0 < c.args.block = (let p = pow_pos c.requires.power.0 in omega (arith, c.requires.power.1)) in
     let step : ℕ = c.args.block + transform_steps c.args.block in
     let next = next_block c.loop-start.start c.args.rows.now.shard_count c.args.block
-        (omega (arith, c.requires.enough)) loop.whole c.requires.whole in
+    (omega (arith, c.requires.enough)) loop.whole c.requires.whole in
     let same : c.loop-start.rows.shard_len_64 ≡ c.args.rows.now.shard_len_64 = loop.extent.len_64 in
     let same_too : c.copy_rows.new.rows.shard_len_64 ≡ c.args.rows.now.shard_len_64 =
-        c.copy_rows.ensures.extent.len_64 ∙ same in
+    c.copy_rows.ensures.extent.len_64 ∙ same in
     let kept_before : (i k : ℕ) → k < c.args.rows.now.shard_len_64 → i < c.loop-start.start
-        → cell c.copy_rows.new.rows k i ≡ cell c.loop-start.rows k i
+    → cell c.copy_rows.new.rows k i ≡ cell c.loop-start.rows k i
     = λ i k inside before.
-        outside_cell _ _ c.loop-start.rows c.copy_rows.new.rows c.copy_rows.ensures.extent c.copy_rows.ensures.others i
-        k (omega arith) (inl before) in
+    outside_cell _ _ c.loop-start.rows c.copy_rows.new.rows c.copy_rows.ensures.extent c.copy_rows.ensures.others i
+    k (omega arith) (inl before) in
     let kept_after : (i k : ℕ) → k < c.args.rows.now.shard_len_64 → i < c.loop-start.start
-        → cell c.fft.new.data k i ≡ cell c.copy_rows.new.rows k i
+    → cell c.fft.new.data k i ≡ cell c.copy_rows.new.rows k i
     = λ i k inside before.
-        outside_cell _ _ c.copy_rows.new.rows c.fft.new.data c.fft.ensures.extent c.fft.ensures.others i k (omega arith)
-        (inl before) in
+    outside_cell _ _ c.copy_rows.new.rows c.fft.new.data c.fft.ensures.extent c.fft.ensures.others i k (omega arith)
+    (inl before) in
     record {
       first = omega arith;
       whole = add-mod_right c.loop-start.start c.args.block ∙ loop.whole;
@@ -72,16 +72,16 @@ loop-start-preserved g c =
       };
       combination = λ i k inside small.
           kept_after i k inside (omega arith) ∙ kept_before i k inside (omega arith)
-              ∙ loop.combination i k inside small;
+          ∙ loop.combination i k inside small;
       values = λ k s i inside symbols low high few.
           further-more c.args.block c.loop-start.start c.args.recovery_count c.min-wanted.result
-              (word c.args.rows.now k s) (word c.loop-start.rows k s) (word c.copy_rows.new.rows k s)
-              (word c.fft.new.data k s)
+          (word c.args.rows.now k s) (word c.loop-start.rows k s) (word c.copy_rows.new.rows k s)
+          (word c.fft.new.data k s)
           c.min-wanted.ensures loop.first
           (λ q small. ap (λ x. symbol x s) (loop.combination q k inside small))
           (λ j from to below. loop.values k s j inside symbols from to below)
           (λ q small. ap (λ x. symbol x s) (c.copy_rows.ensures.copied q k (omega arith) (omega arith))
-              ∙ ap (word c.loop-start.rows k s) (zero-add q))
+          ∙ ap (word c.loop-start.rows k s) (zero-add q))
           (λ j before. ap (λ x. symbol x s) (kept_before j k inside before))
           (λ j wanted. c.fft.ensures.values k s j (omega arith) symbols wanted)
           (λ j before. ap (λ x. symbol x s) (kept_after j k inside before))
@@ -89,7 +89,7 @@ loop-start-preserved g c =
       counts = counts_both (further_blocks block c.loop-start.start * step) step
           (further_blocks block (c.loop-start.start + block) * step)
           c.args.steps.now c.loop-start.steps c.fft.new.steps
-              (further-next c.loop-start.start block step some loop.first) loop.counts
+          (further-next c.loop-start.start block step some loop.first) loop.counts
           (counts_then block (transform_steps block) c.loop-start.steps c.copy_rows.new.steps c.fft.new.steps
           (counts_rows block c.loop-start.steps c.copy_rows.new.steps c.copy_rows.ensures.counts) c.fft.ensures.counts);
     }
@@ -102,5 +102,5 @@ returns-clause-counts g c =
     let loop = c.loop-start.invariant in
     let some : 0 < c.args.block = (let p = pow_pos c.requires.power.0 in omega (arith, c.requires.power.1)) in
     counts_within (further_blocks block c.loop-start.start * step)
-        (further_blocks block rows * step) c.args.steps.now c.loop-start.steps
+    (further_blocks block rows * step) c.args.steps.now c.loop-start.steps
     (further-within c.loop-start.start rows block step some loop.within) loop.counts

@@ -13,8 +13,8 @@ returns-then-not-is_zero_row-clause-zero c =
           sym c.if-not-is_zero_row.true
           ∙ c.is_zero_row.ensures.1 (λ j inside.
           ap (λ x. symbol (chunk x (j / 32)) (j % 32)) c.row.ensures
-              ∙ ap (λ x. symbol x (j % 32))
-              (row-read rows i (j / 32) c.requires.fits (omega arith) (omega (arith, c.requires.len, inside)))
+          ∙ ap (λ x. symbol x (j % 32))
+          (row-read rows i (j / 32) c.requires.fits (omega arith) (omega (arith, c.requires.len, inside)))
           ∙ all i j (omega arith) (omega arith) inside),
       λ no. absurd (true≢false (sym no)),
     )
@@ -31,10 +31,14 @@ loop-i-preserved c =
             let here : q ≡ c.loop-i.i = omega arith in
             ap (word rows (j / 32) (j % 32)) here
             ∙ sym (ap (λ x. symbol x (j % 32))
-                (row-read rows i (j / 32) c.requires.fits (omega arith) (omega (arith, c.requires.len, inside))))
+            (row-read rows i (j / 32) c.requires.fits (omega arith) (omega (arith, c.requires.len, inside))))
             ∙ sym (ap (λ x. symbol (chunk x (j / 32)) (j % 32)) c.row.ensures)
             ∙ c.is_zero_row.ensures.0 c.if-not-is_zero_row.false j inside
       ];
-      counts = (omega (arith, before.counts.0, c.row_step.ensures.0), c.row_step.ensures.1
-          ∙ before.counts.1, c.row_step.ensures.2 ∙ before.counts.2);
+      counts = (
+        omega (arith, before.counts.0, c.row_step.ensures.0),
+        c.row_step.ensures.1
+            ∙ before.counts.1,
+        c.row_step.ensures.2 ∙ before.counts.2,
+      );
     }

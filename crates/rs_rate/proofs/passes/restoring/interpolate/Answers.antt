@@ -7,7 +7,7 @@ use Rattle.rs_rate.proofs.passes.restoring.interpolate.Goals as goal
 pub ifft_given-requires-clause-power : goal.ifft_given-requires-clause-power
 ifft_given-requires-clause-power g c =
     let p = rows_power c.args.tally.shape c.requires.facts.laid in
-        (p.0, c.given-given.ensures.length ∙ c.requires.facts.marked ∙ p.1)
+    (p.0, c.given-given.ensures.length ∙ c.requires.facts.marked ∙ p.1)
 
 pub returns-clause-coefficients : goal.returns-clause-coefficients
 returns-clause-coefficients g c =
@@ -25,12 +25,12 @@ returns-clause-coefficients g c =
           (omega (arith, hi, shape.count, located_extent.count, c.requires.rows.count));
       of_located = λ k t hk ht i hi.
           sym (c.locate_rows.ensures.located k t i (omega (arith, hk, c.requires.rows.len)) ht
-              (omega (arith, hi, c.requires.rows.count)))
+          (omega (arith, hi, c.requires.rows.count)))
           ∙ from_row_zero _ rows i (word c.locate_rows.new.rows k t) (word passed k t) marked
           (c.ifft_given.ensures.values k t i (omega (arith, hk, located_extent.len_64, c.requires.rows.len)) ht
-              (omega (arith, hi, marked)));
+          (omega (arith, hi, marked)));
       checked = checked_rows rows c.args.tally.surplus s.configuration.shard_bytes passed.shard_count
           (rows - c.args.tally.surplus) (word passed) c.are_zero_rows.result c.are_zero_rows.result
           c.requires.facts.few_surplus refl
-              (shape.count ∙ located_extent.count ∙ c.requires.rows.count) refl c.are_zero_rows.ensures.zero;
+          (shape.count ∙ located_extent.count ∙ c.requires.rows.count) refl c.are_zero_rows.ensures.zero;
     })

@@ -26,12 +26,12 @@ loop-p-preserved g c =
     let before = c.loop-p.invariant in
     let count = before.extent.count in
     let step : RowLocated c.args.given.now c.args.locator.now c.loop-p.p c.loop-p.rows c.if-given-p.rows c.loop-p.steps
-        c.if-given-p.steps =
+    c.if-given-p.steps =
     elim c.if-given-p.branch [
       | then-given-p w ↦
           let given = w.if-given-p.true in
           subst (λ (r : ShardsRefMut). RowLocated marks locator p mid r c.loop-p.steps c.if-given-p.steps)
-              (sym w.rows-is)
+          (sym w.rows-is)
           (subst (λ (t : Steps). RowLocated marks locator p mid w.mul_row_at.new.rows c.loop-p.steps t) (sym w.steps-is)
           (record {
             extent = w.mul_row_at.ensures.extent;
@@ -46,15 +46,15 @@ loop-p-preserved g c =
           let none = w.if-given-p.false in
           let cleared_len = w.clear_rows.ensures.extent.len_64 in
           subst (λ (r : ShardsRefMut). RowLocated marks locator p mid r c.loop-p.steps c.if-given-p.steps)
-              (sym w.rows-is)
+          (sym w.rows-is)
           (subst (λ (t : Steps). RowLocated marks locator p mid w.clear_rows.new.rows c.loop-p.steps t) (sym w.steps-is)
           (record {
             extent = w.clear_rows.ensures.extent;
             others = w.clear_rows.ensures.others;
             located_here = λ k s hk hs.
                 ap (λ x. symbol x s)
-                    (w.clear_rows.ensures.zeros p k (omega (arith, hk, cleared_len)) (omega arith) (omega arith))
-                    ∙ symbol-zero s hs ∙ sym (located_word-at marks locator (word mid k s) p false none);
+                (w.clear_rows.ensures.zeros p k (omega (arith, hk, cleared_len)) (omega arith) (omega arith))
+                ∙ symbol-zero s hs ∙ sym (located_word-at marks locator (word mid k s) p false none);
             cleared = λ k hk _. w.clear_rows.ensures.zeros p k (omega (arith, hk, cleared_len)) (omega arith)
                 (omega arith);
             counts = counts_rows 1 c.loop-p.steps w.clear_rows.new.steps
@@ -73,8 +73,8 @@ loop-p-preserved g c =
             let here : c.loop-p.p ≡ q = omega arith in
             subst (λ (i : ℕ). word new k s i ≡ located_word marks locator (word old k s) i) here
             (step.located_here k s (omega arith) hs
-                ∙ located_word-same marks locator (word old k s) (word mid k s) p
-                (ap (λ x. symbol x s) (before.left k p hk (omega arith))))
+            ∙ located_word-same marks locator (word old k s) (word mid k s) p
+            (ap (λ x. symbol x s) (before.left k p hk (omega arith))))
       ];
       cleared = λ k q hk hq none. elim (cases_lt q p) [
         | inl low ↦ kept q k (omega arith) (inl low) ∙ before.cleared k q hk low none

@@ -49,9 +49,9 @@ returns-then-tally-gt0-clause-words g c =
             ∙ ap (λ w. product w (power (65535 - slice_index locator (from + i))))
             (from_row_zero _ rows (from + i) (word valued k t) (word added k t) wanted_size
             (c.fft_wanted.ensures.values k t (from + i)
-                (omega (arith, hk, added_extent.len_64, shape.len_64, c.requires.rows.len)) ht
+            (omega (arith, hk, added_extent.len_64, shape.len_64, c.requires.rows.len)) ht
             (ap (λ (xs : List Bool). is_marked xs (from + i)) c.restored.ensures.marks ∙ missing.missing i hi
-                ∙ ap not none))),
+            ∙ ap not none))),
       );
     }
 
@@ -65,8 +65,8 @@ returns-else-agrees-clause-words g c =
       revealed = λ agreed k t hk ht i hi none. elim c.else-agrees.branch [
         | else-agrees-via-then-agrees+else-tally-gt0 w ↦
             absurd (true≢false (sym
-                (all_given marks s.frame.originals_from s.configuration.original_count
-                (omega (arith, w.if-tally-gt0.false, c.requires.facts.missing_counted)) i hi) ∙ none))
+            (all_given marks s.frame.originals_from s.configuration.original_count
+            (omega (arith, w.if-tally-gt0.false, c.requires.facts.missing_counted)) i hi) ∙ none))
         | else-agrees-via-else-agrees w ↦ absurd (true≢false (sym agreed ∙ w.if-agrees.false))
       ];
     }

@@ -27,14 +27,14 @@ loop-i-preserved g c =
     let before = c.loop-i.invariant in
     let count = before.extent.count in
     let step : RowRevealed
-        (restored_marks c.args.marks.now) c.args.locator.now c.original_row-row.result c.loop-i.rows
-        c.if-is_restored.rows c.loop-i.steps c.if-is_restored.steps =
+    (restored_marks c.args.marks.now) c.args.locator.now c.original_row-row.result c.loop-i.rows
+    c.if-is_restored.rows c.loop-i.steps c.if-is_restored.steps =
     elim c.if-is_restored.branch [
       | then-is_restored w ↦
           subst (λ (r : ShardsRefMut). RowRevealed marks locator p mid r c.loop-i.steps c.if-is_restored.steps)
-              (sym w.rows-is)
+          (sym w.rows-is)
           (subst (λ (t : Steps). RowRevealed marks locator p mid w.mul_row_at.new.rows c.loop-i.steps t)
-              (sym w.steps-is)
+          (sym w.steps-is)
           (record {
             extent = w.mul_row_at.ensures.extent;
             others = w.mul_row_at.ensures.others;
@@ -43,7 +43,7 @@ loop-i-preserved g c =
           }))
       | else-is_restored w ↦
           subst (λ (r : ShardsRefMut). RowRevealed marks locator p mid r c.loop-i.steps c.if-is_restored.steps)
-              (sym w.rows-is)
+          (sym w.rows-is)
           (subst (λ (t : Steps). RowRevealed marks locator p mid mid c.loop-i.steps t) (sym w.steps-is)
           (record {
             extent = record { name = refl; count = refl; len_64 = refl; length = refl };
@@ -65,8 +65,8 @@ loop-i-preserved g c =
             let here : c.original_row-row.result ≡ c.args.shape.frame.originals_from + j = omega arith in
             subst (λ (q : ℕ). word new k s q ≡ product (word old k s q) (power (65535 - slice_index locator q))) here
             (step.revealed_here k s (omega arith) hs (ap (is_marked marks) here ∙ marked)
-                ∙ ap (λ x. product (symbol x s) (power (65535 - slice_index locator p)))
-                (before.left k p hk (omega arith)))
+            ∙ ap (λ x. product (symbol x s) (power (65535 - slice_index locator p)))
+            (before.left k p hk (omega arith)))
       ];
       left = λ k q hk hq. kept q k (omega arith) (inr (omega arith)) ∙ before.left k q hk (omega arith);
       counts = counts_then c.loop-i.i 1 c.args.steps.now c.loop-i.steps c.if-is_restored.steps before.counts

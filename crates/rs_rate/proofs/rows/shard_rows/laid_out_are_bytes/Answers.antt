@@ -7,5 +7,5 @@ pub returns : goal.returns
 returns c = λ i few.
     shard-laid_out c.args.shard_bytes (row_chunk c.args.chunks.now c.args.shard_bytes i)
     (λ k b inside small.
-        row-fits c.args.chunks.now c.as_flattened.result.now c.args.shard_bytes c.args.count i k b
-        c.as_flattened.ensures.value c.are_bytes.ensures.each c.told-chunks few c.requires.room inside small)
+    row-fits c.args.chunks.now c.as_flattened.result.now c.args.shard_bytes c.args.count i k b
+    c.as_flattened.ensures.value c.are_bytes.ensures.each c.told-chunks few c.requires.room inside small)

@@ -7,4 +7,4 @@ returns c =
     let end = row_end c.args.index c.args.shard_bytes in
     let start = ap (λ n. c.args.index * n) c.row_len-len.ensures in
     c.shard_of.ensures ∙ moved-read c.args.chunks.now c.args.shard_bytes c.args.index _ _ _ start c.row_len-len.ensures
-        (omega arith) (omega (arith, end, start, c.requires, c.row_len-len.ensures))
+    (omega arith) (omega (arith, end, start, c.requires, c.row_len-len.ensures))

@@ -6,10 +6,10 @@ use Rattle.rs_rate.proofs.values.counts.low_choice.Goals as goal
 pub returns-then-not-are_in_field : goal.returns-then-not-are_in_field
 returns-then-not-are_in_field c =
     choice-outside low_rate c.args.original_count c.args.recovery_count c.are_in_field.result c.are_in_field.ensures.1
-        c.if-not-are_in_field.true
+    c.if-not-are_in_field.true
 
 pub returns : goal.returns
 returns c =
     let inside = c.are_in_field.ensures.0 c.if-not-are_in_field.false in
     c.fitting.ensures ∙ choice-fits true c.args.original_count c.args.recovery_count c.power_of_two.result inside.0
-        inside.2 c.power_of_two.ensures.value
+    inside.2 c.power_of_two.ensures.value

@@ -7,8 +7,8 @@ use Rattle.rs_rate.proofs.values.counts.power_of_two.Goals as goal
 is_next : (n p x : ℕ) → n ≤ 65536 → p ≡ 2 ^ x → n ≤ p → p / 2 < max 1 n → p ≡ next_power n
 is_next n p x small power above half =
     next_power-is n p x power
-        (elim (cases_lt x 64)
-        [ inl few ↦ few | inr many ↦ let big : 2 ^ 64 ≤ 2 ^ x = pow_mono many in absurd (omega arith) ]) above half
+    (elim (cases_lt x 64)
+    [ inl few ↦ few | inr many ↦ let big : 2 ^ 64 ≤ 2 ^ x = pow_mono many in absurd (omega arith) ]) above half
 
 pub returns-clause-value : goal.returns-clause-value
 returns-clause-value c =

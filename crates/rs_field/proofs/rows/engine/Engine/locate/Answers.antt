@@ -19,7 +19,7 @@ past front whole n y size above =
 pub eval_poly-requires-clause-zeros : goal.eval_poly-requires-clause-zeros
 eval_poly-requires-clause-zeros g c y above inside =
     past c.copy_from_slice.new.self _ (length c.args.erasures.now) y
-        (ap (λ (xs : List ℕ). length xs) c.copy_from_slice.ensures.after) above ∙ get_or-replicate 65536 y 0 0 inside
+    (ap (λ (xs : List ℕ). length xs) c.copy_from_slice.ensures.after) above ∙ get_or-replicate 65536 y 0 0 inside
 
 -- If the marks are zero from point n on, the sum over all points is the sum over the first n points.
 sum_of_first : (d n : ℕ) (marks whole : List ℕ) (x : ℕ) → n ≡ 2 ^ d → d ≤ 16
@@ -37,13 +37,13 @@ returns-clause-values g c x hx =
     let size : length c.args.erasures.now ≡ 2 ^ c.requires.power.0 = c.requires.power.1 in
     let first : List ℕ = c.copy_from_slice.new.self in
     let copied : length c.copy_from_slice.new.self ≡ length c.args.erasures.now =
-        ap (λ (xs : List ℕ). length xs) c.copy_from_slice.ensures.after in
+    ap (λ (xs : List ℕ). length xs) c.copy_from_slice.ensures.after in
     ap (λ (xs : List ℕ). get_or xs x 0 % 65535) c.copy_from_slice-2.ensures.after
     ∙ ap (λ v. v % 65535) (get_or-take n c.eval_poly.new.erasures x 0 hx)
     ∙ c.eval_poly.ensures.values x (omega (arith, hx, c.requires.few))
     ∙ ap (λ v. v % 65535)
     (sum_of_first c.requires.power.0 n c.args.erasures.now _ x size
-        (few_bits c.requires.power.0 (omega (arith, size, c.requires.few)))
+    (few_bits c.requires.power.0 (omega (arith, size, c.requires.few)))
     (λ y above inside. past first _ n y copied above ∙ get_or-replicate 65536 y 0 0 inside)
     (λ y hy. get_or_append_left first _ 0 y (omega (arith, copied, hy))
-        ∙ ap (λ (xs : List ℕ). get_or xs y 0) c.copy_from_slice.ensures.after))
+    ∙ ap (λ (xs : List ℕ). get_or xs y 0) c.copy_from_slice.ensures.after))

@@ -28,11 +28,11 @@ dist2_mut_spec 𝓤 𝓛 𝓜 𝓡 wired =
     let c = f.clauses 𝓛 𝓜.mem 𝓡.returns in let W = walk_of 𝓛 f.ended stayed c in let 𝓣 = tables 𝓤 𝓛.H 𝓜 𝓡 𝓡.env in
     let goes = Goes-dropped 𝓛 2 (plain (λ _. usize)) yes (λ κs x w. refl) in
     proved 𝓛 f.ended stayed c 𝓜 𝓡
-        (Goes-spent_ref 𝓛 2 (0 ∷ []) tt (plain (λ κs. the_row (named_lft 2 1 tt κs))), (goes, (goes, tt)))
+    (Goes-spent_ref 𝓛 2 (0 ∷ []) tt (plain (λ κs. the_row (named_lft 2 1 tt κs))), (goes, (goes, tt)))
     f.Key.name code.function (code.unfolded 𝓤 𝓛.H 𝓜 𝓡 wired)
     (λ κs. (mut_vals, (uint_vals w64, (uint_vals w64, tt))))
-        (λ κs. (mut_Tells (named 0) κs.0 (the_row (named_lft 2 1 tt κs)), (uint_Tells w64, (uint_Tells w64, tt))))
-        (λ κs qs bounds a _ are.
+    (λ κs. (mut_Tells (named 0) κs.0 (the_row (named_lft 2 1 tt κs)), (uint_Tells w64, (uint_Tells w64, tt))))
+    (λ κs qs bounds a _ are.
     let self = a.0 in let pos = a.1.0 in let dist = a.1.1.0 in
     let Row : RattleType = the_row (named_lft 2 1 tt κs) in
     let h : ShardsRefMut = self.now in let b = self.ref_ptr.0 in let o = self.ref_ptr.1 in
@@ -40,19 +40,19 @@ dist2_mut_spec 𝓤 𝓛 𝓜 𝓡 wired =
     let vs = mut_vals self in
     let y : W.Ghost = ((κs, qs, bounds, a, (vs, (uint_vals w64 pos, (uint_vals w64 dist, tt)))), tt) in
     qed 𝓛 (((‵ (flft κs.0 qs.0) ⊛ ‵ (flft κs.1.0 qs.1.0) ⊛ ‵ ftrue) ⊛ ‵
-        ((MutRef (named 0) κs.0 Row).own_val self vs) ⊛ ‵
-        (owns (usize ∷ usize ∷ []) a.1 (uint_vals w64 pos, (uint_vals w64 dist, tt)))) ∷
-        (raw (fact 𝓤 (h.shard_count * n ≤ length ch)) ⊛ raw (fact 𝓤 (0 < dist)) ⊛ raw
-        (fact 𝓤 (pos + dist < h.shard_count))) ∷ []) ∵
+    ((MutRef (named 0) κs.0 Row).own_val self vs) ⊛ ‵
+    (owns (usize ∷ usize ∷ []) a.1 (uint_vals w64 pos, (uint_vals w64 dist, tt)))) ∷
+    (raw (fact 𝓤 (h.shard_count * n ≤ length ch)) ⊛ raw (fact 𝓤 (0 < dist)) ⊛ raw
+    (fact 𝓤 (pos + dist < h.shard_count))) ∷ []) ∵
     move ! (1 ∷ []) $ split ! $ heard ! _
-        (λ fits. split ! $ heard ! _
-        (λ apart. heard ! _ (λ within. split ! $ split ! $ move ! (2 ∷ []) $ split ! $ keep ! (0 ∷ 2 ∷ 3 ∷ []) $
+    (λ fits. split ! $ heard ! _
+    (λ apart. heard ! _ (λ within. split ! $ split ! $ move ! (2 ∷ []) $ split ! $ keep ! (0 ∷ 2 ∷ 3 ∷ []) $
     -- [self; the token of the loan; the other tokens]
     enter ! _ _ _ _ _ $
     alloc_all ! (λ l. pass_all ! refl
-        ((tt, tt), ((tt, record { fits = are.1.0.1 }), ((tt, record { fits = are.1.1.0.1 }), tt))) $
+    ((tt, tt), ((tt, record { fits = are.1.0.1 }), ((tt, record { fits = are.1.1.0.1 }), tt))) $
     fsplit3 ! $ move ! (1 ∷ 2 ∷ 3 ∷ []) $ opens ! tt Row {h = h} b o
-        (λ us. move ! (1 ∷ []) $ peeks ! Row (Is Row) (shows 𝓛 Row) h us (λ is.
+    (λ us. move ! (1 ∷ []) $ peeks ! Row (Is Row) (shows 𝓛 Row) h us (λ is.
     -- [what the rows own; the struct's cell; the open borrow, in three entries; what is left of self; the other tokens]
     let sized : n < 2 ^ 64 = is.1.1.1.0.1 in
     let rm : Room E (length ch) = is.1.1.1.1.0.0.1 in
@@ -66,12 +66,12 @@ dist2_mut_spec 𝓤 𝓛 𝓜 𝓡 wired =
     let sum_fits : pos + dist < 2 ^ 64 = omega arith in
     let Cell = λ (ws : List Val). ‵ (cell_at full_share Row.mir ws b o) in
     let word = λ (ws : List Val × List Val).
-        vstruct (of_list (flat (fields (the_type (named_lft 2 1 tt κs))) (ws.0, (ws.1, is.0.1.1)))) ∷ [] in
+    vstruct (of_list (flat (fields (the_type (named_lft 2 1 tt κs))) (ws.0, (ws.1, is.0.1.1)))) ∷ [] in
     let held : us ≡ word (uint_vals w64 h.shard_count, uint_vals w64 n) =
-        is.1.0 ∙ ap word (λ i. (is.1.1.0.0 i, is.1.1.1.0.0 i)) in
+    is.1.0 ∙ ap word (λ i. (is.1.1.0.0 i, is.1.1.1.0.0 i)) in
     rewrite ! 1 Cell held refl $
     sets ! (of_opd ! (load ! (through ! refl (fld ! refl (stop !))) (look_in ! 1 (sub ! 1 refl (whole !))))) refl
-        (tt, record { fits = sized }) $
+    (tt, record { fits = sized }) $
     rewrite ! 1 Cell (sym held) refl $ move ! (1 ∷ []) $ closes ! tt Row h us b o $
     -- [two runs of self; the token of the loan; what is left of self; the other tokens]
     move ! (3 ∷ 0 ∷ 1 ∷ []) $ fjoin3 ! $
@@ -81,7 +81,7 @@ dist2_mut_spec 𝓤 𝓛 𝓜 𝓡 wired =
     sets ! (addr ! (through ! refl (stop !))) refl (tt, tt) $
     -- [self; the token of the loan; the other tokens]
     let args : Valss (usize ∷ usize ∷ usize ∷ usize ∷ []) =
-        (uint_vals w64 (pos * n), (uint_vals w64 n, (uint_vals w64 ((pos + dist) * n), (uint_vals w64 n, tt)))) in
+    (uint_vals w64 (pos * n), (uint_vals w64 n, (uint_vals w64 ((pos + dist) * n), (uint_vals w64 n, tt)))) in
     let G = triple_of 𝓛 g.signature (g.spec 𝓛 𝓜.mem 𝓡.returns) in
     let z : G.Ghost = ((κs, qs, bounds, (self, (pos * n, (n, ((pos + dist) * n, (n, tt))))), (vs, args)), tt) in
     nothing ! $ owned ! usize _ (uint_Makes 𝓛 w64) n _ (refl, sized) $ fjoin ! $
@@ -90,23 +90,23 @@ dist2_mut_spec 𝓤 𝓛 𝓜 𝓡 wired =
     owned ! usize _ (uint_Makes 𝓛 w64) (pos * n) _ (refl, first_fits) $ fjoin ! $
     move ! (1 ∷ 0 ∷ []) $ join ! $ move ! (1 ∷ 2 ∷ []) $ join ! $ join ! $
     use0 𝓛 (raw (fact 𝓤 ((pos + dist) * n + n ≤ length ch)))
-        (fact_i 𝓤 ((pos + dist) * n + n ≤ length ch) (emp 𝓤) last) $
+    (fact_i 𝓤 ((pos + dist) * n + n ≤ length ch) (emp 𝓤) last) $
     use0 𝓛 (raw (fact 𝓤 (pos * n + n ≤ (pos + dist) * n))) (fact_i 𝓤 (pos * n + n ≤ (pos + dist) * n) (emp 𝓤) runs) $
     join ! $ move ! (1 ∷ 0 ∷ []) $ use2 𝓛 (raw (G.pre z)) (id⊢ 𝓤 _) $
     calls_at ! (framed 𝓤 𝓛.H 𝓜 𝓣) G
-        (met 𝓤 𝓛 𝓜 𝓡 (code.calls-rs_field::rows::shards::ShardsRefMut::two_runs 𝓡.env wired)) z
+    (met 𝓤 𝓛 𝓜 𝓡 (code.calls-rs_field::rows::shards::ShardsRefMut::two_runs 𝓡.env wired)) z
     (and_then ! (get ! refl)
-        (and_then ! (get ! refl)
-        (and_then ! (get ! refl) (and_then ! (get ! refl) (and_then ! (get ! refl) (no_more !)))))) (λ v.
+    (and_then ! (get ! refl)
+    (and_then ! (get ! refl) (and_then ! (get ! refl) (and_then ! (get ! refl) (no_more !)))))) (λ v.
     use1 𝓛 (later (some (λ (x : MutBor Chunks × MutBor Chunks).
-        ((‵ (flft κs.0 qs.0) ⊛ ‵ (flft κs.1.0 qs.1.0) ⊛ ‵ ftrue) ⊛ ‵ ((Pair κs.0).own_val x (v ∷ []))) ⊛
+    ((‵ (flft κs.0 qs.0) ⊛ ‵ (flft κs.1.0 qs.1.0) ⊛ ‵ ftrue) ⊛ ‵ ((Pair κs.0).own_val x (v ∷ []))) ⊛
     some (λ (ws : Unit {0} × (Unit {0} × (Unit {0} × (Unit {0} × (Unit {0} × Unit {0}))))).
-        ‵ (lasts g.ended κs z.0.3 ws) ⊛ ‵ (LendsTwoRuns self (pos * n) n ((pos + dist) * n) n x)
+    ‵ (lasts g.ended κs z.0.3 ws) ⊛ ‵ (LendsTwoRuns self (pos * n) n ((pos + dist) * n) n x)
     ⊛ raw (fact 𝓤 ((x.0.now ≡ take n (drop_list (pos * n) ch))
-        × (x.1.now ≡ take n (drop_list ((pos + dist) * n) ch)))))))) (id⊢ 𝓤 _) $
+    × (x.1.now ≡ take n (drop_list ((pos + dist) * n) ch)))))))) (id⊢ 𝓤 _) $
     await ! tt $ pick ! (λ x.
-        split ! $ split ! $ move ! (2 ∷ []) $ pick !
-        (λ ws. split ! $ drop ! $ split ! $ move ! (1 ∷ []) $ heard ! _ (λ value. move ! (2 ∷ []) $
+    split ! $ split ! $ move ! (2 ∷ []) $ pick !
+    (λ ws. split ! $ drop ! $ split ! $ move ! (1 ∷ []) $ heard ! _ (λ value. move ! (2 ∷ []) $
     -- [the pair; what self follows; the tokens; the locals]
     peeks ! (Pair κs.0) (Is (Pair κs.0)) (shows 𝓛 (Pair κs.0)) x (v ∷ []) (λ shown.
     lands_as ! refl refl ((pair 𝓛 κs.0).typed x (v ∷ []) shown).0 $
@@ -114,8 +114,8 @@ dist2_mut_spec 𝓤 𝓛 𝓜 𝓡 wired =
     suffices ! _ (ends_at 𝓛 f.ended stayed c y v x (tt, (tt, (tt, tt))) (tt, (tt, (tt, tt)))) $
     keep ! (0 ∷ 1 ∷ 2 ∷ []) $
     use0 𝓛 (raw (fact 𝓤 (x.1.now ≡ take n (drop_list ((pos + dist) * n) ch))))
-        (fact_i 𝓤 (x.1.now ≡ take n (drop_list ((pos + dist) * n) ch)) (emp 𝓤) value.1) $
+    (fact_i 𝓤 (x.1.now ≡ take n (drop_list ((pos + dist) * n) ch)) (emp 𝓤) value.1) $
     use0 𝓛 (raw (fact 𝓤 (x.0.now ≡ take n (drop_list (pos * n) ch))))
-        (fact_i 𝓤 (x.0.now ≡ take n (drop_list (pos * n) ch)) (emp 𝓤) value.0) $ join ! $ move ! (1 ∷ 2 ∷ 3 ∷ 0 ∷ []) $
+    (fact_i 𝓤 (x.0.now ≡ take n (drop_list (pos * n) ch)) (emp 𝓤) value.0) $ join ! $ move ! (1 ∷ 2 ∷ 3 ∷ 0 ∷ []) $
     nothing ! $ nothing ! $ fjoin ! $ nothing ! $ fjoin ! $ nothing ! $ fjoin ! $ join ! $ move !
-        (2 ∷ []) $ join ! $ group ! 3 $ done !))))))))))))
+    (2 ∷ []) $ join ! $ group ! 3 $ done !))))))))))))

@@ -8,4 +8,4 @@ returns c =
     let d : ℕ = c.requires.power.0 in
     let size : c.args.points ≡ 2 ^ d = c.requires.power.1 in
     part-below d c.args.points c.args.self.log_walsh.now size
-        (few_bits d (omega (arith, size, c.requires.few))) c.args.self.log_walsh_entries
+    (few_bits d (omega (arith, size, c.requires.few))) c.args.self.log_walsh_entries

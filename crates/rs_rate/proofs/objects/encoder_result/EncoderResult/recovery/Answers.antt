@@ -10,7 +10,7 @@ use Rattle.rs_rate.proofs.objects.encoder_result.EncoderResult.recovery.Goals as
 in_list : (n index : ℕ) (f : ℕ → Shard) (result : Option (Bor Shard))
     → MatchOption result (n ≤ index) (λ shard. (index < n) × (shard.now ≡ f index))
     → MatchOption result (length (up_to n f) ≤ index)
-        (λ shard. (index < length (up_to n f)) × (shard.now ≡ shard_at (up_to n f) index))
+    (λ shard. (index < length (up_to n f)) × (shard.now ≡ shard_at (up_to n f) index))
 in_list n index f None h = let same = length-up_to n f in omega (arith, h, same)
 in_list n index f (Some shard) (inside, is) = let same = length-up_to n f in
     (omega (arith, inside, same), is ∙ sym (get-up_to n f index [] inside))
@@ -19,4 +19,4 @@ pub returns : goal.returns
 returns c =
     let rows = c.args.self.now.rows.now in
     in_list rows.shape.configuration.recovery_count c.args.index
-        (shard_in_order rows.chunks.items rows.shape.configuration.shard_bytes) c.recovery.result c.recovery.ensures
+    (shard_in_order rows.chunks.items rows.shape.configuration.shard_bytes) c.recovery.result c.recovery.ensures

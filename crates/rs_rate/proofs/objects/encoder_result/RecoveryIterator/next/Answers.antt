@@ -13,11 +13,11 @@ overflow_add-self c = omega (arith, c.in_ok-shard.ensures.0, recovery_count-few 
 pub returns-clause-steps : goal.returns-clause-steps
 returns-clause-steps c =
     sym c.self.view_is ∙ lends_next c.self.inside.rows.now c.self.inside.next_index _ c.in_ok-shard.ensures.0
-        c.in_ok-shard.ensures.1
+    c.in_ok-shard.ensures.1
 
 pub returns-clause-goes : goal.returns-clause-goes
 returns-clause-goes c =
     let next = lends_next c.self.inside.rows.now c.self.inside.next_index _ c.in_ok-shard.ensures.0
-        c.in_ok-shard.ensures.1 in
+    c.in_ok-shard.ensures.1 in
     let fewer = ap length (sym c.self.view_is ∙ next) in
     record { on = λ _. (tt, tt, omega arith); keeps = tt; rests = λ _. tt }

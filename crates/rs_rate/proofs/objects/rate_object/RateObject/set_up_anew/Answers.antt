@@ -10,7 +10,7 @@ returns-in_err-configuration-clause-grown g c = g.met.R.ObjectRows.grows_from_it
 pub returns : goal.returns
 returns g c =
     let is = is_asked g.R.ObjectRows.row_count g.met.R.ObjectRows.rows_set_up g.C.RateMarker.rate _ _ _ _
-        c.in_ok-configuration.ensures in
+    c.in_ok-configuration.ensures in
     let old = c.args.self.now in
     let own = g.R.ObjectRows.configuration_of old.rows in
     let roomy = rw (is.count, is.bytes, ← is.answer) at c.reset.ensures.roomy in
@@ -21,7 +21,7 @@ returns g c =
       roomy = roomy;
       own = λ within.
           let rows = ap₂ (g.R.ObjectRows.row_count g.C.RateMarker.rate) within.0 within.1
-              ∙ sym (g.met.R.ObjectRows.rows_set_up g.C.RateMarker.rate own old.set_up) in
+          ∙ sym (g.met.R.ObjectRows.rows_set_up g.C.RateMarker.rate own old.set_up) in
           let room = rw (← rows) at (g.met.R.ObjectRows.own_room old.rows c.args.shard_bytes within.2) in
           memory_outcome-made _ c.reset.result room.0 (roomy room.1 ∙ is.answer);
       engine = refl;
@@ -31,6 +31,6 @@ returns g c =
 pub invariant_of-self : goal.invariant_of-self
 invariant_of-self g c =
     let own : IsSetUp g.C.RateMarker.rate (g.R.ObjectRows.configuration_of c.reset.new.self) =
-        either_way c.reset.result c.reset.ensures.configuration c.reset.ensures.kept
+    either_way c.reset.result c.reset.ensures.configuration c.reset.ensures.kept
     (λ same. rw same c.in_ok-configuration.ensures.1) (λ kept. rw kept c.args.self.now.set_up) in
     record { set_up = own }

@@ -10,14 +10,14 @@ returns-in_err-configuration-clause-roomy g c =
 pub returns-in_err-rows-clause-roomy : goal.returns-in_err-rows-clause-roomy
 returns-in_err-rows-clause-roomy g c =
     let is = is_asked g.R.ObjectRows.row_count g.met.R.ObjectRows.rows_set_up g.C.RateMarker.rate _ _ _ _
-        c.in_ok-configuration.ensures in
+    c.in_ok-configuration.ensures in
     let p = err_from_is_err_and c.from_residual-in_err-rows.result c.from_residual-in_err-rows.ensures.1 in
     rw (p.1, p.2) (rw (is.count, is.bytes, ← is.answer) at c.in_err-rows.ensures.roomy)
 
 pub returns : goal.returns
 returns g c =
     let is = is_asked g.R.ObjectRows.row_count g.met.R.ObjectRows.rows_set_up g.C.RateMarker.rate _ _ _ _
-        c.in_ok-configuration.ensures in
+    c.in_ok-configuration.ensures in
     record {
       answer = rw (is.count, is.bytes, ← is.answer) at c.in_ok-rows.ensures.answer;
       made = (c.in_ok-rows.ensures.state g.C.RateMarker.rate ∙ ap g.R.ObjectRows.fresh is.own, refl);

@@ -31,24 +31,24 @@ returns-then-is_given-clause-answer c = λ rate.
     let w = c.args.self.now in
     let row = c.row-row.result in
     ap Err c.repeat_refused.ensures
-        ∙ sym (ap answer_of (add-repeated rate w c.args.side c.args.index row c.args.shard.now c.row-row.ensures
-        (omega (arith, c.if-index-count.false, c.count.ensures)) (sym c.is_given.ensures ∙ c.if-is_given.true)))
+    ∙ sym (ap answer_of (add-repeated rate w c.args.side c.args.index row c.args.shard.now c.row-row.ensures
+    (omega (arith, c.if-index-count.false, c.count.ensures)) (sym c.is_given.ensures ∙ c.if-is_given.true)))
 
 pub returns-then-is_given-clause-left : goal.returns-then-is_given-clause-left
 returns-then-is_given-clause-left c = λ rate.
     let w = c.args.self.now in
     let row = c.row-row.result in
     sym (ap (state_after (decoder_state rate w))
-        (add-repeated rate w c.args.side c.args.index row c.args.shard.now c.row-row.ensures
-        (omega (arith, c.if-index-count.false, c.count.ensures)) (sym c.is_given.ensures ∙ c.if-is_given.true)))
+    (add-repeated rate w c.args.side c.args.index row c.args.shard.now c.row-row.ensures
+    (omega (arith, c.if-index-count.false, c.count.ensures)) (sym c.is_given.ensures ∙ c.if-is_given.true)))
 
 pub returns-then-shard-self-clause-answer : goal.returns-then-shard-self-clause-answer
 returns-then-shard-self-clause-answer c = λ rate.
     let w = c.args.self.now in
     let row = c.row-row.result in
     sym (ap answer_of (add-sized rate w c.args.side c.args.index row c.args.shard.now c.row-row.ensures
-        (omega (arith, c.if-index-count.false, c.count.ensures))
-        (sym c.is_given.ensures ∙ c.if-is_given.false) c.if-shard-self.true))
+    (omega (arith, c.if-index-count.false, c.count.ensures))
+    (sym c.is_given.ensures ∙ c.if-is_given.false) c.if-shard-self.true))
 
 pub enter-requires-clause-room : goal.enter-requires-clause-room
 enter-requires-clause-room c =
@@ -57,9 +57,9 @@ enter-requires-clause-room c =
     let size = ap (λ n. chunk_count (row + 1) n) c.if-shard-self.false in
     let below = side-within w c.args.side in
     let within = chunk_count-within row w.shape.frame.row_count w.shape.configuration.shard_bytes
-        (length w.memory.chunks.items)
-        (omega (arith, c.if-index-count.false, c.count.ensures, c.row-row.ensures, below))
-        (omega (arith, w.laid_out.whole)) in
+    (length w.memory.chunks.items)
+    (omega (arith, c.if-index-count.false, c.count.ensures, c.row-row.ensures, below))
+    (omega (arith, w.laid_out.whole)) in
     omega (arith, size, within, w.laid_out.whole)
 
 pub overflow_add-self : goal.overflow_add-self
@@ -68,7 +68,7 @@ overflow_add-self c =
     let e = entered (goal.at.overflow_add-self c).After-enter in
     let counted = (add-counted w _ _ _ _ _ _ e).0 in
     let most = given_row_count-most
-        (given_marks c.enter.new.self.marks) w.shape.frame.originals_from w.shape.configuration.original_count in
+    (given_marks c.enter.new.self.marks) w.shape.frame.originals_from w.shape.configuration.original_count in
     omega (arith, counted, most, c.originals.ensures, w.laid.places.originals, w.laid.places.few)
 
 pub overflow_add-self-2 : goal.overflow_add-self-2
@@ -77,7 +77,7 @@ overflow_add-self-2 c =
     let e = entered (goal.at.overflow_add-self-2 c).After-enter in
     let counted = (add-counted w _ _ _ _ _ _ e).1 in
     let most = given_row_count-most
-        (given_marks c.enter.new.self.marks) w.shape.frame.recovery_from w.shape.configuration.recovery_count in
+    (given_marks c.enter.new.self.marks) w.shape.frame.recovery_from w.shape.configuration.recovery_count in
     omega (arith, counted, most, c.recovery.ensures, w.laid.places.recovery, w.laid.places.few)
 
 pub returns-clause-answer : goal.returns-clause-answer
@@ -114,11 +114,11 @@ invariant_of-self c =
         recovery_counted = omega (arith, counted.1, c.recovery.ensures);
         placed = λ p not_own not_coded.
             c.enter.ensures.other_marks p
-                (outside-apart w c.args.side c.args.index row p e.at e.inside not_own not_coded)
-                ∙ w.given.placed p not_own not_coded;
+            (outside-apart w c.args.side c.args.index row p e.at e.inside not_own not_coded)
+            ∙ w.given.placed p not_own not_coded;
         shards = λ p given.
             shard-entered w.memory.chunks.items c.enter.new.self.chunks.items w.shape.configuration.shard_bytes row
-                (length c.args.shard.now) p c.args.shard.now
+            (length c.args.shard.now) p c.args.shard.now
             c.if-shard-self.false c.enter.ensures.shard c.enter.ensures.here c.enter.ensures.others
             (λ apart. w.given.shards p (sym (c.enter.ensures.other_marks p apart) ∙ given));
       };

@@ -12,9 +12,9 @@ overflow_add-self c =
 pub returns-then-self : goal.returns-then-self
 returns-then-self c = λ rate.
     let given = rows_given rate c.args.self.now in
-        sym (enough-few (decoder_state rate c.args.self.now) _ _ given.0 given.1 c.if-self.true)
+    sym (enough-few (decoder_state rate c.args.self.now) _ _ given.0 given.1 c.if-self.true)
 
 pub returns : goal.returns
 returns c = λ rate.
     let given = rows_given rate c.args.self.now in
-        sym (enough-many (decoder_state rate c.args.self.now) _ _ given.0 given.1 c.if-self.false)
+    sym (enough-many (decoder_state rate c.args.self.now) _ _ given.0 given.1 c.if-self.false)

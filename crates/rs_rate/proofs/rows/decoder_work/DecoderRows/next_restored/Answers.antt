@@ -13,8 +13,8 @@ returns-in-Some c = (
 pub loop-index-preserved : goal.loop-index-preserved
 loop-index-preserved c =
     c.loop-index.invariant
-        ∙ restored_from-none c.args.self.now c.loop-index.index c.restored_original.result c.loop-index-test.true
-        c.in_default.is c.restored_original.ensures
+    ∙ restored_from-none c.args.self.now c.loop-index.index c.restored_original.result c.loop-index-test.true
+    c.in_default.is c.restored_original.ensures
 
 pub returns : goal.returns
 returns c = c.loop-index.invariant ∙ restored_from-past c.args.self.now c.loop-index.index c.loop-index-test.false

@@ -20,7 +20,7 @@ returns-clause-facts c =
     let most = rows_most w in
     let own = w.shape.configuration in
     let some = (supported-in_field
-        (low_or_high own.is_low) own.original_count own.recovery_count w.laid.configured.supported).0 in
+    (low_or_high own.is_low) own.original_count own.recovery_count w.laid.configured.supported).0 in
     record {
       laid = w.laid;
       marked = w.laid_out.marked;

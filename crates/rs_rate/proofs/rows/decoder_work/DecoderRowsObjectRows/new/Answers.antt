@@ -4,8 +4,12 @@ use Rattle.rs_rate.proofs.rows.decoder_work.DecoderRowsObjectRows.new.Goals as g
 pub invariant_of-result : goal.invariant_of-result
 invariant_of-result c =
     let made = c.in_ok-memory.ensures in
-        record { laid = c.decoder_shape-shape.ensures.laid; laid_out = made.laid_out; given =
-        hold_nothing _ _ _ made.empty }
+    record {
+      laid = c.decoder_shape-shape.ensures.laid;
+      laid_out = made.laid_out;
+      given =
+          hold_nothing _ _ _ made.empty;
+    }
 
 pub returns-clause-state : goal.returns-clause-state
 returns-clause-state c = λ rate.

@@ -4,8 +4,12 @@ use Rattle.rs_rate.proofs.rows.decoder_work.DecoderRowsObjectRows.reset.Goals as
 pub invariant_of-self-2 : goal.invariant_of-self-2
 invariant_of-self-2 c =
     let made = c.in_ok-lay_out.ensures in
-        record { laid = c.decoder_shape-shape.ensures.laid; laid_out = made.laid_out; given =
-        hold_nothing _ _ _ made.empty }
+    record {
+      laid = c.decoder_shape-shape.ensures.laid;
+      laid_out = made.laid_out;
+      given =
+          hold_nothing _ _ _ made.empty;
+    }
 
 pub returns-clause-ok : goal.returns-clause-ok
 returns-clause-ok c = λ rate.

@@ -30,8 +30,8 @@ insert_at-requires-clause-room c =
     let w = c.args.self.now in
     let size = ap (λ n. chunk_count (w.originals_given + 1) n) c.if-original_shard-self.false in
     let within = chunk_count-within w.originals_given w.shape.row_count w.shape.configuration.shard_bytes
-        (length w.chunks.items) (omega (arith, c.if-self.false, w.no_more, w.laid.originals))
-        (omega (arith, w.whole)) in
+    (length w.chunks.items) (omega (arith, c.if-self.false, w.no_more, w.laid.originals))
+    (omega (arith, w.whole)) in
     omega (arith, size, within, c.as_mut_slice.ensures.len)
 
 pub invariant_of-self : goal.invariant_of-self
@@ -45,37 +45,37 @@ invariant_of-self c =
       sized = w.sized;
       shards = λ i inside.
           subst (λ (xs : Chunks).
-              IsShard w.shape.configuration.shard_bytes (shard_laid_out xs w.shape.configuration.shard_bytes i))
-              (sym (with_items_is w.chunks c.insert_at.new.chunks
-              (omega (arith, c.insert_at.auto.chunks, c.as_mut_slice.ensures.len))))
+          IsShard w.shape.configuration.shard_bytes (shard_laid_out xs w.shape.configuration.shard_bytes i))
+          (sym (with_items_is w.chunks c.insert_at.new.chunks
+          (omega (arith, c.insert_at.auto.chunks, c.as_mut_slice.ensures.len))))
           (shard-entered w.chunks.items c.insert_at.new.chunks w.shape.configuration.shard_bytes w.originals_given
-              (length c.args.original_shard.now) i c.args.original_shard.now
+          (length c.args.original_shard.now) i c.args.original_shard.now
           c.if-original_shard-self.false c.shard_is_bytes.ensures c.insert_at.ensures.here
-              (subst (λ (xs : Chunks).
-              (j : ℕ) → j ≢ w.originals_given
-              → shard_laid_out c.insert_at.new.chunks (length c.args.original_shard.now) j
-              ≡ shard_laid_out xs (length c.args.original_shard.now) j) c.as_mut_slice.ensures.value
-              c.insert_at.ensures.others) (λ apart. w.shards i (omega arith)));
+          (subst (λ (xs : Chunks).
+          (j : ℕ) → j ≢ w.originals_given
+          → shard_laid_out c.insert_at.new.chunks (length c.args.original_shard.now) j
+          ≡ shard_laid_out xs (length c.args.original_shard.now) j) c.as_mut_slice.ensures.value
+          c.insert_at.ensures.others) (λ apart. w.shards i (omega arith)));
     }
 
 pub returns-clause-left : goal.returns-clause-left
 returns-clause-left c = λ rate.
     let w = c.args.self.now in
     let more = given-more w.chunks.items c.insert_at.new.chunks w.shape.configuration.shard_bytes w.originals_given
-        (length c.args.original_shard.now) c.args.original_shard.now c.if-original_shard-self.false
-        c.insert_at.ensures.here
-        (subst (λ (xs : Chunks).
-        (j : ℕ) → j ≢ w.originals_given
-        → shard_laid_out c.insert_at.new.chunks (length c.args.original_shard.now) j
-        ≡ shard_laid_out xs (length c.args.original_shard.now) j) c.as_mut_slice.ensures.value
-        c.insert_at.ensures.others) in
+    (length c.args.original_shard.now) c.args.original_shard.now c.if-original_shard-self.false
+    c.insert_at.ensures.here
+    (subst (λ (xs : Chunks).
+    (j : ℕ) → j ≢ w.originals_given
+    → shard_laid_out c.insert_at.new.chunks (length c.args.original_shard.now) j
+    ≡ shard_laid_out xs (length c.args.original_shard.now) j) c.as_mut_slice.ensures.value
+    c.insert_at.ensures.others) in
     let few = length-up_to w.originals_given (shard_laid_out w.chunks.items w.shape.configuration.shard_bytes) in
     let F : List Shard → EncoderState = λ given.
-        record { configuration = configuration_at rate w.shape.configuration; given = given } in
+    record { configuration = configuration_at rate w.shape.configuration; given = given } in
     let room : length (up_to w.originals_given (shard_laid_out w.chunks.items w.shape.configuration.shard_bytes)) <
-        w.shape.configuration.original_count = omega (arith, few, c.if-self.false, w.no_more) in
+    w.shape.configuration.original_count = omega (arith, few, c.if-self.false, w.no_more) in
     ap (λ (xs : Chunks). F (up_to (w.originals_given + 1) (shard_laid_out xs w.shape.configuration.shard_bytes)))
-        (with_items_is w.chunks c.insert_at.new.chunks
-        (omega (arith, c.insert_at.auto.chunks, c.as_mut_slice.ensures.len)))
+    (with_items_is w.chunks c.insert_at.new.chunks
+    (omega (arith, c.insert_at.auto.chunks, c.as_mut_slice.ensures.len)))
     ∙ ap F more ∙ sym (with_shard-added
-        (encoder_state rate w) c.args.original_shard.now room c.if-original_shard-self.false)
+    (encoder_state rate w) c.args.original_shard.now room c.if-original_shard-self.false)

@@ -7,5 +7,5 @@ shard_at-requires c =
     let w = c.args.self.now in
     let slice = ap length c.as_slice.ensures.value in
     let within = chunk_count-within c.args.index w.shape.row_count w.shape.configuration.shard_bytes
-        (length w.chunks.items) (omega (arith, w.laid.recovery, c.if-index-self.false)) (omega (arith, w.whole)) in
+    (length w.chunks.items) (omega (arith, w.laid.recovery, c.if-index-self.false)) (omega (arith, w.whole)) in
     omega (arith, slice, within)

@@ -32,8 +32,13 @@ pub returns-else-self-clause-shape : goal.returns-else-self-clause-shape
 returns-else-self-clause-shape c =
     let own = c.args.self in
     let known = rate_configuration-by own false c.requires c.if-self.false in
-    rw (c.power_of_two-else-self.ensures.value, known.1, c.if-self.false, high_frame-is own.original_count
-        own.recovery_count) refl
+    rw (
+      c.power_of_two-else-self.ensures.value,
+      known.1,
+      c.if-self.false,
+      high_frame-is own.original_count
+          own.recovery_count,
+    ) refl
 
 pub returns-else-self-clause-laid : goal.returns-else-self-clause-laid
 returns-else-self-clause-laid c =

@@ -31,7 +31,7 @@ returns-clause-shape c =
     let e = c.next_multiple_of.ensures in
     ap (λ (n : ℕ). let shape : EncoderShape = record { configuration = c.args.self; row_count = n } in shape)
     (next_multiple-is c.if-self.coded c.args.self.block_rows c.next_multiple_of.result known.some e.lower_bound
-        e.upper_bound e.multiple ∙ known.rows)
+    e.upper_bound e.multiple ∙ known.rows)
 
 pub returns-clause-laid : goal.returns-clause-laid
 returns-clause-laid c = subst EncoderCanBeLaid (sym (returns-clause-shape c)) (encoder-laid c.args.self c.requires)

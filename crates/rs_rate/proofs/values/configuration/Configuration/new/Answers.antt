@@ -17,11 +17,17 @@ returns g c =
     let size = c.args.shard_bytes in
     let valid : validation_outcome (configuration rate counts.original_count counts.recovery_count size) ≡ Ok tt =
     rw (counts.supported, ne_eqb size 0 c.if-shard_bytes-eq0.false, ne_eqb (size % 2) 1 c.if-shard_bytes-eq1.false) refl
-        in
+    in
     let same =
     ap (λ (x : Choice). let own : Configuration =
-        record { original_count = counts.original_count; recovery_count = counts.recovery_count; shard_bytes =
-        size; is_low = x.is_low; block_rows = x.block_rows } in own) counts.chosen in (
+    record {
+      original_count = counts.original_count;
+      recovery_count = counts.recovery_count;
+      shard_bytes =
+          size;
+      is_low = x.is_low;
+      block_rows = x.block_rows;
+    } in own) counts.chosen in (
       same,
       subst (IsSetUp rate) (sym same) (record {
         valid = valid;

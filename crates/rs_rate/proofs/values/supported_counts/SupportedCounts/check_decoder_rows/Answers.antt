@@ -28,17 +28,17 @@ asked-of rate k r size c shape set_up own laid =
 pub returns-in_err-chunk_count : goal.returns-in_err-chunk_count
 returns-in_err-chunk_count g c =
     let led = asked-of g.C.RateMarker.rate c.args.self.original_count c.args.self.recovery_count c.args.shard_bytes
-        c.in_ok-new.field-0 c.decoder_shape-shape.result c.in_ok-new.ensures
+    c.in_ok-new.field-0 c.decoder_shape-shape.result c.in_ok-new.ensures
     c.decoder_shape-shape.ensures.own c.decoder_shape-shape.ensures.laid in
     let refused : c.from_residual-in_err-chunk_count.result ≡ Err OutOfMemory = search rules in
     refused ∙ sym (led ∙ ap (λ (b : Bool). cond b (Err OutOfMemory) (Ok tt))
-        (le-leb (2 ^ 64) _ c.in_err-chunk_count.ensures.1))
+    (le-leb (2 ^ 64) _ c.in_err-chunk_count.ensures.1))
 
 pub returns : goal.returns
 returns g c =
     let led = asked-of g.C.RateMarker.rate c.args.self.original_count c.args.self.recovery_count c.args.shard_bytes
-        c.in_ok-new.field-0 c.decoder_shape-shape.result c.in_ok-new.ensures
+    c.in_ok-new.field-0 c.decoder_shape-shape.result c.in_ok-new.ensures
     c.decoder_shape-shape.ensures.own c.decoder_shape-shape.ensures.laid in
     let n = c.in_ok-chunk_count.ensures.0 in
     sym (led ∙ ap (λ (b : Bool). cond b (Err OutOfMemory) (Ok tt))
-        (lt-leb (2 ^ 64) _ (rw n at c.in_ok-chunk_count.ensures.1)))
+    (lt-leb (2 ^ 64) _ (rw n at c.in_ok-chunk_count.ensures.1)))

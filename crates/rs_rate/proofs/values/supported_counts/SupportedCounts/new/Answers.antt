@@ -5,5 +5,5 @@ use Rattle.rs_rate.proofs.values.supported_counts.SupportedCounts.new.Goals as g
 pub invariant_of-result : goal.invariant_of-result
 invariant_of-result g c =
     let known = choice-some g.C.RateMarker.rate c.args.original_count c.args.recovery_count c.in-Some.choice
-        (sym c.in-Some.is ∙ c.choose.ensures) in
+    (sym c.in-Some.is ∙ c.choose.ensures) in
     record { supported = known.0; chosen = known.1 }
