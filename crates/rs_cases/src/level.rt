@@ -63,8 +63,8 @@ pub trait Level {
         Ok(())
     }
 
-    /// Returns whether all other calls that take counts or a configuration return what `start` returned. These are
-    /// `supports`, `validate` and `new` of the objects. Returns false if the level has no such calls.
+    /// Returns whether `supports`, `validate` and `new` of the objects return the same result as `start` did. Returns false
+    /// if the level has none of these calls.
     fn tells(&self, _configuration: Configuration, _answer: Answer) -> bool {
         false
     }

@@ -27,8 +27,8 @@ pub fn read_file(alloc: Global, name: &str, text: &str) -> Result<CaseFile> {
     Ok(file)
 }
 
-// Reads a line: it is empty, a comment, a setting of the file, the first line of a case after its levels, or a further
-// line of a case.
+// Reads a line of a file. The line is empty, a comment, a setting of the file, the first line of a case with the levels
+// of the case, or a further line of a case.
 fn read_line(alloc: Global, file: &mut CaseFile, number: usize, text: &str) -> Result<(), Fault> {
     if text.is_empty() || text.starts_with('#') {
         return Ok(());

@@ -25,8 +25,12 @@ impl Report {
         }
     }
 
-    /// Writes a line for an action whose result is not the expected one: where the action is, how it was run, and its
-    /// outcome.
+    /// Writes a line for an action whose result is not the expected one. The line has the file and the line of the action,
+    /// the level and the way, the action, and its outcome.
+    ///
+    /// # Errors
+    ///
+    /// [`AllocError`] if memory cannot be allocated.
     pub fn differ(
         &mut self,
         level: LevelName,
