@@ -143,7 +143,8 @@ pub struct Volumes {
 /// - a volume cannot be opened,
 /// - a file cannot be read, a volume cannot be written, or the library fails,
 /// - a file has another length or time of change than before,
-/// - the description has too many files or too long a name, or cannot be written.
+/// - the description has too many files or too long a name, or is not sound because a file is given twice,
+/// - the description or a head cannot be written.
 ///
 /// Every step fails if memory cannot be allocated.
 pub fn write_volumes<R: Runtime + AllocGlobal>(
