@@ -63,8 +63,8 @@ pub trait Level {
         Ok(())
     }
 
-    /// Returns whether `supports`, `validate` and `new` of the objects return the same result as `start` did. Returns false
-    /// if the level has none of these calls.
+    /// Returns whether `supports`, `validate` and `new` of the objects return the same result as `start` did. Returns
+    /// false if the level has none of these calls.
     fn tells(&self, _configuration: Configuration, _answer: Answer) -> bool {
         false
     }

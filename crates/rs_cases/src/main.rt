@@ -1,5 +1,5 @@
-//! Runs the cases of data files with each level of use. The words of the command line are the names of the files. A comment
-//! at the top of each file explains the format.
+//! Runs the cases of data files with each level of use. The words of the command line are the names of the files. A
+//! comment at the top of each file explains the format.
 //!
 //! The program prints a line for each file and engine. It also prints a line for each action whose result is not the
 //! expected one, with the file and the line of the action. If there is such an action, the exit status is 1.

@@ -25,8 +25,8 @@ impl Report {
         }
     }
 
-    /// Writes a line for an action whose result is not the expected one. The line has the file and the line of the action,
-    /// the level and the way, the action, and its outcome.
+    /// Writes a line for an action whose result is not the expected one. The line has the file and the line of the
+    /// action, the level and the way, the action, and its outcome.
     ///
     /// # Errors
     ///

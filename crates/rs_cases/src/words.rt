@@ -102,9 +102,9 @@ pub fn given(alloc: Global, words: &[&str]) -> Result<Vec<Given>, Fault> {
     Ok(given)
 }
 
-// Reads one word that gives shards to an object. A word that begins with `o` gives originals to the decoder, a word that
-// begins with `r` gives recovery shards to the decoder, and every other word gives originals to the encoder. The rest of
-// the word is `end`, or names shards.
+// Reads one word that gives shards to an object. A word that begins with `o` gives originals to the decoder, a word
+// that begins with `r` gives recovery shards to the decoder, and every other word gives originals to the encoder. The
+// rest of the word is `end`, or names shards.
 fn given_by(alloc: Global, word: &str) -> Result<Given, Fault> {
     let (role, rest) = role_of(word);
     if rest == "end" {
