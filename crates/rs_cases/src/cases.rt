@@ -27,7 +27,7 @@ impl LevelName {
     }
 }
 
-/// From where a case gets its object.
+/// The way in which a case gets its object.
 #[derive(Clone, Copy)]
 pub enum Way {
     /// The object is made without memory of another one.
@@ -52,8 +52,11 @@ impl Way {
 /// The counts of shards, and the size of a shard in bytes, that an object is made for.
 #[derive(Clone, Copy)]
 pub struct Configuration {
+    /// The number of originals.
     pub original_count: usize,
+    /// The number of recovery shards.
     pub recovery_count: usize,
+    /// The size of a shard in bytes.
     pub shard_bytes: usize,
 }
 
@@ -67,7 +70,9 @@ impl Configuration {
 /// One of the two objects of a level.
 #[derive(Clone, Copy)]
 pub enum Object {
+    /// The encoder.
     Encoder,
+    /// The decoder.
     Decoder,
 }
 
@@ -85,25 +90,27 @@ pub enum Role {
 /// A shard with its index.
 #[derive(Drop, PartialEq, Eq)]
 pub struct Shard {
+    /// The index of the shard.
     pub index: usize,
+    /// The bytes of the shard.
     pub bytes: Vec<u8>,
 }
 
 /// The shards that one word of a line names.
 #[derive(Drop)]
 pub enum Shards {
-    /// The word has the bytes of one shard.
+    /// One shard, whose bytes are in the word.
     Written(Shard),
     /// The shards with the indexes from `start` to `end` - 1, of a message or of its recovery shards.
     Range { start: usize, end: usize },
 }
 
-/// What one word of an action gives to an object.
+/// The shards, or the end of an iterator, that one word of an action gives to an object.
 #[derive(Drop)]
 pub enum Given {
     /// Shards in a role.
     Shards(Role, Shards),
-    /// The iterator for this role ends once at this place, and goes on if `next` is called again.
+    /// The iterator for this role ends once at this place. It continues if `next` is called again.
     End(Role),
 }
 
@@ -114,20 +121,20 @@ pub enum Rule {
     Counted,
     /// The bytes come from the generator ChaCha8, whose 32 seed bytes all have this value.
     Drawn(u8),
-    /// The originals are the words from this one on, each with its low byte first.
+    /// The originals are the words from this word on. Each word has its low byte first.
     Points(usize),
 }
 
 /// An action: calls that are made with a level of use.
 #[derive(Drop)]
 pub enum Action {
-    /// Makes the object.
+    /// Makes the object for a configuration.
     Start(Object, Configuration),
-    /// Resets the object.
+    /// Resets the object to a configuration.
     Reset(Object, Configuration),
     /// Takes both objects apart. The next object that is made gets their memory.
     TakeApart,
-    /// The next object that is made gets a work that holds nothing.
+    /// Passes an empty work to the next object that is made.
     EmptyWorks,
     /// Gives shards.
     Give(Vec<Given>),
@@ -135,9 +142,10 @@ pub enum Action {
     Run(Object),
     /// Gives shards, and encodes or decodes.
     Round(Object, Vec<Given>),
-    /// Gets an object in the way in which the case is run, does the round twice, and then gives the first shards once more.
+    /// Gets an object in the way in which the case is run, does the round twice, and then gives the first shards once
+    /// more.
     Rounds(Object, Configuration, Vec<Given>),
-    /// The results of the case are forgotten from here on, and not dropped.
+    /// Forgets the results of all following actions of the case, and does not drop them.
     Forget,
     /// Makes a message by a rule, and encodes it.
     Make(Configuration, Rule),
@@ -151,15 +159,17 @@ pub enum Action {
     Configure(Configuration),
 }
 
-/// How many originals and how many recovery shards a call has not asked for.
+/// The numbers of shards that a call has not taken from its iterators.
 #[derive(Clone, Copy, PartialEq, Eq)]
 pub struct Left {
+    /// The number of originals.
     pub originals: usize,
+    /// The number of recovery shards.
     pub recoveries: usize,
 }
 
 impl Left {
-    /// The call has asked for all shards.
+    /// The value for a call that has taken all shards.
     pub const NONE: Left = Left {
         originals: 0,
         recoveries: 0,
@@ -178,15 +188,17 @@ pub enum Expected {
 /// An action with its expected result.
 #[derive(Drop)]
 pub struct Step {
-    /// The line of the file, counted from 1.
+    /// The number of the line in the file, from 1.
     pub line: usize,
-    /// The action as the line has it.
+    /// The text of the action in the line.
     pub text: String,
     /// Whether the action is only run after an action that failed with `OutOfMemory`.
     pub is_else: bool,
+    /// The action.
     pub action: Action,
+    /// The expected result of the action.
     pub expected: Expected,
-    /// The shards that the call leaves.
+    /// The numbers of shards that the call must not take from its iterators.
     pub left: Left,
 }
 
@@ -195,13 +207,16 @@ pub struct Step {
 pub enum Line {
     /// The lines after this one are run with this level.
     By(LevelName),
+    /// The line holds this action.
     Step(Step),
 }
 
 /// A case: actions that follow one another, and the levels of use that run them.
 #[derive(Drop)]
 pub struct Case {
+    /// The levels that run the case.
     pub levels: Vec<LevelName>,
+    /// The lines of the case, in order.
     pub lines: Vec<Line>,
 }
 
@@ -219,6 +234,7 @@ pub struct CaseFile {
     pub ways: Vec<Way>,
     /// Whether the cases are run with every engine.
     pub every_engine: bool,
+    /// The cases, in order.
     pub cases: Vec<Case>,
 }
 

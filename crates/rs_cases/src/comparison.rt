@@ -4,10 +4,14 @@ use crate::interpreter::{Failure, Returned, named};
 use crate::kept::Kept;
 use std::alloc::{AllocError, Global};
 
-/// What an action has returned, or why it has failed.
+/// The result of an action: what the action has returned, or why it has failed.
 pub type Outcome = Result<Returned, Failure>;
 
-/// Returns whether the outcome is the expected result, and whether the call has left the expected shards.
+/// Returns whether the outcome is the expected result, and whether the call has left the expected numbers of shards.
+///
+/// # Errors
+///
+/// [`AllocError`] if memory cannot be allocated.
 pub fn is_expected(kept: &Kept, outcome: &Outcome, step: &Step) -> Result<bool, AllocError> {
     let same = match &step.expected {
         Expected::Shards(expected) => are_expected(kept, outcome, expected),
@@ -16,7 +20,7 @@ pub fn is_expected(kept: &Kept, outcome: &Outcome, step: &Step) -> Result<bool, 
     Ok(same && kept.left == step.left)
 }
 
-// Returns whether the outcome is these shards. An action that returns no shards has none.
+// Returns whether the outcome is the expected shards. If the action returns nothing, no shards may be expected.
 fn are_expected(kept: &Kept, outcome: &Outcome, expected: &[Shards]) -> bool {
     match outcome {
         Ok(Returned::Nothing) => expected.is_empty(),
@@ -41,6 +45,10 @@ fn are_same(kept: &Kept, shards: &[Shard], expected: &[Shards]) -> bool {
 }
 
 /// Returns the text of an outcome: a space and I=HEX for each shard, a digest, or the text of the failure.
+///
+/// # Errors
+///
+/// [`AllocError`] if memory cannot be allocated.
 pub fn text_of(kept: &Kept, outcome: &Outcome) -> Result<String, AllocError> {
     match outcome {
         Ok(Returned::Nothing) => Ok(String::new(kept.alloc)),
@@ -50,6 +58,7 @@ pub fn text_of(kept: &Kept, outcome: &Outcome) -> Result<String, AllocError> {
     }
 }
 
+// Returns the text of a failure, as the report shows it.
 fn text_of_failure(alloc: Global, failure: Failure) -> Result<String, AllocError> {
     match failure {
         Failure::Refused(error) => format!(in alloc; "{error}"),
@@ -69,6 +78,7 @@ fn text_of_failure(alloc: Global, failure: Failure) -> Result<String, AllocError
     }
 }
 
+// Returns the text of shards: a space and I=HEX for each shard.
 fn text_of_shards(alloc: Global, shards: &[Shard]) -> Result<String, AllocError> {
     let mut text = String::new(alloc);
     for shard in shards {

@@ -5,15 +5,25 @@ use std::alloc::{AllocError, AllocFailed};
 /// The reason why a line cannot be read.
 #[derive(Clone, Copy)]
 pub enum Fault {
+    /// The action does not exist, or it takes no words.
     Action,
+    /// The number or the form of the words is wrong.
     Arguments,
+    /// The numbers of shards that are left have another form than `N and N left`.
     Expected,
+    /// The level of use does not exist.
     Level,
+    /// An action comes before the first case.
     NoCase,
+    /// A number is missing or too large.
     Number,
+    /// Memory cannot be allocated.
     OutOfMemory,
+    /// The rule of a message does not exist, or its words are wrong.
     Rule,
+    /// The bytes of a shard are not hexadecimal digits.
     Shard,
+    /// The way does not exist.
     Way,
 }
 

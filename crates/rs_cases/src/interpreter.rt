@@ -1,4 +1,4 @@
-//! The interpreter: does an action of a case with a level of use.
+//! The interpreter, which runs one action of a case with a level of use.
 use crate::cases::{Action, Configuration, Given, Object, Role, Rule, Shard, Shards, Way};
 use crate::kept::{Kept, Works};
 use crate::level::{Answer, Level};
@@ -8,9 +8,10 @@ use reed_solomon_simd::rate::{DecoderWork, EncoderWork};
 use std::alloc::AllocError;
 use std::slice;
 
-/// What an action has returned.
+/// The value that an action has returned.
 #[derive(Drop)]
 pub enum Returned {
+    /// The action returns no shards and no digest.
     Nothing,
     /// The shards that are kept as the result of this object.
     Shards(Object),
@@ -18,14 +19,14 @@ pub enum Returned {
     Digest(String),
 }
 
-/// Why an action has failed.
+/// The reason why an action has failed.
 #[derive(Clone, Copy)]
 pub enum Failure {
     /// A call of the library failed.
     Refused(Error),
-    /// The line names shards that are not there.
+    /// The line names shards that are not kept.
     NoShards,
-    /// A result has other shards or another number of shards by index than by its iterator.
+    /// The iterator of a result gives other shards, or another number of shards, than access by index.
     Disagrees,
     /// The second of two equal rounds returned other shards.
     OtherRound,
@@ -51,7 +52,14 @@ impl From<AllocError> for Failure {
     }
 }
 
-/// Does an action with a level of use, and returns what its calls return. Fails with the error of the library.
+/// Runs an action with a level of use, and returns what the calls of the action return.
+///
+/// # Errors
+///
+/// - [`Failure::Refused`] with the error of the library, if a call fails. The action `configure` fails with this error
+///   if all of its calls fail with one error.
+/// - Another [`Failure`] if a call returns something else than the action requires. The doc line of each variant says
+///   when an action fails with this variant.
 pub fn act<C: Level>(level: &mut C, kept: &mut Kept, action: &Action) -> Result<Returned, Failure> {
     match action {
         Action::Start(object, configuration) => {
@@ -83,7 +91,8 @@ pub fn act<C: Level>(level: &mut C, kept: &mut Kept, action: &Action) -> Result<
     Ok(Returned::Nothing)
 }
 
-/// Returns the shards that a word names. A word that names indexes names shards of `kept`.
+/// Returns the shards that a word names. If the word names indexes, these are indexes of `kept`. Returns `None` if
+/// `kept` does not have all of them.
 pub fn named<'a>(shards: &'a Shards, kept: &'a [Shard]) -> Option<&'a [Shard]> {
     match shards {
         Shards::Written(shard) => Some(slice::from_ref(shard)),
@@ -91,7 +100,7 @@ pub fn named<'a>(shards: &'a Shards, kept: &'a [Shard]) -> Option<&'a [Shard]> {
     }
 }
 
-// Gives the shards of an action.
+// Gives all shards of an action to the level.
 fn give_all<C: Level>(level: &mut C, kept: &Kept, given: &[Given]) -> Result<(), Failure> {
     for part in given {
         give(level, kept, part)?;
@@ -99,7 +108,8 @@ fn give_all<C: Level>(level: &mut C, kept: &Kept, given: &[Given]) -> Result<(),
     Ok(())
 }
 
-// Gives the shards of a word. Indexes name originals of the message, or recovery shards of the last result.
+// Gives the shards of a word to the level. The indexes of a word are indexes of originals of the message, or of
+// recovery shards of the last result.
 fn give<C: Level>(level: &mut C, kept: &Kept, given: &Given) -> Result<(), Failure> {
     let (role, shards) = match given {
         Given::Shards(role, shards) => (*role, shards),
@@ -115,6 +125,7 @@ fn give<C: Level>(level: &mut C, kept: &Kept, given: &Given) -> Result<(), Failu
     Ok(give_shards(level, role, shards)?)
 }
 
+// Gives shards in a role to the level, and stops at the first error.
 fn give_shards<C: Level>(level: &mut C, role: Role, shards: &[Shard]) -> Answer {
     for shard in shards {
         level.give(role, shard)?;
@@ -122,7 +133,7 @@ fn give_shards<C: Level>(level: &mut C, role: Role, shards: &[Shard]) -> Answer 
     Ok(())
 }
 
-// Encodes or decodes the given shards.
+// Encodes or decodes the shards that the level has received.
 fn run<C: Level>(level: &mut C, kept: &mut Kept, object: Object) -> Result<Returned, Failure> {
     match object {
         Object::Encoder => level.encode(kept)?,
@@ -162,7 +173,8 @@ fn obtain<C: Level>(
     }
 }
 
-// Does the round twice with an object, and then gives it the first shards once more.
+// Runs the round twice with an object, and then gives the first shards to the object again. Fails if the two rounds
+// return different shards.
 fn two_rounds<C: Level>(
     level: &mut C,
     kept: &mut Kept,

@@ -1,4 +1,4 @@
-//! What a case keeps from action to action.
+//! The values that a case keeps from one action to the next.
 use crate::cases::{Left, Object, Shard, Way};
 use crate::watch::Watch;
 use reed_solomon_simd::rate::{DecoderWork, EncoderWork};
@@ -9,29 +9,37 @@ use std::mem;
 /// The memory of objects that were taken apart.
 #[derive(Default, Drop)]
 pub struct Works {
+    /// The memory of an encoder.
     pub encoder: Option<EncoderWork>,
+    /// The memory of a decoder.
     pub decoder: Option<DecoderWork>,
 }
 
-/// The message and the last results.
+/// The message and the last results of a case.
 #[derive(Drop)]
 pub struct Kept {
+    /// The allocator.
     pub alloc: Global,
+    /// The way in which the case gets its objects.
     pub way: Way,
+    /// The memory of objects that were taken apart.
     pub works: Works,
+    /// The originals of the message.
     pub message: Vec<Shard>,
+    /// The recovery shards that the last encoding returned.
     pub recovery: Vec<Shard>,
+    /// The originals that the last decoding restored.
     pub restored: Vec<Shard>,
-    /// Whether the last result had the same shards by index and by its iterator, and the right number of shards.
+    /// Whether the last result gave the same shards by index and by its iterator, and the right number of shards.
     pub agrees: bool,
     /// Whether results are forgotten, and not dropped.
     pub forgets: bool,
-    /// The shards that the last call has not asked for.
+    /// The numbers of shards that the last call has not taken from its iterators.
     pub left: Left,
 }
 
 impl Kept {
-    /// Makes a value that keeps nothing yet.
+    /// Makes an empty value for a case that is run in the given way.
     pub fn new(alloc: Global, way: Way) -> Kept {
         Kept {
             alloc,
@@ -54,7 +62,7 @@ impl Kept {
         }
     }
 
-    /// Takes the last result of the object.
+    /// Takes the last result of the object out of this value.
     pub fn take_result(&mut self, object: Object) -> Vec<Shard> {
         let empty = Vec::new(self.alloc);
         match object {
@@ -63,7 +71,11 @@ impl Kept {
         }
     }
 
-    /// Keeps the recovery shards of a result. The result is read before the watch ends, and copied after that.
+    /// Keeps the recovery shards of a result. The result is checked before the watch ends, and copied after that.
+    ///
+    /// # Errors
+    ///
+    /// [`Error::OutOfMemory`] if memory cannot be allocated for the copies.
     pub fn keep_recovery(&mut self, lent: EncoderResult<'_>, watch: Watch) -> Result<(), Error> {
         self.agrees = recovery_agrees(&lent);
         drop(watch);
@@ -79,7 +91,11 @@ impl Kept {
         Ok(())
     }
 
-    /// Keeps the restored originals of a result. The result is read before the watch ends, and copied after that.
+    /// Keeps the restored originals of a result. The result is checked before the watch ends, and copied after that.
+    ///
+    /// # Errors
+    ///
+    /// [`Error::OutOfMemory`] if memory cannot be allocated for the copies.
     pub fn keep_restored(&mut self, lent: DecoderResult<'_>, watch: Watch) -> Result<(), Error> {
         self.agrees = restored_agrees(&lent);
         drop(watch);
@@ -95,8 +111,8 @@ impl Kept {
     }
 }
 
-// Returns whether the result of an encoder has the same shards by index and by its iterator, and whether the counts of the
-// iterator are right.
+// Returns whether the result of an encoder has the same shards by index and by its iterator, and whether the counts of
+// the iterator are right.
 fn recovery_agrees(lent: &EncoderResult<'_>) -> bool {
     let mut walk = lent.recovery_iter();
     let all = walk.len();

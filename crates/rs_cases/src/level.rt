@@ -6,35 +6,65 @@ use reed_solomon_simd::Error;
 /// The result of a call of the library: success or its error.
 pub type Answer = Result<(), Error>;
 
-/// An encoder and a decoder of one level of use.
+/// An encoder and a decoder of one level of use. A case can call each method at this level.
 pub trait Level {
-    /// Makes a new object. If the memory of an earlier object was taken, the new object uses it.
+    /// Makes a new object. If `works` holds the memory of an earlier object, the new object uses this memory.
+    ///
+    /// # Errors
+    ///
+    /// The error of the library.
     fn start(&mut self, object: Object, configuration: Configuration, works: &mut Works) -> Answer;
 
-    /// Resets the object.
+    /// Resets the object to a configuration.
+    ///
+    /// # Errors
+    ///
+    /// The error of the library.
     fn reset(&mut self, object: Object, configuration: Configuration) -> Answer;
 
-    /// Gives a shard. If it is the encoder's next original, the index is ignored.
+    /// Gives a shard to the encoder or the decoder. The index of an original for the encoder is ignored.
+    ///
+    /// # Errors
+    ///
+    /// The error of the library, or [`Error::OutOfMemory`] if a copy of the shard cannot be allocated.
     fn give(&mut self, role: Role, shard: &Shard) -> Answer;
 
-    /// Encodes the given originals, and keeps the recovery shards.
+    /// Encodes the originals that were given, and keeps the recovery shards.
+    ///
+    /// # Errors
+    ///
+    /// The error of the library, then [`Error::OutOfMemory`] if the recovery shards cannot be kept.
     fn encode(&mut self, kept: &mut Kept) -> Answer;
 
-    /// Restores the missing originals, and keeps them.
+    /// Restores the missing originals, and keeps the restored originals.
+    ///
+    /// # Errors
+    ///
+    /// The error of the library, then [`Error::OutOfMemory`] if the restored originals cannot be kept.
     fn decode(&mut self, kept: &mut Kept) -> Answer;
 
-    /// Takes both objects apart, if the level can, and makes new objects for one original and one recovery shard.
+    /// Takes both objects apart, and makes new objects for one original and one recovery shard. A level whose objects
+    /// cannot be taken apart does nothing.
+    ///
+    /// # Errors
+    ///
+    /// [`Error::OutOfMemory`] if the new objects cannot be allocated.
     fn take_works(&mut self, _works: &mut Works) -> Answer {
         Ok(())
     }
 
-    /// Makes an iterator that the level passes end once at this place. It continues if `next` is called again.
+    /// Lets the iterator for this role end once at this place. The iterator continues if `next` is called again. A
+    /// level that passes no iterators does nothing.
+    ///
+    /// # Errors
+    ///
+    /// [`Error::OutOfMemory`] if memory cannot be allocated.
     fn end_once(&mut self, _role: Role) -> Answer {
         Ok(())
     }
 
-    /// Returns whether all other calls that take counts or a configuration return what `start` returned. These are `supports`,
-    /// `validate` and `new` of the objects. Returns false if the level has no such calls.
+    /// Returns whether `supports`, `validate` and `new` of the objects return the same result as `start` did. Returns
+    /// false if the level has none of these calls.
     fn tells(&self, _configuration: Configuration, _answer: Answer) -> bool {
         false
     }

@@ -1,4 +1,4 @@
-//! The levels of use, side by side over one engine, and how they run the cases of a file.
+//! The levels of use over one engine. They run the cases of a file.
 use crate::cases::{Action, Case, CaseFile, Left, LevelName, Line, Step, Way};
 use crate::comparison::is_expected;
 use crate::interpreter::{Failure, Returned, act};
@@ -24,7 +24,8 @@ pub const LEVELS: &[LevelName] = &[
 /// The levels of objects of a rate. These objects work with any engine.
 pub const RATES: &[LevelName] = &[LevelName::Low, LevelName::High, LevelName::Default];
 
-/// The levels. The levels of the rates work with any engine, the other ones with an engine that is chosen by name.
+/// All levels of use. The levels of the rates work with any engine. The other levels work with an engine that is chosen
+/// by name.
 #[derive(Drop)]
 pub struct Levels<'t, E: Engine> {
     /// The names of the levels that are run.
@@ -38,7 +39,11 @@ pub struct Levels<'t, E: Engine> {
 }
 
 impl<'t, E: Engine + Copy> Levels<'t, E> {
-    /// Makes all levels, of which those in `names` are run.
+    /// Makes all levels. `names` are the levels that run cases.
+    ///
+    /// # Errors
+    ///
+    /// [`Error::OutOfMemory`] if the objects of a level cannot be allocated.
     pub fn new(
         alloc: Global,
         engine: E,
@@ -56,7 +61,11 @@ impl<'t, E: Engine + Copy> Levels<'t, E> {
         })
     }
 
-    /// Runs the cases of a file in each of its ways, and writes how many of them each level runs.
+    /// Runs the cases of a file in each way of the file. Then writes into the report how many cases each level has run.
+    ///
+    /// # Errors
+    ///
+    /// [`AllocError`] if memory for the report cannot be allocated.
     pub fn run(
         &mut self,
         file: &CaseFile,
@@ -69,7 +78,7 @@ impl<'t, E: Engine + Copy> Levels<'t, E> {
         report.summarize(file, engine, self.names)
     }
 
-    // Runs the cases in one way.
+    // Runs the cases of a file in one way.
     fn run_in(&mut self, way: Way, file: &CaseFile, report: &mut Report) -> Result<(), AllocError> {
         for case in &file.cases {
             self.run_case(way, case, report)?;
@@ -77,7 +86,7 @@ impl<'t, E: Engine + Copy> Levels<'t, E> {
         Ok(())
     }
 
-    // Runs the case with each of its levels that is in `names`.
+    // Runs a case with each of its levels that is in `names`.
     fn run_case(&mut self, way: Way, case: &Case, report: &mut Report) -> Result<(), AllocError> {
         for name in self.names {
             if case.is_by(*name) {
@@ -88,7 +97,8 @@ impl<'t, E: Engine + Copy> Levels<'t, E> {
     }
 
     // Runs the lines of a case with a level. After a line `by LEVEL`, the next actions are run with that level. If an
-    // action fails with `OutOfMemory`, only the actions `else` that follow it are run. Otherwise these are left out.
+    // action unexpectedly fails with `OutOfMemory`, only the `else` actions directly after this action are run.
+    // Otherwise the `else` actions are left out.
     fn run_by(
         &mut self,
         name: LevelName,
@@ -132,7 +142,7 @@ impl<'t, E: Engine + Copy> Levels<'t, E> {
         Ok(matches!(outcome, Err(Failure::Refused(Error::OutOfMemory))))
     }
 
-    // Does an action with a level.
+    // Runs an action with a level.
     fn act_by(
         &mut self,
         level: LevelName,

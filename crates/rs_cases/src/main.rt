@@ -1,8 +1,8 @@
-//! Runs cases of coding from data files with each level of use. The words of the command line are the names of the files. The
-//! format of a file is explained at the top of the file.
+//! Runs the cases of data files with each level of use. The words of the command line are the names of the files. A
+//! comment at the top of each file explains the format.
 //!
-//! Prints a line for each file and engine, and a line for each action whose result is not the expected one, with the action's file
-//! and line. If there is such an action, the exit status is 1.
+//! The program prints a line for each file and engine. It also prints a line for each action whose result is not the
+//! expected one, with the file and the line of the action. If there is such an action, the exit status is 1.
 #![tactic(auto)]
 
 mod cases;
@@ -32,7 +32,7 @@ use std::alloc::Global;
 use std::{env, fs};
 use watch::Watch;
 
-// Runs a file's cases with each engine that can be chosen by name, or only with the first one.
+// Runs a file's cases with each engine that can be chosen by name, or only with the first such engine.
 fn run_over_kinds(
     alloc: Global,
     file: &CaseFile,

@@ -5,7 +5,11 @@ use rand_core::{Rng, SeedableRng};
 use sha2::{Digest, Sha256};
 use std::alloc::{AllocError, Global};
 
-/// Makes `count` originals of `shard_bytes` bytes. Originals that are points have two bytes.
+/// Makes `count` originals of `shard_bytes` bytes by a rule. The originals of [`Rule::Points`] always have two bytes.
+///
+/// # Errors
+///
+/// [`AllocError`] if memory cannot be allocated.
 pub fn message(
     alloc: Global,
     rule: Rule,
@@ -19,6 +23,7 @@ pub fn message(
     }
 }
 
+// Makes the originals of `Rule::Counted`.
 fn counted(alloc: Global, count: usize, shard_bytes: usize) -> Result<Vec<Shard>, AllocError> {
     let mut shards = Vec::new(alloc);
     for index in 0..count {
@@ -38,6 +43,7 @@ fn counted_bytes(alloc: Global, index: usize, shard_bytes: usize) -> Result<Vec<
     Ok(bytes)
 }
 
+// Makes the originals of `Rule::Drawn`.
 fn drawn(
     alloc: Global,
     count: usize,
@@ -54,6 +60,7 @@ fn drawn(
     Ok(shards)
 }
 
+// Makes the originals of `Rule::Points`: the words from `from` on, each with its low byte first.
 fn points(alloc: Global, count: usize, from: usize) -> Result<Vec<Shard>, AllocError> {
     let mut shards = Vec::new(alloc);
     for index in 0..count {
@@ -66,6 +73,10 @@ fn points(alloc: Global, count: usize, from: usize) -> Result<Vec<Shard>, AllocE
 }
 
 /// Returns the SHA-256 digest of all shards, one after another, in hexadecimal digits.
+///
+/// # Errors
+///
+/// [`AllocError`] if memory cannot be allocated.
 pub fn digest_of(alloc: Global, shards: &[Shard]) -> Result<String, AllocError> {
     let mut hasher = Sha256::new();
     for shard in shards {

@@ -1,4 +1,4 @@
-//! The one-call functions. The given shards are passed when the call is made.
+//! The level of the one-call functions. The level collects the shards, and passes them when the call is made.
 ghost use Rattle.std.specs.Prelude.{length};
 ghost use Rattle.std.specs.Iterator.{at_most};
 
@@ -17,14 +17,14 @@ pub struct OneCall<'t> {
     alloc: Global,
     engine: DefaultEngine<'t>,
     configuration: Configuration,
-    // The items of the iterators. `None` is a place at which an iterator ends once.
+    // The items of the three iterators. `None` is a place at which an iterator ends once.
     next: Vec<Option<Shard>>,
     original: Vec<Option<Shard>>,
     recovery: Vec<Option<Shard>>,
 }
 
 impl<'t> OneCall<'t> {
-    /// Makes a level to which no shard is given.
+    /// Makes a level that has not received a shard.
     pub fn new(alloc: Global, engine: DefaultEngine<'t>) -> OneCall<'t> {
         OneCall {
             alloc,
@@ -40,7 +40,7 @@ impl<'t> OneCall<'t> {
         }
     }
 
-    // Returns the shards that are given in this role.
+    // Returns the shards that were given in a role.
     fn given(&mut self, role: Role) -> &mut Vec<Option<Shard>> {
         match role {
             Role::Next => &mut self.next,
@@ -49,7 +49,7 @@ impl<'t> OneCall<'t> {
         }
     }
 
-    // Decodes the shards at these places. Returns the result of the call, and what it has not asked for.
+    // Decodes the given shards. Returns the result of the call, and the numbers of shards that the call has not taken.
     fn decode_places<'a>(
         &self,
         originals: &'a [Option<Shard>],

@@ -1,4 +1,4 @@
-//! The plain objects.
+//! The level of the plain objects.
 use crate::cases::{Configuration, Object, Role, Shard};
 use crate::kept::{Kept, Works};
 use crate::level::{Answer, Level};
@@ -17,7 +17,11 @@ pub struct Plain<'t> {
 }
 
 impl<'t> Plain<'t> {
-    /// Objects of one original and one recovery shard of two bytes.
+    /// Makes objects for one original and one recovery shard of two bytes.
+    ///
+    /// # Errors
+    ///
+    /// [`Error::OutOfMemory`] if memory cannot be allocated.
     pub fn new(alloc: Global, engine: DefaultEngine<'t>) -> Result<Plain<'t>, Error> {
         Ok(Plain {
             alloc,

@@ -1,4 +1,4 @@
-//! The objects of a rate over an engine.
+//! The level of the objects of a rate over an engine.
 use crate::cases::{Configuration, Object, Role, Shard};
 use crate::kept::{Kept, Works};
 use crate::level::{Answer, Level};
@@ -19,7 +19,11 @@ pub struct Rated<E: Engine, R: Rate<E>> {
 }
 
 impl<E: Engine + Copy, R: Rate<E>> Rated<E, R> {
-    /// Objects of one original and one recovery shard of two bytes.
+    /// Makes objects for one original and one recovery shard of two bytes.
+    ///
+    /// # Errors
+    ///
+    /// [`Error::OutOfMemory`] if memory cannot be allocated.
     pub fn new(alloc: Global, engine: E) -> Result<Rated<E, R>, Error> {
         Ok(Rated {
             alloc,

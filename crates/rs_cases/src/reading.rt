@@ -1,11 +1,16 @@
-//! Data files, read into cases. The heads of the files describe their format.
+//! Reads data files into cases. A comment at the top of each data file explains the format.
 use crate::cases::{Action, Case, CaseFile, Expected, Left, LevelName, Line, Object, Step, Way};
 use crate::fault::Fault;
 use crate::words::{configuration, expected_shards, given, number, pairs, rule};
 use anyhow::{Result, bail};
 use std::alloc::Global;
 
-/// Reads the cases of a file. If a line cannot be read, it fails with an error that names the file and the line.
+/// Reads the cases of a file. `name` is the name of the file, and `text` is its contents.
+///
+/// # Errors
+///
+/// Fails at the first line that cannot be read. The message has the name of the file, the number of the line, and the
+/// message of the [`Fault`]. Also fails if memory cannot be allocated.
 pub fn read_file(alloc: Global, name: &str, text: &str) -> Result<CaseFile> {
     let mut file = CaseFile {
         ways: vec![in alloc; Way::New]?,
@@ -22,8 +27,8 @@ pub fn read_file(alloc: Global, name: &str, text: &str) -> Result<CaseFile> {
     Ok(file)
 }
 
-// Reads a line: it is empty, a comment, a setting of the file, the first line of a case after its levels, or a further line of a
-// case.
+// Reads a line of a file. The line is empty, a comment, a setting of the file, the first line of a case with the levels
+// of the case, or a further line of a case.
 fn read_line(alloc: Global, file: &mut CaseFile, number: usize, text: &str) -> Result<(), Fault> {
     if text.is_empty() || text.starts_with('#') {
         return Ok(());
@@ -56,6 +61,7 @@ fn read_ways(alloc: Global, text: &str) -> Result<Vec<Way>, Fault> {
     Ok(ways)
 }
 
+// Returns the way with a name.
 fn way_of(word: &str) -> Result<Way, Fault> {
     match word {
         "new" => Ok(Way::New),
@@ -84,6 +90,7 @@ fn read_levels(alloc: Global, text: &str) -> Result<Vec<LevelName>, Fault> {
     Ok(levels)
 }
 
+// Returns the level of use with a name.
 fn level_of(word: &str) -> Result<LevelName, Fault> {
     match word {
         "call" => Ok(LevelName::Call),
@@ -179,7 +186,8 @@ fn read_make(words: &[&str]) -> Result<Action, Fault> {
     Ok(Action::Make(configuration(numbers)?, rule(rest)?))
 }
 
-// Splits `, N and N left` off the end of an expected result, and reads the two numbers. Without such an end, nothing is left.
+// Splits `, N and N left` off the end of an expected result, and reads the two numbers. Without such an end, nothing is
+// left.
 fn read_left(text: &str) -> Result<(&str, Left), Fault> {
     let Some(rest) = text.strip_suffix(" left") else {
         return Ok((text, Left::NONE));

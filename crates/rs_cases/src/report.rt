@@ -7,9 +7,11 @@ use std::alloc::{AllocError, Global};
 /// The results of the cases of one file.
 #[derive(Drop)]
 pub struct Report {
+    /// The name of the file.
     file: String,
+    /// The lines of the report.
     pub text: String,
-    /// How many actions have another result than the expected one.
+    /// The number of actions with another result than the expected one.
     pub differing: u64,
 }
 
@@ -23,7 +25,12 @@ impl Report {
         }
     }
 
-    /// Writes a line for an action whose result is not the expected one: where the action is, how it was run, and its outcome.
+    /// Writes a line for an action whose result is not the expected one. The line has the file and the line of the
+    /// action, the level and the way, the action, and its outcome.
+    ///
+    /// # Errors
+    ///
+    /// [`AllocError`] if memory cannot be allocated.
     pub fn differ(
         &mut self,
         level: LevelName,
@@ -49,7 +56,11 @@ impl Report {
         self.text.push_str("\n")
     }
 
-    /// Writes the line of an engine: how many cases each of these levels has run, of how many cases, and in which ways.
+    /// Writes the line of an engine: how many cases each level has run, how many cases the file has, and the ways.
+    ///
+    /// # Errors
+    ///
+    /// [`AllocError`] if memory cannot be allocated.
     pub fn summarize(
         &mut self,
         file: &CaseFile,
@@ -64,7 +75,7 @@ impl Report {
         self.write_ways(&file.ways)
     }
 
-    // Writes the words that name these ways, and ends the line.
+    // Writes the names of the ways, and ends the line.
     fn write_ways(&mut self, ways: &[Way]) -> Result<(), AllocError> {
         for way in ways {
             write!(self.text, " {}", way.word())?;

@@ -1,16 +1,18 @@
-//! A watch around each call of the library that may allocate, so that the allocations of the call can be distinguished from
-//! other allocations.
+//! A watch around each call of the library that may allocate, so that the allocations of the call can be distinguished
+//! from other allocations.
 //!
-//! A watch begins and ends with an allocation of a size that no other allocation has. The library that `.ci/memory` loads before
-//! the program knows both sizes, and lets the allocations between them fail and lists them. If that library is not loaded, the two
-//! allocations have no effect.
+//! A watch begins and ends with an allocation of a size that no other allocation has. The library that `.ci/memory`
+//! loads before the program knows both sizes, and lets the allocations between them fail and lists them. If that
+//! library is not loaded, the two allocations have no effect.
 use std::alloc::Global;
 
+// The number of bytes of the allocation with which a watch begins.
 const BEGIN: usize = 10007;
 
+// The number of bytes of the allocation with which a watch ends.
 const END: usize = 10009;
 
-/// The calls that are made while this value lives are watched.
+/// A watch, which lasts as long as this value. All calls that are made during this time are watched.
 pub struct Watch(Global);
 
 impl Watch {

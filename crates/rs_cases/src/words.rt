@@ -4,6 +4,10 @@ use crate::fault::Fault;
 use std::alloc::Global;
 
 /// Reads a number.
+///
+/// # Errors
+///
+/// [`Fault::Number`] if the word is not a number, or the number is too large.
 pub fn number(word: &str) -> Result<usize, Fault> {
     let Ok(number) = word.parse::<usize>() else {
         return Err(Fault::Number);
@@ -11,7 +15,12 @@ pub fn number(word: &str) -> Result<usize, Fault> {
     Ok(number)
 }
 
-/// Reads two counts and a size from three words.
+/// Reads a configuration from three words: two counts and a size in bytes.
+///
+/// # Errors
+///
+/// - [`Fault::Arguments`] if there are not three words.
+/// - [`Fault::Number`] if a word is not a number.
 pub fn configuration(words: &[&str]) -> Result<Configuration, Fault> {
     let [originals, recoveries, size] = words else {
         return Err(Fault::Arguments);
@@ -23,7 +32,12 @@ pub fn configuration(words: &[&str]) -> Result<Configuration, Fault> {
     })
 }
 
-/// Reads the rule of a message: its name, and the seed or the first word.
+/// Reads the rule of a message: its name, and then the seed or the first word.
+///
+/// # Errors
+///
+/// - [`Fault::Rule`] if there is no rule with this name and this number of words.
+/// - [`Fault::Number`] if the seed or the first word is not a number, or if the seed is above 255.
 pub fn rule(words: &[&str]) -> Result<Rule, Fault> {
     match words {
         ["counted"] => Ok(Rule::Counted),
@@ -42,6 +56,14 @@ fn byte(word: &str) -> Result<u8, Fault> {
 }
 
 /// Reads pairs of counts K+R, as configurations for shards of 64 bytes.
+///
+/// # Errors
+///
+/// For each word in turn, in this order:
+///
+/// - [`Fault::Arguments`] if the word has no `+`.
+/// - [`Fault::Number`] if a count is not a number.
+/// - [`Fault::OutOfMemory`] if memory cannot be allocated.
 pub fn pairs(alloc: Global, words: &[&str]) -> Result<Vec<Configuration>, Fault> {
     let mut pairs = Vec::new(alloc);
     for word in words {
@@ -62,7 +84,16 @@ fn pair(word: &str) -> Result<Configuration, Fault> {
     })
 }
 
-/// Reads what each word gives to an object.
+/// Reads the shards or the end of an iterator that each word gives to an object.
+///
+/// # Errors
+///
+/// For each word in turn, the first of these errors:
+///
+/// - [`Fault::Arguments`] if a range has no `..`.
+/// - [`Fault::Number`] if an index or a number of repetitions is not a number.
+/// - [`Fault::Shard`] if the bytes are not hexadecimal digits.
+/// - [`Fault::OutOfMemory`] if memory cannot be allocated.
 pub fn given(alloc: Global, words: &[&str]) -> Result<Vec<Given>, Fault> {
     let mut given = Vec::new(alloc);
     for word in words {
@@ -71,8 +102,9 @@ pub fn given(alloc: Global, words: &[&str]) -> Result<Vec<Given>, Fault> {
     Ok(given)
 }
 
-// Reads what a word gives. A word that begins with `o` or `r` gives originals or recovery shards to the decoder, and every other
-// word gives originals to the encoder. The rest of the word is `end`, or names shards.
+// Reads one word that gives shards to an object. A word that begins with `o` gives originals to the decoder, a word
+// that begins with `r` gives recovery shards to the decoder, and every other word gives originals to the encoder. The
+// rest of the word is `end`, or names shards.
 fn given_by(alloc: Global, word: &str) -> Result<Given, Fault> {
     let (role, rest) = role_of(word);
     if rest == "end" {
@@ -92,7 +124,16 @@ fn role_of(word: &str) -> (Role, &str) {
     (Role::Next, word)
 }
 
-/// Reads the shards of an expected result. A shard without an index has the index of its word.
+/// Reads the shards of an expected result. A shard without an index has the number of its word, from 0, as its index.
+///
+/// # Errors
+///
+/// For each word in turn, the first of these errors:
+///
+/// - [`Fault::Arguments`] if a range has no `..`.
+/// - [`Fault::Number`] if an index or a number of repetitions is not a number.
+/// - [`Fault::Shard`] if the bytes are not hexadecimal digits.
+/// - [`Fault::OutOfMemory`] if memory cannot be allocated.
 pub fn expected_shards(alloc: Global, text: &str) -> Result<Vec<Shards>, Fault> {
     let mut expected = Vec::new(alloc);
     for (place, word) in text.split_whitespace().enumerate() {
@@ -101,7 +142,7 @@ pub fn expected_shards(alloc: Global, text: &str) -> Result<Vec<Shards>, Fault> 
     Ok(expected)
 }
 
-// Reads the shards of a word: @A..B, or I=SHARD, or SHARD, which is a shard with the index `index`.
+// Reads the shards of a word: `@A..B`, `I=SHARD` or `SHARD`. A shard without an index gets the index `index`.
 fn shards(alloc: Global, word: &str, index: usize) -> Result<Shards, Fault> {
     if let Some(range) = word.strip_prefix('@') {
         return range_of(range);

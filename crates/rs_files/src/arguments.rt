@@ -1,7 +1,9 @@
 //! Reads the values of options.
 use crate::settings::Recovery;
 
-/// Reads a number of bytes: digits, and then perhaps `K`, `M` or `G` for 2^10, 2^20 or 2^30 bytes.
+/// Reads a number of bytes: digits, and optionally `K`, `M` or `G` for 2^10, 2^20 or 2^30 bytes.
+///
+/// Returns `None` if the text has another form, or if the number is 2^64 or larger.
 pub fn bytes_of(text: &str) -> Option<u64> {
     let (digits, unit) = if let Some(front) = text.strip_suffix('K') {
         (front, 1024)
@@ -18,7 +20,9 @@ pub fn bytes_of(text: &str) -> Option<u64> {
     }
 }
 
-/// Reads how many recovery blocks are wanted: `5%` or `300`.
+/// Reads the number of recovery blocks that the user wants, as `5%` or `300`.
+///
+/// Returns `None` if the text has another form, if a percentage is above 10000, or if a number is 2^32 or larger.
 pub fn recovery_of(text: &str) -> Option<Recovery> {
     if let Some(front) = text.strip_suffix('%') {
         return match front.parse::<u32>() {

@@ -20,13 +20,13 @@ use std::fs;
 use std::os::unix::fs::MetadataExt;
 use std::rt::Runtime;
 
-/// The numbers of a description without its files and digests.
+/// The number of bytes of a description before its first file.
 const OPENING_BYTES: u64 = 28;
 
-/// The numbers of a file in a description, without its name.
+/// The number of bytes of a file in a description, without its name.
 const ENTRY_BYTES: u64 = 22;
 
-/// The number of bytes of the description of a set.
+/// Returns the number of bytes of the description of a set. A number that is too large becomes 2^64 - 1.
 pub fn description_bytes(files: &[FileEntry], cut: Cut) -> u64 {
     let mut bytes = OPENING_BYTES;
     for file in files {
@@ -38,7 +38,7 @@ pub fn description_bytes(files: &[FileEntry], cut: Cut) -> u64 {
     bytes.saturating_add(32 * blocks)
 }
 
-/// The number of bytes of a volume.
+/// Returns the number of bytes of a volume. A number that is too large becomes 2^64 - 1.
 pub fn volume_bytes(description_bytes: u64, records: u64, block_bytes: u64) -> u64 {
     let record = block_bytes.saturating_add(RECORD_HEAD_BYTES);
     records
@@ -47,7 +47,7 @@ pub fn volume_bytes(description_bytes: u64, records: u64, block_bytes: u64) -> u
         .saturating_add(128)
 }
 
-// The path of the volume that a request writes.
+// Returns the path of the volume that `create` writes: the path after `-o`, or the only FILE with `.rsv` at its end.
 fn output_of(alloc: Global, request: &Request) -> Result<String> {
     if let Some(path) = &request.output {
         return Ok(path.clone()?);
@@ -65,7 +65,11 @@ fn output_of(alloc: Global, request: &Request) -> Result<String> {
     }
 }
 
-// Fails if a volume exists and may not be overwritten.
+/// Checks that a file can be written without `--force`, or that `force` is set.
+///
+/// # Errors
+///
+/// Fails if something exists at the path and `force` is not set.
 pub fn check_free<R: Runtime>(rt: &R, path: &str, force: bool) -> Result<()> {
     ensure!(
         force || !exists(rt, path),
@@ -74,7 +78,11 @@ pub fn check_free<R: Runtime>(rt: &R, path: &str, force: bool) -> Result<()> {
     Ok(())
 }
 
-/// The paths of the files of a set.
+/// Returns the path of each file of a set below `folder`.
+///
+/// # Errors
+///
+/// Fails if memory cannot be allocated.
 pub fn paths_of(alloc: Global, folder: &str, files: &[FileEntry]) -> Result<Vec<String>> {
     let mut paths = Vec::new(alloc);
     for file in files {
@@ -83,7 +91,11 @@ pub fn paths_of(alloc: Global, folder: &str, files: &[FileEntry]) -> Result<Vec<
     Ok(paths)
 }
 
-/// Where the original blocks of a set lie in its files.
+/// Returns where each original block of a set lies in its files. The list is empty if the block size is 0.
+///
+/// # Errors
+///
+/// Fails if memory cannot be allocated.
 pub fn origins_of(alloc: Global, description: &Description) -> Result<Vec<Option<Origin>>> {
     let mut origins = Vec::new(alloc);
     if description.block_bytes == 0 {
@@ -99,7 +111,7 @@ pub fn origins_of(alloc: Global, description: &Description) -> Result<Vec<Option
     Ok(origins)
 }
 
-// Fails if a file has changed since it was found.
+// Fails if the length of a file, or the time of its last change in seconds, is not the one in its description.
 fn check_unchanged<R: Runtime>(rt: &R, paths: &[String], files: &[FileEntry]) -> Result<()> {
     for (path, file) in paths.iter().zip(files) {
         let metadata = fs::metadata(rt, path.as_str())?;
@@ -111,15 +123,30 @@ fn check_unchanged<R: Runtime>(rt: &R, paths: &[String], files: &[FileEntry]) ->
     Ok(())
 }
 
-/// Volumes that are to be written: their parts, the first block that goes into them, and how many records each has.
+/// The volumes that a command writes.
 #[derive(Drop)]
 pub struct Volumes {
+    /// The file of each volume, under the name `NAME.part`.
     pub parts: Vec<Part>,
+    /// The index of the first block that is written into the volumes.
     pub first: usize,
+    /// The number of block records of each volume.
     pub counts: Vec<u64>,
 }
 
-/// Codes the blocks of files, and writes volumes.
+/// Makes the recovery blocks of files, and writes the volumes. The volumes do not get their final names.
+///
+/// # Errors
+///
+/// In this order, fails if:
+///
+/// - a volume cannot be opened,
+/// - a file cannot be read, a volume cannot be written, or the library fails,
+/// - a file has another length or time of change than before,
+/// - the description has too many files or too long a name, or is not sound because a file is given twice,
+/// - the description or a head cannot be written.
+///
+/// Every step fails if memory cannot be allocated.
 pub fn write_volumes<R: Runtime + AllocGlobal>(
     rt: &R,
     request: &Request,
@@ -165,7 +192,7 @@ pub fn write_volumes<R: Runtime + AllocGlobal>(
     describe(alloc, &description, length, volumes, &mut sink)
 }
 
-// Writes the description into the volumes.
+// Writes the description and the heads into the volumes.
 fn describe<R: Runtime>(
     alloc: Global,
     description: &Description,
@@ -181,7 +208,8 @@ fn describe<R: Runtime>(
     sink.describe(bytes.as_slice(), volumes.counts.as_slice())
 }
 
-// The bytes of a description. They are read again, so that no volume is written that cannot be read.
+// Returns the bytes of a description. Fails if `read_description` does not accept these bytes, so that no volume
+// with an unsound description is written.
 fn written(alloc: Global, description: &Description) -> Result<Vec<u8>> {
     if !fits(description) {
         bail!("there are too many files, or a name is too long");
@@ -191,7 +219,19 @@ fn written(alloc: Global, description: &Description) -> Result<Vec<u8>> {
     Ok(bytes)
 }
 
-/// Makes the recovery blocks of files, and writes them into one volume.
+/// Runs `create`: makes the recovery blocks of files, and writes them into one volume. Returns the exit status.
+///
+/// # Errors
+///
+/// In this order, fails if:
+///
+/// - the name of the volume is not known,
+/// - the volume exists and `--force` is not given,
+/// - the files cannot be found, or are not in one folder,
+/// - the files cannot be cut into blocks as the request asks,
+/// - the volume cannot be begun, written or finished, or a file cannot be read or has changed.
+///
+/// Every step fails if memory cannot be allocated.
 pub fn create<R: Runtime + AllocGlobal>(rt: &R, request: &Request) -> Result<u8> {
     let alloc = rt.alloc();
     let output = output_of(alloc, request)?;

@@ -1,4 +1,4 @@
-//! Sizes that a set is cut into.
+//! Chooses the block size of a set, its numbers of blocks, and the size of the pieces that are coded at a time.
 ghost use Rattle.std.specs.Prelude.{◌≡◌, ◌<◌, ◌≤◌, ◌^◌, ◌%◌, IfSome};
 
 use crate::settings::Recovery;
@@ -7,18 +7,22 @@ use rs_volumes::checking::{allows_block, allows_counts, block_count};
 use rs_volumes::creating::Shape;
 use rs_volumes::description::FileEntry;
 
-/// The number of blocks that files are cut into by default, at most.
+/// The largest number of blocks by default, if at most 1000 files are not empty.
 const BLOCKS: u64 = 2000;
 
-/// The blocks of a set.
+/// The block size of a set and its numbers of blocks.
 #[derive(Clone, Copy)]
 pub struct Cut {
+    /// The size of a block in bytes.
     pub block_bytes: u64,
+    /// The number of original blocks, k.
     pub original_count: u32,
+    /// The number of recovery blocks, r.
     pub recovery_count: u32,
 }
 
-// The number of blocks of all files, or `None` if there are more than 65536.
+// Returns the number of blocks of all files. Returns `None` if this number is above 65536, or if a file has 2^62 bytes
+// or more.
 fn blocks_of(files: &[FileEntry], block_bytes: u64) -> Option<u64>
     requires some { 0 < block_bytes }
     requires few { block_bytes < 2 ^ 63 }
@@ -38,7 +42,8 @@ fn blocks_of(files: &[FileEntry], block_bytes: u64) -> Option<u64>
     if total > 65536 { None } else { Some(total) }
 }
 
-// How many blocks the files may have by default: 2000, or more if there are many files.
+// Returns the largest number of blocks by default. It is 2000 if at most 1000 files are not empty. Otherwise it is
+// twice the number of files that are not empty, but at most 65536.
 fn blocks_wanted(files: &[FileEntry]) -> u64 {
     let filled = files.iter().filter(|file| file.size > 0).count() as u64;
     if filled <= BLOCKS / 2 {
@@ -48,7 +53,14 @@ fn blocks_wanted(files: &[FileEntry]) -> u64 {
     }
 }
 
-/// The smallest multiple of 4096 bytes for which the files have at most 2000 blocks, or a few more if there are many files.
+/// Returns the default block size: the smallest multiple of 4096 bytes for which the files do not have too many blocks.
+///
+/// The largest number of blocks is 2000 if at most 1000 files are not empty. Otherwise it is twice the number of files
+/// that are not empty, but at most 65536.
+///
+/// # Errors
+///
+/// Fails if the files have too many blocks even with blocks of 2^40 bytes, or if a file has 2^62 bytes or more.
 pub fn default_block(files: &[FileEntry]) -> Result<u64> {
     let wanted = blocks_wanted(files);
     let mut low = 0u64;
@@ -73,7 +85,7 @@ pub fn default_block(files: &[FileEntry]) -> Result<u64> {
     Ok(high.saturating_mul(4096))
 }
 
-// Whether the files have at most this many blocks of `pages` * 4096 bytes.
+// Returns whether the files have at most `wanted` blocks, if a block has `pages` * 4096 bytes.
 fn has_at_most(files: &[FileEntry], pages: u64, wanted: u64) -> bool {
     if pages == 0 || pages > 1 << 28 {
         return false;
@@ -84,7 +96,16 @@ fn has_at_most(files: &[FileEntry], pages: u64, wanted: u64) -> bool {
     }
 }
 
-/// Cuts the files into blocks.
+/// Chooses the block size and the numbers of blocks. If `block` is `None`, the function uses the default block size.
+///
+/// # Errors
+///
+/// In this order, fails if:
+///
+/// - no default block size is possible,
+/// - the block size is odd, 0, or above 2^40,
+/// - the files have more than 65536 blocks, or a file has 2^62 bytes or more,
+/// - the code does not support the numbers of blocks.
 pub fn cut_files(files: &[FileEntry], block: Option<u64>, recovery: Recovery) -> Result<Cut> {
     let block_bytes = match block {
         Some(bytes) => bytes,
@@ -112,7 +133,8 @@ pub fn cut_files(files: &[FileEntry], block: Option<u64>, recovery: Recovery) ->
     })
 }
 
-// The number of recovery blocks.
+// Returns the number of recovery blocks that a request asks for. A percentage gives at least 1 and at most 65536
+// blocks. A set without blocks has no recovery blocks.
 fn recovery_count(blocks: u64, recovery: Recovery) -> u32
     requires { blocks < 2 ^ 32 }
 {
@@ -128,7 +150,9 @@ fn recovery_count(blocks: u64, recovery: Recovery) -> u32
     }
 }
 
-/// How many bytes of each block are coded at a time, so that the memory suffices: a multiple of 64.
+/// Returns how many bytes of each block are coded at a time, so that the program needs about `memory` bytes.
+///
+/// The result is a multiple of 64, and at least 64 even if more memory than `memory` is needed.
 pub fn piece_bytes(shape: &Shape, memory: u64) -> usize
     ensures some { 0 < result }
     ensures chunks { result % 64 ≡ 0 }

@@ -7,7 +7,7 @@ use serde_json::{Value, json};
 use std::alloc::{AllocError, Global};
 use std::rt::Runtime;
 
-// The files of a volume as JSON.
+// Returns the names and sizes of the files of a volume as JSON.
 fn files_json(
     alloc: Global,
     volume: &Volume,
@@ -53,7 +53,12 @@ fn tell<R: Runtime>(rt: &R, path: &str, volume: &Volume) -> Result<()> {
     Ok(())
 }
 
-/// Shows what volumes describe.
+/// Runs `info`: prints what each volume describes. Returns the exit status.
+///
+/// # Errors
+///
+/// Fails if there is no path. Then, for each volume, fails if the volume cannot be read or the result cannot be
+/// printed.
 pub fn info<R: Runtime + AllocGlobal>(rt: &R, request: &Request) -> Result<u8> {
     if request.paths.is_empty() {
         bail!("no volume is given");

@@ -9,7 +9,7 @@ use anyhow::{Result, bail};
 use std::alloc::Global;
 use std::rt::Runtime;
 
-// The paths of all files, below a folder. None of them may exist.
+// Returns the path of each file of a set below a folder. Fails if a file exists and `force` is not set.
 fn targets<R: Runtime>(
     rt: &R,
     alloc: Global,
@@ -26,7 +26,19 @@ fn targets<R: Runtime>(
     Ok(paths)
 }
 
-/// Restores all files of a set from volumes.
+/// Runs `join`: restores all files of a set from volumes. Returns the exit status.
+///
+/// # Errors
+///
+/// In this order, fails if:
+///
+/// - `--to` is not given,
+/// - no volume can be read, or volumes belong to different sets,
+/// - a file exists and `--force` is not given,
+/// - a file cannot be begun, or its blocks cannot be read, restored or written,
+/// - a file cannot get its permission bits, its time or its final name.
+///
+/// Every step fails if memory cannot be allocated.
 pub fn join<R: Runtime + AllocGlobal>(rt: &R, request: &Request) -> Result<u8> {
     let alloc = rt.alloc();
     let Some(folder) = &request.to else {

@@ -10,7 +10,7 @@ use std::alloc::Global;
 use std::fs;
 use std::rt::Runtime;
 
-// The paths of the files that are to be restored, below a folder.
+// Returns the path below a folder of each file that must be restored, and `None` for each whole file.
 fn targets(alloc: Global, found: &Scan, folder: &str) -> Result<Vec<Option<String>>> {
     let mut paths = Vec::new(alloc);
     for (file, state) in found
@@ -30,7 +30,7 @@ fn targets(alloc: Global, found: &Scan, folder: &str) -> Result<Vec<Option<Strin
     Ok(paths)
 }
 
-// Moves a damaged file out of the way.
+// Renames a damaged file to `NAME.damaged`, if the file exists. Fails if `NAME.damaged` exists and `force` is not set.
 fn keep_damaged<R: Runtime>(rt: &R, alloc: Global, path: &str, force: bool) -> Result<()> {
     if !exists(rt, path) {
         return Ok(());
@@ -45,7 +45,8 @@ fn keep_damaged<R: Runtime>(rt: &R, alloc: Global, path: &str, force: bool) -> R
     Ok(())
 }
 
-// Gives the restored files their final names.
+// Gives the restored files their permission bits, times and final names. Returns the number of restored files. If
+// `in_place` is set, a damaged file is kept as `NAME.damaged`.
 fn finish<R: Runtime>(
     rt: &R,
     alloc: Global,
@@ -68,7 +69,19 @@ fn finish<R: Runtime>(
     Ok(count)
 }
 
-/// Restores the damaged and missing files of a set.
+/// Runs `repair`: restores the damaged and missing files of a set. Returns the exit status.
+///
+/// # Errors
+///
+/// In this order, fails if:
+///
+/// - no volume is named,
+/// - no volume can be read, or volumes belong to different sets,
+/// - a file cannot be begun, or its blocks cannot be read, restored or written,
+/// - for each restored file, its permission bits or its time cannot be set, the damaged file cannot be kept, or the
+///   restored file cannot get its final name.
+///
+/// Every step fails if memory cannot be allocated.
 pub fn repair<R: Runtime + AllocGlobal>(rt: &R, request: &Request) -> Result<u8> {
     let alloc = rt.alloc();
     let folder = folder_of(request)?;

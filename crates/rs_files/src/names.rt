@@ -1,7 +1,7 @@
-//! Names of files, and paths made of them.
+//! Names of files, and the paths that are made from names.
 use std::alloc::{AllocError, Global};
 
-/// The text of a name. A name that is not UTF-8 is shown as a question mark; a description has no such name.
+/// Returns the text of a name. A name that is not UTF-8 becomes a question mark. A sound description has no such name.
 pub fn text_of(name: &[u8]) -> &str {
     match std::str::from_utf8(name) {
         Ok(text) => text,
@@ -9,7 +9,11 @@ pub fn text_of(name: &[u8]) -> &str {
     }
 }
 
-/// The path of a name in a folder.
+/// Returns the path of a name in a folder. If `folder` is empty, the path is the name.
+///
+/// # Errors
+///
+/// [`AllocError`] if memory cannot be allocated.
 pub fn path_in(alloc: Global, folder: &str, name: &str) -> Result<String, AllocError> {
     if folder.is_empty() {
         return String::from_str(alloc, name);
@@ -20,7 +24,8 @@ pub fn path_in(alloc: Global, folder: &str, name: &str) -> Result<String, AllocE
     format!(in alloc; "{folder}/{name}")
 }
 
-/// The folder of a path: the text before the last slash. It is empty if the path has no slash, and `/` if the path has only the first one.
+/// Returns the folder of a path: the text before the last slash. The folder is empty if the path has no slash. It is
+/// `/` if the only slash is at the beginning.
 pub fn parent_of(path: &str) -> &str {
     match path.rsplit_once('/') {
         Some(("", _)) => "/",
@@ -29,7 +34,7 @@ pub fn parent_of(path: &str) -> &str {
     }
 }
 
-/// The last part of a path.
+/// Returns the last part of a path: the text after the last slash.
 pub fn last_of(path: &str) -> &str {
     match path.rsplit_once('/') {
         Some((_, name)) => name,
@@ -37,13 +42,13 @@ pub fn last_of(path: &str) -> &str {
     }
 }
 
-/// A path without slashes at its end. The path `/` stays.
+/// Returns a path without the slashes at its end. A path of slashes alone is not changed.
 pub fn trimmed(path: &str) -> &str {
     let front = path.trim_end_matches('/');
     if front.is_empty() { path } else { front }
 }
 
-/// The folder to open for a path that may be empty.
+/// Returns the folder to open: `.` if `folder` is empty, and `folder` otherwise.
 pub fn folder_to_open(folder: &str) -> &str {
     if folder.is_empty() { "." } else { folder }
 }

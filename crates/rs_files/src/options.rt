@@ -1,4 +1,4 @@
-//! The command line.
+//! Reads the command line.
 use crate::arguments::{bytes_of, recovery_of};
 use crate::settings::{Action, Recovery, Request, STATUS_USAGE, STATUS_WHOLE};
 use anyhow::Result;
@@ -10,11 +10,13 @@ use std::rt::Runtime;
 /// A request, or the status with which the program ends at once.
 #[derive(Drop)]
 pub enum Parsed {
+    /// The request to run.
     Run(Request),
+    /// The exit status. The program has already printed a message or the help text.
     Stop(u8),
 }
 
-// An option with a value.
+// Returns an option with a value.
 fn value<'a>(alloc: Global, name: &'a str, shown: &'a str, help: &'a str) -> Arg<'a> {
     Arg::new(alloc, name)
         .long(name)
@@ -23,7 +25,7 @@ fn value<'a>(alloc: Global, name: &'a str, shown: &'a str, help: &'a str) -> Arg
         .help(help)
 }
 
-// An option without a value.
+// Returns an option without a value.
 fn flag<'a>(alloc: Global, name: &'a str, help: &'a str) -> Arg<'a> {
     Arg::new(alloc, name)
         .long(name)
@@ -31,7 +33,7 @@ fn flag<'a>(alloc: Global, name: &'a str, help: &'a str) -> Arg<'a> {
         .help(help)
 }
 
-// A command over paths, with the options that every command has.
+// Returns a command that takes paths, with the options that every command has.
 fn command<'a>(
     alloc: Global,
     name: &'a str,
@@ -68,7 +70,7 @@ fn command<'a>(
     )
 }
 
-// The commands that make volumes.
+// Adds the commands that make volumes: `create` and `split`.
 fn makers<'a>(alloc: Global, top: Command<'a>) -> Result<Command<'a>> {
     let create = command(
         alloc,
@@ -114,7 +116,7 @@ fn makers<'a>(alloc: Global, top: Command<'a>) -> Result<Command<'a>> {
     Ok(top.subcommand(create)?.subcommand(split)?)
 }
 
-// The commands that read volumes.
+// Adds the commands that read volumes: `verify`, `repair`, `join` and `info`.
 fn readers<'a>(alloc: Global, top: Command<'a>) -> Result<Command<'a>> {
     let verify = command(alloc, "verify", "VOLUME", "Look for damage")?
         .arg(value(alloc, "folder", "FOLDER", "The files are in this folder"))?
@@ -151,7 +153,11 @@ fn readers<'a>(alloc: Global, top: Command<'a>) -> Result<Command<'a>> {
     )
 }
 
-/// Reads the words of the command line.
+/// Reads the words of the command line. `terminal` says whether standard error is a terminal.
+///
+/// # Errors
+///
+/// Fails if the words cannot be read, if a message cannot be printed, or if memory cannot be allocated.
 pub fn read_words<R: Runtime + AllocGlobal>(rt: &R, terminal: bool) -> Result<Parsed> {
     let alloc = rt.alloc();
     let words: Vec<String> = env::args(rt)?.collect(alloc)?;
@@ -185,7 +191,7 @@ pub fn read_words<R: Runtime + AllocGlobal>(rt: &R, terminal: bool) -> Result<Pa
     }
 }
 
-// The command with this name.
+// Returns the command with a name. Every unknown name gives `Action::Info`.
 fn action_of(name: &str) -> Action {
     match name {
         "create" => Action::Create,
@@ -197,7 +203,7 @@ fn action_of(name: &str) -> Action {
     }
 }
 
-// A copy of the text of an option.
+// Returns a copy of the text of an option, if the option is given.
 fn text_of(alloc: Global, matches: &ArgMatches<'_>, name: &str) -> Result<Option<String>> {
     match matches.get_str(name) {
         Some(text) => Ok(Some(String::from_str(alloc, text)?)),
@@ -205,7 +211,7 @@ fn text_of(alloc: Global, matches: &ArgMatches<'_>, name: &str) -> Result<Option
     }
 }
 
-// Copies of the paths.
+// Returns copies of the paths of the command line.
 fn paths_of(alloc: Global, matches: &ArgMatches<'_>) -> Result<Vec<String>> {
     let mut paths = Vec::new(alloc);
     if let Some(texts) = matches.get_strs("paths") {
@@ -216,7 +222,8 @@ fn paths_of(alloc: Global, matches: &ArgMatches<'_>) -> Result<Vec<String>> {
     Ok(paths)
 }
 
-// The request with its paths and folders, and the defaults of everything else.
+// Returns a request with the paths, the folders and the flags of the command line. All other options have their
+// defaults.
 fn plain_request(
     alloc: Global,
     name: &str,
@@ -242,7 +249,8 @@ fn plain_request(
     })
 }
 
-// The request, or what is wrong with the value of an option.
+// Returns the request of the command line, or a message about an option with a wrong value. Fails if memory cannot be
+// allocated.
 fn request_of(
     alloc: Global,
     name: &str,
@@ -293,7 +301,7 @@ fn set_numbers(
     Ok(())
 }
 
-// Reads `--volumes` and `--lose`, and checks which options a command needs.
+// Reads `--volumes` and `--lose`, and checks that the command has the options that it needs.
 fn set_volumes(
     request: &mut Request,
     matches: &ArgMatches<'_>,

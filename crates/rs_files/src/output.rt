@@ -12,7 +12,7 @@ use std::rt::{Files, Runtime};
 pub struct Part {
     /// The path of the finished file.
     pub path: String,
-    /// The path while it is written.
+    /// The path of the file while it is written.
     pub part: String,
 }
 
@@ -22,7 +22,12 @@ pub fn exists<R: Runtime>(rt: &R, path: &str) -> bool {
 }
 
 impl Part {
-    /// Begins a file, and makes its folder. A part that an earlier run left behind is replaced.
+    /// Begins a file of `size` bytes, and makes its folder. If `NAME.part` exists, it is replaced.
+    ///
+    /// # Errors
+    ///
+    /// Fails if the folder or the file cannot be made, if an old `NAME.part` cannot be removed, or if memory cannot be
+    /// allocated.
     pub fn begin<R: Runtime>(rt: &R, alloc: Global, path: &str, size: u64) -> Result<Part> {
         let folder = parent_of(path);
         if !folder.is_empty() {
@@ -44,13 +49,22 @@ impl Part {
         })
     }
 
-    /// Opens the file to write into it.
+    /// Opens the file `NAME.part` to write into it.
+    ///
+    /// # Errors
+    ///
+    /// Any error of the system.
     pub fn open<R: Runtime>(&self, rt: &R) -> std::io::Result<R::File> {
         let mut options = OpenOptions::new();
         options.write(true).open(rt, self.part.as_str())
     }
 
-    /// Syncs the file and gives it its final name. Nothing is overwritten.
+    /// Syncs the file and gives it its final name. A file with this name is only replaced if `overwrite` is set.
+    ///
+    /// # Errors
+    ///
+    /// In this order, fails if the file cannot be opened or synced, if a file with the final name exists and
+    /// `overwrite` is not set, or if the file cannot be renamed or its folder cannot be synced.
     pub fn finish<R: Runtime>(&self, rt: &R, overwrite: bool) -> Result<()> {
         let file = self.open(rt)?;
         file.sync_all()?;
@@ -62,14 +76,22 @@ impl Part {
     }
 }
 
-/// Syncs a folder, so that new names in it last.
+/// Syncs a folder, so that new names in the folder are kept after a loss of power.
+///
+/// # Errors
+///
+/// Fails if the folder cannot be opened or synced.
 pub fn sync_folder<R: Runtime>(rt: &R, folder: &str) -> Result<()> {
     let opened = fs::open(rt, folder_to_open(folder))?;
     opened.sync_all()?;
     Ok(())
 }
 
-/// Writes bytes at a place of a file.
+/// Writes bytes into a file, from byte `offset` of the file on.
+///
+/// # Errors
+///
+/// Any error of the system.
 pub fn write_at<F: Seek + Write>(file: &mut F, offset: u64, bytes: &[u8]) -> std::io::Result<()> {
     file.seek(SeekFrom::Start(offset))?;
     file.write_all(bytes)

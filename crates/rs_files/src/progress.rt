@@ -2,7 +2,7 @@
 use std::rt::Runtime;
 use std::time::Instant;
 
-/// How far a command is. It prints a line when another hundredth is done.
+/// The progress of a command. A line on standard error shows the percentage that is done.
 #[derive(Drop)]
 pub struct Progress {
     shown: bool,
@@ -25,7 +25,7 @@ impl Progress {
         }
     }
 
-    /// Counts more bytes.
+    /// Counts more bytes as done, and prints the line if the percentage has grown.
     pub fn advance<R: Runtime>(&mut self, rt: &R, bytes: u64) {
         self.done = self.done.saturating_add(bytes);
         if !self.shown || self.total == 0 {
@@ -38,7 +38,7 @@ impl Progress {
         }
     }
 
-    // Prints the line: percent, rate, and time left.
+    // Prints the line: the percentage, the rate in MB/s, and the time left in seconds.
     fn print<R: Runtime>(&self, rt: &R) {
         let percent = self.percent;
         let Some(start) = self.start else {
@@ -53,7 +53,7 @@ impl Progress {
         let _ = eprint!(rt; "\r{percent}%, {rate} MB/s, {left} s left   ");
     }
 
-    /// Ends the line.
+    /// Ends the line on standard error, if one was printed.
     pub fn end<R: Runtime>(&self, rt: &R) {
         if self.shown && self.percent > 0 {
             let _ = eprintln!(rt; "");

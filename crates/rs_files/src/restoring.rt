@@ -22,20 +22,23 @@ use std::os::unix::fs::PermissionsExt;
 use std::rt::{Files, Runtime};
 use std::time::{Duration, UNIX_EPOCH};
 
-/// A part of a file that is open to be written.
+/// A file `NAME.part` that is open to be written.
 #[derive(Drop)]
 struct Opened<F: Drop> {
+    /// The index of the file in the description.
     file: usize,
     handle: F,
 }
 
-/// Files that are being restored.
+/// The files that are being restored. This sink writes blocks into them.
 #[derive(Drop)]
 struct FileSink<'a, R: Runtime> {
     rt: &'a R,
     /// The part of each file that is restored.
     parts: &'a [Option<Part>],
+    /// Where each original block lies in its file.
     places: &'a [Place],
+    /// The file that was written last.
     opened: Option<Opened<R::File>>,
 }
 
@@ -71,7 +74,8 @@ impl<'a, R: Runtime> BlockSink for FileSink<'a, R> {
     }
 }
 
-// Which blocks are read and which are written, to restore the files with a part.
+// Returns which blocks a restore reads and writes. It writes the blocks of the files that have a part. If one of these
+// blocks is lost, it reads all blocks that were found and as many recovery blocks as original blocks are lost.
 fn plan_for(alloc: Global, scan: &Scan, parts: &[Option<Part>]) -> Result<Plan> {
     let wanted = wanted_blocks(alloc, scan, parts)?;
     let k = wanted.len();
@@ -103,7 +107,7 @@ fn plan_for(alloc: Global, scan: &Scan, parts: &[Option<Part>]) -> Result<Plan> 
     })
 }
 
-// Whether each original block is part of a file that is restored.
+// Returns for each original block whether its file has a part, so that the block must be written.
 fn wanted_blocks(alloc: Global, scan: &Scan, parts: &[Option<Part>]) -> Result<Vec<bool>> {
     let mut wanted = Vec::new(alloc);
     for place in &scan.places {
@@ -112,7 +116,7 @@ fn wanted_blocks(alloc: Global, scan: &Scan, parts: &[Option<Part>]) -> Result<V
     Ok(wanted)
 }
 
-// The first recovery blocks that were found, at most `count` of them.
+// Returns the numbers of the first recovery blocks that were found, at most `count` of them.
 fn recovery_blocks(alloc: Global, scan: &Scan, k: usize, count: usize) -> Result<Vec<usize>> {
     let mut recovery = Vec::new(alloc);
     for (index, origin) in scan.origins.iter().enumerate() {
@@ -123,7 +127,12 @@ fn recovery_blocks(alloc: Global, scan: &Scan, k: usize, count: usize) -> Result
     Ok(recovery)
 }
 
-/// Begins a part for each file that is to be restored. `paths` has the path of each file, if it is to be restored.
+/// Begins a part for each file that must be restored. `paths` holds the path of each such file, and `None` for the
+/// other files.
+///
+/// # Errors
+///
+/// Fails for the first part that cannot be made, or if memory cannot be allocated.
 pub fn begin_parts<R: Runtime>(
     rt: &R,
     alloc: Global,
@@ -141,7 +150,14 @@ pub fn begin_parts<R: Runtime>(
     Ok(parts)
 }
 
-/// Writes the blocks of the files that have a part, and compares each with its digest.
+/// Writes the blocks of the files that have a part, and compares each block with its digest.
+///
+/// `memory` is the number of bytes that the function may use, approximately. `shown` says whether to show progress.
+///
+/// # Errors
+///
+/// Fails if a block cannot be read, restored or written, then if a written block does not have its digest. Every step
+/// fails if memory cannot be allocated.
 pub fn write_blocks<R: Runtime>(
     rt: &R,
     alloc: Global,
@@ -190,7 +206,11 @@ pub fn write_blocks<R: Runtime>(
     Ok(())
 }
 
-/// Gives a restored file its permission bits and its time.
+/// Gives a restored file its permission bits and the time of its last change. A time before 1970 is not set.
+///
+/// # Errors
+///
+/// In this order, fails if the file cannot be opened, or if its permission bits or its time cannot be set.
 pub fn set_attributes<R: Runtime>(rt: &R, part: &Part, file: &FileEntry) -> Result<()> {
     let handle = part.open(rt)?;
     handle.set_permissions(Permissions::from_mode(file.mode & 0o7777))?;

@@ -21,19 +21,21 @@ const CHUNK: usize = 1 << 18;
 pub enum FileState {
     /// The file has its length, and each block has its digest.
     Whole,
-    /// The file is there, and is not whole.
+    /// The file exists, but its length or one of its blocks is wrong.
     Damaged,
-    /// There is no such file, or it cannot be opened.
+    /// No regular file has this name, or the file cannot be opened.
     Missing,
 }
 
-/// What was found of a set.
+/// The files and blocks of a set that were found.
 #[derive(Drop)]
 pub struct Scan {
+    /// The description of the set.
     pub description: Description,
     /// Where each original block lies in its file.
     pub places: Vec<Place>,
-    /// Where each block was found: the original blocks, then the recovery blocks.
+    /// Where each block was found: first the original blocks, then the recovery blocks. `None` means that the block was
+    /// not found.
     pub origins: Vec<Option<Origin>>,
     /// The state of each file.
     pub states: Vec<FileState>,
@@ -44,13 +46,21 @@ pub struct Scan {
 /// The volumes of one set.
 #[derive(Drop)]
 pub struct Volumes {
+    /// The first volume that can be read. Its description is the description of the set.
     pub first: Volume,
-    /// The paths of the volumes that belong to the set, and their records: how many, and where the first one begins.
+    /// The paths of the volumes that can be read.
     pub paths: Vec<String>,
+    /// For each of these volumes, the number of its records and the offset of the first record in bytes.
     pub records: Vec<(u64, u64)>,
 }
 
-/// Opens volumes. The first one that can be read names the set; a volume of another set is an error.
+/// Opens volumes. The first volume that can be read determines the set. For each volume that cannot be read, the
+/// function prints a message.
+///
+/// # Errors
+///
+/// For each volume in turn, fails if a message cannot be printed, or if the volume belongs to another set. At the end,
+/// fails if no volume can be read. Every step fails if memory cannot be allocated.
 pub fn open_volumes<R: Runtime + AllocGlobal>(rt: &R, paths: &[String]) -> Result<Volumes> {
     let alloc = rt.alloc();
     let mut first: Option<Volume> = None;
@@ -83,7 +93,8 @@ pub fn open_volumes<R: Runtime + AllocGlobal>(rt: &R, paths: &[String]) -> Resul
     }
 }
 
-// The SHA-256 of a block: `bytes` bytes of a file from an offset on, and then zeros up to the size of a block.
+// Returns the SHA-256 of a block, which consists of `bytes` bytes of a file from `offset` on, and of zeros up to
+// `block_bytes` bytes.
 fn hash_block<F: Read + Seek>(
     file: &mut F,
     offset: u64,
@@ -110,7 +121,7 @@ fn hash_block<F: Read + Seek>(
     Ok(hasher.finalize())
 }
 
-// Adds zeros to a hasher.
+// Adds `count` zero bytes to a hasher.
 fn add_zeros(hasher: &mut Sha256, count: u64) {
     let zeros = [0u8; 4096];
     let mut left = count;
@@ -124,12 +135,18 @@ fn add_zeros(hasher: &mut Sha256, count: u64) {
     }
 }
 
-// The number of blocks that a description tells of.
+// Returns the number of original blocks and recovery blocks of a description.
 fn blocks_of(description: &Description) -> usize {
     (u64::from(description.original_count) + u64::from(description.recovery_count)) as usize
 }
 
-/// Looks for all blocks of a set: in its files below `folder`, if a folder is given, and in the volumes.
+/// Looks for all blocks of a set in the volumes and, if `folder` is given, in the files of the set below that folder.
+///
+/// A file or a record that cannot be read is not an error: its blocks are not found.
+///
+/// # Errors
+///
+/// Fails if the block size is 0, if a volume cannot be opened again, or if memory cannot be allocated.
 pub fn scan_set<R: Runtime + AllocGlobal>(
     rt: &R,
     volumes: Volumes,
@@ -157,7 +174,7 @@ pub fn scan_set<R: Runtime + AllocGlobal>(
     )
 }
 
-// Looks for the blocks that a description tells of.
+// Looks for the blocks of a description in the volumes and, if `folder` is given, in the files below that folder.
 fn scan_blocks<R: Runtime + AllocGlobal>(
     rt: &R,
     description: Description,
@@ -205,11 +222,14 @@ fn scan_blocks<R: Runtime + AllocGlobal>(
     })
 }
 
-// What was found so far.
+// The state of a scan.
 #[derive(Drop)]
 struct Scanner {
+    // Where each block was found.
     origins: Vec<Option<Origin>>,
+    // The states of the files that were scanned.
     states: Vec<FileState>,
+    // The memory into which files are read.
     buffer: Vec<u8>,
     progress: Progress,
 }
@@ -236,7 +256,7 @@ impl Scanner {
         Ok(())
     }
 
-    // Looks for blocks in all volumes, and appends their paths.
+    // Looks for blocks in all volumes, and appends the paths of the volumes to `paths`.
     fn scan_volumes<R: Runtime>(
         &mut self,
         rt: &R,
@@ -253,7 +273,7 @@ impl Scanner {
         Ok(())
     }
 
-    // Notes that a block was found.
+    // Records where a block was found. If the block was found before, the first place is kept.
     fn note(&mut self, index: usize, origin: Origin) {
         if let Some(place) = self.origins.get_mut(index) {
             if place.is_none() {
@@ -262,7 +282,7 @@ impl Scanner {
         }
     }
 
-    // Compares the blocks of a file with their digests.
+    // Compares the blocks of a file with their digests, and returns the state of the file.
     fn scan_file<R: Runtime>(
         &mut self,
         rt: &R,
@@ -296,7 +316,7 @@ impl Scanner {
         }
     }
 
-    // Compares a block of a file with its digest.
+    // Returns whether a block of a file has its digest, and records where the block was found.
     fn scan_block<R: Runtime>(
         &mut self,
         rt: &R,
@@ -323,7 +343,8 @@ impl Scanner {
         }
     }
 
-    // Looks for blocks in the records of a volume. A record that cannot be read is left out.
+    // Looks for blocks in the records of a volume. `records` holds the number of records and the offset of the first
+    // record. A record that cannot be read is left out.
     fn scan_volume<R: Runtime>(
         &mut self,
         rt: &R,
@@ -358,7 +379,7 @@ impl Scanner {
     }
 }
 
-// Reads the index of a record.
+// Reads the index of the block in the record at `offset`.
 fn index_at<R: Runtime>(file: &mut R::File, offset: u64) -> std::io::Result<usize> {
     let mut bytes = [0u8; 4];
     file.seek(SeekFrom::Start(offset))?;
@@ -366,14 +387,14 @@ fn index_at<R: Runtime>(file: &mut R::File, offset: u64) -> std::io::Result<usiz
     Ok(u32::from_le_bytes(bytes) as usize)
 }
 
-/// Counts of a scan.
+/// The numbers of blocks that a scan found and did not find.
 #[derive(Clone, Copy)]
 pub struct Counts {
-    /// Original blocks that were not found.
+    /// The number of original blocks that were not found.
     pub lost: usize,
-    /// Recovery blocks that were found.
+    /// The number of recovery blocks that were found.
     pub recovery: usize,
-    /// Recovery blocks that the set has.
+    /// The number of recovery blocks of the set.
     pub recovery_count: usize,
 }
 

@@ -1,35 +1,41 @@
-//! What the command line asks for.
+//! The request that the command line makes, and the exit statuses.
 
-/// All is well.
+/// The exit status if all is well.
 pub const STATUS_WHOLE: u8 = 0;
 
-/// Damage was found, and was mended or can be mended.
+/// The exit status if damage was found, and was repaired or can be repaired.
 pub const STATUS_MENDED: u8 = 1;
 
-/// The command line is wrong.
+/// The exit status if the command line is wrong.
 pub const STATUS_USAGE: u8 = 2;
 
-/// Damage cannot be mended.
+/// The exit status if damage cannot be repaired.
 pub const STATUS_LOST: u8 = 3;
 
-/// An input or output error, or an input that is refused.
+/// The exit status after any other error.
 pub const STATUS_FAILED: u8 = 4;
 
 /// A command of the program.
 #[derive(Clone, Copy, Debug, PartialEq, Eq)]
 pub enum Action {
+    /// Makes a volume with the recovery blocks of files.
     Create,
+    /// Spreads the blocks of files over several volumes.
     Split,
+    /// Looks for damage.
     Verify,
+    /// Restores damaged and missing files.
     Repair,
+    /// Restores all files from volumes.
     Join,
+    /// Shows what a volume describes.
     Info,
 }
 
-/// How many recovery blocks are wanted.
+/// The number of recovery blocks that the user wants.
 #[derive(Clone, Copy, Debug, PartialEq, Eq)]
 pub enum Recovery {
-    /// So many hundredths of the number of original blocks.
+    /// A percentage of the number of original blocks.
     Percent(u32),
     /// This number of blocks.
     Count(u32),
@@ -38,8 +44,9 @@ pub enum Recovery {
 /// A command with its options.
 #[derive(Drop)]
 pub struct Request {
+    /// The command.
     pub action: Action,
-    /// The files or the volumes.
+    /// The files of `create` and `split`, or the volumes of the other commands.
     pub paths: Vec<String>,
     /// The volume that `create` writes, or the folder of `split`.
     pub output: Option<String>,
@@ -47,17 +54,22 @@ pub struct Request {
     pub to: Option<String>,
     /// The folder in which the files of the set are.
     pub folder: Option<String>,
+    /// The number of recovery blocks that `create` makes.
     pub recovery: Recovery,
-    /// The size of a block in bytes.
+    /// The size of a block in bytes. `None` means the default size.
     pub block_bytes: Option<u64>,
-    /// How much memory may be used, in bytes.
+    /// The number of bytes of memory that may be used, approximately.
     pub memory: u64,
     /// The number of volumes of `split`.
     pub volumes: u32,
     /// How many volumes of `split` may be lost.
     pub lose: u32,
+    /// Whether the result is printed as JSON.
     pub json: bool,
+    /// Whether only errors are printed.
     pub quiet: bool,
+    /// Whether files that exist are overwritten.
     pub force: bool,
+    /// Whether progress is shown on standard error.
     pub progress: bool,
 }

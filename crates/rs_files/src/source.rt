@@ -13,20 +13,22 @@ use std::{fs, io};
 pub struct Origin {
     /// The file or volume, by its index in a list of paths.
     pub holder: usize,
-    /// The first byte of the block in it.
+    /// The offset in bytes of the block in the file or volume.
     pub offset: u64,
-    /// How many bytes of the block are there. The others are zeros.
+    /// The number of bytes of the block that the file or volume holds. The other bytes of the block are zeros.
     pub bytes: u64,
 }
 
 /// A file that is open to be read.
 #[derive(Drop)]
 pub struct Opened<F: Drop> {
+    /// The index of the file in the list of paths.
     holder: usize,
+    /// The open file.
     file: F,
 }
 
-/// Blocks in files and volumes.
+/// The blocks in files and volumes. This source reads them.
 #[derive(Drop)]
 pub struct FileBlocks<'a, R: Runtime> {
     rt: &'a R,
@@ -35,12 +37,13 @@ pub struct FileBlocks<'a, R: Runtime> {
     paths: &'a [String],
     /// Where each block is, if it is known.
     origins: &'a [Option<Origin>],
+    /// The file that was read last.
     opened: Option<Opened<R::File>>,
     progress: Progress,
 }
 
 impl<'a, R: Runtime> FileBlocks<'a, R> {
-    /// Makes a source of blocks. Its progress is counted in bytes that were read.
+    /// Makes a source of blocks. The source counts every byte that it reads in `progress`.
     pub fn new(
         rt: &'a R,
         alloc: Global,
@@ -58,12 +61,12 @@ impl<'a, R: Runtime> FileBlocks<'a, R> {
         }
     }
 
-    /// Ends the line of progress.
+    /// Ends the line that shows the progress.
     pub fn end(&self) {
         self.progress.end(self.rt);
     }
 
-    // Fills the front of `piece` from a file, beginning at an offset.
+    // Fills `piece` with the bytes of a file from `offset` on. `holder` is the index of the file in the list of paths.
     fn fill(&mut self, holder: usize, offset: u64, piece: &mut [u8]) -> io::Result<()> {
         let mut opened = match self.opened.take() {
             Some(opened) if opened.holder == holder => opened,

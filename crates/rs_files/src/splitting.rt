@@ -9,7 +9,8 @@ use anyhow::{Result, bail};
 use std::alloc::Global;
 use std::rt::Runtime;
 
-// The number of recovery blocks with which `lose` of `volumes` volumes may be lost.
+// Returns the smallest number of recovery blocks with which any `lose` of `volumes` volumes may be lost. Returns `None`
+// if no number up to 65536 is enough.
 fn recovery_needed(original_count: u64, volumes: u64, lose: u64) -> Option<u32> {
     for count in 0..65537u64 {
         let blocks = original_count.saturating_add(count);
@@ -21,14 +22,14 @@ fn recovery_needed(original_count: u64, volumes: u64, lose: u64) -> Option<u32> 
     None
 }
 
-// How many blocks a volume has.
+// Returns the number of blocks in the volume with a given number, if the blocks are dealt to the volumes in turn.
 fn share_of(blocks: u64, volumes: u64, number: u64) -> u64 {
     let volumes = volumes.max(1);
     let more = if number < blocks % volumes { 1 } else { 0 };
     (blocks / volumes).saturating_add(more)
 }
 
-// Cuts the files so that the volumes that may be lost can be restored.
+// Chooses the block size and the numbers of blocks, so that the blocks of any `--lose` volumes can be restored.
 fn cut_for(files: &[rs_volumes::description::FileEntry], request: &Request) -> Result<Cut> {
     let first = cut_files(files, request.block_bytes, Recovery::Count(1))?;
     let wanted = recovery_needed(
@@ -45,7 +46,7 @@ fn cut_for(files: &[rs_volumes::description::FileEntry], request: &Request) -> R
     }
 }
 
-// Begins the volumes.
+// Begins the files `NAME.part` of all volumes in a folder. `length` is the number of bytes of the description.
 fn begin<R: Runtime>(
     rt: &R,
     alloc: Global,
@@ -74,7 +75,19 @@ fn begin<R: Runtime>(
     })
 }
 
-/// Spreads all blocks of files over volumes.
+/// Runs `split`: spreads all blocks of files over volumes. Returns the exit status.
+///
+/// # Errors
+///
+/// In this order, fails if:
+///
+/// - `-o` is not given,
+/// - the files cannot be found, or are not in one folder,
+/// - the files cannot be cut into blocks as the request asks, or too many volumes may be lost,
+/// - a volume exists and `--force` is not given, or a volume cannot be begun,
+/// - a volume cannot be written or finished, or a file cannot be read or has changed.
+///
+/// Every step fails if memory cannot be allocated.
 pub fn split<R: Runtime + AllocGlobal>(rt: &R, request: &Request) -> Result<u8> {
     let alloc = rt.alloc();
     let Some(folder) = &request.output else {

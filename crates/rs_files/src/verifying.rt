@@ -7,7 +7,11 @@ use serde_json::{Value, json};
 use std::alloc::{AllocError, Global};
 use std::rt::Runtime;
 
-/// The folder of the files: the one of the request, or else the folder of the first volume.
+/// Returns the folder of the files: the folder after `--folder`, or else the folder of the first volume.
+///
+/// # Errors
+///
+/// Fails if neither a folder nor a volume is named.
 pub fn folder_of(request: &Request) -> Result<&str> {
     if let Some(folder) = &request.folder {
         return Ok(folder.as_str());
@@ -18,7 +22,8 @@ pub fn folder_of(request: &Request) -> Result<&str> {
     }
 }
 
-/// The status of a scan: whole, can be mended, or cannot be mended.
+/// Returns the exit status for a scan: `STATUS_LOST` if more blocks are lost than recovery blocks are left,
+/// `STATUS_WHOLE` if all files and all recovery blocks are whole, and `STATUS_MENDED` otherwise.
 pub fn status_of(scan: &Scan, counts: Counts) -> u8 {
     if counts.lost > counts.recovery {
         STATUS_LOST
@@ -29,7 +34,7 @@ pub fn status_of(scan: &Scan, counts: Counts) -> u8 {
     }
 }
 
-// The word for the state of a file.
+// Returns the word for the state of a file.
 fn word_of(state: FileState) -> &'static str {
     match state {
         FileState::Whole => "whole",
@@ -38,7 +43,11 @@ fn word_of(state: FileState) -> &'static str {
     }
 }
 
-/// Says what is damaged, and what to do.
+/// Prints which files are damaged or missing, and whether they can be repaired.
+///
+/// # Errors
+///
+/// Fails if the result cannot be printed.
 pub fn tell<R: Runtime>(rt: &R, scan: &Scan, counts: Counts) -> Result<()> {
     for (file, state) in scan
         .description
@@ -73,7 +82,7 @@ pub fn tell<R: Runtime>(rt: &R, scan: &Scan, counts: Counts) -> Result<()> {
     Ok(())
 }
 
-// The files with their states, as JSON.
+// Returns the files with their sizes and states as JSON.
 fn files_json(alloc: Global, scan: &Scan) -> std::result::Result<Vec<Value>, serde_json::Error> {
     let mut files = Vec::new(alloc);
     for (file, state) in scan
@@ -92,7 +101,7 @@ fn files_json(alloc: Global, scan: &Scan) -> std::result::Result<Vec<Value>, ser
     Ok(files)
 }
 
-// Prints the result as JSON.
+// Prints the result of a scan as JSON.
 fn tell_json<R: Runtime + AllocGlobal>(rt: &R, scan: &Scan, counts: Counts) -> Result<()> {
     let alloc = rt.alloc();
     let files = Value::Array(files_json(alloc, scan)?);
@@ -107,7 +116,17 @@ fn tell_json<R: Runtime + AllocGlobal>(rt: &R, scan: &Scan, counts: Counts) -> R
     Ok(())
 }
 
-/// Looks for damage in the files of a set and in its volumes.
+/// Runs `verify`: looks for damage in the files of a set and in its volumes. Returns the exit status.
+///
+/// # Errors
+///
+/// In this order, fails if:
+///
+/// - no volume is named,
+/// - no volume can be read, or volumes belong to different sets,
+/// - the result cannot be printed.
+///
+/// Every step fails if memory cannot be allocated.
 pub fn verify<R: Runtime + AllocGlobal>(rt: &R, request: &Request) -> Result<u8> {
     let folder = folder_of(request)?;
     let volumes = open_volumes(rt, request.paths.as_slice())?;

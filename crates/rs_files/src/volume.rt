@@ -14,19 +14,20 @@ use std::rt::{Files, Runtime};
 /// The largest description that is read, in bytes.
 const LARGEST_DESCRIPTION: u64 = 1 << 30;
 
-/// A volume that was opened.
+/// The contents of a volume that was opened, without its blocks.
 #[derive(Drop)]
 pub struct Volume {
+    /// The description of the set.
     pub description: Description,
-    /// The SHA-256 of the description, which names the set.
+    /// The SHA-256 of the description, which identifies the set.
     pub digest: [u8; 32],
-    /// The number of block records that are whole.
+    /// The number of block records: the number in the head, but at most as many as fit into the volume.
     pub record_count: u64,
-    /// The first byte of the records.
+    /// The offset in bytes of the first record.
     pub records_at: u64,
 }
 
-// Reads bytes at a place of a file.
+// Reads `count` bytes of a file from `offset` on.
 fn read_at<F: Read + Seek>(
     file: &mut F,
     alloc: Global,
@@ -39,7 +40,7 @@ fn read_at<F: Read + Seek>(
     Ok(bytes)
 }
 
-// Reads the head at a place of a file.
+// Reads the head of a volume at `offset`.
 fn head_at<F: Read + Seek>(file: &mut F, offset: u64) -> Result<Head> {
     let mut bytes = [0u8; HEAD_BYTES];
     file.seek(SeekFrom::Start(offset))?;
@@ -47,7 +48,8 @@ fn head_at<F: Read + Seek>(file: &mut F, offset: u64) -> Result<Head> {
     Ok(read_head(&bytes)?)
 }
 
-// Reads the description that a head tells of, at a place of a file.
+// Reads and checks the description that belongs to a head. The description begins at `offset`. `size` is the number of
+// bytes of the volume.
 fn described<F: Read + Seek>(
     file: &mut F,
     alloc: Global,
@@ -78,13 +80,13 @@ fn described<F: Read + Seek>(
     })
 }
 
-// Reads the first head and description of a volume.
+// Reads the head and the description at the beginning of a volume.
 fn front<F: Read + Seek>(file: &mut F, alloc: Global, size: u64) -> Result<Volume> {
     let head = head_at(file, 0)?;
     described(file, alloc, &head, HEAD_BYTES as u64, size)
 }
 
-// Reads the last head and description of a volume.
+// Reads the head and the description at the end of a volume.
 fn back<F: Read + Seek>(file: &mut F, alloc: Global, size: u64) -> Result<Volume> {
     let head_bytes = HEAD_BYTES as u64;
     if size < head_bytes {
@@ -98,7 +100,12 @@ fn back<F: Read + Seek>(file: &mut F, alloc: Global, size: u64) -> Result<Volume
     described(file, alloc, &head, offset, size)
 }
 
-/// Opens a volume. If its beginning is damaged, its end is read.
+/// Opens a volume, and reads its description. If the beginning of the volume is damaged, the function reads the end.
+///
+/// # Errors
+///
+/// In this order, fails if the volume cannot be opened, or if it has no head and sound description both at its
+/// beginning and at its end. The message of the second error states the fault at the beginning.
 pub fn open_volume<R: Runtime + AllocGlobal>(rt: &R, path: &str) -> Result<Volume> {
     let alloc = rt.alloc();
     let mut file = fs::open(rt, path)?;

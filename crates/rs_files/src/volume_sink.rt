@@ -11,10 +11,10 @@ use std::io;
 use std::io::ErrorKind;
 use std::rt::{Files, Runtime};
 
-/// The number of bytes before the block in a record: the index, and zero.
+/// The number of bytes of a record before its block: 4 for the index of the block, and 4 that are zero.
 pub const RECORD_HEAD_BYTES: u64 = 8;
 
-/// Volumes that are being written. The blocks from the index `first` on are dealt to them in turn.
+/// The volumes that are being written. This sink deals the blocks from the index `first` on to the volumes in turn.
 #[derive(Drop)]
 pub struct VolumeSink<'a, R: Runtime> {
     rt: &'a R,
@@ -27,7 +27,11 @@ pub struct VolumeSink<'a, R: Runtime> {
 }
 
 impl<'a, R: Runtime> VolumeSink<'a, R> {
-    /// Opens the parts of all volumes.
+    /// Opens the files `NAME.part` of all volumes.
+    ///
+    /// # Errors
+    ///
+    /// Fails if a file cannot be opened, or if memory cannot be allocated.
     pub fn new(
         rt: &'a R,
         alloc: Global,
@@ -51,7 +55,7 @@ impl<'a, R: Runtime> VolumeSink<'a, R> {
         })
     }
 
-    // Where the record with this number begins in its volume.
+    // Returns the offset in bytes of the record with this number in a volume.
     fn record_at(&self, number: u64) -> u64 {
         let record = self.block_bytes.wrapping_add(RECORD_HEAD_BYTES);
         (HEAD_BYTES as u64)
@@ -59,7 +63,11 @@ impl<'a, R: Runtime> VolumeSink<'a, R> {
             .wrapping_add(number.wrapping_mul(record))
     }
 
-    /// Writes the description and the heads of all volumes. `counts` has the number of records of each volume.
+    /// Writes the description and the heads of all volumes. `counts` holds the number of records of each volume.
+    ///
+    /// # Errors
+    ///
+    /// For each volume, fails if memory cannot be allocated, or if the volume cannot be written.
     pub fn describe(&mut self, description: &[u8], counts: &[u64]) -> Result<()> {
         let digest = digest_of(description);
         for (number, file) in self.files.iter_mut().enumerate() {

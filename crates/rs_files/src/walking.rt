@@ -8,21 +8,25 @@ use std::fs;
 use std::os::unix::fs::{MetadataExt, PermissionsExt};
 use std::rt::Runtime;
 
-/// The files of a set, in order of their names, and the folder that the names begin at.
+/// The files of a set, and their folder.
 #[derive(Drop)]
 pub struct Found {
+    /// The folder to which the names of the files are relative.
     pub folder: String,
+    /// The files, in order of their names.
     pub files: Vec<FileEntry>,
 }
 
-// A file or folder that is still to be looked at: its path, and its name in the set, which is empty for the folder of the set itself.
+// A file or folder that must still be visited.
 #[derive(Drop)]
 struct Waiting {
     path: String,
+    // The name in the set, which is empty for the folder of the set.
     name: String,
 }
 
-// The name that a path has in the set. A path that ends in `.` or `..` is the folder of the set itself.
+// Returns the name of a path in the set. The name is empty if the path ends in `.` or `..`: then the path is the folder
+// of the set.
 fn name_in_set(path: &str) -> &str {
     match last_of(path) {
         "" | "." | ".." => "",
@@ -30,7 +34,7 @@ fn name_in_set(path: &str) -> &str {
     }
 }
 
-// The folder that the name of a path begins at.
+// Returns the folder to which the name of a path in the set is relative.
 fn folder_of(path: &str) -> &str {
     if name_in_set(path).is_empty() {
         path
@@ -39,7 +43,15 @@ fn folder_of(path: &str) -> &str {
     }
 }
 
-/// Finds all regular files below the paths, in order of their names. Volumes with the name `skipped` are left out.
+/// Finds all regular files at the paths and below them, in order of their names.
+///
+/// A file whose name in the set is `skipped` or `skipped.part` is left out. If `skipped` is empty, no file is left out.
+///
+/// # Errors
+///
+/// Fails if there is no path. Then, for each path in turn, fails if the path is not in the folder of the first path, if
+/// a file or folder cannot be read, or if the name of a file is not allowed. Every step fails if memory cannot be
+/// allocated.
 pub fn find<R: Runtime + AllocGlobal>(rt: &R, paths: &[String], skipped: &str) -> Result<Found> {
     let alloc = rt.alloc();
     let Some(first) = paths.first() else {
@@ -67,7 +79,7 @@ fn sort_files(files: &mut Vec<FileEntry>) -> Result<()> {
     Ok(())
 }
 
-// Appends all files at a path and below it.
+// Appends all regular files at a path and below that path.
 fn walk<R: Runtime + AllocGlobal>(
     rt: &R,
     path: &str,
@@ -90,7 +102,7 @@ fn walk<R: Runtime + AllocGlobal>(
     Ok(())
 }
 
-// Looks at a path: appends a file, or the entries of a folder.
+// Visits a path: appends a regular file to `files`, or the entries of a folder to `waiting`.
 fn visit<R: Runtime + AllocGlobal>(
     rt: &R,
     next: &Waiting,
@@ -117,7 +129,7 @@ fn visit<R: Runtime + AllocGlobal>(
     Ok(())
 }
 
-// Whether a file is the volume that is being written, or a part of it.
+// Returns whether a file is the volume that is being written, or has the name of this volume with `.part` at its end.
 fn is_skipped(name: &str, skipped: &str) -> bool {
     if skipped.is_empty() {
         return false;
@@ -125,7 +137,7 @@ fn is_skipped(name: &str, skipped: &str) -> bool {
     name == skipped || name.strip_suffix(".part") == Some(skipped)
 }
 
-// Appends the entries of a folder, except for symbolic links.
+// Appends the entries of a folder to `waiting`, except for symbolic links.
 fn list<R: Runtime + AllocGlobal>(
     rt: &R,
     folder: &Waiting,

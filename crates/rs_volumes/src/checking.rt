@@ -23,7 +23,7 @@ pub fn block_count(block_bytes: u64, size: u64) -> u64
     (size + (block_bytes - 1)) / block_bytes
 }
 
-// Whether a part of a name may be between two slashes.
+// Returns whether a part of a name is allowed between two slashes: it is not empty, `.` or `..`.
 #[tactic(auto, unfolding(crate::specs::Sound::is_part))]
 fn is_part(part: &[u8]) -> bool
     ensures { result ≡ is_part part.now }
@@ -31,7 +31,7 @@ fn is_part(part: &[u8]) -> bool
     !part.is_empty() && part != b".".as_slice() && part != b"..".as_slice()
 }
 
-// Whether a name has only parts that may be used.
+// Returns whether all parts of a name are allowed, and the name has no zero byte.
 #[tactic(auto, using(crate::proofs::NameLemmas::zero_ends, crate::proofs::NameLemmas::slash_goes, crate::proofs::NameLemmas::slash_ends, crate::proofs::NameLemmas::byte_goes, crate::proofs::NameLemmas::between_further, crate::proofs::NameLemmas::between_nothing, crate::proofs::NameLemmas::parts_end))]
 fn has_parts(name: &[u8]) -> bool
     ensures { result ≡ has_parts [] name.now }
@@ -51,7 +51,8 @@ fn has_parts(name: &[u8]) -> bool
     is_part(&name[start..])
 }
 
-/// Returns whether a name is allowed in a description: it is UTF-8 and relative, and no part of it is empty, `.` or `..`.
+/// Returns whether a name is allowed in a description. An allowed name is UTF-8 and relative, and has no zero byte. No
+/// part of the name is empty, `.` or `..`.
 ///
 /// # Examples
 ///
@@ -63,7 +64,7 @@ pub fn is_name(name: &[u8]) -> bool
     has_parts(name) && is_text(name)
 }
 
-// Whether bytes are UTF-8.
+// Returns whether bytes are UTF-8.
 fn is_text(bytes: &[u8]) -> bool
     ensures { result ≡ is_utf8 bytes.now }
 {
@@ -73,7 +74,7 @@ fn is_text(bytes: &[u8]) -> bool
     }
 }
 
-/// Returns whether a name comes before another one in the order of their bytes.
+/// Returns whether the name `one` comes before the name `other` in the order of their bytes.
 #[tactic(auto, using(crate::proofs::NameLemmas::before_further, crate::proofs::NameLemmas::before_differs, crate::proofs::NameLemmas::before_longer, crate::proofs::NameLemmas::before_ends))]
 pub fn is_before(one: &[u8], other: &[u8]) -> bool
     ensures { result ≡ is_before one.now other.now }
@@ -89,7 +90,7 @@ pub fn is_before(one: &[u8], other: &[u8]) -> bool
     one.len() < other.len()
 }
 
-// Checks the files, which follow each other in the order of their names.
+// Checks the lengths and names of files, and that the names are in strictly increasing order.
 fn check_files(files: &[FileEntry]) -> Result<(), Fault>
     ensures answer { result ≡ files_outcome [] (files_of files.now) }
     ensures sized { OnOk result (All (λ file. file.size < 2 ^ 62) files.now) }
@@ -110,7 +111,7 @@ fn check_files(files: &[FileEntry]) -> Result<(), Fault>
     Ok(())
 }
 
-// Whether the files have exactly this many blocks.
+// Returns whether the files have exactly `count` blocks.
 fn fills(block_bytes: u64, count: u64, files: &[FileEntry]) -> bool
     requires block { 0 < block_bytes }
     requires block_fits { block_bytes < 2 ^ 63 }
@@ -128,11 +129,11 @@ fn fills(block_bytes: u64, count: u64, files: &[FileEntry]) -> bool
     left == 0
 }
 
-/// Returns whether the counts of blocks are allowed: the code supports them, or both are zero.
+/// Returns whether the numbers of blocks are allowed: the code supports them, or both are 0.
 ///
 /// # Examples
 ///
-/// 2000 and 200 are allowed, and 0 and 0. 0 and 5, and 60000 and 60000, are not.
+/// The pairs (2000, 200) and (0, 0) are allowed. The pairs (0, 5) and (60000, 60000) are not.
 #[tactic(auto, unfolding(crate::specs::Sound::allows_counts))]
 pub fn allows_counts(original_count: u32, recovery_count: u32) -> bool
     ensures { result ≡ allows_counts original_count recovery_count }
@@ -151,12 +152,12 @@ pub fn allows_block(block_bytes: u64) -> bool
     block_bytes > 0 && block_bytes % 2 == 0 && block_bytes <= 1 << 40
 }
 
-/// Checks a description.
+/// Checks whether a description is sound. The function does not look at the digests.
 ///
 /// # Errors
 ///
-/// In this order: [`Fault::BlockSize`], [`Fault::Counts`], then for each file [`Fault::Length`], [`Fault::Name`] and [`Fault::Order`],
-/// and at last [`Fault::Blocks`].
+/// In this order: [`Fault::BlockSize`], [`Fault::Counts`], then for each file [`Fault::Length`], [`Fault::Name`] and
+/// [`Fault::Order`], and at the end [`Fault::Blocks`].
 #[tactic(auto, unfolding(crate::specs::Sound::set_outcome))]
 pub fn check(description: &Description) -> Result<(), Fault>
     ensures { result ≡ set_outcome (set_of description.now) }
@@ -176,7 +177,8 @@ pub fn check(description: &Description) -> Result<(), Fault>
     Ok(())
 }
 
-/// Returns whether a description can be written: it has fewer than 2^32 files, and each name is shorter than 2^16 bytes.
+/// Returns whether a description can be written: it has fewer than 2^32 files, and each name is shorter than 2^16
+/// bytes.
 pub fn fits(description: &Description) -> bool
     ensures count { IsTrue result → length description.now.files.items < 2 ^ 32 }
     ensures names { IsTrue result
@@ -189,7 +191,7 @@ pub fn fits(description: &Description) -> bool
     has_short_names(files)
 }
 
-// Whether each name is shorter than 2^16 bytes.
+// Returns whether each name is shorter than 2^16 bytes.
 fn has_short_names(files: &[FileEntry]) -> bool
     ensures { IsTrue result → All (λ file. length file.name.items < 2 ^ 16) files.now }
 {

@@ -1,22 +1,23 @@
-//! Why blocks were not created or restored.
+//! The errors of creating and restoring blocks.
 use std::alloc::{AllocError, AllocFailed};
 use std::error::Error;
 use std::{fmt, io};
 
-/// Why blocks were not created or restored.
+/// The reason why blocks were not created or restored.
 #[derive(Debug, Drop)]
 pub enum CodingError {
-    /// Memory could not be allocated.
+    /// Memory could not be allocated outside of the code. If the code itself cannot allocate memory, the error is
+    /// [`CodingError::Code`].
     Memory,
     /// A piece of the block with this index could not be read.
     Read(usize, io::Error),
     /// A piece of the block with this index could not be written.
     Write(usize, io::Error),
-    /// The code refused the blocks.
+    /// The code failed with this error.
     Code(reed_solomon_simd::Error),
-    /// The block with this index is needed, and is neither available nor restored.
+    /// The block with this index has no hasher, or its index does not fit into a `usize`.
     Missing(usize),
-    /// The block with this index does not have the digest of the description.
+    /// The bytes that were written of the block with this index do not have the digest in the description.
     Digest(usize),
 }
 

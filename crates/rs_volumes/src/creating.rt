@@ -23,23 +23,30 @@ pub struct Shape {
     pub block_bytes: usize,
 }
 
-// The hashers of the original blocks and of the recovery blocks.
+// One hasher for each original block and for each recovery block.
 #[derive(Drop)]
 struct Hashers {
     originals: Vec<Sha256>,
     recovery: Vec<Sha256>,
 }
 
-/// Reads all original blocks, writes all blocks into the sink, and returns the SHA-256 of each block, 32 bytes each: first those of the
-/// original blocks, then those of the recovery blocks.
+/// Reads all original blocks, and writes all original blocks and recovery blocks into the sink.
 ///
-/// The function reads `piece_bytes` bytes of each original block at a time. It needs about k + r times as much memory.
+/// Returns the SHA-256 of each block, 32 bytes each: first the digests of the original blocks, then the digests of the
+/// recovery blocks.
+///
+/// The function reads `piece_bytes` bytes of each original block at a time. The memory that it needs is about
+/// (k + r) * `piece_bytes` bytes.
 ///
 /// # Errors
 ///
-/// - [`CodingError::Read`] and [`CodingError::Write`] if the source or the sink fails.
-/// - [`CodingError::Code`] if the code does not support the numbers of blocks or their size.
-/// - [`CodingError::Memory`] if memory cannot be allocated.
+/// For each piece, in this order:
+///
+/// - [`CodingError::Read`] if the source fails.
+/// - [`CodingError::Code`] if the code does not support the numbers of blocks or their size, or cannot allocate memory.
+/// - [`CodingError::Write`] if the sink fails.
+///
+/// [`CodingError::Memory`] if memory cannot be allocated, before, between and after the pieces.
 pub fn create<S: BlockSource, W: BlockSink>(
     alloc: Global,
     shape: Shape,
@@ -69,7 +76,7 @@ pub fn create<S: BlockSource, W: BlockSink>(
     Ok(digests)
 }
 
-// Makes a piece of each recovery block.
+// Makes a piece of each recovery block. Adds the pieces of all blocks to the hashers, and writes them.
 fn create_piece<S: BlockSource, W: BlockSink>(
     alloc: Global,
     shape: Shape,
@@ -105,7 +112,7 @@ fn create_piece<S: BlockSource, W: BlockSink>(
     Ok(())
 }
 
-// Reads a piece of each block with an index below `count`.
+// Reads the bytes from `start` to `end` - 1 of each block with an index below `count`.
 fn read_pieces<S: BlockSource>(
     alloc: Global,
     count: usize,
@@ -132,7 +139,7 @@ fn read_pieces<S: BlockSource>(
     Ok(pieces)
 }
 
-// Writes a piece of each block from the index `first` on.
+// Writes a piece of each block from the index `first` on. Each piece begins at byte `start` of its block.
 fn put_pieces<W: BlockSink>(
     sink: &mut W,
     first: usize,

@@ -5,9 +5,9 @@
 pub struct FileEntry {
     /// The length of the file in bytes.
     pub size: u64,
-    /// The time of the last change, in seconds since 1970, as the two's complement of a signed number.
+    /// The time of the last change, in seconds since 1970. It is a signed number in two's complement.
     pub modified: u64,
-    /// The permission bits of the file.
+    /// The permission bits of the file, in the lowest 12 bits. The other bits are not checked.
     pub mode: u32,
     /// The name: UTF-8, relative, with `/` between its parts.
     pub name: Vec<u8>,
@@ -15,8 +15,8 @@ pub struct FileEntry {
 
 /// The description of a set of files.
 ///
-/// The files lie one after another in blocks of `block_bytes` bytes. Each file begins at a block, and the last block of a file is padded
-/// with zeros. A file without bytes has no block.
+/// The files lie one after another in blocks of `block_bytes` bytes. Each file begins at a block, and the last block of
+/// a file is padded with zeros. A file without bytes has no block.
 #[derive(Debug, Drop)]
 pub struct Description {
     /// The size of a block in bytes: even, and above zero.

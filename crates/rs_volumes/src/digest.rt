@@ -19,7 +19,9 @@ pub fn digest_of(bytes: &[u8]) -> [u8; 32]
     Sha256::digest(bytes)
 }
 
-/// Returns whether the digest with this index, in digests of 32 bytes each, is the digest `own`. An index that is too large has no digest.
+/// Returns whether the digest with this index is `own`. The slice `digests` holds digests of 32 bytes each.
+///
+/// Returns false if `digests` has no digest with this index.
 pub fn is_digest(digests: &[u8], index: usize, own: &[u8; 32]) -> bool
     ensures { IsTrue result → between (32 * index) (32 * index + 32) digests.now ≡ own.now }
 {

@@ -1,4 +1,4 @@
-//! Why bytes are no volume of this format.
+//! The faults of the bytes of a volume.
 ghost use Rattle.std.specs.Prelude.{◌≡◌};
 ghost use Rattle.rs_volumes.specs.declared.fault.ReadError.TheVariants.{Memory};
 
@@ -6,7 +6,7 @@ use std::alloc::{AllocError, AllocFailed};
 use std::error::Error;
 use std::fmt;
 
-/// What is wrong with the bytes of a volume. If several things are wrong, it is the one that the reader meets first.
+/// The fault of the bytes of a volume. If the bytes have several faults, this is the first one that the reader finds.
 #[derive(Clone, Copy, Debug, PartialEq, Eq)]
 pub enum Fault {
     /// The bytes do not begin with the magic number of a volume.
@@ -15,25 +15,25 @@ pub enum Fault {
     Version,
     /// A number that must be zero is not.
     Reserved,
-    /// The bytes end inside a field.
+    /// The bytes end before the last field is complete.
     Short,
     /// More bytes follow the last digest.
     Trailing,
-    /// The code is not the code with number 1.
+    /// The number of the code is not 1.
     Code,
-    /// The digest is not the digest with number 1, which is SHA-256.
+    /// The number of the digest is not 1, which is the number of SHA-256.
     Digest,
     /// The block size is zero, odd, or above 2^40 bytes.
     BlockSize,
-    /// The code does not support the numbers of blocks.
+    /// The code does not support the numbers of blocks, and they are not both 0.
     Counts,
-    /// A file is longer than 2^62 bytes.
+    /// A file has 2^62 bytes or more.
     Length,
-    /// A name is empty, is not UTF-8, is absolute, or has an empty part or a part `.` or `..`.
+    /// A name is empty, is not UTF-8, is absolute, has a zero byte, or has an empty part or a part `.` or `..`.
     Name,
     /// The names are not in strictly increasing order.
     Order,
-    /// The files do not have as many blocks as the description says.
+    /// The number of blocks of the files is not the number of original blocks in the description.
     Blocks,
 }
 
@@ -60,7 +60,7 @@ impl fmt::Display for Fault {
 
 impl Error for Fault {}
 
-/// Why a description was not read.
+/// The reason why a description was not read.
 #[derive(Debug, Drop)]
 pub enum ReadError {
     /// Memory could not be allocated.

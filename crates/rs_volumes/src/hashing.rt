@@ -1,4 +1,4 @@
-//! The digests of many blocks, whose bytes come piece by piece.
+//! Computes the digests of many blocks, which are added piece by piece.
 ghost use Rattle.std.specs.Prelude.{◌≡◌, ◌≢◌, ℕ, ◌<◌, ◌++◌, slice_index_or, List, IfOk, OnOk, length, map, flat_map};
 ghost use Rattle.rs_field.specs.code.Column.{Shard};
 ghost use Rattle.sha2.specs.Hashers.{Holds256};
@@ -9,7 +9,11 @@ ghost use Rattle.rs_volumes.specs.Hashing.{AreHashed, joined, empty_blocks};
 use sha2::{Digest, Sha256};
 use std::alloc::{AllocError, Global};
 
-/// Makes the hashers of this many blocks, of which no byte has come.
+/// Makes hashers for `count` blocks. No byte of a block has been added yet.
+///
+/// # Errors
+///
+/// [`AllocError`] if memory cannot be allocated.
 pub fn new_hashers(alloc: Global, count: usize) -> Result<Vec<Sha256>, AllocError>
     ensures { IfOk result (λ hashers. AreHashed hashers.items (empty_blocks count)) }
 {
@@ -20,7 +24,7 @@ pub fn new_hashers(alloc: Global, count: usize) -> Result<Vec<Sha256>, AllocErro
     Ok(hashers)
 }
 
-/// Adds the next piece of each block.
+/// Adds the next piece of each block to the hasher of this block.
 pub fn absorb(hashers: &mut Vec<Sha256>, pieces: &[Vec<u8>])
     requires { length hashers.old.items ≡ length pieces.now }
     ensures hashed { (blocks : List Shard) → AreHashed hashers.old.items blocks
@@ -32,7 +36,7 @@ pub fn absorb(hashers: &mut Vec<Sha256>, pieces: &[Vec<u8>])
     }
 }
 
-/// Appends the digest of each block to `digests`. The hashers then begin again.
+/// Appends the digest of each block to `digests`. Then each hasher starts a new block.
 ///
 /// # Errors
 ///
@@ -48,7 +52,7 @@ pub fn finish(hashers: &mut Vec<Sha256>, digests: &mut Vec<u8>) -> Result<(), Al
     Ok(())
 }
 
-/// Adds the next piece of one block.
+/// Adds the next piece of the block `index` to its hasher.
 pub fn absorb_one(hashers: &mut Vec<Sha256>, index: usize, piece: &[u8])
     requires { index < length hashers.old.items }
     ensures number { length hashers.new.items ≡ length hashers.old.items }
@@ -61,7 +65,7 @@ pub fn absorb_one(hashers: &mut Vec<Sha256>, index: usize, piece: &[u8])
     hashers[index].update(piece);
 }
 
-/// Returns the digest of one block. Its hasher then begins again.
+/// Returns the digest of the block `index`. Then the hasher of this block starts a new block.
 pub fn finish_one(hashers: &mut Vec<Sha256>, index: usize) -> [u8; 32]
     requires { index < length hashers.old.items }
     ensures number { length hashers.new.items ≡ length hashers.old.items }

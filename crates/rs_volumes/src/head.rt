@@ -7,7 +7,7 @@ use std::alloc::{AllocError, Global};
 /// The number of bytes of a head.
 pub const HEAD_BYTES: usize = 64;
 
-/// The first bytes of a volume. They show at once if a transfer changed line ends.
+/// The first bytes of a volume. If a transfer changed line ends, these bytes are changed as well.
 pub const MAGIC: [u8; 8] = [0x89, 0x52, 0x53, 0x56, 0x0D, 0x0A, 0x1A, 0x0A];
 
 /// The head of a volume.
@@ -37,7 +37,7 @@ pub fn write_head(alloc: Global, head: &Head) -> Result<Vec<u8>, AllocError> {
     Ok(out)
 }
 
-// The number of four bytes at a place.
+// Returns the number in the four bytes from `place` on.
 fn u32_in(bytes: &[u8; 64], place: usize) -> u32
     requires { place ≤ 60 }
 {
@@ -49,14 +49,14 @@ fn u32_in(bytes: &[u8; 64], place: usize) -> u32
     ])
 }
 
-// The number of eight bytes at a place.
+// Returns the number in the eight bytes from `place` on.
 fn u64_in(bytes: &[u8; 64], place: usize) -> u64
     requires { place ≤ 56 }
 {
     u64::from(u32_in(bytes, place)) | (u64::from(u32_in(bytes, place + 4)) << 32)
 }
 
-/// Reads a head.
+/// Reads a head from its bytes.
 ///
 /// # Errors
 ///

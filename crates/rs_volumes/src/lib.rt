@@ -1,5 +1,7 @@
-//! Volumes: files cut into blocks, with recovery blocks that restore lost ones. This crate has the format of a volume, and the coding of
-//! blocks that are read and written piece by piece. It opens no file: `BlockSource` and `BlockSink` are traits.
+//! The format of volumes, and the coding of blocks that are read and written piece by piece.
+//!
+//! A volume holds blocks of files, and recovery blocks that restore lost blocks. This crate opens no file: it reads and
+//! writes blocks with the traits `BlockSource` and `BlockSink`.
 #![tactic(auto)]
 
 pub mod checking;

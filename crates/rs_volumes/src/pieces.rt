@@ -3,11 +3,11 @@ ghost use Rattle.rs_field.specs.code.Given.{Shards};
 
 use std::io;
 
-/// Blocks that can be read piece by piece: the original blocks, with the indexes 0 to k - 1, and the recovery blocks, with the indexes k
-/// to k + r - 1.
+/// Blocks that can be read piece by piece: the original blocks, with the indexes 0 to k - 1, and the recovery blocks,
+/// with the indexes k to k + r - 1.
 ///
-/// A file can return anything, so no contract can state what it returns. An implementation that reads files therefore knows no block: its
-/// ghost member `blocks` is the map without a block.
+/// No contract can state which bytes a file returns. So in an implementation that reads files, the ghost member
+/// `blocks` is the map without a block.
 pub trait BlockSource {
     ghost use Rattle.std.specs.Prelude.{◌≡◌, ◌-◌, ◌≤◌, ℕ, List, Some, IfOk, length};
     ghost use Rattle.std.specs.List.{between};
@@ -36,7 +36,7 @@ pub trait BlockSink {
     ghost use Rattle.rs_field.specs.code.Column.{Shard};
     ghost use Rattle.rs_field.specs.code.Given.{Shards};
 
-    /// The bytes that were written of each block, as far as they are known.
+    /// The bytes of each block that were written, if they are known.
     ghost written: { Self → Shards };
 
     /// Writes the next piece of the block `index`, which begins at byte `start` of the block.

@@ -4,18 +4,18 @@ ghost use Rattle.std.specs.Prelude.{◌≡◌, ◌<◌, ◌^◌};
 use crate::description::Description;
 use std::alloc::{AllocError, Global};
 
-/// Where an original block lies.
+/// The place of an original block in the files.
 #[derive(Clone, Copy, Debug)]
 pub struct Place {
-    /// The file, by its index in the description.
+    /// The index of the file in the description.
     pub file: usize,
-    /// The first byte of the block in the file.
+    /// The offset in bytes of the block in the file.
     pub offset: u64,
-    /// How many bytes of the block are in the file. The others are zeros.
+    /// The number of bytes of the block that are in the file. The other bytes of the block are zeros.
     pub bytes: u64,
 }
 
-// Appends the places of the blocks of one file.
+// Appends the places of the blocks of one file with `size` bytes. `file` is the index of the file.
 fn push_places(
     places: &mut Vec<Place>,
     file: usize,
@@ -43,7 +43,7 @@ fn push_places(
     Ok(())
 }
 
-/// Returns the place of each original block, in order of its index.
+/// Returns the place of each original block, in order of the indexes of the blocks.
 ///
 /// # Errors
 ///
@@ -51,7 +51,8 @@ fn push_places(
 ///
 /// # Examples
 ///
-/// With blocks of 4096 bytes, a file of 4097 bytes has two blocks: one at 0 with 4096 bytes, and one at 4096 with one byte.
+/// With blocks of 4096 bytes, a file of 4097 bytes has two blocks. The first one has the offset 0 and 4096 bytes, and
+/// the second one has the offset 4096 and 1 byte.
 pub fn places_of(alloc: Global, description: &Description) -> Result<Vec<Place>, AllocError>
     requires { 0 < description.now.block_bytes }
 {

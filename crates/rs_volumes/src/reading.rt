@@ -10,7 +10,7 @@ use crate::description::{Description, FileEntry};
 use crate::fault::{Fault, ReadError};
 use std::alloc::Global;
 
-// Reads a number of two bytes.
+// Reads a number of two bytes, and returns the number and the remaining bytes.
 fn u16_at(bytes: &[u8]) -> Result<(u16, &[u8]), ReadError>
     ensures { Gives (λ x. (x.0, x.1.now)) result (number_at w16 bytes.now) }
 {
@@ -22,7 +22,7 @@ fn u16_at(bytes: &[u8]) -> Result<(u16, &[u8]), ReadError>
     Ok((number, rest))
 }
 
-// Reads a number of four bytes.
+// Reads a number of four bytes, and returns the number and the remaining bytes.
 fn u32_at(bytes: &[u8]) -> Result<(u32, &[u8]), ReadError>
     ensures { Gives (λ x. (x.0, x.1.now)) result (number_at w32 bytes.now) }
 {
@@ -34,7 +34,7 @@ fn u32_at(bytes: &[u8]) -> Result<(u32, &[u8]), ReadError>
     Ok((number, rest))
 }
 
-// Reads a number of eight bytes.
+// Reads a number of eight bytes, and returns the number and the remaining bytes.
 fn u64_at(bytes: &[u8]) -> Result<(u64, &[u8]), ReadError>
     ensures { Gives (λ x. (x.0, x.1.now)) result (number_at w64 bytes.now) }
 {
@@ -48,7 +48,7 @@ fn u64_at(bytes: &[u8]) -> Result<(u64, &[u8]), ReadError>
     Ok((number, rest))
 }
 
-// Reads a name, which follows its length.
+// Reads the length of a name and then the name, and returns the name and the remaining bytes.
 #[tactic(auto, unfolding(crate::specs::Reading::name_at))]
 fn name_of(alloc: Global, bytes: &[u8]) -> Result<(Vec<u8>, &[u8]), ReadError>
     ensures { Gives (λ x. (x.0.items, x.1.now)) result (name_at bytes.now) }
@@ -62,7 +62,7 @@ fn name_of(alloc: Global, bytes: &[u8]) -> Result<(Vec<u8>, &[u8]), ReadError>
     Ok((Vec::from_slice(alloc, name)?, rest))
 }
 
-// Reads a file.
+// Reads a file of a description, and returns the file and the remaining bytes.
 #[tactic(auto, unfolding(crate::specs::Reading::file_at))]
 fn entry_of(alloc: Global, bytes: &[u8]) -> Result<(FileEntry, &[u8]), ReadError>
     ensures { Gives (λ x. (file_of x.0, x.1.now)) result (file_at bytes.now) }
@@ -80,7 +80,7 @@ fn entry_of(alloc: Global, bytes: &[u8]) -> Result<(FileEntry, &[u8]), ReadError
     Ok((file, rest))
 }
 
-// Reads this many files.
+// Reads `count` files of a description, and returns the files and the remaining bytes.
 fn entries_of(alloc: Global, count: u32, bytes: &[u8]) -> Result<(Vec<FileEntry>, &[u8]), ReadError>
     ensures { Gives (λ x. (files_of x.0.items, x.1.now)) result (files_at count bytes.now) }
 {
@@ -94,7 +94,7 @@ fn entries_of(alloc: Global, count: u32, bytes: &[u8]) -> Result<(Vec<FileEntry>
     Ok((files, rest))
 }
 
-// Reads the number 1.
+// Reads a number of four bytes, and returns the remaining bytes. Fails with `fault` if the number is not 1.
 #[tactic(auto, unfolding(crate::specs::Reading::one_at))]
 fn one_of(fault: Fault, bytes: &[u8]) -> Result<&[u8], ReadError>
     ensures { Gives (λ x. x.now) result (one_at fault bytes.now) }
@@ -115,7 +115,7 @@ struct Numbers {
     file_count: u32,
 }
 
-// Reads the numbers with which a description begins.
+// Reads the numbers with which a description begins, and returns the numbers and the remaining bytes.
 #[tactic(auto, unfolding(crate::specs::Reading::opening_at))]
 fn numbers_of(bytes: &[u8]) -> Result<(Numbers, &[u8]), ReadError>
     ensures { Gives (λ x. (
@@ -143,7 +143,7 @@ fn numbers_of(bytes: &[u8]) -> Result<(Numbers, &[u8]), ReadError>
     Ok((numbers, rest))
 }
 
-// Reads the digests of this many blocks, which take all bytes.
+// Reads the digests of `blocks` blocks. Fails if the bytes are not exactly these digests.
 #[tactic(auto, unfolding(crate::specs::Reading::digests_in))]
 fn digests_of(alloc: Global, blocks: u64, bytes: &[u8]) -> Result<Vec<u8>, ReadError>
     requires { blocks < 2 ^ 34 }
@@ -178,7 +178,7 @@ fn description_of(alloc: Global, bytes: &[u8]) -> Result<Description, ReadError>
     })
 }
 
-// Reads a description, and checks it.
+// Reads a description, and checks whether the description is sound.
 #[tactic(auto, unfolding(crate::specs::Sound::reading))]
 fn checked_of(alloc: Global, bytes: &[u8]) -> Result<Description, ReadError>
     ensures { Gives set_of result (reading bytes.now) }
@@ -190,22 +190,27 @@ fn checked_of(alloc: Global, bytes: &[u8]) -> Result<Description, ReadError>
     }
 }
 
-/// Reads a description from all of the bytes, and checks it.
+/// Reads a description, and checks whether the description is sound. No byte may follow the description.
 ///
 /// # Errors
 ///
-/// [`ReadError::Fault`] with the first fault, from left to right. The numbers are checked against each other after all fields have been
-/// read. [`ReadError::Memory`] if memory cannot be allocated.
+/// - [`ReadError::Fault`] for the first field that cannot be read: [`Fault::Short`], [`Fault::Code`], [`Fault::Digest`]
+///   or, at the end, [`Fault::Trailing`].
+/// - [`ReadError::Memory`] if memory cannot be allocated for a field.
+/// - [`ReadError::Fault`] if the description is not sound. The order of these checks is: [`Fault::BlockSize`],
+///   [`Fault::Counts`], then for each file [`Fault::Length`], [`Fault::Name`] and [`Fault::Order`], and at the end
+///   [`Fault::Blocks`].
 ///
 /// # Examples
 ///
-/// Eight bytes are too few for a description, so they give [`Fault::Short`]. If the first number is 2, the result is [`Fault::Code`].
+/// If the bytes are the numbers 1 and 1 of four bytes each, and nothing else, the function fails with [`Fault::Short`].
+/// If the first number is 2, the function fails with [`Fault::Code`].
 pub fn read_description(alloc: Global, bytes: &[u8]) -> Result<Description, ReadError>
-    // What is read is a sound set, and these are its bytes.
+    // If the function succeeds, the result is a sound set, and the bytes are the spelling of this set.
     ensures found { IfOk result (λ d. IsSound (set_of d) × (bytes.now ≡ spelling (set_of d))) }
-    // The bytes of a sound set are read, unless memory cannot be allocated.
+    // If the bytes are the spelling of a sound set, the result is this set, or memory cannot be allocated.
     ensures only { (s : FileSet) → IsSound s → bytes.now ≡ spelling s → Gives set_of result (Ok s) }
-    // It is stated which fault is reported.
+    // For all bytes, the definition `reading` states the result: the set, or the fault that is reported.
     ensures exact { Gives set_of result (reading bytes.now) }
 {
     checked_of(alloc, bytes)

@@ -23,29 +23,37 @@ pub struct Plan {
     pub originals: Vec<usize>,
     /// The recovery blocks that are read, by their numbers from 0, each once.
     pub recovery: Vec<usize>,
-    /// Whether an original block is to be written, for each of the k original blocks.
+    /// For each of the k original blocks, whether the block is written.
     pub wanted: Vec<bool>,
 }
 
-// The pieces that were read, with their indexes.
+// The pieces that were read. Each piece is with the number of its original block or recovery block.
 #[derive(Drop)]
 struct Pieces {
     originals: Vec<(usize, Vec<u8>)>,
     recovery: Vec<(usize, Vec<u8>)>,
 }
 
-/// Writes the wanted original blocks into the sink. If a wanted block is not read, it is restored from the blocks that are read.
+/// Writes the wanted original blocks into the sink. If a wanted block is not read, it is restored from the blocks that
+/// are read.
 ///
-/// The function reads `piece_bytes` bytes of each block at a time. After the last piece it compares the digest of each block that it wrote
-/// with the digest in `digests`.
+/// The function reads `piece_bytes` bytes of each block at a time. After the last piece, it compares the digest of each
+/// wanted block with the digest in `digests`.
 ///
 /// # Errors
 ///
-/// - [`CodingError::Read`] and [`CodingError::Write`] if the source or the sink fails.
-/// - [`CodingError::Code`] if the blocks that are read are too few, or if the code refuses them.
-/// - [`CodingError::Missing`] for a wanted block that is neither read nor restored.
-/// - [`CodingError::Digest`] for the first block that was written and does not have its digest.
-/// - [`CodingError::Memory`] if memory cannot be allocated.
+/// For each piece, in this order:
+///
+/// - [`CodingError::Read`] if the source fails.
+/// - [`CodingError::Write`] if the sink fails for a wanted block that is read.
+/// - [`CodingError::Code`] if the plan has recovery blocks, and the code fails. For example, the plan has too few
+///   blocks.
+/// - [`CodingError::Write`] if the sink fails for a restored block.
+///
+/// After the last piece, [`CodingError::Digest`] for the first wanted block whose written bytes do not have its digest.
+/// The function also fails with this error if a wanted block is neither read nor restored.
+///
+/// [`CodingError::Memory`] if memory cannot be allocated, before and between the pieces.
 pub fn restore<S: BlockSource, W: BlockSink>(
     alloc: Global,
     shape: Shape,
@@ -82,7 +90,7 @@ pub fn restore<S: BlockSource, W: BlockSink>(
     Ok(())
 }
 
-// Reads a piece of each block of the plan.
+// Reads the bytes from `start` to `end` - 1 of each block of the plan.
 fn read_all<S: BlockSource>(
     alloc: Global,
     shape: Shape,
@@ -106,7 +114,8 @@ fn read_all<S: BlockSource>(
     })
 }
 
-// Reads a piece of each of these blocks. The source has the block `number` at the index `first` + `number`.
+// Reads the bytes from `start` to `end` - 1 of the blocks with the given numbers. In the source, the block `number` has
+// the index `first` + `number`.
 fn read_pieces<S: BlockSource>(
     alloc: Global,
     numbers: &[usize],
@@ -128,7 +137,8 @@ fn read_pieces<S: BlockSource>(
     Ok(pieces)
 }
 
-// Writes a piece of each wanted block.
+// Writes a piece of each wanted block. If the plan has recovery blocks, the function restores the pieces of lost
+// blocks.
 fn restore_piece<W: BlockSink>(
     alloc: Global,
     shape: Shape,
@@ -175,7 +185,7 @@ fn restore_piece<W: BlockSink>(
     )
 }
 
-// Writes the pieces of wanted blocks.
+// Writes those of the pieces that belong to wanted blocks, and adds them to the hashers of these blocks.
 fn put_read<W: BlockSink>(
     start: usize,
     wanted: &[bool],
@@ -196,7 +206,7 @@ fn put_read<W: BlockSink>(
     Ok(())
 }
 
-// Writes the piece of a wanted block.
+// Writes a piece of one block, and adds the piece to the hasher of this block.
 fn put_one<W: BlockSink>(
     start: usize,
     index: usize,
@@ -219,7 +229,7 @@ fn put_one<W: BlockSink>(
     }
 }
 
-// Compares the digest of each wanted block with the digest of the description.
+// Compares the digest of each wanted block with the digest in the description.
 fn compare(wanted: &[bool], digests: &[u8], hashers: &mut Vec<Sha256>) -> Result<(), CodingError>
     ensures digest { OnOk result ((i : ℕ) (d : Hasher) (bytes : Shard) → i < length wanted.now
         → slice_index_or wanted.now i false ≡ true

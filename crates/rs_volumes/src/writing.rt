@@ -1,4 +1,4 @@
-//! Writes a description.
+//! Writes a description as bytes.
 ghost use Rattle.std.specs.Prelude.{◌≡◌, ◌<◌, ◌^◌, ◌++◌, length, All, OnOk, IfOk};
 ghost use Rattle.std.specs.Int.{w32, w64, to_le_bytes};
 ghost use Rattle.std.specs.List.{flat_map};
@@ -7,7 +7,7 @@ ghost use Rattle.rs_volumes.specs.Description.{file_of, files_of, set_of, file_s
 use crate::description::{Description, FileEntry};
 use std::alloc::{AllocError, Global};
 
-// Writes the numbers with which a description begins.
+// Appends the numbers with which a description begins.
 fn put_opening(out: &mut Vec<u8>, block: u64, k: u32, r: u32, files: u32) -> Result<(), AllocError>
     ensures { OnOk result (out.new.items ≡ out.old.items ++ opening_spelling block k r files) }
 {
@@ -20,7 +20,7 @@ fn put_opening(out: &mut Vec<u8>, block: u64, k: u32, r: u32, files: u32) -> Res
     Ok(())
 }
 
-// Writes the numbers of a file.
+// Appends the length, the time and the permission bits of a file.
 fn put_numbers(out: &mut Vec<u8>, size: u64, modified: u64, mode: u32) -> Result<(), AllocError>
     ensures { OnOk result (out.new.items
         ≡ out.old.items ++ (to_le_bytes w64 size ++ (to_le_bytes w64 modified ++ to_le_bytes w32 mode))) }
@@ -31,7 +31,7 @@ fn put_numbers(out: &mut Vec<u8>, size: u64, modified: u64, mode: u32) -> Result
     Ok(())
 }
 
-// Writes a name after its length.
+// Appends the length of a name and then the name.
 fn put_name(out: &mut Vec<u8>, name: &[u8]) -> Result<(), AllocError>
     requires { length name.now < 2 ^ 16 }
     ensures { OnOk result (out.new.items ≡ out.old.items ++ name_spelling name.now) }
@@ -41,7 +41,7 @@ fn put_name(out: &mut Vec<u8>, name: &[u8]) -> Result<(), AllocError>
     Ok(())
 }
 
-// Writes a file.
+// Appends a file of a description.
 fn put_file(out: &mut Vec<u8>, file: &FileEntry) -> Result<(), AllocError>
     requires { length file.now.name.items < 2 ^ 16 }
     ensures { OnOk result (out.new.items ≡ out.old.items ++ file_spelling (file_of file.now)) }
@@ -51,7 +51,7 @@ fn put_file(out: &mut Vec<u8>, file: &FileEntry) -> Result<(), AllocError>
     Ok(())
 }
 
-// Writes the files.
+// Appends the files of a description.
 fn put_files(out: &mut Vec<u8>, files: &[FileEntry]) -> Result<(), AllocError>
     requires { All (λ file. length file.name.items < 2 ^ 16) files.now }
     ensures { OnOk result (out.new.items
@@ -71,8 +71,8 @@ fn put_files(out: &mut Vec<u8>, files: &[FileEntry]) -> Result<(), AllocError>
 ///
 /// # Examples
 ///
-/// A set of one file with a name of five bytes, one original block and one recovery block has a description of 119 bytes: 28 for the
-/// numbers at the beginning, 27 for the file, and 32 for each of the two digests.
+/// A set of one file with a name of five bytes, one original block and one recovery block has a description of 119
+/// bytes: 28 for the numbers at the beginning, 27 for the file, and 32 for each of the two digests.
 pub fn write_description(alloc: Global, description: &Description) -> Result<Vec<u8>, AllocError>
     requires count { length description.now.files.items < 2 ^ 32 }
     requires names { All (λ file. length file.name.items < 2 ^ 16) description.now.files.items }
