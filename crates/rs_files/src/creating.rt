@@ -5,6 +5,7 @@ use crate::output::{Part, exists};
 use crate::progress::Progress;
 use crate::settings::{Request, STATUS_WHOLE};
 use crate::source::{FileBlocks, Origin};
+use crate::volume::LARGEST_DESCRIPTION;
 use crate::volume_sink::{RECORD_HEAD_BYTES, VolumeSink};
 use crate::walking::{Found, find};
 use anyhow::{Result, bail, ensure};
@@ -26,8 +27,12 @@ const OPENING_BYTES: u64 = 28;
 /// The number of bytes of a file in a description, without its name.
 const ENTRY_BYTES: u64 = 22;
 
-/// Returns the number of bytes of the description of a set. A number that is too large becomes 2^64 - 1.
-pub fn description_bytes(files: &[FileEntry], cut: Cut) -> u64 {
+/// Returns the number of bytes of the description of a set.
+///
+/// # Errors
+///
+/// Fails if the description is larger than 1 GiB: `open_volume` does not read such a description.
+pub fn description_bytes(files: &[FileEntry], cut: Cut) -> Result<u64> {
     let mut bytes = OPENING_BYTES;
     for file in files {
         bytes = bytes
@@ -35,7 +40,12 @@ pub fn description_bytes(files: &[FileEntry], cut: Cut) -> u64 {
             .saturating_add(file.name.len() as u64);
     }
     let blocks = u64::from(cut.original_count) + u64::from(cut.recovery_count);
-    bytes.saturating_add(32 * blocks)
+    bytes = bytes.saturating_add(32 * blocks);
+    ensure!(
+        bytes <= LARGEST_DESCRIPTION,
+        "the names of the files are too long for one description of at most 1 GiB: make several sets of fewer files"
+    );
+    Ok(bytes)
 }
 
 /// Returns the number of bytes of a volume. A number that is too large becomes 2^64 - 1.
@@ -140,10 +150,11 @@ pub struct Volumes {
 ///
 /// In this order, fails if:
 ///
+/// - the description is larger than 1 GiB,
 /// - a volume cannot be opened,
 /// - a file cannot be read, a volume cannot be written, or the library fails,
 /// - a file has another length or time of change than before,
-/// - the description has too many files or too long a name, or is not sound because a file is given twice,
+/// - the description has too many files or too long a name, or is not sound,
 /// - the description or a head cannot be written.
 ///
 /// Every step fails if memory cannot be allocated.
@@ -160,7 +171,7 @@ pub fn write_volumes<R: Runtime + AllocGlobal>(
         recovery_count: cut.recovery_count as usize,
         block_bytes: cut.block_bytes as usize,
     };
-    let length = description_bytes(found.files.as_slice(), cut);
+    let length = description_bytes(found.files.as_slice(), cut)?;
     let paths = paths_of(alloc, found.folder.as_str(), found.files.as_slice())?;
     let mut description = Description {
         block_bytes: cut.block_bytes,
@@ -227,8 +238,9 @@ fn written(alloc: Global, description: &Description) -> Result<Vec<u8>> {
 ///
 /// - the name of the volume is not known,
 /// - the volume exists and `--force` is not given,
-/// - the files cannot be found, or are not in one folder,
+/// - the files cannot be found, are not in one folder, or one of them is given twice,
 /// - the files cannot be cut into blocks as the request asks,
+/// - the description is larger than 1 GiB,
 /// - the volume cannot be begun, written or finished, or a file cannot be read or has changed.
 ///
 /// Every step fails if memory cannot be allocated.
@@ -242,7 +254,7 @@ pub fn create<R: Runtime + AllocGlobal>(rt: &R, request: &Request) -> Result<u8>
         request.block_bytes,
         request.recovery,
     )?;
-    let length = description_bytes(found.files.as_slice(), cut);
+    let length = description_bytes(found.files.as_slice(), cut)?;
     let records = u64::from(cut.recovery_count);
     let size = volume_bytes(length, records, cut.block_bytes);
     let part = Part::begin(rt, alloc, output.as_str(), size)?;

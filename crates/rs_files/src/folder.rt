@@ -42,10 +42,15 @@ fn blocks_of(files: &[FileEntry], block_bytes: u64) -> Option<u64>
     if total > 65536 { None } else { Some(total) }
 }
 
+// Returns the number of files that are not empty.
+fn filled_count(files: &[FileEntry]) -> u64 {
+    files.iter().filter(|file| file.size > 0).count() as u64
+}
+
 // Returns the largest number of blocks by default. It is 2000 if at most 1000 files are not empty. Otherwise it is
 // twice the number of files that are not empty, but at most 65536.
 fn blocks_wanted(files: &[FileEntry]) -> u64 {
-    let filled = files.iter().filter(|file| file.size > 0).count() as u64;
+    let filled = filled_count(files);
     if filled <= BLOCKS / 2 {
         BLOCKS
     } else {
@@ -60,14 +65,20 @@ fn blocks_wanted(files: &[FileEntry]) -> u64 {
 ///
 /// # Errors
 ///
-/// Fails if the files have too many blocks even with blocks of 2^40 bytes, or if a file has 2^62 bytes or more.
+/// In this order, fails if:
+///
+/// - more than 65536 files are not empty,
+/// - the files have too many blocks even with blocks of 2^40 bytes, or a file has 2^62 bytes or more.
 pub fn default_block(files: &[FileEntry]) -> Result<u64> {
+    if filled_count(files) > 65536 {
+        bail!("there are too many files: make several sets of at most 65536 files that are not empty");
+    }
     let wanted = blocks_wanted(files);
     let mut low = 0u64;
     let mut high = 1u64 << 28;
     if !has_at_most(files, high, wanted) {
         bail!(
-            "there are too many files: a set has at most 65536 blocks, and each file at least one"
+            "the files are too large for {wanted} blocks, the largest number by default: use --block 1024G, or make several sets of fewer files"
         );
     }
     for _ in 0..64 {
@@ -116,7 +127,7 @@ pub fn cut_files(files: &[FileEntry], block: Option<u64>, recovery: Recovery) ->
     }
     let Some(blocks) = blocks_of(files, block_bytes) else {
         bail!(
-            "blocks of {block_bytes} bytes are too small for these files: leave --block out, or write a larger number"
+            "blocks of {block_bytes} bytes are too small for these files: leave --block out, write a larger number, or make several sets of fewer files"
         );
     };
     let original_count = blocks as u32;

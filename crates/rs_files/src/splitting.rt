@@ -82,8 +82,9 @@ fn begin<R: Runtime>(
 /// In this order, fails if:
 ///
 /// - `-o` is not given,
-/// - the files cannot be found, or are not in one folder,
+/// - the files cannot be found, are not in one folder, or one of them is given twice,
 /// - the files cannot be cut into blocks as the request asks, or too many volumes may be lost,
+/// - the description is larger than 1 GiB,
 /// - a volume exists and `--force` is not given, or a volume cannot be begun,
 /// - a volume cannot be written or finished, or a file cannot be read or has changed.
 ///
@@ -95,7 +96,7 @@ pub fn split<R: Runtime + AllocGlobal>(rt: &R, request: &Request) -> Result<u8> 
     };
     let found = find(rt, request.paths.as_slice(), "")?;
     let cut = cut_for(found.files.as_slice(), request)?;
-    let length = description_bytes(found.files.as_slice(), cut);
+    let length = description_bytes(found.files.as_slice(), cut)?;
     let volumes = begin(rt, alloc, request, folder.as_str(), cut, length)?;
     let count = found.files.len();
     write_volumes(rt, request, found, cut, &volumes)?;

@@ -43,7 +43,8 @@ fn word_of(state: FileState) -> &'static str {
     }
 }
 
-/// Prints which files are damaged or missing, and whether they can be repaired.
+/// Prints which files are damaged or missing, and whether they can be repaired. If all files are whole, the function
+/// prints whether all recovery blocks are whole, and what to do if some are not.
 ///
 /// # Errors
 ///
@@ -74,9 +75,14 @@ pub fn tell<R: Runtime>(rt: &R, scan: &Scan, counts: Counts) -> Result<()> {
         println!(rt;
             "{lost} blocks are lost and {recovery} recovery blocks are whole: {lacking} more blocks are needed"
         )?;
+    } else if scan.has_whole_files() {
+        let damaged = recovery_count.saturating_sub(recovery);
+        println!(rt;
+            "all files are whole, but {damaged} of {recovery_count} recovery blocks are damaged or missing: make the volumes again, with create --force or split --force"
+        )?;
     } else {
         println!(rt;
-            "{lost} blocks are lost and {recovery} of {recovery_count} recovery blocks are whole: this can be repaired"
+            "{lost} blocks are lost and {recovery} of {recovery_count} recovery blocks are whole: the files can be repaired"
         )?;
     }
     Ok(())

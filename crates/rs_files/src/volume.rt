@@ -11,8 +11,8 @@ use std::fs::OpenFile;
 use std::io::{Read, Seek, SeekFrom};
 use std::rt::{Files, Runtime};
 
-/// The largest description that is read, in bytes.
-const LARGEST_DESCRIPTION: u64 = 1 << 30;
+/// The largest description that is written or read, in bytes.
+pub const LARGEST_DESCRIPTION: u64 = 1 << 30;
 
 /// The contents of a volume that was opened, without its blocks.
 #[derive(Drop)]

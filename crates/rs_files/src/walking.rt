@@ -1,5 +1,5 @@
 //! Finds the files of a set.
-use crate::names::{folder_to_open, last_of, parent_of, path_in, trimmed};
+use crate::names::{folder_to_open, last_of, parent_of, path_in, text_of, trimmed};
 use anyhow::{Result, bail};
 use rs_volumes::checking::is_name;
 use rs_volumes::description::FileEntry;
@@ -50,8 +50,8 @@ fn folder_of(path: &str) -> &str {
 /// # Errors
 ///
 /// Fails if there is no path. Then, for each path in turn, fails if the path is not in the folder of the first path, if
-/// a file or folder cannot be read, or if the name of a file is not allowed. Every step fails if memory cannot be
-/// allocated.
+/// a file or folder cannot be read, or if the name of a file is not allowed. At the end, fails if a file is given
+/// twice. Every step fails if memory cannot be allocated.
 pub fn find<R: Runtime + AllocGlobal>(rt: &R, paths: &[String], skipped: &str) -> Result<Found> {
     let alloc = rt.alloc();
     let Some(first) = paths.first() else {
@@ -67,6 +67,7 @@ pub fn find<R: Runtime + AllocGlobal>(rt: &R, paths: &[String], skipped: &str) -
         walk(rt, path, name_in_set(path), skipped, &mut files)?;
     }
     sort_files(&mut files)?;
+    check_once(files.as_slice())?;
     Ok(Found {
         folder: String::from_str(alloc, folder_to_open(folder))?,
         files,
@@ -76,6 +77,19 @@ pub fn find<R: Runtime + AllocGlobal>(rt: &R, paths: &[String], skipped: &str) -
 // Sorts files by their names.
 fn sort_files(files: &mut Vec<FileEntry>) -> Result<()> {
     files.sort_by(|one, other| one.name.as_slice().cmp(other.name.as_slice()))?;
+    Ok(())
+}
+
+// Checks that no two files of a sorted list have the same name.
+fn check_once(files: &[FileEntry]) -> Result<()> {
+    let mut previous: &[u8] = b"";
+    for file in files {
+        let name = file.name.as_slice();
+        if name == previous {
+            bail!("the file {} is given twice", text_of(name));
+        }
+        previous = name;
+    }
     Ok(())
 }
 
