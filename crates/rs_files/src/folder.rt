@@ -71,7 +71,9 @@ fn blocks_wanted(files: &[FileEntry]) -> u64 {
 /// - the files have too many blocks even with blocks of 2^40 bytes, or a file has 2^62 bytes or more.
 pub fn default_block(files: &[FileEntry]) -> Result<u64> {
     if filled_count(files) > 65536 {
-        bail!("there are too many files: make several sets of at most 65536 files that are not empty");
+        bail!(
+            "there are too many files: make several sets of at most 65536 files that are not empty"
+        );
     }
     let wanted = blocks_wanted(files);
     let mut low = 0u64;
