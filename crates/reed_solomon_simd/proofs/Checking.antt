@@ -13,7 +13,7 @@ use Rattle.rs_field.specs.code.Counts.{default_rate}
 use Rattle.rs_field.specs.code.Encoder.{EncoderState, fresh_encoder, with_shard, message_of}
 use Rattle.rs_field.specs.code.OneCall.{default_of, with_shards, OneEncodeAnswers}
 use Rattle.rs_field.specs.code.Outcome.{answer_of}
-use Rattle.rs_field.specs.code.Placement.{encoder_rows}
+use Rattle.rs_field.specs.code.Frame.{encoder_rows}
 use Rattle.rs_rate.specs.Giving.{IsEncoding}
 use Rattle.rs_rate.proofs.Giving.{adds-ok, adds-err, outcome-err}
 use Rattle.rs_rate.proofs.OneCall.{encoding-unset, encoding-given, encoding-refused, encoding-answers}

@@ -4,7 +4,7 @@ use Rattle.std.proofs.Common.{◌≤◌}
 use Rattle.rs_field.specs.code.Counts.{default_rate}
 use Rattle.rs_field.specs.code.Encoder.{IsEncoder}
 use Rattle.rs_field.specs.code.Decoder.{IsDecoder}
-use Rattle.rs_field.specs.code.Placement.{encoder_rows, decoder_rows}
+use Rattle.rs_field.specs.code.Frame.{encoder_rows, decoder_rows}
 use Rattle.rs_rate.specs.DecoderRoom.{HasRoom}
 use Rattle.rs_rate.specs.ObjectLaws.{is_encoder, is_decoder, has_own_room, has_own_decoder_room}
 use Rattle.rs_rate.specs.ShardRows.{chunk_count}

@@ -4,7 +4,7 @@ use Rattle.rs_field.specs.code.Column.{Shard, IsShard}
 use Rattle.rs_field.specs.code.Configuration.{start_outcome}
 use Rattle.rs_field.specs.code.Counts.{default_rate}
 use Rattle.rs_field.specs.code.OneCall.{default_of}
-use Rattle.rs_field.specs.code.Placement.{encoder_rows}
+use Rattle.rs_field.specs.code.Frame.{encoder_rows}
 use Rattle.rs_rate.specs.Giving.{IsEncoding}
 
 -- shards are k originals of this size, all of which can be added to an encoder

@@ -6,7 +6,7 @@ ghost use Rattle.rs_field.specs.code.Counts.{default_rate, supports as supports_
 ghost use Rattle.rs_field.specs.code.Decoder.{fresh_decoder, with_original, with_recovery, DecodeAnswers};
 ghost use Rattle.rs_field.specs.code.OneCall.{default_of};
 ghost use Rattle.rs_field.specs.code.Outcome.{answer_of, state_after};
-ghost use Rattle.rs_field.specs.code.Placement.{decoder_rows};
+ghost use Rattle.rs_field.specs.code.Frame.{decoder_rows};
 ghost use Rattle.rs_rate.specs.DecoderRoom.{HasRoom, Grows};
 ghost use Rattle.rs_rate.specs.ResultView.{answered_originals};
 

@@ -6,7 +6,7 @@ ghost use Rattle.rs_field.specs.code.Counts.{default_rate, supports as supports_
 ghost use Rattle.rs_field.specs.code.Encoder.{fresh_encoder, with_shard, EncodeAnswers};
 ghost use Rattle.rs_field.specs.code.OneCall.{default_of};
 ghost use Rattle.rs_field.specs.code.Outcome.{answer_of, state_after};
-ghost use Rattle.rs_field.specs.code.Placement.{encoder_rows};
+ghost use Rattle.rs_field.specs.code.Frame.{encoder_rows};
 ghost use Rattle.rs_rate.specs.ResultView.{answered_shards};
 ghost use Rattle.rs_rate.specs.ShardRows.{chunk_count};
 

@@ -5,7 +5,7 @@ ghost use Rattle.rs_field.specs.code.Column.{IsShard};
 ghost use Rattle.rs_field.specs.code.Configuration.{start_outcome};
 ghost use Rattle.rs_field.specs.code.Counts.{default_rate};
 ghost use Rattle.rs_field.specs.code.OneCall.{default_of};
-ghost use Rattle.rs_field.specs.code.Placement.{encoder_rows};
+ghost use Rattle.rs_field.specs.code.Frame.{encoder_rows};
 ghost use Rattle.reed_solomon_simd.specs.Rooms.{shards_of};
 
 use crate::rooms::Rooms;

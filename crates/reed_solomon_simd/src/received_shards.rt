@@ -8,7 +8,7 @@ ghost use Rattle.rs_field.specs.code.Decoder.{fresh_decoder, with_original, with
 ghost use Rattle.rs_field.specs.code.Given.{AreWithin, nothing, with_entry, count_below};
 ghost use Rattle.rs_field.specs.code.OneCall.{default_of};
 ghost use Rattle.rs_field.specs.code.Outcome.{answer_of, state_after};
-ghost use Rattle.rs_field.specs.code.Placement.{decoder_rows};
+ghost use Rattle.rs_field.specs.code.Frame.{decoder_rows};
 ghost use Rattle.reed_solomon_simd.specs.Received.{given_in};
 
 use rs_field::bytes::are_bytes;

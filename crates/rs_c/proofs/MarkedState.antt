@@ -19,7 +19,7 @@ use Rattle.rs_field.specs.code.Decoder.{originals_given, recovery_given, enough_
 use Rattle.rs_field.specs.code.Given.{Shards, AreWithin, nothing, count_below}
 use Rattle.rs_field.specs.code.OneCall.{Items, default_of, one_by_one, with_originals, with_recoveries, with_both}
 use Rattle.rs_field.specs.code.Outcome.{result_and_then}
-use Rattle.rs_field.specs.code.Placement.{decoder_rows}
+use Rattle.rs_field.specs.code.Frame.{decoder_rows}
 use Rattle.rs_field.proofs.of_code.Given.{count_below-zero, count_below-suc}
 use Rattle.rs_rate.specs.Giving.{IsDecoding}
 use Rattle.reed_solomon_simd.proofs.SetUp.{started-parts}

@@ -12,7 +12,7 @@ use Rattle.rs_field.specs.code.Counts.{default_rate}
 use Rattle.rs_field.specs.code.Decoder.{DecoderState, NoneAgrees, enough_given, missing_of}
 use Rattle.rs_field.specs.code.Given.{Shards, Lists, nothing, items_at, items_from, items_below}
 use Rattle.rs_field.specs.code.OneCall.{OneDecodeAnswers, default_of}
-use Rattle.rs_field.specs.code.Placement.{decoder_rows}
+use Rattle.rs_field.specs.code.Frame.{decoder_rows}
 use Rattle.rs_field.specs.code.PieceStates.{shards_listed, HoldRestored}
 use Rattle.rs_field.proofs.of_code.Listed.{items_from-zero, items_from-suc}
 use Rattle.rs_field.proofs.of_code.ListedMaps.{lists-same}

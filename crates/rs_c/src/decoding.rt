@@ -5,7 +5,7 @@ ghost use Rattle.rs_field.specs.code.Counts.{default_rate};
 ghost use Rattle.rs_field.specs.code.Decoder.{IsDecoder, NoneAgrees, enough_given};
 ghost use Rattle.rs_field.specs.code.OneCall.{default_of};
 ghost use Rattle.rs_field.specs.code.PieceStates.{HoldRestored};
-ghost use Rattle.rs_field.specs.code.Placement.{decoder_rows};
+ghost use Rattle.rs_field.specs.code.Frame.{decoder_rows};
 ghost use Rattle.rs_c.specs.Buffers.{lost_indexes, marked_map, marked_state, shard_place};
 ghost use Rattle.rs_c.specs.MarkedState.{state_in, rooms_in, besides_rooms};
 ghost use Rattle.rs_c.specs.Answers.{DecodesBuffer, marked_number, WantsNoMemory, all_or_refused};

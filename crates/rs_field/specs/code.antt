@@ -1,7 +1,7 @@
 -- The code: counts, placement, states, errors, and what each call returns. This module depends on `words`.
 pub mod Column
 pub mod Counts
-pub mod Placement
+pub mod Frame
 pub mod Outcome
 pub mod Texts
 pub mod Configuration

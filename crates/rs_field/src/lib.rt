@@ -7,7 +7,7 @@ mod rows;
 mod words;
 pub mod worked;
 
-pub use code::error;
+pub use code::{error, frame};
 pub use rows::bytes;
 
 /// Laws of the code, and of how shards lie in rows, as contracts of functions that do nothing.

@@ -4,7 +4,7 @@ use Rattle.std.proofs.Common.{arith}
 use Rattle.std.specs.Prelude.{nat_le, nat_lt, ◌&&◌, ◌||◌, Some, None, cond}
 use Rattle.std.proofs.lemmas.Bool.{lt-ltb, false_from_ne_true}
 use Rattle.rs_field.specs.code.Counts.{Rate, next_power, supports, is_low, low_rate, high_rate, default_rate}
-use Rattle.rs_field.specs.code.Placement.{block_rows}
+use Rattle.rs_field.specs.code.Frame.{block_rows}
 use Rattle.rs_field.proofs.of_code.SupportedCounts.{low_fits, high_fits, default_fits, low_powers, high_powers}
 use Rattle.rs_rate.specs.declared.values.counts.Choice.{Choice}
 use Rattle.rs_rate.specs.Configured.{choice_at, choice_of, low_or_high}

@@ -8,7 +8,7 @@ use Rattle.rs_field.specs.declared.code.error.Error.{Error}
 use Rattle.rs_field.specs.code.Configuration.{Configuration as AsDefined, configuration, validation_outcome}
 use Rattle.rs_field.specs.code.Configuration.{start_outcome}
 use Rattle.rs_field.specs.code.Counts.{Rate, next_power, supports, is_low, low_rate}
-use Rattle.rs_field.specs.code.Placement.{encoder_rows, next_multiple}
+use Rattle.rs_field.specs.code.Frame.{encoder_rows, next_multiple}
 use Rattle.rs_field.proofs.of_code.NextPower.{next_power-small, power_is_own}
 use Rattle.rs_field.proofs.of_code.SupportedCounts.{low_fits}
 use Rattle.rs_rate.specs.declared.values.configuration.Configuration.{Configuration}

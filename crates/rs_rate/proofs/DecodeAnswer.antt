@@ -9,7 +9,7 @@ use Rattle.rs_field.specs.declared.code.error.Error.{Error}
 use Rattle.rs_field.specs.declared.code.error.Error.TheVariants.{InconsistentShards}
 use Rattle.rs_field.specs.code.Column.{Shard, IsShard, AreShards, shard_at, column}
 use Rattle.rs_field.specs.code.Counts.{Rate, supports}
-use Rattle.rs_field.specs.code.Placement.{placement, decoder_rows}
+use Rattle.rs_field.specs.code.Frame.{placement, decoder_rows}
 use Rattle.rs_field.specs.code.Configuration.{configuration, validation_outcome}
 use Rattle.rs_field.specs.code.Decoder.{DecoderState, originals_given, recovery_given, IsConsistent, missing_of}
 use Rattle.rs_field.specs.code.Decoder.{Restored, NoneAgrees}

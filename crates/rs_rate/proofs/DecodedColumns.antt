@@ -9,7 +9,7 @@ use Rattle.rs_field.specs.words.Transform.{IsBackward}
 use Rattle.rs_field.specs.words.Locator.{IsLocatorBelow, log_sum}
 use Rattle.rs_field.specs.code.Column.{Shard, IsShard, column}
 use Rattle.rs_field.specs.code.Counts.{Rate}
-use Rattle.rs_field.specs.code.Placement.{Placement, placement}
+use Rattle.rs_field.specs.code.Frame.{Placement, placement}
 use Rattle.rs_field.specs.code.Configuration.{configuration}
 use Rattle.rs_field.specs.rows.Layout.{row_len}
 use Rattle.rs_field.specs.rows.Rows.{Chunks}

@@ -7,7 +7,7 @@ use Rattle.rs_field.specs.code.Given.{Shards}
 use Rattle.rs_field.specs.code.Decoder.{DecoderState, fresh_decoder, enough_given, Restored, NoneAgrees, DecodeAnswers}
 use Rattle.rs_field.specs.code.Decoder.{after_decode}
 use Rattle.rs_field.specs.code.Counts.{next_power, is_low, low_rate}
-use Rattle.rs_field.specs.code.Placement.{placement, low_placement, decoder_rows}
+use Rattle.rs_field.specs.code.Frame.{placement, low_placement, decoder_rows}
 use Rattle.rs_rate.specs.Configured.{frame_of}
 
 -- The frame of a decoder of the low rate, with each number written out.

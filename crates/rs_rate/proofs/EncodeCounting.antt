@@ -4,7 +4,7 @@ use Rattle.std.proofs.Common.{◌∙◌, subst, arith}
 use Rattle.std.proofs.Math.Nat.{add-div_right, div-mul-le_self, mul-le-mul_right}
 use Rattle.std.proofs.lemmas.Nat.{pow_pos, le-div, div-add-mod'}
 use Rattle.rs_field.specs.code.Counts.{Rate, next_power, supports, is_low, low_rate, high_rate}
-use Rattle.rs_field.specs.code.Placement.{encoder_rows}
+use Rattle.rs_field.specs.code.Frame.{encoder_rows}
 use Rattle.rs_field.specs.words.StepBounds.{CountsUpTo, transform_steps}
 use Rattle.rs_field.specs.code.Bounds.{encode_steps, encode_steps_at}
 use Rattle.rs_field.specs.declared.words.steps.Steps.{Steps}

@@ -10,7 +10,7 @@ use Rattle.std.proofs.lemmas.Nat.{pow_pos, div-add-mod'}
 use Rattle.rs_field.specs.words.Polynomial.{value}
 use Rattle.rs_field.specs.words.Transform.{sum_below, forward}
 use Rattle.rs_field.specs.code.Counts.{next_power, supports, is_low, high_rate}
-use Rattle.rs_field.specs.code.Placement.{placement, high_placement}
+use Rattle.rs_field.specs.code.Frame.{placement, high_placement}
 use Rattle.rs_field.proofs.of_words.UpTo.{get-up_to}
 use Rattle.rs_field.proofs.of_words.Combination.{sum_below-suc, sum_below-zero, sum_below-same, sum_below-add}
 use Rattle.rs_field.proofs.of_words.Combination.{forward-same, forward-zero}

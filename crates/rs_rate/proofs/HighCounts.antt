@@ -6,7 +6,7 @@ use Rattle.std.proofs.Math.Bool.{and_comm}
 use Rattle.std.proofs.Math.Nat.{mul-mod_left}
 use Rattle.std.proofs.lemmas.Nat.{pow_pos, div-add-mod'}
 use Rattle.rs_field.specs.code.Counts.{next_power, supports, low_rate, high_rate}
-use Rattle.rs_field.specs.code.Placement.{encoder_rows}
+use Rattle.rs_field.specs.code.Frame.{encoder_rows}
 use Rattle.rs_field.proofs.of_code.NextPower.{next_power-small}
 use Rattle.rs_field.proofs.of_code.SupportedCounts.{low_fits}
 use Rattle.rs_rate.specs.Configured.{low_or_high}

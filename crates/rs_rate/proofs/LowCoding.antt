@@ -5,7 +5,7 @@ use Rattle.std.proofs.lemmas.Bool.{cases_lt}
 use Rattle.rs_field.specs.words.Polynomial.{value}
 use Rattle.rs_field.specs.words.Transform.{forward}
 use Rattle.rs_field.specs.code.Counts.{next_power, supports, is_low, low_rate}
-use Rattle.rs_field.specs.code.Placement.{placement, low_placement}
+use Rattle.rs_field.specs.code.Frame.{placement, low_placement}
 use Rattle.rs_field.specs.code.Code.{AreRecoveryWords}
 use Rattle.rs_field.specs.words.UpTo.{up_to}
 use Rattle.rs_field.proofs.of_words.Combination.{forward-same, forward-moved}

@@ -14,7 +14,7 @@ use Rattle.rs_field.specs.code.OneCall.{Items, default_of, counts_outcome, origi
 use Rattle.rs_field.specs.code.OneCall.{with_shards, with_originals, with_recoveries, with_both, encoding_outcome}
 use Rattle.rs_field.specs.code.OneCall.{decoding_outcome, OneEncodeAnswers, OneDecodeAnswers}
 use Rattle.rs_field.specs.code.Outcome.{result_and_then}
-use Rattle.rs_field.specs.code.Placement.{encoder_rows, decoder_rows}
+use Rattle.rs_field.specs.code.Frame.{encoder_rows, decoder_rows}
 use Rattle.rs_field.specs.code.RoundTrip.{AreCoded}
 use Rattle.rs_field.proofs.of_code.Listed.{items_from-zero}
 use Rattle.rs_field.proofs.of_code.OneRoundTrip.{coded_by}

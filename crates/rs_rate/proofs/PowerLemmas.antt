@@ -7,7 +7,7 @@ use Rattle.std.proofs.Math.Nat.{div-eq_of_lt-le, zero-mod, mul-mod_left, mul-le-
 use Rattle.std.specs.Int.{next_multiple_of}
 use Rattle.rs_field.proofs.of_code.NextPower.{next_power-large}
 use Rattle.rs_field.specs.code.Counts.{next_power, supports, is_low, low_rate}
-use Rattle.rs_field.specs.code.Placement.{next_multiple, encoder_rows}
+use Rattle.rs_field.specs.code.Frame.{next_multiple, encoder_rows}
 use Rattle.rs_field.proofs.of_code.SupportedCounts.{low_fits}
 use Rattle.rs_rate.specs.Configured.{low_or_high}
 

@@ -4,7 +4,7 @@ use Rattle.std.proofs.Common.{◌≡◌, ℕ, ◌+◌, ◌<◌, ◌≤◌, Bool,
 use Rattle.std.proofs.Common.{true≢false, arith}
 use Rattle.std.specs.Prelude.{slice_index, if◌then◌else◌}
 use Rattle.rs_field.specs.code.Counts.{Rate, next_power, supports, is_low, low_rate, high_rate, default_rate}
-use Rattle.rs_field.specs.code.Placement.{Placement, placement, low_placement, high_placement, block_rows, decoder_rows}
+use Rattle.rs_field.specs.code.Frame.{Placement, placement, low_placement, high_placement, block_rows, decoder_rows}
 use Rattle.rs_field.specs.words.Polynomial.{value}
 use Rattle.rs_field.specs.code.Column.{Shard, columns}
 use Rattle.rs_field.specs.code.Configuration.{configuration}

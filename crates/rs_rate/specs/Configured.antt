@@ -2,7 +2,7 @@
 use Rattle.std.specs.Prelude.{◌≡◌, ◌%◌, ◌<◌, ℕ, Bool, true, if◌then◌else◌, Option, Some, None}
 use Rattle.rs_field.specs.code.Counts.{Rate, low_rate, high_rate, supports, is_low}
 use Rattle.rs_field.specs.code.Configuration.{Configuration as AsDefined, configuration}
-use Rattle.rs_field.specs.code.Placement.{placement, block_rows, encoder_rows, decoder_rows}
+use Rattle.rs_field.specs.code.Frame.{placement, block_rows, encoder_rows, decoder_rows}
 use Rattle.rs_rate.specs.declared.values.configuration.Configuration.{Configuration}
 use Rattle.rs_rate.specs.declared.values.counts.Choice.{Choice}
 use Rattle.rs_rate.specs.declared.values.shapes.Frame.{Frame}

@@ -10,7 +10,7 @@ use Rattle.rs_field.specs.code.Encoder.{IsEncoder}
 use Rattle.rs_field.specs.code.Decoder.{IsDecoder}
 use Rattle.rs_field.specs.code.Given.{AreWithin}
 use Rattle.rs_field.specs.words.UpTo.{up_to}
-use Rattle.rs_field.specs.code.Placement.{encoder_rows, decoder_rows}
+use Rattle.rs_field.specs.code.Frame.{encoder_rows, decoder_rows}
 use Rattle.rs_field.specs.rows.Rows.{Chunks}
 use Rattle.rs_field.specs.rows.MarkedRows.{is_marked}
 use Rattle.rs_field.proofs.of_words.UpTo.{length-up_to, get-up_to}

@@ -1,7 +1,7 @@
 -- The shapes for which the rows of an encoder and of a decoder can be set up.
 use Rattle.std.specs.Prelude.{◌≡◌, ◌≢◌, ◌+◌, ◌<◌, ◌≤◌, ℕ}
 use Rattle.rs_field.specs.code.Counts.{next_power}
-use Rattle.rs_field.specs.code.Placement.{encoder_rows, decoder_rows}
+use Rattle.rs_field.specs.code.Frame.{encoder_rows, decoder_rows}
 use Rattle.rs_rate.specs.Configured.{IsConfigured, low_or_high, frame_of}
 use Rattle.rs_rate.specs.declared.values.shapes.EncoderShape.{EncoderShape}
 use Rattle.rs_rate.specs.declared.values.shapes.DecoderShape.{DecoderShape}

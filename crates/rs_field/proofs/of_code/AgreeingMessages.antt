@@ -6,7 +6,8 @@ use Rattle.std.proofs.lemmas.Bool.{cases_eq}
 use Rattle.std.proofs.Math.Nat.{mod-eq_of_lt}
 use Rattle.rs_field.specs.words.Polynomial.{value}
 use Rattle.rs_field.specs.code.Column.{Shard, IsShard, AreShards, shard_at, column, columns}
-use Rattle.rs_field.specs.code.Placement.{Placement, placement}
+use Rattle.rs_field.specs.declared.code.frame.Frame.{Frame}
+use Rattle.rs_field.specs.code.Frame.{frame_of, original_row, recovery_row}
 use Rattle.rs_field.specs.code.Configuration.{Configuration}
 use Rattle.rs_field.specs.code.Given.{Shards, Agrees, Consistent}
 use Rattle.rs_field.specs.code.Code.{Codes}
@@ -21,18 +22,21 @@ pub record AreSized (count size : ℕ) (given : Shards) : Type 0 where
   pub each : (i : ℕ) (shard : Shard) → given i ≡ Some shard → (i < count) × IsShard size shard
 
 -- The words at the places of the given shards are the words of column j of these shards.
-pub record HasWords (p : Placement) (originals recovery : Shards) (j : ℕ) (words : ℕ → ℕ) : Type 0 where
-  pub own : (i : ℕ) (shard : Shard) → originals i ≡ Some shard → words (p.originals_from + i) ≡ column j shard
-  pub coded : (i : ℕ) (shard : Shard) → recovery i ≡ Some shard → words (p.recovery_from + i) ≡ column j shard
+pub record HasWords (frame : Frame) (originals recovery : Shards) (j : ℕ) (words : ℕ → ℕ) : Type 0 where
+  pub own : (i : ℕ) (shard : Shard) → originals i ≡ Some shard → words (original_row frame i) ≡ column j shard
+  pub coded : (i : ℕ) (shard : Shard) → recovery i ≡ Some shard → words (recovery_row frame i) ≡ column j shard
+
+-- The frame of a configuration.
+abbrev pub frame_at : Configuration → Frame
+frame_at c = frame_of c.rate c.original_count c.recovery_count
 
 -- The polynomial of each column of a message that agrees has the given words as values.
 pub column_taken : (c : Configuration) (originals recovery : Shards) (message : List Shard) (j : ℕ) (words : ℕ → ℕ)
     → j < c.shard_bytes / 2
     → Agrees c originals recovery message
-    → HasWords (placement c.rate c.original_count c.recovery_count) originals recovery j words
+    → HasWords (frame_at c) originals recovery j words
     → (p : List ℕ) × Codes c.rate c.original_count c.recovery_count (columns j message) p
-    × TakesGiven (placement c.rate c.original_count c.recovery_count) c.original_count c.recovery_count originals
-    recovery words p
+    × TakesGiven (frame_at c) c.original_count c.recovery_count originals recovery words p
 column_taken c originals recovery message j words hj a w =
     let (p, codes, at) = a.coded.1.words j hj in (
       p,
@@ -67,86 +71,72 @@ chosen (suc n) P h =
 abbrev pub IsTaken : (c : Configuration) (originals recovery : Shards) (words : ℕ → ℕ → ℕ) → ℕ → List ℕ → Type 0
 IsTaken c originals recovery words j p =
     (message : List ℕ) × Codes c.rate c.original_count c.recovery_count message p
-    × TakesGiven (placement c.rate c.original_count c.recovery_count) c.original_count c.recovery_count originals
-    recovery (words j) p
+    × TakesGiven (frame_at c) c.original_count c.recovery_count originals recovery (words j) p
 
--- If each column has a polynomial that codes and has the given words as values, some message agrees with the given
--- shards.
-pub consistent : (c : Configuration) (originals recovery : Shards) (words : ℕ → ℕ → ℕ) → c.shard_bytes % 2 ≡ 0
-    → AreSized c.original_count c.shard_bytes originals → AreSized c.recovery_count c.shard_bytes recovery
-    → ((j : ℕ) → j < c.shard_bytes / 2
-    → HasWords (placement c.rate c.original_count c.recovery_count) originals recovery j (words j))
-    → ((j : ℕ) → j < c.shard_bytes / 2 → (p : List ℕ) × IsTaken c originals recovery words j p)
-    → Consistent c originals recovery
-consistent c originals recovery words even own_sized coded_sized has made =
-    by_polynomials (chosen (c.shard_bytes / 2) (IsTaken c originals recovery words) made)
-  where
-    small : (v : ℕ) → v % 65536 < 65536
-    small v = omega arith
+small : (v : ℕ) → v % 65536 < 65536
+small v = omega arith
 
-    same_word : (f : ℕ → List ℕ) → ((j : ℕ) → j < c.shard_bytes / 2 → IsTaken c originals recovery words j (f j))
-        → (j x : ℕ) → j < c.shard_bytes / 2 → value (f j) x % 65536 ≡ value (f j) x
-    same_word f at j x hj = mod-eq_of_lt (value_lt (f j) x (words_from (f j) (at j hj).1.coefficients))
+module _ (c : Configuration) (originals recovery : Shards) (words : ℕ → ℕ → ℕ) (even : c.shard_bytes % 2 ≡ 0)
+    (own_sized : AreSized c.original_count c.shard_bytes originals)
+    (coded_sized : AreSized c.recovery_count c.shard_bytes recovery)
+    (has : (j : ℕ) → j < c.shard_bytes / 2 → HasWords (frame_at c) originals recovery j (words j)) where
+  module _ (f : ℕ → List ℕ) (at : (j : ℕ) → j < c.shard_bytes / 2 → IsTaken c originals recovery words j (f j)) where
+    same_word : (j x : ℕ) → j < c.shard_bytes / 2 → value (f j) x % 65536 ≡ value (f j) x
+    same_word j x hj = mod-eq_of_lt (value_lt (f j) x (words_from (f j) (at j hj).1.coefficients))
 
-    by_shards : (f : ℕ → List ℕ) → ((j : ℕ) → j < c.shard_bytes / 2 → IsTaken c originals recovery words j (f j))
-        → (message : List Shard) × AreShards c.original_count c.shard_bytes message
-        × ((i j : ℕ) → i < c.original_count → j < c.shard_bytes / 2
-        → slice_index (columns j message) i
-        ≡ value (f j) ((placement c.rate c.original_count c.recovery_count).originals_from + i) % 65536)
-        → (coded : List Shard) × AreShards c.recovery_count c.shard_bytes coded
-        × ((i j : ℕ) → i < c.recovery_count → j < c.shard_bytes / 2
-        → slice_index (columns j coded) i
-        ≡ value (f j) ((placement c.rate c.original_count c.recovery_count).recovery_from + i) % 65536)
-        → Consistent c originals recovery
-    by_shards f at (message, are, is) (coded, are_coded, is_coded) = (
-      message,
-      record {
-        shards = are;
-        own = λ i s e.
-            let sized = own_sized.each i s e in
-            shard_from_columns c.shard_bytes (shard_at message i) s
-            (are.each i [] (subst (λ (k : ℕ). i < k) (sym are.length_is) sized.0)) sized.1 even
-            (λ j hj.
-            sym (columns-at j message i) ∙ is i j sized.0 hj
-            ∙ same_word f at j ((placement c.rate c.original_count c.recovery_count).originals_from + i) hj
-            ∙ (at j hj).2.own i sized.0 (ap is_some e) ∙ (has j hj).own i s e);
-        coded = (
-          coded,
+    -- Shards whose columns are values of the polynomials are given shards, where these are given.
+    taken : (n from : ℕ) (given : Shards) (shards : List Shard) → AreSized n c.shard_bytes given
+        → AreShards n c.shard_bytes shards
+        → ((i j : ℕ) → i < n → j < c.shard_bytes / 2 → slice_index (columns j shards) i ≡ value (f j) (from + i) % 65536)
+        → ((j i : ℕ) (shard : Shard) → j < c.shard_bytes / 2 → i < n → given i ≡ Some shard
+        → value (f j) (from + i) ≡ column j shard)
+        → (i : ℕ) (shard : Shard) → given i ≡ Some shard → shard_at shards i ≡ shard
+    taken n from given shards sized are is own i s e =
+        let here = sized.each i s e in
+        shard_from_columns c.shard_bytes (shard_at shards i) s
+        (are.each i [] (subst (λ (k : ℕ). i < k) (sym are.length_is) here.0)) here.1 even
+        (λ j hj. sym (columns-at j shards i) ∙ is i j here.0 hj ∙ same_word j (from + i) hj ∙ own j i s hj here.0 e)
+
+    -- The polynomials have shards as their values, and these shards agree with the given shards.
+    by_polynomials : Consistent c originals recovery
+    by_polynomials =
+        let own_from = (frame_at c).originals_from in
+        let coded_from = (frame_at c).recovery_from in
+        let (message, are, is) = shards_of c.original_count c.shard_bytes
+        (λ i j. value (f j) (original_row (frame_at c) i) % 65536) even
+        (λ i j. small (value (f j) (original_row (frame_at c) i))) in
+        let (coded, are_coded, is_coded) = shards_of c.recovery_count c.shard_bytes
+        (λ i j. value (f j) (recovery_row (frame_at c) i) % 65536) even
+        (λ i j. small (value (f j) (recovery_row (frame_at c) i))) in (
+          message,
           record {
-            shards = are_coded;
-            words = λ j hj. (
-              f j,
+            shards = are;
+            own = taken c.original_count own_from originals message own_sized are is (λ j i s hj hi e.
+                (at j hj).2.own i hi (ap is_some e) ∙ (has j hj).own i s e);
+            coded = (
+              coded,
               record {
-                degree = (at j hj).1.degree;
-                coefficients = (at j hj).1.coefficients;
-                originals = λ i hi. sym
-                    (is i j hi hj ∙ same_word f at j
-                    ((placement c.rate c.original_count c.recovery_count).originals_from + i) hj);
-                zeros = (at j hj).1.zeros;
+                shards = are_coded;
+                words = λ j hj. (
+                  f j,
+                  record {
+                    degree = (at j hj).1.degree;
+                    coefficients = (at j hj).1.coefficients;
+                    originals = λ i hi. sym (is i j hi hj ∙ same_word j (original_row (frame_at c) i) hj);
+                    zeros = (at j hj).1.zeros;
+                  },
+                  λ i hi. is_coded i j hi hj ∙ same_word j (recovery_row (frame_at c) i) hj,
+                );
               },
-              λ i hi. is_coded i j hi hj
-                  ∙ same_word f at j ((placement c.rate c.original_count c.recovery_count).recovery_from + i) hj,
+              taken c.recovery_count coded_from recovery coded coded_sized are_coded is_coded (λ j i s hj hi e.
+                  (at j hj).2.coded i hi (ap is_some e) ∙ (has j hj).coded i s e),
             );
           },
-          λ i s e.
-              let sized = coded_sized.each i s e in
-              shard_from_columns c.shard_bytes (shard_at coded i) s
-              (are_coded.each i [] (subst (λ (k : ℕ). i < k) (sym are_coded.length_is) sized.0)) sized.1 even
-              (λ j hj.
-              sym (columns-at j coded i) ∙ is_coded i j sized.0 hj
-              ∙ same_word f at j ((placement c.rate c.original_count c.recovery_count).recovery_from + i) hj
-              ∙ (at j hj).2.coded i sized.0 (ap is_some e) ∙ (has j hj).coded i s e),
-        );
-      },
-    )
+        )
 
-    by_polynomials : (f : ℕ → List ℕ) × ((j : ℕ) → j < c.shard_bytes / 2 → IsTaken c originals recovery words j (f j))
-        → Consistent c originals recovery
-    by_polynomials (f, at) =
-        by_shards f at
-        (shards_of c.original_count c.shard_bytes
-        (λ i j. value (f j) ((placement c.rate c.original_count c.recovery_count).originals_from + i) % 65536) even
-        (λ i j. small (value (f j) ((placement c.rate c.original_count c.recovery_count).originals_from + i))))
-        (shards_of c.recovery_count c.shard_bytes
-        (λ i j. value (f j) ((placement c.rate c.original_count c.recovery_count).recovery_from + i) % 65536) even
-        (λ i j. small (value (f j) ((placement c.rate c.original_count c.recovery_count).recovery_from + i))))
+  -- If each column has a polynomial that codes and has the given words as values, some message agrees with the given
+  -- shards.
+  pub consistent : ((j : ℕ) → j < c.shard_bytes / 2 → (p : List ℕ) × IsTaken c originals recovery words j p)
+      → Consistent c originals recovery
+  consistent made =
+      let (f, at) = chosen (c.shard_bytes / 2) (IsTaken c originals recovery words) made in by_polynomials f at

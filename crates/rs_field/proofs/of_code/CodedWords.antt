@@ -1,16 +1,18 @@
 -- Any k words are coded by a polynomial, so they have recovery words.
-use Rattle.std.proofs.Common.{rules, ◌≡◌, ℕ, zero, suc, ◌+◌, ◌-◌, ◌^◌, ◌<◌, ◌≤◌, Bool, true, cond, List, [], ◌∷◌}
+use Rattle.std.proofs.Common.{rules, ◌≡◌, ℕ, zero, suc, ◌-◌, ◌^◌, ◌<◌, ◌≤◌, Bool, true, cond, List, [], ◌∷◌}
 use Rattle.std.proofs.Common.{length, refl, ap, ◌∙◌, arith, pow_mono}
 use Rattle.std.specs.Prelude.{slice_index, nat_lt}
 use Rattle.std.proofs.lemmas.Bool.{cases_lt, lt-ltb, le-ltb}
 use Rattle.std.proofs.lemmas.Grind.{common_steps}
 use Rattle.rs_field.specs.words.Polynomial.{value}
 use Rattle.rs_field.specs.code.Counts.{Rate, supports}
-use Rattle.rs_field.specs.code.Placement.{Placement, placement}
+use Rattle.rs_field.specs.declared.code.frame.Frame.{Frame}
+use Rattle.rs_field.specs.code.Frame.{IsFrame, frame_of, row_count, original_row, recovery_row}
+use Rattle.rs_field.specs.code.Frame.{coefficient_count}
 use Rattle.rs_field.specs.code.Code.{Codes, AreRecoveryWords}
 use Rattle.rs_field.proofs.of_words.Roots.{value_lt, words_from}
 use Rattle.rs_field.proofs.of_words.Interpolation.{interpolated}
-use Rattle.rs_field.proofs.of_code.Frame.{IsFrame, CodesIn, unframed}
+use Rattle.rs_field.proofs.of_code.Frame.{CodesIn, unframed}
 use Rattle.rs_field.proofs.of_code.RateFrames.{has_frame}
 
 -- The first k values of a function, and zero from k on.
@@ -29,23 +31,23 @@ first-word : (k : ℕ) (f : ℕ → ℕ) → ((i : ℕ) → i < k → f i < 2 ^ 
 first-word k f words i = grind (arith, common_steps, cases_lt, first-below, first-past)
 
 -- In a frame, any k words are coded by a polynomial.
-pub coded_in : (p : Placement) (k r e bound zeros_end : ℕ) (words : List ℕ) → IsFrame p k r e bound zeros_end
+coded_in : (frame : Frame) (k r : ℕ) (words : List ℕ) → IsFrame frame k r
     → ((j : ℕ) → j < k → slice_index words j < 65536)
-    → (q : List ℕ) × CodesIn p k bound zeros_end words q
-coded_in p k r e bound zeros_end words f are_words =
-    let room : 2 ^ e ≤ 2 ^ 16 = pow_mono f.few in
-    let zeros : (p.zeros_from ≤ zeros_end) × (zeros_end ≤ 2 ^ e) = f.zeros in
-    let q = interpolated p.originals_from bound (first k (λ j. slice_index words j)) (omega arith)
-    (λ i h. first-word k (λ j. slice_index words j) are_words i) in (
+    → (q : List ℕ) × CodesIn frame k words q
+coded_in frame k r words f are_words =
+    let room : row_count frame ≤ 2 ^ 16 = pow_mono f.few in
+    let zeros = f.zeros in
+    let q = interpolated frame.originals_from (coefficient_count frame) (first k (λ j. slice_index words j))
+    (omega arith) (λ i h. first-word k (λ j. slice_index words j) are_words i) in (
       q.0,
       record {
         degree = q.1.degree;
         coefficients = q.1.coefficients;
         originals = λ j hj. q.1.at j (omega arith) ∙ first-below k (λ i. slice_index words i) j hj;
         zeros = λ x above below.
-            let back : x ≡ p.originals_from + (x - p.originals_from) = omega arith in
-            ap (value q.0) back ∙ q.1.at (x - p.originals_from) (omega arith)
-            ∙ first-past k (λ i. slice_index words i) (x - p.originals_from) (omega arith);
+            let back : x ≡ original_row frame (x - frame.originals_from) = omega arith in
+            ap (value q.0) back ∙ q.1.at (x - frame.originals_from) (omega arith)
+            ∙ first-past k (λ i. slice_index words i) (x - frame.originals_from) (omega arith);
       },
     )
 
@@ -55,8 +57,8 @@ pub coded : (rate : Rate) (k r : ℕ) (words : List ℕ) → supports rate k r �
     → (p : List ℕ) × Codes rate k r words p
 coded rate k r words is are_words =
     let f = has_frame rate k r is in
-    let q = coded_in (placement rate k r) k r f.exponent f.bound f.zeros_end words f.frame are_words in
-    let p = unframed rate k r f.exponent f.bound f.zeros_end words q.0 f.frame q.1 in
+    let q = coded_in (frame_of rate k r) k r words f are_words in
+    let p = unframed rate k r f words q.0 q.1 in
     (p.0, p.1)
 
 -- The words that a polynomial codes are below 65536.
@@ -86,8 +88,8 @@ pub recovered : (rate : Rate) (k r : ℕ) (words : List ℕ) → supports rate k
     → (recovery : List ℕ) × (length recovery ≡ r) × AreRecoveryWords rate k r words recovery
 recovered rate k r words is are_words =
     let p = coded rate k r words is are_words in
-    let f : ℕ → ℕ = λ i. value p.0 ((placement rate k r).recovery_from + i) in (
-      values_of r (λ i. value p.0 ((placement rate k r).recovery_from + i)),
+    let f : ℕ → ℕ = λ i. value p.0 (recovery_row (frame_of rate k r) i) in (
+      values_of r (λ i. value p.0 (recovery_row (frame_of rate k r) i)),
       length-values_of r f,
-      (p.0, p.1, λ i hi. values_of-at r (λ i. value p.0 ((placement rate k r).recovery_from + i)) i hi),
+      (p.0, p.1, λ i hi. values_of-at r (λ i. value p.0 (recovery_row (frame_of rate k r) i)) i hi),
     )

@@ -9,7 +9,8 @@ use Rattle.std.proofs.lemmas.Grind.{common_steps}
 use Rattle.rs_field.specs.words.Polynomial.{value}
 use Rattle.rs_field.specs.code.Column.{Shard, AreShards, columns}
 use Rattle.rs_field.specs.code.Counts.{Rate, next_power, is_low}
-use Rattle.rs_field.specs.code.Placement.{Placement, placement, low_placement, high_placement}
+use Rattle.rs_field.specs.declared.code.frame.Frame.{Frame}
+use Rattle.rs_field.specs.code.Frame.{frame_of, low_frame, high_frame, degree_bound, original_row, recovery_row}
 use Rattle.rs_field.specs.code.Configuration.{Configuration}
 use Rattle.rs_field.specs.code.Code.{Codes, AreRecoveryWords, AreRecovery}
 use Rattle.rs_field.proofs.of_words.Linear.{passes_below, from_passes_below}
@@ -51,43 +52,43 @@ same_below n f g = passes_below n (λ i. nat_eq (f i) (g i))
 same_from : (n : ℕ) (f g : ℕ → ℕ) → same_below n f g ≡ true → (i : ℕ) → i < n → f i ≡ g i
 same_from n f g h i below = eqb-true (f i) (g i) (from_passes_below n (λ i. nat_eq (f i) (g i)) h i below)
 
--- The test of `Codes`, at a placement.
-abbrev codes_at : Placement → ℕ → List ℕ → List ℕ → Bool
+-- The test of `Codes`, at a frame.
+abbrev codes_at : Frame → ℕ → List ℕ → List ℕ → Bool
 codes_at at k words polynomial =
-    nat_eq (length polynomial) at.degree_bound
+    nat_eq (length polynomial) (degree_bound at)
     && (all_below 65536 polynomial
-    && (same_below k (λ j. value polynomial (at.originals_from + j)) (slice_index words)
+    && (same_below k (λ j. value polynomial (original_row at j)) (slice_index words)
     && same_below (at.zeros_to - at.zeros_from) (λ x. value polynomial (at.zeros_from + x)) (λ x. 0)))
 
 -- The test of `Codes`.
 abbrev pub codes : Rate → ℕ → ℕ → List ℕ → List ℕ → Bool
-codes rate k r words polynomial = codes_at (placement rate k r) k words polynomial
+codes rate k r words polynomial = codes_at (frame_of rate k r) k words polynomial
 
 -- A polynomial that passes `codes` codes the words.
 pub codes_from : (rate : Rate) (k r : ℕ) (words polynomial : List ℕ) → codes rate k r words polynomial ≡ true
     → Codes rate k r words polynomial
 codes_from rate k r words P h =
-    let one : (nat_eq (length P) (placement rate k r).degree_bound ≡ true) × _ = and_parts _ _ h in
+    let one : (nat_eq (length P) (degree_bound (frame_of rate k r)) ≡ true) × _ = and_parts _ _ h in
     let two : (all_below 65536 P ≡ true) × _ = and_parts _ _ one.1 in
-    let three : (same_below k (λ j. value P ((placement rate k r).originals_from + j)) (slice_index words) ≡ true)
-    × (same_below ((placement rate k r).zeros_to - (placement rate k r).zeros_from)
-    (λ x. value P ((placement rate k r).zeros_from + x)) (λ x. 0) ≡ true) = and_parts _ _ two.1 in
+    let three : (same_below k (λ j. value P (original_row (frame_of rate k r) j)) (slice_index words) ≡ true)
+    × (same_below ((frame_of rate k r).zeros_to - (frame_of rate k r).zeros_from)
+    (λ x. value P ((frame_of rate k r).zeros_from + x)) (λ x. 0) ≡ true) = and_parts _ _ two.1 in
     record {
       degree = eqb-true _ _ one.0;
       coefficients = all_from (λ w. nat_lt w 65536) (λ w. w < 65536) (λ w. ltb-true w 65536) P two.0;
-      originals = same_from k (λ j. value P ((placement rate k r).originals_from + j)) (slice_index words) three.0;
+      originals = same_from k (λ j. value P (original_row (frame_of rate k r) j)) (slice_index words) three.0;
       zeros = λ x from to.
           ap (value P) (sym (omega arith))
-          ∙ same_from ((placement rate k r).zeros_to - (placement rate k r).zeros_from)
-          (λ x. value P ((placement rate k r).zeros_from + x)) (λ x. 0) three.1
-          (x - (placement rate k r).zeros_from) (omega arith);
+          ∙ same_from ((frame_of rate k r).zeros_to - (frame_of rate k r).zeros_from)
+          (λ x. value P ((frame_of rate k r).zeros_from + x)) (λ x. 0) three.1
+          (x - (frame_of rate k r).zeros_from) (omega arith);
     }
 
 -- The test of `AreRecoveryWords`, with the polynomial.
 abbrev recovers_words : Rate → ℕ → ℕ → List ℕ → List ℕ → List ℕ → Bool
 recovers_words rate k r words recovery polynomial =
     codes rate k r words polynomial && same_below r (slice_index recovery)
-    (λ i. value polynomial ((placement rate k r).recovery_from + i))
+    (λ i. value polynomial (recovery_row (frame_of rate k r) i))
 
 -- The test of `AreRecovery`, with the polynomial of each column.
 abbrev pub recovers : Configuration → List Shard → List Shard → List (List ℕ) → Bool
@@ -114,14 +115,14 @@ recovery_from c message recovery polynomials h =
             P j,
             codes_from c.rate c.original_count c.recovery_count (columns j message) (P j) column.0,
             same_from c.recovery_count (slice_index (columns j recovery))
-                (λ i. value (P j) ((placement c.rate c.original_count c.recovery_count).recovery_from + i)) column.1,
+                (λ i. value (P j) (recovery_row (frame_of c.rate c.original_count c.recovery_count) i)) column.1,
           );
     }
 
--- A rate that does not use the low rate has the placement of the high rate.
-placed_high : (rate : Rate) (k r : ℕ) → is_low rate k r ≡ false → placement rate k r ≡ high_placement k r
-unfolding placement
-placed_high rate k r h = ap (λ (b : Bool). cond b (low_placement k) (high_placement k r)) h
+-- A rate that does not use the low rate has the frame of the high rate.
+placed_high : (rate : Rate) (k r : ℕ) → is_low rate k r ≡ false → frame_of rate k r ≡ high_frame k r
+unfolding frame_of
+placed_high rate k r h = ap (λ (b : Bool). cond b (low_frame k r) (high_frame k r)) h
 
 -- The originals of the high rate are below 2 ^ d.
 abbrev lie_below : ℕ → Rate → ℕ → ℕ → Bool
@@ -148,7 +149,7 @@ recovers_high d c message recovery polynomials =
 -- 2 ^ d on.
 words_high : (d : ℕ) (rate : Rate) (k r : ℕ) (words recovery P : List ℕ) → lie_below d rate k r ≡ true
     → joins d k r (next_power r) words recovery P ≡ true → AreRecoveryWords rate k r words recovery
-unfolding high_placement
+unfolding high_frame
 words_high d rate k r words recovery P lie join =
     let m = next_power r in
     let a : (not (is_low rate k r) ≡ true) × _ = and_parts _ _ lie in
@@ -159,7 +160,7 @@ words_high d rate k r words recovery P lie join =
     let g : (same_below k (λ j. value P (m + j)) (slice_index words) ≡ true) × _ = and_parts _ _ f.1 in
     let h : (same_below (2 ^ d - (m + k)) (λ x. value P (m + k + x)) (λ x. 0) ≡ true)
     × (same_below r (slice_index recovery) (value P) ≡ true) = and_parts _ _ g.1 in
-    let high : placement rate k r ≡ high_placement k r = placed_high rate k r (not-true (is_low rate k r) a.0) in
+    let high : frame_of rate k r ≡ high_frame k r = placed_high rate k r (not-true (is_low rate k r) a.0) in
     let depth : d ≤ 16 = leb-true d 16 c.0 in
     let top : 2 ^ d ≤ 2 ^ 16 = pow_mono {i = d} depth in
     let room : r ≤ 2 ^ d = leb-true r (2 ^ d) c.1 in
@@ -174,7 +175,7 @@ words_high d rate k r words recovery P lie join =
       λ i below.
           same_from r (slice_index recovery) (value P) h.1 i below ∙ ap (value P) (omega arith)
           ∙ sym (value-inside d P depth each (0 + i) (omega arith))
-          ∙ ap (λ (q : Placement). value (times (points (2 ^ d) (65536 - 2 ^ d)) P) (q.recovery_from + i)) (sym high),
+          ∙ ap (λ (q : Frame). value (times (points (2 ^ d) (65536 - 2 ^ d)) P) (q.recovery_from + i)) (sym high),
     )
 
 -- Shards that pass `recovers_high` are the recovery shards.

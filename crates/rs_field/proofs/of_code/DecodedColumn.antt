@@ -2,7 +2,7 @@
 -- that codes.
 use Rattle.std.proofs.Common.{rules, ◌≡◌, ℕ, ◌+◌, ◌-◌, ◌^◌, ◌<◌, ◌≤◌, ◌⊎◌, Bool, true, cond, List, length, sym, ap, ◌∙◌}
 use Rattle.std.proofs.Common.{arith, inl, inr, pow_mono}
-use Rattle.std.specs.Prelude.{slice_index, is_some}
+use Rattle.std.specs.Prelude.{is_some}
 use Rattle.std.proofs.lemmas.Bool.{cases_lt}
 use Rattle.std.proofs.lemmas.Grind.{common_steps}
 use Rattle.rs_field.specs.words.Polynomial.{value}
@@ -11,7 +11,9 @@ use Rattle.rs_field.specs.words.Transform.{forward}
 use Rattle.rs_field.specs.words.Locator.{log_sum}
 use Rattle.rs_field.specs.words.Derivative.{IsDerivativeAdded}
 use Rattle.rs_field.specs.code.Counts.{Rate}
-use Rattle.rs_field.specs.code.Placement.{Placement, placement}
+use Rattle.rs_field.specs.declared.code.frame.Frame.{Frame}
+use Rattle.rs_field.specs.code.Frame.{IsFrame, frame_of, row_count, original_row, recovery_row, zeros_end}
+use Rattle.rs_field.specs.code.Frame.{coefficient_count}
 use Rattle.rs_field.specs.code.Given.{Shards, count_below}
 use Rattle.rs_field.specs.code.Code.{Codes}
 use Rattle.rs_field.proofs.of_words.Roots.{value_lt, words_from}
@@ -19,201 +21,174 @@ use Rattle.rs_field.proofs.of_words.LocatorProduct.{marked, residue_undone}
 use Rattle.rs_field.proofs.of_words.Total.{product-comm}
 use Rattle.rs_field.proofs.of_words.Restored.{restored}
 use Rattle.rs_field.proofs.of_words.ExactCheck.{located_values, AreLocated, Takes, zero_rows, taken_from_zero_rows}
-use Rattle.rs_field.proofs.of_code.Frame.{IsFrame, CodesIn, framed, unframed}
+use Rattle.rs_field.proofs.of_code.Frame.{CodesIn, framed, unframed}
 use Rattle.rs_field.proofs.of_code.ErasedCount.{AreErasures, erased_count}
 use Rattle.rs_field.proofs.of_code.CodedWords.{values_of, values_of-at, length-values_of}
 
 -- A polynomial has the words of the given shards as values at their places.
-pub record TakesGiven (p : Placement) (k r : ℕ) (originals recovery : Shards) (words : ℕ → ℕ)
+pub record TakesGiven (frame : Frame) (k r : ℕ) (originals recovery : Shards) (words : ℕ → ℕ)
     (polynomial : List ℕ) : Type 0 where
   pub own : (i : ℕ) → i < k → is_some (originals i) ≡ true
-      → value polynomial (p.originals_from + i) ≡ words (p.originals_from + i)
+      → value polynomial (original_row frame i) ≡ words (original_row frame i)
   pub coded : (i : ℕ) → i < r → is_some (recovery i) ≡ true
-      → value polynomial (p.recovery_from + i) ≡ words (p.recovery_from + i)
+      → value polynomial (recovery_row frame i) ≡ words (recovery_row frame i)
+
+-- The rows of a column: the erased rows, the given words, the located words, and the coefficients whose forward
+-- transform the located words are.
+pub record IsColumnOf (frame : Frame) (k r : ℕ) (originals recovery : Shards)
+    (marks words located rows : ℕ → ℕ) : Type 0 where
+  pub is_frame : IsFrame frame k r
+  pub erasures : AreErasures frame k r originals recovery marks
+  pub are_words : (x : ℕ) → x < row_count frame → words x < 2 ^ 16
+  pub known : (x : ℕ) → frame.zeros_from ≤ x → x < zeros_end frame → words x ≡ 0
+  pub are_located : AreLocated (row_count frame) marks words located
+  pub row_words : (x : ℕ) → x < row_count frame → rows x < 2 ^ 16
+  pub back : (x : ℕ) → x < row_count frame → forward (row_count frame) 0 rows x ≡ located x
+
+between : (a b x : ℕ) → ((a ≤ x) × (x < b)) ⊎ ((x < a) ⊎ (b ≤ x))
+between a b x = elim (cases_lt x a) [
+  | inl below ↦ inr (inl below)
+  | inr above ↦ elim (cases_lt x b) [ inl within ↦ inl (above, within) | inr past ↦ inr (inr past) ]
+]
 
 -- If the entry of a row is zero, the test from which the entry was made is true.
 unmarked_by : (b : Bool) (m : ℕ) → m ≡ cond b 0 1 → m ≡ 0 → b ≡ true
 unmarked_by b m h1 h2 = search rules
 
-pub at_unmarked : (p : Placement) (k r n zeros_end : ℕ) (originals recovery : Shards) (marks words : ℕ → ℕ) (q : List ℕ)
-    → AreErasures p k r n zeros_end originals recovery marks
-    → TakesGiven p k r originals recovery words q → ((x : ℕ) → p.zeros_from ≤ x → x < zeros_end → value q x ≡ words x)
-    → (x : ℕ) → x < n → marks x ≡ 0 → value q x ≡ words x
-at_unmarked p k r n zeros_end originals recovery marks words q h t known x hx none =
-    elim (between p.originals_from (p.originals_from + k) x) [
-      | inl own ↦
-          let back : p.originals_from + (x - p.originals_from) ≡ x = omega arith in
-          let hi : x - p.originals_from < k = omega arith in
-          sym (ap (value q) back)
-          ∙ t.own (x - p.originals_from) hi
-          (unmarked_by (is_some (originals (x - p.originals_from)))
-          (marks (p.originals_from + (x - p.originals_from))) (h.own (x - p.originals_from) hi)
-          (ap marks back ∙ none))
-          ∙ ap words back
-      | inr not_own ↦ elim (between p.recovery_from (p.recovery_from + r) x) [
-        | inl coded ↦
-            let back : p.recovery_from + (x - p.recovery_from) ≡ x = omega arith in
-            let hi : x - p.recovery_from < r = omega arith in
-            sym (ap (value q) back)
-            ∙ t.coded (x - p.recovery_from) hi
-            (unmarked_by (is_some (recovery (x - p.recovery_from)))
-            (marks (p.recovery_from + (x - p.recovery_from))) (h.coded (x - p.recovery_from) hi)
-            (ap marks back ∙ none))
-            ∙ ap words back
-        | inr not_coded ↦ elim (between p.zeros_from zeros_end x) [
-          | inl known_zero ↦ known x known_zero.0 known_zero.1
-          | inr other ↦ (let one : marks x ≡ 1 = h.other x hx not_own not_coded other in absurd (omega arith))
+-- The words of given shards are equal at each row of theirs.
+at_given : (from n x : ℕ) (given : Shards) (marks words : ℕ → ℕ) (q : List ℕ)
+    → ((i : ℕ) → i < n → marks (from + i) ≡ cond (is_some (given i)) 0 1)
+    → ((i : ℕ) → i < n → is_some (given i) ≡ true → value q (from + i) ≡ words (from + i))
+    → from ≤ x → x < from + n → marks x ≡ 0 → value q x ≡ words x
+at_given from n x given marks words q is takes above below none =
+    let back : from + (x - from) ≡ x = omega arith in
+    let hi : x - from < n = omega arith in
+    sym (ap (value q) back)
+    ∙ takes (x - from) hi (unmarked_by (is_some (given (x - from))) (marks (from + (x - from))) (is (x - from) hi)
+    (ap marks back ∙ none))
+    ∙ ap words back
+
+module _ (frame : Frame) (k r : ℕ) (originals recovery : Shards) (marks words : ℕ → ℕ)
+    (h : AreErasures frame k r originals recovery marks) where
+  -- A polynomial that takes the given words takes the words at all rows that are not erased.
+  at_unmarked : (q : List ℕ) → TakesGiven frame k r originals recovery words q
+      → ((x : ℕ) → frame.zeros_from ≤ x → x < zeros_end frame → value q x ≡ words x)
+      → (x : ℕ) → x < row_count frame → marks x ≡ 0 → value q x ≡ words x
+  at_unmarked q t known x hx none =
+      elim (between frame.originals_from (original_row frame k) x) [
+        | inl own ↦ at_given frame.originals_from k x originals marks words q h.own t.own own.0 own.1 none
+        | inr not_own ↦ elim (between frame.recovery_from (recovery_row frame r) x) [
+          | inl coded ↦ at_given frame.recovery_from r x recovery marks words q h.coded t.coded coded.0 coded.1 none
+          | inr not_coded ↦ elim (between frame.zeros_from (zeros_end frame) x) [
+            | inl known_zero ↦ known x known_zero.0 known_zero.1
+            | inr other ↦ (let one : marks x ≡ 1 = h.other x hx not_own not_coded other in absurd (omega arith))
+          ]
         ]
       ]
-    ]
-  where
-    between : (a b x : ℕ) → ((a ≤ x) × (x < b)) ⊎ ((x < a) ⊎ (b ≤ x))
-    between a b x = elim (cases_lt x a) [
-      | inl below ↦ inr (inl below)
-      | inr above ↦ elim (cases_lt x b) [ inl within ↦ inl (above, within) | inr past ↦ inr (inr past) ]
-    ]
 
--- The rows of a column: the erased rows, the given words, the located words, and the coefficients whose forward
--- transform the located words are.
-pub record IsColumnOf (p : Placement) (k r e bound zeros_end : ℕ) (originals recovery : Shards)
-    (marks words located rows : ℕ → ℕ) : Type 0 where
-  pub frame : IsFrame p k r e bound zeros_end
-  pub erasures : AreErasures p k r (2 ^ e) zeros_end originals recovery marks
-  pub are_words : (x : ℕ) → x < 2 ^ e → words x < 2 ^ 16
-  pub known : (x : ℕ) → p.zeros_from ≤ x → x < zeros_end → words x ≡ 0
-  pub are_located : AreLocated (2 ^ e) marks words located
-  pub row_words : (x : ℕ) → x < 2 ^ e → rows x < 2 ^ 16
-  pub back : (x : ℕ) → x < 2 ^ e → forward (2 ^ e) 0 rows x ≡ located x
+  -- A polynomial that takes the words at all rows that are not erased takes the given words.
+  takes_same : (q o : List ℕ) → IsFrame frame k r → Takes (row_count frame) (coefficient_count frame) marks words q
+      → ((x : ℕ) → x < row_count frame → value o x ≡ value q x) → TakesGiven frame k r originals recovery words o
+  takes_same q o f takes same = grind (arith, common_steps)
 
--- A polynomial that codes and has the given words as values is a polynomial of the frame with these values.
-pub taken_in : (rate : Rate) (k r e bound zeros_end : ℕ) (originals recovery : Shards) (marks words : ℕ → ℕ)
-    (message p : List ℕ)
-    → IsFrame (placement rate k r) k r e bound zeros_end
-    → AreErasures (placement rate k r) k r (2 ^ e) zeros_end originals recovery marks
-    → ((x : ℕ) → (placement rate k r).zeros_from ≤ x → x < zeros_end → words x ≡ 0)
-    → Codes rate k r message p → TakesGiven (placement rate k r) k r originals recovery words p
-    → (q : List ℕ) × Takes (2 ^ e) bound marks words q × ((x : ℕ) → x < 2 ^ e → value q x ≡ value p x)
-taken_in rate k r e bound zeros_end originals recovery marks words message p frame erasures known codes takes =
-    let q = framed rate k r e bound zeros_end message p frame codes in
-    let takes_q : TakesGiven (placement rate k r) k r originals recovery words q.0 = record {
-      own = λ i hi some. q.2 ((placement rate k r).originals_from + i) (omega arith) ∙ takes.own i hi some;
-      coded = λ i hi some. q.2 ((placement rate k r).recovery_from + i) (omega arith) ∙ takes.coded i hi some;
-    } in (
-      q.0,
+  -- Such a polynomial codes its values at the originals' points.
+  own_message : (q : List ℕ) → IsFrame frame k r
+      → ((x : ℕ) → frame.zeros_from ≤ x → x < zeros_end frame → words x ≡ 0)
+      → Takes (row_count frame) (coefficient_count frame) marks words q
+      → CodesIn frame k (values_of k (λ j. value q (original_row frame j))) q
+  own_message q f known takes =
       record {
-        degree = q.1.degree;
-        coefficients = q.1.coefficients;
-        given = at_unmarked (placement rate k r) k r
-            (2 ^ e) zeros_end originals recovery marks words q.0 erasures takes_q
-            (λ x a b. q.1.zeros x a b ∙ sym (known x a b));
-      },
-      q.2,
-    )
+        degree = takes.degree;
+        coefficients = takes.coefficients;
+        originals = λ j hj. sym (values_of-at k (λ i. value q (original_row frame i)) j hj);
+        zeros = λ x above below. let zeros = f.zeros in
+            takes.given x (omega arith) (h.known x above below) ∙ known x above below;
+      }
 
--- If a polynomial that codes has the given words as values, the last rows are zero, as many as there are surplus
--- shards.
-pub surplus_rows : (rate : Rate) (k r e bound zeros_end t : ℕ) (originals recovery : Shards)
-    (marks words located rows : ℕ → ℕ) (message p : List ℕ)
-    → IsColumnOf (placement rate k r) k r e bound zeros_end originals recovery marks words located rows
-    → count_below k originals + count_below r recovery ≡ k + t
-    → Codes rate k r message p → TakesGiven (placement rate k r) k r originals recovery words p
-    → (i : ℕ) → 2 ^ e ≤ i + t → i < 2 ^ e → rows i ≡ 0
-surplus_rows rate k r e bound zeros_end t originals recovery marks words located rows message p c count codes takes =
-    let total : length (marked (2 ^ e) marks) + bound + (count_below k originals + count_below r recovery) ≡ 2 ^ e + k =
-    erased_count (placement rate k r) k r e bound zeros_end originals recovery marks c.frame c.erasures in
-    let q = taken_in rate k r e bound zeros_end originals recovery marks words message p c.frame c.erasures c.known
-    codes takes in
-    zero_rows (2 ^ e) bound t marks words located rows (pow_mono c.frame.few) c.erasures.are_marks
-    (omega arith) c.are_located c.row_words c.back (q.0, q.1)
+module _ (rate : Rate) (k r : ℕ) (originals recovery : Shards) (marks words located rows : ℕ → ℕ)
+    (c : IsColumnOf (frame_of rate k r) k r originals recovery marks words located rows) where
+  -- The erased rows, the coefficients and the given shards are together as many as the rows and the originals.
+  counted : length (marked (row_count (frame_of rate k r)) marks) + coefficient_count (frame_of rate k r)
+      + (count_below k originals + count_below r recovery) ≡ row_count (frame_of rate k r) + k
+  counted = erased_count (frame_of rate k r) k r originals recovery marks c.is_frame c.erasures
 
--- After the derivative step the value at an erased point is the wanted word times the locator's power.
-pub restored_product : (rate : Rate) (k r e bound zeros_end : ℕ) (originals recovery : Shards)
-    (marks words located rows added : ℕ → ℕ) (message p : List ℕ)
-    → IsColumnOf (placement rate k r) k r e bound zeros_end originals recovery marks words located rows
-    → k ≤ count_below k originals + count_below r recovery
-    → Codes rate k r message p → TakesGiven (placement rate k r) k r originals recovery words p
-    → IsDerivativeAdded (2 ^ e) rows added
-    → (x : ℕ) → x < 2 ^ e → marks x ≡ 1
-    → forward (2 ^ e) 0 added x ≡ product (power (log_sum (2 ^ e) marks x)) (value p x)
-restored_product rate k r e bound zeros_end originals recovery marks words located rows added message p c enough codes
-    takes step x hx one =
-    let total : length (marked (2 ^ e) marks) + bound + (count_below k originals + count_below r recovery) ≡ 2 ^ e + k =
-    erased_count (placement rate k r) k r e bound zeros_end originals recovery marks c.frame c.erasures in
-    let q = taken_in rate k r e bound zeros_end originals recovery marks words message p c.frame c.erasures c.known
-    codes takes in
-    restored e rows added marks q.0 c.frame.few q.1.coefficients c.erasures.are_marks (omega arith)
-    (λ i hi. c.back i hi
-    ∙ located_values (2 ^ e) bound marks words located q.0
-    (pow_mono c.frame.few) c.erasures.are_marks c.are_located q.1 i hi) step x hx one
-    ∙ ap (product (power (log_sum (2 ^ e) marks x))) (q.2 x hx)
+  -- If the last rows are zero, as many as there are surplus shards, some polynomial that codes takes the given words.
+  pub some_message : (t : ℕ) → count_below k originals + count_below r recovery ≡ k + t
+      → ((i : ℕ) → row_count (frame_of rate k r) ≤ i + t → i < row_count (frame_of rate k r) → rows i ≡ 0)
+      → (message p : List ℕ) × (length message ≡ k) × Codes rate k r message p
+      × TakesGiven (frame_of rate k r) k r originals recovery words p
+  some_message t count none =
+      let frame = frame_of rate k r in
+      let total = counted in
+      let (q, takes) = taken_from_zero_rows (row_count frame) (coefficient_count frame) t marks words located rows
+      (pow_mono c.is_frame.few) c.erasures.are_marks (omega arith) c.are_located
+      (λ x hx _. c.are_words x hx) c.back none in
+      let message = values_of k (λ j. value q (original_row frame j)) in
+      let (p, codes, same) = unframed rate k r c.is_frame (values_of k (λ j. value q (original_row frame j))) q
+      (own_message frame k r originals recovery marks words c.erasures q c.is_frame c.known takes) in (
+        values_of k (λ j. value q (original_row frame j)),
+        p,
+        length-values_of k (λ j. value q (original_row frame j)),
+        codes,
+        takes_same frame k r originals recovery marks words c.erasures q p c.is_frame takes same,
+      )
 
--- A power for 65535 minus any residue of the locator, times the product, gives the wanted word.
-pub restored_word : (rate : Rate) (k r e bound zeros_end : ℕ) (originals recovery : Shards)
-    (marks words located rows added : ℕ → ℕ) (message p : List ℕ)
-    → IsColumnOf (placement rate k r) k r e bound zeros_end originals recovery marks words located rows
-    → k ≤ count_below k originals + count_below r recovery
-    → Codes rate k r message p → TakesGiven (placement rate k r) k r originals recovery words p
-    → IsDerivativeAdded (2 ^ e) rows added
-    → (x l : ℕ) → x < 2 ^ e → marks x ≡ 1 → l ≤ 65535 → power l ≡ power (log_sum (2 ^ e) marks x)
-    → product (forward (2 ^ e) 0 added x) (power (65535 - l)) ≡ value p x
-restored_word rate k r e bound zeros_end originals recovery marks words located rows added message p c enough codes
-    takes step x l hx one hl same =
-    ap (λ w. product w (power (65535 - l)))
-    (restored_product rate k r e bound zeros_end originals recovery marks words located rows added message p c enough
-    codes takes step x hx one
-    ∙ product-comm (power (log_sum (2 ^ e) marks x)) (value p x) ∙ ap (product (value p x)) (sym same))
-    ∙ residue_undone l (value p x) hl (value_lt p x (words_from p codes.coefficients))
-
--- The values of a polynomial at the originals' points.
-message_of : (p : Placement) (k : ℕ) (q : List ℕ) → List ℕ
-message_of p k q = values_of k (λ j. value q (p.originals_from + j))
-
-message_of-at : (p : Placement) (k : ℕ) (q : List ℕ) (j : ℕ) → j < k
-    → slice_index (message_of p k q) j ≡ value q (p.originals_from + j)
-unfolding message_of
-message_of-at p k q j h = values_of-at k (λ i. value q (p.originals_from + i)) j h
-
-length-message_of : (p : Placement) (k : ℕ) (q : List ℕ) → length (message_of p k q) ≡ k
-unfolding message_of
-length-message_of p k q = length-values_of k (λ j. value q (p.originals_from + j))
-
--- A polynomial that has the given words as values codes its values at the originals' points.
-own_message : (p : Placement) (k r e bound zeros_end : ℕ) (originals recovery : Shards) (marks words : ℕ → ℕ)
-    (q : List ℕ)
-    → IsFrame p k r e bound zeros_end → AreErasures p k r (2 ^ e) zeros_end originals recovery marks
-    → ((x : ℕ) → p.zeros_from ≤ x → x < zeros_end → words x ≡ 0) → Takes (2 ^ e) bound marks words q
-    → CodesIn p k bound zeros_end (message_of p k q) q
-own_message p k r e bound zeros_end originals recovery marks words q f h known takes =
-    grind (arith, common_steps, message_of-at)
-
-takes_same : (p : Placement) (k r e bound zeros_end : ℕ) (originals recovery : Shards) (marks words : ℕ → ℕ)
-    (q o : List ℕ)
-    → IsFrame p k r e bound zeros_end → AreErasures p k r (2 ^ e) zeros_end originals recovery marks
-    → Takes (2 ^ e) bound marks words q → ((x : ℕ) → x < 2 ^ e → value o x ≡ value q x)
-    → TakesGiven p k r originals recovery words o
-takes_same p k r e bound zeros_end originals recovery marks words q o f h takes same = grind (arith, common_steps)
-
--- If the last rows are zero, some polynomial that codes has the given words as values.
-pub some_message : (rate : Rate) (k r e bound zeros_end t : ℕ) (originals recovery : Shards)
-    (marks words located rows : ℕ → ℕ)
-    → IsColumnOf (placement rate k r) k r e bound zeros_end originals recovery marks words located rows
-    → count_below k originals + count_below r recovery ≡ k + t
-    → ((i : ℕ) → 2 ^ e ≤ i + t → i < 2 ^ e → rows i ≡ 0)
-    → (message p : List ℕ) × (length message ≡ k) × Codes rate k r message p
-    × TakesGiven (placement rate k r) k r originals recovery words p
-some_message rate k r e bound zeros_end t originals recovery marks words located rows c count none =
-    let total : length (marked (2 ^ e) marks) + bound + (count_below k originals + count_below r recovery) ≡ 2 ^ e + k =
-    erased_count (placement rate k r) k r e bound zeros_end originals recovery marks c.frame c.erasures in
-    let (q, takes) = taken_from_zero_rows (2 ^ e) bound t marks words located rows
-    (pow_mono c.frame.few) c.erasures.are_marks (omega arith) c.are_located
-    (λ x hx _. c.are_words x hx) c.back none in
-    let (p, codes, same) = unframed rate k r e bound zeros_end (message_of (placement rate k r) k q) q c.frame
-    (own_message (placement rate k r) k r e bound zeros_end originals recovery marks words q c.frame c.erasures c.known
-    takes) in (
-      message_of (placement rate k r) k q,
-      p,
-      length-message_of (placement rate k r) k q,
-      codes,
-      takes_same (placement rate k r) k r e bound zeros_end originals recovery marks words q p c.frame c.erasures takes
+  module _ (message p : List ℕ) (codes : Codes rate k r message p)
+      (takes : TakesGiven (frame_of rate k r) k r originals recovery words p) where
+    -- A polynomial that codes and takes the given words is, at the rows, a polynomial of the frame that takes them.
+    taken_in : (q : List ℕ)
+        × Takes (row_count (frame_of rate k r)) (coefficient_count (frame_of rate k r)) marks words q
+        × ((x : ℕ) → x < row_count (frame_of rate k r) → value q x ≡ value p x)
+    taken_in =
+        let frame = frame_of rate k r in
+        let (q, in_frame, same) = framed rate k r c.is_frame message p codes in
+        let f = c.is_frame in
+        let takes_q : TakesGiven (frame_of rate k r) k r originals recovery words q = record {
+          own = λ i hi some. same (original_row frame i) (omega (arith, f.originals, hi)) ∙ takes.own i hi some;
+          coded = λ i hi some. same (recovery_row frame i) (omega (arith, f.recovery, hi)) ∙ takes.coded i hi some;
+        } in (
+          q,
+          record {
+            degree = in_frame.degree;
+            coefficients = in_frame.coefficients;
+            given = at_unmarked frame k r originals recovery marks words c.erasures q takes_q
+                (λ x a b. in_frame.zeros x a b ∙ sym (c.known x a b));
+          },
           same,
-    )
+        )
+
+    -- The last rows are zero, as many as there are surplus shards.
+    pub surplus_rows : (t : ℕ) → count_below k originals + count_below r recovery ≡ k + t
+        → (i : ℕ) → row_count (frame_of rate k r) ≤ i + t → i < row_count (frame_of rate k r) → rows i ≡ 0
+    surplus_rows t count =
+        let total = counted in
+        let (q, takes_q, same) = taken_in in
+        zero_rows (row_count (frame_of rate k r)) (coefficient_count (frame_of rate k r)) t marks words located rows
+        (pow_mono c.is_frame.few) c.erasures.are_marks (omega arith) c.are_located c.row_words c.back (q, takes_q)
+
+    module _ (added : ℕ → ℕ) (x l : ℕ) (enough : k ≤ count_below k originals + count_below r recovery)
+        (step : IsDerivativeAdded (row_count (frame_of rate k r)) rows added)
+        (hx : x < row_count (frame_of rate k r)) (one : marks x ≡ 1) where
+      -- After the derivative step the value at an erased row is the wanted word times the locator's power.
+      restored_product : forward (row_count (frame_of rate k r)) 0 added x
+          ≡ product (power (log_sum (row_count (frame_of rate k r)) marks x)) (value p x)
+      restored_product =
+          let frame = frame_of rate k r in
+          let total = counted in
+          let (q, takes_q, same) = taken_in in
+          restored frame.exponent rows added marks q c.is_frame.few takes_q.coefficients c.erasures.are_marks
+          (let less = takes_q.degree in omega arith)
+          (λ i hi. c.back i hi
+          ∙ located_values (row_count frame) (coefficient_count frame) marks words located q
+          (pow_mono c.is_frame.few) c.erasures.are_marks c.are_located takes_q i hi) step x hx one
+          ∙ ap (product (power (log_sum (row_count frame) marks x))) (same x hx)
+
+      -- A power for 65535 minus any residue of the locator, times this value, is the wanted word.
+      pub restored_word : l ≤ 65535 → power l ≡ power (log_sum (row_count (frame_of rate k r)) marks x)
+          → product (forward (row_count (frame_of rate k r)) 0 added x) (power (65535 - l)) ≡ value p x
+      restored_word hl same =
+          ap (λ w. product w (power (65535 - l)))
+          (restored_product
+          ∙ product-comm (power (log_sum (row_count (frame_of rate k r)) marks x)) (value p x)
+          ∙ ap (product (value p x)) (sym same))
+          ∙ residue_undone l (value p x) hl (value_lt p x (words_from p codes.coefficients))

@@ -1,12 +1,12 @@
 -- If both counts have the same power of two, both rates have the same recovery words.
-use Rattle.std.proofs.Common.{rules, ◌≡◌, ℕ, suc, ◌+◌, ◌-◌, ◌^◌, ◌<◌, ◌≤◌, List, [], ◌∷◌, length, bit_xor, refl, sym}
+use Rattle.std.proofs.Common.{rules, ◌≡◌, ℕ, suc, ◌+◌, ◌^◌, ◌<◌, ◌≤◌, List, [], ◌∷◌, length, bit_xor, refl, sym}
 use Rattle.std.proofs.Common.{ap, ◌∙◌, arith, inl, inr, one-mul, zero-add, pow_mono}
 use Rattle.std.specs.Prelude.{slice_index, ◌↔◌, true}
 use Rattle.std.specs.Int.Bits.{xor_comm, xor_shifted}
 use Rattle.std.proofs.lemmas.Bool.{cases_lt}
 use Rattle.rs_field.specs.words.Polynomial.{value}
-use Rattle.rs_field.specs.code.Counts.{low_rate, high_rate, next_power, supports, is_low}
-use Rattle.rs_field.specs.code.Placement.{placement, low_placement, high_placement}
+use Rattle.rs_field.specs.code.Counts.{low_rate, high_rate, next_power, exponent_of, supports, is_low}
+use Rattle.rs_field.specs.code.Frame.{frame_of, low_frame, high_frame, zeros_end, coefficient_count}
 use Rattle.rs_field.specs.code.Code.{Codes, AreRecoveryWords, AreRecovery}
 use Rattle.rs_field.specs.code.Column.{Shard}
 use Rattle.rs_field.specs.code.Configuration.{configuration}
@@ -18,7 +18,7 @@ use Rattle.rs_field.proofs.of_code.Unique.{codes_unique}
 use Rattle.rs_field.proofs.of_code.NextPower.{next_power-small, next_power-least, next_power-above}
 use Rattle.rs_field.proofs.of_code.Frame.{framed}
 use Rattle.rs_field.proofs.of_code.SupportedCounts.{high_fits}
-use Rattle.rs_field.proofs.of_code.RateFrames.{high_frame}
+use Rattle.rs_field.proofs.of_code.RateFrames.{high_is}
 use Rattle.rs_field.proofs.of_code.CodedWords.{recovered, coded_lt}
 
 -- ---- a polynomial with its argument moved by c
@@ -74,11 +74,13 @@ record IsMoved (k r d : ℕ) (words p q : List ℕ) : Type 0 where
 moved_codes : (k r d : ℕ) (words p : List ℕ) → 0 < k → d ≤ 16 → next_power r ≡ 2 ^ d → next_power k ≡ 2 ^ d → k ≤ 2 ^ d
     → r ≤ 2 ^ d → next_power r + k ≤ 65536
     → Codes high_rate k r words p → (q : List ℕ) × IsMoved k r d words p q
-unfolding placement low_placement high_placement is_low
+unfolding frame_of low_frame high_frame is_low next_power zeros_end coefficient_count
 moved_codes k r d words p some hd power_r power_k most_k most_r fit codes =
-    let f = high_frame k r fit (omega arith) in
-    let rows : 2 ^ f.0 ≡ 2 ^ d + 2 ^ d = rows_double k r d f.0 some hd power_r most_k f.1 f.2.originals in
-    let q = framed high_rate k r f.0 (2 ^ f.0 - next_power r) (2 ^ f.0) words p f.2 codes in
+    let f = high_is k r fit (omega arith) in
+    let e = exponent_of (2 ^ exponent_of r + k) in
+    let rows : 2 ^ exponent_of (2 ^ exponent_of r + k) ≡ 2 ^ d + 2 ^ d =
+    rows_double k r d (exponent_of (2 ^ exponent_of r + k)) some hd power_r most_k refl f.originals in
+    let q = framed high_rate k r f words p codes in
     let at : (j : ℕ) → j < 2 ^ d → value (moved (2 ^ d) q.0) j ≡ value q.0 (2 ^ d + j) = λ j hj.
     value-moved (2 ^ d) q.0 j ∙ ap (value q.0) (up d j hj) in (
       moved (2 ^ d) q.0,
@@ -99,7 +101,7 @@ moved_codes k r d words p some hd power_r power_k most_k most_r fit codes =
 equal_powers : (k r : ℕ) (words low high : List ℕ) → 0 < k → next_power k ≡ next_power r → next_power r + k ≤ 65536
     → AreRecoveryWords low_rate k r words low → AreRecoveryWords high_rate k r words high → (i : ℕ) → i < r
     → slice_index low i ≡ slice_index high i
-unfolding placement low_placement high_placement is_low
+unfolding frame_of low_frame high_frame is_low
 equal_powers k r words low high some same fit (p, hp, at_low) (o, ho, at_high) i hi =
     let least_r : r ≤ next_power r = next_power-above r (omega arith) in
     let least_k : k ≤ next_power k = next_power-above k (omega arith) in

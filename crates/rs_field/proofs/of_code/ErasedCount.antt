@@ -1,27 +1,26 @@
 -- The erased points, the given shards and the known zeros are together as many as the rows.
-use Rattle.std.proofs.Common.{rules, ◌≡◌, ℕ, zero, suc, ◌+◌, ◌-◌, ◌*◌, ◌^◌, ◌<◌, ◌≤◌, ◌⊎◌, Bool, cond, length, refl}
+use Rattle.std.proofs.Common.{rules, ◌≡◌, ℕ, zero, suc, ◌+◌, ◌-◌, ◌*◌, ◌<◌, ◌≤◌, ◌⊎◌, Bool, cond, length, refl}
 use Rattle.std.proofs.Common.{sym, ap, ◌∙◌, arith, inl, inr, add-zero, add-suc}
 use Rattle.std.specs.Prelude.{is_some}
 use Rattle.std.proofs.lemmas.Bool.{cases_eq}
 use Rattle.std.proofs.lemmas.Grind.{common_steps}
 use Rattle.rs_field.specs.code.Given.{Shards, count_below}
-use Rattle.rs_field.specs.code.Placement.{Placement}
+use Rattle.rs_field.specs.declared.code.frame.Frame.{Frame}
+use Rattle.rs_field.specs.code.Frame.{IsFrame, row_count, original_row, recovery_row, zeros_end, coefficient_count}
 use Rattle.rs_field.specs.words.Walsh.{total}
 use Rattle.rs_field.proofs.of_words.Totals.{total-zero, total-suc}
 use Rattle.rs_field.proofs.of_code.Given.{count_below-zero, count_below-suc}
-use Rattle.rs_field.proofs.of_code.Frame.{IsFrame}
 use Rattle.rs_field.proofs.of_words.LocatorProduct.{marked, marked-more, marked-same, AreMarks}
 
--- The marks of the n rows: each row is marked except the known zeros and the places of given shards.
-pub record AreErasures (p : Placement) (k r n zeros_end : ℕ) (originals recovery : Shards)
-    (marks : ℕ → ℕ) : Type 0 where
-  pub are_marks : AreMarks n marks
-  pub own : (i : ℕ) → i < k → marks (p.originals_from + i) ≡ cond (is_some (originals i)) 0 1
-  pub coded : (i : ℕ) → i < r → marks (p.recovery_from + i) ≡ cond (is_some (recovery i)) 0 1
-  pub known : (x : ℕ) → p.zeros_from ≤ x → x < zeros_end → marks x ≡ 0
-  pub other : (x : ℕ) → x < n → (x < p.originals_from) ⊎ (p.originals_from + k ≤ x) → (x < p.recovery_from)
-      ⊎ (p.recovery_from + r ≤ x)
-      → (x < p.zeros_from) ⊎ (zeros_end ≤ x) → marks x ≡ 1
+-- The marks of the rows: each row is marked except the known zeros and the places of given shards.
+pub record AreErasures (frame : Frame) (k r : ℕ) (originals recovery : Shards) (marks : ℕ → ℕ) : Type 0 where
+  pub are_marks : AreMarks (row_count frame) marks
+  pub own : (i : ℕ) → i < k → marks (original_row frame i) ≡ cond (is_some (originals i)) 0 1
+  pub coded : (i : ℕ) → i < r → marks (recovery_row frame i) ≡ cond (is_some (recovery i)) 0 1
+  pub known : (x : ℕ) → frame.zeros_from ≤ x → x < zeros_end frame → marks x ≡ 0
+  pub other : (x : ℕ) → x < row_count frame → (x < frame.originals_from) ⊎ (original_row frame k ≤ x)
+      → (x < frame.recovery_from) ⊎ (recovery_row frame r ≤ x)
+      → (x < frame.zeros_from) ⊎ (zeros_end frame ≤ x) → marks x ≡ 1
 
 total-marked : (n : ℕ) (marks : ℕ → ℕ) → AreMarks n marks → length (marked n marks) ≡ total n marks
 unfolding total marked
@@ -68,42 +67,28 @@ past_given a (suc n) f g is =
 
 -- In a frame, the erased points, the coefficients and the given shards are together as many as the rows and the
 -- originals.
-pub erased_count : (p : Placement) (k r e bound zeros_end : ℕ) (originals recovery : Shards) (marks : ℕ → ℕ)
-    → IsFrame p k r e bound zeros_end → AreErasures p k r (2 ^ e) zeros_end originals recovery marks
-    → length (marked (2 ^ e) marks) + bound + (count_below k originals + count_below r recovery) ≡ 2 ^ e + k
-erased_count p k r e bound zeros_end originals recovery marks f h =
-    let erased : length (marked (2 ^ e) marks) ≡ total (2 ^ e) marks = total-marked (2 ^ e) marks h.are_marks in
-    let own : total (p.originals_from + k) marks + count_below k originals ≡ total p.originals_from marks + k =
-    past_given p.originals_from k marks originals h.own in
-    let coded : total (p.recovery_from + r) marks + count_below r recovery ≡ total p.recovery_from marks + r =
-    past_given p.recovery_from r marks recovery h.coded in
-    let none =
-    past_same 0 (p.originals_from + k) (zeros_end - (p.originals_from + k)) zeros_end marks (omega arith)
+pub erased_count : (frame : Frame) (k r : ℕ) (originals recovery : Shards) (marks : ℕ → ℕ) → IsFrame frame k r
+    → AreErasures frame k r originals recovery marks
+    → length (marked (row_count frame) marks) + coefficient_count frame
+    + (count_below k originals + count_below r recovery) ≡ row_count frame + k
+erased_count frame k r originals recovery marks f h =
+    let end = zeros_end frame in let rows = row_count frame in
+    let erased = total-marked (row_count frame) marks h.are_marks in
+    let own = past_given frame.originals_from k marks originals h.own in
+    let coded = past_given frame.recovery_from r marks recovery h.coded in
+    let none = past_same 0 (original_row frame k) (end - original_row frame k) end marks (omega arith)
     (λ x above below. h.known x (omega arith) below) in
     elim f.order [
       | inl low ↦
-          let start : total p.originals_from marks ≡ 0 = ap (λ n. total n marks) low.0 ∙ total-zero marks in
-          let rest =
-          past_same 1 (p.recovery_from + r) (2 ^ e - (p.recovery_from + r)) (2 ^ e) marks (omega arith)
+          let start : total frame.originals_from marks ≡ 0 = ap (λ n. total n marks) low.0 ∙ total-zero marks in
+          let rest = past_same 1 (recovery_row frame r) (rows - recovery_row frame r) rows marks (omega arith)
           (λ x above below. h.other x below (inr (omega (arith, low.1))) (inr above) (inr (omega (arith, low.1)))) in
           omega (arith, erased, own, coded, none, start, (ap (λ n. total n marks) low.1), rest, low.0, low.1)
       | inr high ↦
-          let gap =
-          past_same 1 (p.recovery_from + r) (p.originals_from - (p.recovery_from + r)) p.originals_from marks
-          (omega (arith, high.0, high.1))
+          let gap = past_same 1 (recovery_row frame r) (frame.originals_from - recovery_row frame r)
+          frame.originals_from marks (omega (arith, high.0, high.1))
           (λ x above below. h.other x (omega arith) (inl below) (inr above) (inl (omega arith))) in
-          let last : total (2 ^ e) marks ≡ total zeros_end marks = ap (λ n. total n marks) (sym high.2) in
-          omega (
-            arith,
-            erased,
-            own,
-            coded,
-            none,
-            (ap (λ n. total n marks) high.0 ∙ total-zero marks),
-            gap,
-            last,
-            high.0,
-            high.1,
-            high.2,
-          )
+          let start : total frame.recovery_from marks ≡ 0 = ap (λ n. total n marks) high.0 ∙ total-zero marks in
+          let last : total rows marks ≡ total end marks = ap (λ n. total n marks) (sym high.2) in
+          omega (arith, erased, own, coded, none, start, gap, last, high.0, high.1, high.2)
     ]

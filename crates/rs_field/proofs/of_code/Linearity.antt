@@ -1,5 +1,5 @@
 -- The code is linear: the recovery shards of the XOR of two messages are the XOR of their recovery shards.
-use Rattle.std.proofs.Common.{rules, ◌≡◌, ℕ, ◌+◌, ◌<◌, List, [], length, min, bit_xor, sym, ap₂, ◌∙◌, subst, arith}
+use Rattle.std.proofs.Common.{rules, ◌≡◌, ℕ, ◌<◌, List, [], length, min, bit_xor, sym, ap₂, ◌∙◌, subst, arith}
 use Rattle.std.specs.Prelude.{slice_index, slice_index_or, zip}
 use Rattle.std.specs.Int.Bits.{xor_lt}
 use Rattle.std.proofs.lemmas.Bool.{cases_lt}
@@ -7,7 +7,7 @@ use Rattle.std.proofs.lemmas.List.{get_or-map, length-map, get_or_past}
 use Rattle.std.proofs.lemmas.Slice.Zip.{get_or-zip, length-zip}
 use Rattle.rs_field.specs.code.Column.{Shard, IsShard, AreShards, shard_at, column, columns}
 use Rattle.rs_field.specs.code.Counts.{Rate}
-use Rattle.rs_field.specs.code.Placement.{placement}
+use Rattle.rs_field.specs.code.Frame.{frame_of, recovery_row}
 use Rattle.rs_field.specs.code.Configuration.{Configuration}
 use Rattle.rs_field.specs.code.Code.{Codes, AreRecoveryWords, AreRecovery}
 use Rattle.rs_field.specs.code.CodeLaws.{xor_bytes, xor_shards}
@@ -38,7 +38,7 @@ recovery_sums rate k r one other sums one_recovery other_recovery recovery are a
       add p q,
       codes_sums rate k r one other sums p q are codes_p codes_q,
       λ i hi. are_recovery i hi ∙ ap₂ bit_xor (at_p i hi) (at_q i hi)
-          ∙ sym (value_add p q ((placement rate k r).recovery_from + i)),
+          ∙ sym (value_add p q (recovery_row (frame_of rate k r) i)),
     )
 
 -- ---- shards

@@ -5,29 +5,34 @@ use Rattle.std.specs.Prelude.{nat_le}
 use Rattle.std.proofs.lemmas.Bool.{cases_lt, le-leb, lt-leb, leb-true}
 use Rattle.std.proofs.lemmas.Nat.{pow_pos}
 use Rattle.rs_field.specs.words.Search.{first_below}
-use Rattle.rs_field.specs.code.Counts.{next_power}
+use Rattle.rs_field.specs.code.Counts.{next_power, exponent_of}
 use Rattle.rs_field.proofs.of_words.Search.{first_below-is, first_below-passes, first_below_most}
 use Rattle.rs_field.proofs.of_words.Halves.{exponent_below}
+
+-- For n up to 65536, the exponent of its power is at most 16, and n is at most the power.
+pub exponent-small : (n : ℕ) → n ≤ 65536 → (exponent_of n ≤ 16) × (n ≤ 2 ^ exponent_of n)
+unfolding exponent_of
+exponent-small n small =
+    let d : ℕ = first_below 64 (λ e. nat_le n (2 ^ e)) in
+    let most : first_below 64 (λ e. nat_le n (2 ^ e)) ≤ 16 =
+    first_below_most 64 (λ e. nat_le n (2 ^ e)) 16 (omega arith) (le-leb n 65536 small) in
+    (most, leb-true n (2 ^ d) (first_below-passes 64 (λ e. nat_le n (2 ^ e)) (omega arith)))
 
 -- For n up to 65536, `next_power n` is a power of two of at least n.
 pub next_power-small : (n : ℕ) → n ≤ 65536 → (d : ℕ) × (d ≤ 16) × (next_power n ≡ 2 ^ d) × (n ≤ next_power n)
 unfolding next_power
-next_power-small n small =
-    let d : ℕ = first_below 64 (λ e. nat_le n (2 ^ e)) in
-    let most : first_below 64 (λ e. nat_le n (2 ^ e)) ≤ 16 =
-    first_below_most 64 (λ e. nat_le n (2 ^ e)) 16 (omega arith) (le-leb n 65536 small) in
-    (d, most, refl, leb-true n (2 ^ d) (first_below-passes 64 (λ e. nat_le n (2 ^ e)) (omega arith)))
+next_power-small n small = let known = exponent-small n small in (exponent_of n, known.0, refl, known.1)
 
 -- No smaller power of two is at least n.
 pub next_power-least : (n d : ℕ) → d < 64 → n ≤ 2 ^ d → next_power n ≤ 2 ^ d
-unfolding next_power
+unfolding next_power exponent_of
 next_power-least n d hd h =
     pow_mono {i = first_below 64 (λ e. nat_le n (2 ^ e))}
     (first_below_most 64 (λ e. nat_le n (2 ^ e)) d hd (le-leb n (2 ^ d) h))
 
 -- A power of two that is at least n, and whose half is below n, is `next_power n`.
 pub next_power-is : (n p x : ℕ) → p ≡ 2 ^ x → x < 64 → n ≤ p → p / 2 < max 1 n → p ≡ next_power n
-unfolding next_power
+unfolding next_power exponent_of
 next_power-is n p x power few above half =
     power ∙ ap (λ d. 2 ^ d)
     (sym (first_below-is 64 (λ d. nat_le n (2 ^ d)) x few (le-leb n (2 ^ x) (omega arith))
@@ -48,7 +53,7 @@ next_power-is n p x power few above half =
 
 -- The power of a number above 65536 is above 65536.
 pub next_power-large : (n : ℕ) → 65536 < n → 65536 < next_power n
-unfolding next_power
+unfolding next_power exponent_of
 next_power-large n large =
     elim (cases_lt 65536 (2 ^ first_below 64 (λ e. nat_le n (2 ^ e)))) [
       | inl above ↦ above

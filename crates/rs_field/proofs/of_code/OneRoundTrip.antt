@@ -13,7 +13,7 @@ use Rattle.rs_field.specs.declared.code.error.Error.TheVariants.{UnsupportedShar
 use Rattle.rs_field.specs.declared.code.error.Error.TheVariants.{OutOfMemory}
 use Rattle.rs_field.specs.code.Column.{Shard, IsShard, AreShards, shard_at}
 use Rattle.rs_field.specs.code.Counts.{Rate, default_rate, supports}
-use Rattle.rs_field.specs.code.Placement.{encoder_rows, decoder_rows}
+use Rattle.rs_field.specs.code.Frame.{encoder_rows, decoder_rows}
 use Rattle.rs_field.specs.code.Outcome.{result_and_then}
 use Rattle.rs_field.specs.code.Configuration.{Configuration, validation_outcome, bytes_of_rows, start_outcome}
 use Rattle.rs_field.specs.code.Code.{AreRecovery}

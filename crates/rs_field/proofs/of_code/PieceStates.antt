@@ -14,7 +14,7 @@ use Rattle.rs_field.specs.code.Counts.{Rate}
 use Rattle.rs_field.specs.code.Code.{AreRecovery, AreRecoveryWords}
 use Rattle.rs_field.specs.code.Decoder.{DecoderState, missing_of, Restored}
 use Rattle.rs_field.specs.code.Given.{Shards, Agrees, Consistent}
-use Rattle.rs_field.specs.code.Placement.{placement}
+use Rattle.rs_field.specs.code.Frame.{frame_of}
 use Rattle.rs_field.proofs.of_code.AgreeingMessages.{AreSized, HasWords, IsTaken, column_taken, consistent}
 use Rattle.rs_field.specs.code.Pieces.{pieces, IsStrip}
 use Rattle.rs_field.specs.code.PieceStates.{pieces_of, state_of_pieces}
@@ -134,8 +134,8 @@ module _ (start end : ℕ) where
   has-cut : (rate : Rate) (k r size j : ℕ) (originals recovery : Shards) (words : ℕ → ℕ) → IsStrip start end size
       → j < (end - start) / 2
       → AreSized k size originals → AreSized r size recovery
-      → HasWords (placement rate k r) originals recovery (start / 2 + j) words
-      → HasWords (placement rate k r) (pieces_of start end originals) (pieces_of start end recovery) j words
+      → HasWords (frame_of rate k r) originals recovery (start / 2 + j) words
+      → HasWords (frame_of rate k r) (pieces_of start end originals) (pieces_of start end recovery) j words
   has-cut rate k r size j originals recovery words strip inside own_sized coded_sized has =
       record {
         own = λ i p is.
@@ -155,7 +155,7 @@ module _ (start end : ℕ) where
   pub taken-whole : (rate : Rate) (k r size j : ℕ) (originals recovery : Shards) (words : ℕ → ℕ → ℕ)
       → IsStrip start end size → j < (end - start) / 2
       → AreSized k size originals → AreSized r size recovery
-      → HasWords (placement rate k r) originals recovery (start / 2 + j) (words (start / 2 + j))
+      → HasWords (frame_of rate k r) originals recovery (start / 2 + j) (words (start / 2 + j))
       → Consistent (configuration rate k r (end - start)) (pieces_of start end originals) (pieces_of start end recovery)
       → (p : List ℕ) × IsTaken (configuration rate k r size) originals recovery words (start / 2 + j) p
   taken-whole rate k r size j originals recovery words strip inside own_sized coded_sized has (message, agrees) =
@@ -183,7 +183,7 @@ AreConsistentBelow rate k r size originals recovery bound =
 -- If each column is in a strip whose pieces are consistent, the shards are consistent.
 pub consistent-whole : (rate : Rate) (k r size : ℕ) (originals recovery : Shards) (words : ℕ → ℕ → ℕ) → size % 2 ≡ 0
     → AreSized k size originals → AreSized r size recovery
-    → ((j : ℕ) → j < size / 2 → HasWords (placement rate k r) originals recovery j (words j))
+    → ((j : ℕ) → j < size / 2 → HasWords (frame_of rate k r) originals recovery j (words j))
     → AreConsistentBelow rate k r size originals recovery size
     → Consistent (configuration rate k r size) originals recovery
 consistent-whole rate k r size originals recovery words even own_sized coded_sized has each =
@@ -193,5 +193,5 @@ consistent-whole rate k r size originals recovery words even own_sized coded_siz
     let here : j - start / 2 < (end - start) / 2 = omega (arith, from, to, strip.begins, strip.order) in
     subst (λ (i : ℕ). (p : List ℕ) × IsTaken (configuration rate k r size) originals recovery words i p) place
     (taken-whole start end rate k r size (j - start / 2) originals recovery words strip here own_sized coded_sized
-    (subst (λ (i : ℕ). HasWords (placement rate k r) originals recovery i (words i)) (sym place) (has j inside))
+    (subst (λ (i : ℕ). HasWords (frame_of rate k r) originals recovery i (words i)) (sym place) (has j inside))
     pieces_agree))

@@ -8,7 +8,8 @@ use Rattle.std.proofs.lemmas.Grind.{common_steps}
 use Rattle.rs_field.specs.words.Polynomial.{value}
 use Rattle.rs_field.specs.code.Column.{Shard, AreShards, shard_at, column, columns}
 use Rattle.rs_field.specs.code.Counts.{Rate, supports}
-use Rattle.rs_field.specs.code.Placement.{Placement, placement}
+use Rattle.rs_field.specs.declared.code.frame.Frame.{Frame}
+use Rattle.rs_field.specs.code.Frame.{IsFrame, frame_of, degree_bound, original_row, recovery_row}
 use Rattle.rs_field.specs.code.Configuration.{Configuration}
 use Rattle.rs_field.specs.code.Code.{Codes, AreRecoveryWords, AreRecovery}
 use Rattle.rs_field.specs.code.Given.{Shards, count_below, Agrees}
@@ -17,8 +18,7 @@ use Rattle.rs_field.proofs.of_words.Roots.{words_from}
 use Rattle.rs_field.proofs.of_words.Values.{same_from_values}
 use Rattle.rs_field.proofs.of_code.Columns.{columns-at, shards_from_columns}
 use Rattle.rs_field.proofs.of_code.Given.{count_below-zero, count_below-suc, count_below-same}
-use Rattle.rs_field.proofs.of_code.Frame.{IsFrame}
-use Rattle.rs_field.proofs.of_code.RateFrames.{HasFrame, has_frame}
+use Rattle.rs_field.proofs.of_code.RateFrames.{has_frame}
 
 -- A choice between two functions, by whether a number is below a bound.
 below_or : {A : Type 0} → ℕ → (ℕ → A) → (ℕ → A) → ℕ → A
@@ -36,28 +36,28 @@ below_or-then k f g x h = ap (λ (b : Bool). cond b (f x) (g (x - k))) (le-ltb x
 
 -- The points of a codeword are distinct from the known zeros, and k points and all known zeros are as many as the
 -- coefficients.
-record IsSpread (p : Placement) (k r : ℕ) : Type 0 where
-  originals : p.originals_from + k ≡ p.zeros_from
-  recovery : p.recovery_from + r ≤ 65536
-  zeros : (p.zeros_from ≤ p.zeros_to) × (p.zeros_to ≤ 65536)
-  apart : (i : ℕ) → i < r → (p.zeros_to ≤ p.recovery_from + i) ⊎ (p.recovery_from + i < p.originals_from)
-  counts : p.degree_bound + p.zeros_from ≡ k + p.zeros_to
+record IsSpread (frame : Frame) (k r : ℕ) : Type 0 where
+  originals : original_row frame k ≡ frame.zeros_from
+  recovery : recovery_row frame r ≤ 65536
+  zeros : (frame.zeros_from ≤ frame.zeros_to) × (frame.zeros_to ≤ 65536)
+  apart : (i : ℕ) → i < r → (frame.zeros_to ≤ recovery_row frame i) ⊎ (recovery_row frame i < frame.originals_from)
+  counts : degree_bound frame + frame.zeros_from ≡ k + frame.zeros_to
 
-spread : (p : Placement) (k r e bound zeros_end : ℕ) → IsFrame p k r e bound zeros_end → IsSpread p k r
-spread p k r e bound zeros_end f = grind (arith, common_steps, pow_mono)
+spread : (frame : Frame) (k r : ℕ) → IsFrame frame k r → IsSpread frame k r
+spread frame k r f = grind (arith, common_steps, pow_mono)
 
 -- The point of a place: first the originals' points, then the points of the recovery shards.
-point : Placement → ℕ → ℕ → ℕ
+point : Frame → ℕ → ℕ → ℕ
 point p k x = below_or k (λ i. p.originals_from + i) (λ i. p.recovery_from + i) x
 
 -- Each point is the point of an original or of a recovery shard.
-point_cases : (p : Placement) (k r x : ℕ) → x < k + r → ((x < k) × (point p k x ≡ p.originals_from + x))
+point_cases : (p : Frame) (k r x : ℕ) → x < k + r → ((x < k) × (point p k x ≡ p.originals_from + x))
     ⊎ ((k ≤ x) × (x - k < r) × (point p k x ≡ p.recovery_from + (x - k)))
 unfolding point
 point_cases p k r x h = grind (arith, common_steps, cases_lt, below_or-first, below_or-then)
 
 -- A point is a word and is not a known zero.
-point_apart : (p : Placement) (k r x : ℕ) → IsSpread p k r → x < k + r → (point p k x < 65536)
+point_apart : (p : Frame) (k r x : ℕ) → IsSpread p k r → x < k + r → (point p k x < 65536)
     × ((point p k x < p.zeros_from) ⊎ (p.zeros_to ≤ point p k x))
 point_apart p k r x s hx =
     elim (point_cases p k r x hx) [
@@ -71,7 +71,7 @@ point_apart p k r x s hx =
     ]
 
 -- Different places have different points.
-point_once : (p : Placement) (k r x y : ℕ) → IsSpread p k r → x < k + r → y < k + r → point p k x ≡ point p k y → x ≡ y
+point_once : (p : Frame) (k r x y : ℕ) → IsSpread p k r → x < k + r → y < k + r → point p k x ≡ point p k y → x ≡ y
 point_once p k r x y s hx hy same =
     elim (point_cases p k r x hx) [
       | inl a ↦ elim (point_cases p k r y hy) [
@@ -94,49 +94,47 @@ point_once p k r x y s hx hy same =
 fixed_by_points : (rate : Rate) (k r : ℕ) (words other p o : List ℕ) (place : ℕ → ℕ) → supports rate k r ≡ true
     → Codes rate k r words p → Codes rate k r other o
     → ArePlaces k (k + r) place
-    → ((i : ℕ) → i < k → value p (point (placement rate k r) k (place i))
-    ≡ value o (point (placement rate k r) k (place i))) → p ≡ o
-fixed_by_points rate k r words other p o place is cp co are same = by_spread (spread_of (has_frame rate k r is))
+    → ((i : ℕ) → i < k → value p (point (frame_of rate k r) k (place i))
+    ≡ value o (point (frame_of rate k r) k (place i))) → p ≡ o
+fixed_by_points rate k r words other p o place is cp co are same =
+    by_spread (spread (frame_of rate k r) k r (has_frame rate k r is))
   where
-    spread_of : HasFrame rate k r → IsSpread (placement rate k r) k r
-    spread_of h = spread (placement rate k r) k r h.exponent h.bound h.zeros_end h.frame
-
     -- The k points, followed by the known zeros.
     at : ℕ → ℕ
-    at = below_or k (λ i. point (placement rate k r) k (place i)) (λ i. (placement rate k r).zeros_from + i)
+    at = below_or k (λ i. point (frame_of rate k r) k (place i)) (λ i. (frame_of rate k r).zeros_from + i)
 
-    at_place : (i : ℕ) → i < k → at i ≡ point (placement rate k r) k (place i)
-    at_place i h = below_or-first k (λ n. point (placement rate k r) k (place n))
-        (λ n. (placement rate k r).zeros_from + n) i h
+    at_place : (i : ℕ) → i < k → at i ≡ point (frame_of rate k r) k (place i)
+    at_place i h = below_or-first k (λ n. point (frame_of rate k r) k (place n))
+        (λ n. (frame_of rate k r).zeros_from + n) i h
 
-    at_zero : (i : ℕ) → k ≤ i → at i ≡ (placement rate k r).zeros_from + (i - k)
-    at_zero i h = below_or-then k (λ n. point (placement rate k r) k (place n))
-        (λ n. (placement rate k r).zeros_from + n) i h
+    at_zero : (i : ℕ) → k ≤ i → at i ≡ (frame_of rate k r).zeros_from + (i - k)
+    at_zero i h = below_or-then k (λ n. point (frame_of rate k r) k (place n))
+        (λ n. (frame_of rate k r).zeros_from + n) i h
 
-    by_spread : IsSpread (placement rate k r) k r → p ≡ o
+    by_spread : IsSpread (frame_of rate k r) k r → p ≡ o
     by_spread s =
-        same_from_values (placement rate k r).degree_bound p o cp.degree co.degree (words_from p cp.coefficients)
+        same_from_values (degree_bound (frame_of rate k r)) p o cp.degree co.degree (words_from p cp.coefficients)
         (words_from o co.coefficients) at
         (λ i hi. elim (cases_lt i k) [
           | inl few ↦ omega (
             arith,
             at_place i few,
-            (point_apart (placement rate k r) k r (place i) s (are.below i few)).0,
+            (point_apart (frame_of rate k r) k r (place i) s (are.below i few)).0,
           )
           | inr zero_point ↦ omega (arith, at_zero i zero_point)
         ])
         (λ i j hi hj e. elim (cases_lt i k) [
           | inl few ↦ elim (cases_lt j k) [
             | inl more ↦ are.once i j few more
-                (point_once (placement rate k r) k r (place i) (place j) s (are.below i few) (are.below j more)
+                (point_once (frame_of rate k r) k r (place i) (place j) s (are.below i few) (are.below j more)
                 (sym (at_place i few) ∙ e ∙ at_place j more))
-            | inr zero_point ↦ absurd (elim (point_apart (placement rate k r) k r (place i) s (are.below i few)).1 [
+            | inr zero_point ↦ absurd (elim (point_apart (frame_of rate k r) k r (place i) s (are.below i few)).1 [
               | inl before ↦ omega (arith, at_place i few, at_zero j zero_point, e, before)
               | inr past ↦ omega (arith, at_place i few, at_zero j zero_point, e, past)
             ])
           ]
           | inr zero_point ↦ elim (cases_lt j k) [
-            | inl more ↦ absurd (elim (point_apart (placement rate k r) k r (place j) s (are.below j more)).1 [
+            | inl more ↦ absurd (elim (point_apart (frame_of rate k r) k r (place j) s (are.below j more)).1 [
               | inl before ↦ omega (arith, at_place j more, at_zero i zero_point, e, before)
               | inr past ↦ omega (arith, at_place j more, at_zero i zero_point, e, past)
             ])
@@ -154,10 +152,10 @@ fixed_by_points rate k r words other p o place is cp co are same = by_spread (sp
 
 -- The word of a codeword at a place is the polynomial's value at the point of the place.
 codeword_word : (rate : Rate) (k r x : ℕ) (message recovery p : List ℕ) → Codes rate k r message p
-    → ((i : ℕ) → i < r → slice_index recovery i ≡ value p ((placement rate k r).recovery_from + i))
-    → length message ≡ k → x < k + r → value p (point (placement rate k r) k x) ≡ slice_index (message ++ recovery) x
+    → ((i : ℕ) → i < r → slice_index recovery i ≡ value p (recovery_row (frame_of rate k r) i))
+    → length message ≡ k → x < k + r → value p (point (frame_of rate k r) k x) ≡ slice_index (message ++ recovery) x
 codeword_word rate k r x message recovery p codes at size hx =
-    elim (point_cases (placement rate k r) k r x hx) [
+    elim (point_cases (frame_of rate k r) k r x hx) [
       | inl own ↦ ap (value p) own.1 ∙ codes.originals x own.0
           ∙ sym (get_or_append_left message recovery 0 x (omega (arith, own.0)))
       | inr coded ↦ ap (value p) coded.2 ∙ sym (at (x - k) coded.1)
@@ -167,9 +165,9 @@ codeword_word rate k r x message recovery p codes at size hx =
 -- The polynomial's value at the point of a place is the column of the shard at this place.
 codeword_column : (rate : Rate) (k r j x : ℕ) (message recovery : List Shard) (p : List ℕ)
     → Codes rate k r (columns j message) p
-    → ((i : ℕ) → i < r → slice_index (columns j recovery) i ≡ value p ((placement rate k r).recovery_from + i))
+    → ((i : ℕ) → i < r → slice_index (columns j recovery) i ≡ value p (recovery_row (frame_of rate k r) i))
     → length message ≡ k → x < k + r
-    → value p (point (placement rate k r) k x) ≡ column j (shard_at (message ++ recovery) x)
+    → value p (point (frame_of rate k r) k x) ≡ column j (shard_at (message ++ recovery) x)
 codeword_column rate k r j x message recovery p codes at size hx =
     codeword_word rate k r x (columns j message) (columns j recovery) p codes at
     (length-map message (column j) ∙ size) hx
@@ -194,7 +192,7 @@ fixed_by_places c one other one_recovery other_recovery place is even a b recove
         → slice_index (columns j one) i ≡ slice_index (columns j other) i
     in_column i j hi (p, codes_p, at_p) (o, codes_o, at_o) =
         sym (codes_p.originals i hi)
-        ∙ ap (λ (q : List ℕ). value q ((placement c.rate c.original_count c.recovery_count).originals_from + i))
+        ∙ ap (λ (q : List ℕ). value q (original_row (frame_of c.rate c.original_count c.recovery_count) i))
         (fixed_by_points c.rate c.original_count c.recovery_count (columns j one)
         (columns j other) p o place is codes_p codes_o are
         (λ n hn.

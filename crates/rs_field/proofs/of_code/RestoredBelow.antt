@@ -20,10 +20,10 @@ use Rattle.rs_field.specs.code.Given.{Shards, AreWithin, Consistent, Lists, item
 use Rattle.rs_field.specs.code.OneCall.{Items}
 use Rattle.rs_field.specs.code.Pieces.{pieces, IsStrip, ArePut, room_length}
 use Rattle.rs_field.specs.code.PieceStates.{pieces_of, state_of_pieces, shards_listed, HoldRestored}
-use Rattle.rs_field.specs.code.Placement.{Placement, placement}
+use Rattle.rs_field.specs.declared.code.frame.Frame.{Frame}
+use Rattle.rs_field.specs.code.Frame.{IsFrame, frame_of}
 use Rattle.rs_field.proofs.of_code.Agreement.{one_message}
 use Rattle.rs_field.proofs.of_code.AgreeingMessages.{AreSized, HasWords}
-use Rattle.rs_field.proofs.of_code.Frame.{IsFrame}
 use Rattle.rs_field.proofs.of_code.Given.{count_below-zero, count_below-suc}
 use Rattle.rs_field.proofs.of_code.Listed.{length-listed}
 use Rattle.rs_field.proofs.of_code.ListedMaps.{lists-same, listed-changed, listed-all}
@@ -74,19 +74,19 @@ module _ (start end : ℕ) where
 -- ---- the words at the points of given shards
 
 -- The word of column j at a point: the word of the original or the recovery shard that has this point.
-word_at : Placement → ℕ → Shards → Shards → ℕ → ℕ → ℕ
+word_at : Frame → ℕ → Shards → Shards → ℕ → ℕ → ℕ
 word_at p k originals recovery j x =
     cond (nat_le p.originals_from x && nat_lt x (p.originals_from + k))
     (column j (unwrap_or (originals (x - p.originals_from)) []))
     (column j (unwrap_or (recovery (x - p.recovery_from)) []))
 
 -- The words at the points of given shards are words of these shards.
-has-words : (p : Placement) (k r e bound zeros_end size j : ℕ) (originals recovery : Shards)
-    → IsFrame p k r e bound zeros_end
+has-words : (p : Frame) (k r size j : ℕ) (originals recovery : Shards)
+    → IsFrame p k r
     → AreSized k size originals → AreSized r size recovery
     → HasWords p originals recovery j (word_at p k originals recovery j)
 unfolding word_at
-has-words p k r e bound zeros_end size j originals recovery frame own_sized coded_sized =
+has-words p k r size j originals recovery frame own_sized coded_sized =
     record {
       own = λ i s is.
           let below = (own_sized.each i s is).0 in
@@ -151,12 +151,12 @@ all-consistent : (s : DecoderState)
     → Consistent s.configuration s.originals s.recovery
 all-consistent s supported even own_sized coded_sized each =
     let c = s.configuration in
-    let p = placement c.rate c.original_count c.recovery_count in
+    let p = frame_of c.rate c.original_count c.recovery_count in
     let h = has_frame c.rate c.original_count c.recovery_count supported in
     consistent-whole c.rate c.original_count c.recovery_count c.shard_bytes s.originals s.recovery
     (word_at p c.original_count s.originals s.recovery) even own_sized coded_sized
-    (λ j inside. has-words p c.original_count c.recovery_count h.exponent h.bound h.zeros_end c.shard_bytes j
-    s.originals s.recovery h.frame own_sized coded_sized) each
+    (λ j inside. has-words p c.original_count c.recovery_count c.shard_bytes j s.originals s.recovery h
+    own_sized coded_sized) each
 
 -- ---- rooms
 

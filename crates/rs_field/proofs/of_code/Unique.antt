@@ -1,6 +1,6 @@
 -- A message has at most one list of recovery shards, and a column of a message determines the columns of its recovery
 -- shards.
-use Rattle.std.proofs.Common.{◌≡◌, ℕ, ◌+◌, ◌/◌, ◌%◌, ◌^◌, ◌<◌, ◌≤◌, List, length, Bool, true, false, cond, refl, sym}
+use Rattle.std.proofs.Common.{◌≡◌, ℕ, ◌/◌, ◌%◌, ◌^◌, ◌<◌, ◌≤◌, List, length, Bool, true, false, cond, refl, sym}
 use Rattle.std.proofs.Common.{ap, ◌∙◌, subst, arith, inl, inr, pow_mono}
 use Rattle.std.specs.Prelude.{slice_index}
 use Rattle.std.proofs.lemmas.Bool.{cases_lt}
@@ -8,7 +8,8 @@ use Rattle.std.proofs.lemmas.List.{ext_get_or, length-map}
 use Rattle.rs_field.specs.words.Polynomial.{value}
 use Rattle.rs_field.specs.code.Column.{Shard, column, columns}
 use Rattle.rs_field.specs.code.Counts.{Rate, is_low}
-use Rattle.rs_field.specs.code.Placement.{placement, low_placement, high_placement}
+use Rattle.rs_field.specs.declared.code.frame.Frame.{Frame}
+use Rattle.rs_field.specs.code.Frame.{frame_of, low_frame, high_frame, degree_bound, original_row, recovery_row}
 use Rattle.rs_field.specs.code.Configuration.{Configuration, configuration}
 use Rattle.rs_field.specs.code.Code.{Codes, AreRecoveryWords, AreRecovery}
 use Rattle.rs_field.proofs.of_code.NextPower.{next_power-small}
@@ -16,34 +17,36 @@ use Rattle.rs_field.proofs.of_code.Columns.{shards_from_columns}
 use Rattle.rs_field.proofs.of_words.Roots.{words_from}
 use Rattle.rs_field.proofs.of_words.Values.{same_from_values}
 
--- In each placement, the known zeros follow the originals, up to the point of the last coefficient.
-in_line : (low : Bool) (k r i : ℕ) → k ≤ 65536 → i < (cond low (low_placement k) (high_placement k r)).degree_bound
-    → ((cond low (low_placement k) (high_placement k r)).zeros_from
-    ≡ (cond low (low_placement k) (high_placement k r)).originals_from + k)
-    × ((cond low (low_placement k) (high_placement k r)).originals_from + i <
-    (cond low (low_placement k) (high_placement k r)).zeros_to)
-    × ((cond low (low_placement k) (high_placement k r)).zeros_to ≤ 65536)
-unfolding low_placement high_placement
+-- In each frame, the known zeros follow the originals, up to the point of the last coefficient.
+record AreInLine (frame : Frame) (k i : ℕ) : Type 0 where
+  follow : frame.zeros_from ≡ original_row frame k
+  inside : original_row frame i < frame.zeros_to
+  few : frame.zeros_to ≤ 65536
+
+in_line : (low : Bool) (k r i : ℕ) → k ≤ 65536 → i < degree_bound (cond low (low_frame k r) (high_frame k r))
+    → AreInLine (cond low (low_frame k r) (high_frame k r)) k i
+unfolding low_frame high_frame
 in_line true k r i most hi =
     let (d, few, power, above) = next_power-small k most in
     let least : 2 ^ d ≤ 2 ^ 16 = pow_mono few in
-    (omega arith, omega arith, omega arith)
-in_line false k r i most hi = (refl, omega arith, omega arith)
+    record { follow = omega arith; inside = omega arith; few = omega arith }
+in_line false k r i most hi = record { follow = refl; inside = omega arith; few = omega arith }
 
 -- Two polynomials that code the same words are equal.
 pub codes_unique : (rate : Rate) (k r : ℕ) (words P Q : List ℕ) → k ≤ 65536 → Codes rate k r words P
     → Codes rate k r words Q → P ≡ Q
-unfolding placement
+unfolding frame_of
 codes_unique rate k r words P Q most p q =
-    same_from_values (placement rate k r).degree_bound P Q p.degree q.degree (words_from P p.coefficients)
+    same_from_values (degree_bound (frame_of rate k r)) P Q p.degree q.degree (words_from P p.coefficients)
     (words_from Q q.coefficients)
-    (λ i. (placement rate k r).originals_from + i) (λ i h. omega (arith, in_line (is_low rate k r) k r i most h))
+    (λ i. original_row (frame_of rate k r) i)
+    (λ i h. let at = in_line (is_low rate k r) k r i most h in omega (arith, at.inside, at.few))
     (λ i j hi hj e. omega arith)
     (λ i h. elim (cases_lt i k) [
       | inl original ↦ p.originals i original ∙ sym (q.originals i original)
       | inr zero_point ↦
           let at = in_line (is_low rate k r) k r i most h in
-          p.zeros _ (omega (arith, at.0)) at.1 ∙ sym (q.zeros _ (omega (arith, at.0)) at.1)
+          p.zeros _ (omega (arith, at.follow)) at.inside ∙ sym (q.zeros _ (omega (arith, at.follow)) at.inside)
     ])
 
 -- Words have at most one list of recovery words.
@@ -51,7 +54,7 @@ recovery_words-unique : (rate : Rate) (k r : ℕ) (words a b : List ℕ) → k �
     → AreRecoveryWords rate k r words b
     → (i : ℕ) → i < r → slice_index a i ≡ slice_index b i
 recovery_words-unique rate k r words a b most (p, codes_p, at_p) (o, codes_o, at_o) i below =
-    at_p i below ∙ ap (λ (q : List ℕ). value q ((placement rate k r).recovery_from + i))
+    at_p i below ∙ ap (λ (q : List ℕ). value q (recovery_row (frame_of rate k r) i))
     (codes_unique rate k r words p o most codes_p codes_o) ∙ sym (at_o i below)
 
 -- Two lists of recovery shards of one message are equal.

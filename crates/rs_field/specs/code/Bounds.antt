@@ -2,7 +2,7 @@
 use Rattle.std.specs.Prelude.{ℕ, ◌+◌, ◌*◌, ◌/◌}
 use Rattle.rs_field.specs.declared.words.steps.Steps.{Steps}
 use Rattle.rs_field.specs.code.Counts.{Rate}
-use Rattle.rs_field.specs.code.Placement.{block_rows, encoder_rows, decoder_rows}
+use Rattle.rs_field.specs.code.Frame.{block_rows, encoder_rows, decoder_rows}
 pub use Rattle.rs_field.specs.words.StepBounds.{CountsUpTo, CountsRows, CountsPairs, CountsProducts, WalshCounts}
 pub use Rattle.rs_field.specs.words.StepBounds.{LocatorCountsBelow, LocatorCounts, TransformCounts, RowProductCounts}
 unfoldable pub use Rattle.rs_field.specs.words.StepBounds.{log2, transform_steps}

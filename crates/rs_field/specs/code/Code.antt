@@ -1,25 +1,25 @@
 -- The code: recovery shards are values of the polynomial through the originals.
-use Rattle.std.specs.Prelude.{◌≡◌, ℕ, ◌+◌, ◌/◌, ◌%◌, ◌<◌, ◌≤◌, List, length, slice_index}
+use Rattle.std.specs.Prelude.{◌≡◌, ℕ, ◌/◌, ◌%◌, ◌<◌, ◌≤◌, List, length, slice_index}
 use Rattle.rs_field.specs.words.Polynomial.{AreWords, value}
 use Rattle.rs_field.specs.code.Column.{Shard, AreShards, columns}
 use Rattle.rs_field.specs.code.Counts.{Rate}
-use Rattle.rs_field.specs.code.Placement.{placement}
+use Rattle.rs_field.specs.code.Frame.{frame_of, degree_bound, original_row, recovery_row}
 use Rattle.rs_field.specs.code.Configuration.{Configuration}
 
 -- a polynomial codes k words if its degree is below the bound, its values at the points of the originals are these
 -- words, and its value at each zero point is zero
 pub record Codes (rate : Rate) (k r : ℕ) (words polynomial : List ℕ) : Type 0 where
-  pub degree : length polynomial ≡ (placement rate k r).degree_bound
+  pub degree : length polynomial ≡ degree_bound (frame_of rate k r)
   pub coefficients : AreWords polynomial
-  pub originals : (j : ℕ) → j < k → value polynomial ((placement rate k r).originals_from + j) ≡ slice_index words j
-  pub zeros : (x : ℕ) → (placement rate k r).zeros_from ≤ x → x < (placement rate k r).zeros_to → value polynomial x ≡ 0
+  pub originals : (j : ℕ) → j < k → value polynomial (original_row (frame_of rate k r) j) ≡ slice_index words j
+  pub zeros : (x : ℕ) → (frame_of rate k r).zeros_from ≤ x → x < (frame_of rate k r).zeros_to → value polynomial x ≡ 0
 
 -- recovery words are the values of a polynomial at the points of the recovery shards, if this polynomial codes the
 -- words of the originals
 abbrev pub AreRecoveryWords : Rate → ℕ → ℕ → List ℕ → List ℕ → Type 0
 AreRecoveryWords rate k r words recovery =
     (polynomial : List ℕ) × Codes rate k r words polynomial
-    × ((i : ℕ) → i < r → slice_index recovery i ≡ value polynomial ((placement rate k r).recovery_from + i))
+    × ((i : ℕ) → i < r → slice_index recovery i ≡ value polynomial (recovery_row (frame_of rate k r) i))
 
 -- shards are the recovery shards of a message if they have its size, and their words in each column are recovery words
 pub record AreRecovery (c : Configuration) (message recovery : List Shard) : Type 0 where

@@ -8,9 +8,13 @@ pub data Rate : Type 0 where
   high_rate : Rate
   default_rate : Rate
 
+-- the exponent of the least power of two that is not below n, for n up to 2 ^ 64
+unfoldable pub exponent_of : ℕ → ℕ
+exponent_of n = first_below 64 (λ d. nat_le n (2 ^ d))
+
 -- the least power of two that is not below n, for n up to 2 ^ 64
 unfoldable pub next_power : ℕ → ℕ
-next_power n = 2 ^ first_below 64 (λ d. nat_le n (2 ^ d))
+next_power n = 2 ^ exponent_of n
 
 -- whether a rate supports k originals with r recovery shards
 unfoldable pub supports : Rate → ℕ → ℕ → Bool

@@ -9,7 +9,7 @@ use Rattle.rs_field.specs.declared.code.error.Error.TheVariants.{NotEnoughShards
 use Rattle.rs_field.specs.code.Column.{Shard, shard_at}
 use Rattle.rs_field.specs.code.Counts.{Rate}
 use Rattle.rs_field.specs.code.Configuration.{Configuration, validation_outcome, bytes_of_rows}
-use Rattle.rs_field.specs.code.Placement.{decoder_rows}
+use Rattle.rs_field.specs.code.Frame.{decoder_rows}
 use Rattle.rs_field.specs.code.Given.{Shards, AreWithin, nothing, with_entry, count_below, Agrees, Consistent}
 
 -- the state of a decoder: a configuration, and the shards that were added in the current round

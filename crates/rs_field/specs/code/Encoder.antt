@@ -7,7 +7,7 @@ use Rattle.rs_field.specs.declared.code.error.Error.TheVariants.{DifferentShardS
 use Rattle.rs_field.specs.code.Column.{Shard, IsShard}
 use Rattle.rs_field.specs.code.Counts.{Rate}
 use Rattle.rs_field.specs.code.Configuration.{Configuration, validation_outcome, bytes_of_rows}
-use Rattle.rs_field.specs.code.Placement.{encoder_rows}
+use Rattle.rs_field.specs.code.Frame.{encoder_rows}
 use Rattle.rs_field.specs.code.Code.{AreRecovery}
 
 -- the state of an encoder: a configuration, and the originals that were added in the current round

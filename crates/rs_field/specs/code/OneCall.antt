@@ -15,7 +15,7 @@ use Rattle.rs_field.specs.declared.code.error.Error.TheVariants.{InvalidOriginal
 use Rattle.rs_field.specs.declared.code.error.Error.TheVariants.{NotEnoughShards, OutOfMemory}
 use Rattle.rs_field.specs.code.Column.{Shard}
 use Rattle.rs_field.specs.code.Counts.{default_rate, supports}
-use Rattle.rs_field.specs.code.Placement.{encoder_rows, decoder_rows}
+use Rattle.rs_field.specs.code.Frame.{encoder_rows, decoder_rows}
 use Rattle.rs_field.specs.code.Outcome.{result_and_then}
 use Rattle.rs_field.specs.code.Configuration.{Configuration, configuration, validation_outcome, start_outcome}
 use Rattle.rs_field.specs.code.Given.{Shards, nothing}

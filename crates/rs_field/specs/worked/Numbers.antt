@@ -6,7 +6,7 @@ use Rattle.rs_field.specs.words.Transform.{IsForward, IsBackward}
 use Rattle.rs_field.specs.words.StepBounds.{transform_steps}
 use Rattle.rs_field.specs.code.Column.{column}
 use Rattle.rs_field.specs.code.Counts.{low_rate, high_rate, default_rate, next_power, supports, is_low}
-use Rattle.rs_field.specs.code.Placement.{block_rows, encoder_rows, decoder_rows}
+use Rattle.rs_field.specs.code.Frame.{block_rows, encoder_rows, decoder_rows}
 use Rattle.rs_field.specs.code.Configuration.{configuration, validation_outcome, start_outcome}
 use Rattle.rs_field.specs.code.Bounds.{encode_steps_at, decode_steps_at}
 

@@ -12,7 +12,7 @@ use std::alloc::Global;
 pub trait Rate<E: Engine>: Sized {
     ghost use Rattle.std.specs.Prelude.{◌≡◌, ◌≤◌, IfOk, IfSome};
     ghost use Rattle.rs_field.specs.code.Counts.{Rate as WhichRate, supports as supports_counts};
-    ghost use Rattle.rs_field.specs.code.Placement.{encoder_rows, decoder_rows};
+    ghost use Rattle.rs_field.specs.code.Frame.{encoder_rows, decoder_rows};
     ghost use Rattle.rs_field.specs.code.Outcome.{answer_of};
     ghost use Rattle.rs_field.specs.code.Configuration.{configuration, validation_outcome, start_outcome, UpToMemory};
     ghost use Rattle.rs_field.specs.code.Encoder.{fresh_encoder};
@@ -157,7 +157,7 @@ pub trait RateEncoder<E: Engine>: Sized {
     ghost use Rattle.std.specs.Borrow.{sem};
     ghost use Rattle.rs_field.specs.code.Bounds.{EncodeCountsAt};
     ghost use Rattle.rs_field.specs.code.Counts.{Rate as WhichRate, supports as supports_counts};
-    ghost use Rattle.rs_field.specs.code.Placement.{encoder_rows};
+    ghost use Rattle.rs_field.specs.code.Frame.{encoder_rows};
     ghost use Rattle.rs_field.specs.code.Outcome.{answer_of, state_after};
     ghost use Rattle.rs_field.specs.code.Configuration.{configuration, validation_outcome};
     ghost use Rattle.rs_field.specs.code.Configuration.{start_outcome, UpToMemory, FitsWithin};
@@ -317,7 +317,7 @@ pub trait RateDecoder<E: Engine>: Sized {
     ghost use Rattle.std.specs.Prelude.{◌≡◌, ◌≢◌, ◌≤◌, ℕ, Err, IfOk, IfSome, OnOk, OnErr};
     ghost use Rattle.std.specs.Borrow.{sem};
     ghost use Rattle.rs_field.specs.code.Counts.{Rate as WhichRate, supports as supports_counts};
-    ghost use Rattle.rs_field.specs.code.Placement.{decoder_rows};
+    ghost use Rattle.rs_field.specs.code.Frame.{decoder_rows};
     ghost use Rattle.rs_field.specs.code.Outcome.{answer_of, state_after};
     ghost use Rattle.rs_field.specs.code.Configuration.{configuration, validation_outcome};
     ghost use Rattle.rs_field.specs.code.Configuration.{start_outcome, UpToMemory, FitsWithin};

@@ -3,7 +3,7 @@
 ghost use Rattle.std.specs.Prelude.{◌≡◌, ℕ, ◌+◌, ◌*◌, ◌%◌, ◌^◌, ◌<◌, ◌≤◌, true};
 ghost use Rattle.rs_field.specs.words.StepBounds.{CountsUpTo, transform_steps};
 ghost use Rattle.rs_field.specs.code.Counts.{next_power, supports, high_rate};
-ghost use Rattle.rs_field.specs.code.Placement.{encoder_rows};
+ghost use Rattle.rs_field.specs.code.Frame.{encoder_rows};
 ghost use Rattle.rs_field.specs.words.Transform.{forward};
 ghost use Rattle.rs_field.specs.rows.View.{word, Fits, SameExtent, SameRowsOutside};
 ghost use Rattle.rs_rate.specs.Coding.{SumsBlocks, CodesWords, CodingCounts, further_blocks};

@@ -3,7 +3,7 @@
 ghost use Rattle.std.specs.Prelude.{◌≡◌, ℕ, ◌+◌, ◌*◌, ◌%◌, ◌^◌, ◌<◌, ◌≤◌, true};
 ghost use Rattle.rs_field.specs.words.StepBounds.{CountsUpTo, transform_steps};
 ghost use Rattle.rs_field.specs.code.Counts.{low_rate, next_power, supports};
-ghost use Rattle.rs_field.specs.code.Placement.{encoder_rows};
+ghost use Rattle.rs_field.specs.code.Frame.{encoder_rows};
 ghost use Rattle.rs_field.specs.words.Transform.{forward};
 ghost use Rattle.rs_field.specs.rows.View.{cell, word, Fits, SameExtent};
 ghost use Rattle.rs_rate.specs.Coding.{CodesWords, CodingCounts, further_blocks};

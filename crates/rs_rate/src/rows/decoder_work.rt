@@ -208,7 +208,7 @@ impl DecoderMemory {
 impl ObjectRows for DecoderRows {
     ghost use Rattle.std.proofs.Common.{le_refl};
     ghost use Rattle.rs_field.specs.code.Decoder.{DecoderState};
-    ghost use Rattle.rs_field.specs.code.Placement.{decoder_rows};
+    ghost use Rattle.rs_field.specs.code.Frame.{decoder_rows};
     ghost use Rattle.rs_rate.specs.RowsLaws.{some_anyway, decoder_rows_set_up, room_within};
     ghost use Rattle.rs_rate.specs.DecoderRoom.{DecoderRoom, HasRoom, Grows, memory_room, work_room};
     ghost use Rattle.rs_rate.specs.DecoderView.{decoder_state};

@@ -68,7 +68,7 @@ impl Default for EncoderWork {
 impl ObjectRows for EncoderRows {
     ghost use Rattle.std.proofs.Common.{le_refl};
     ghost use Rattle.rs_field.specs.code.Encoder.{EncoderState};
-    ghost use Rattle.rs_field.specs.code.Placement.{encoder_rows};
+    ghost use Rattle.rs_field.specs.code.Frame.{encoder_rows};
     ghost use Rattle.rs_rate.specs.RowsLaws.{some_anyway, encoder_rows_set_up, chunks_within};
     ghost use Rattle.rs_rate.specs.EncoderView.{encoder_state, work_room};
 

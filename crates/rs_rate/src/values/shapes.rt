@@ -1,7 +1,7 @@
 //! The shapes of encoders and decoders, which follow from a configuration: how many rows there are, and where the shards are.
 ghost use Rattle.std.specs.Prelude.{◌≡◌, Err, MatchResult, ◌*◌, ◌^◌, ◌<◌, ◌≤◌, ◌+◌, ◌-◌, ◌/◌};
 ghost use Rattle.rs_field.specs.code.Configuration.{configuration, start_outcome};
-ghost use Rattle.rs_field.specs.code.Placement.{encoder_rows, decoder_rows};
+ghost use Rattle.rs_field.specs.code.Frame.{encoder_rows, decoder_rows};
 ghost use Rattle.rs_field.specs.rows.Layout.{row_len};
 ghost use Rattle.rs_rate.specs.Configured.{shape_of_encoder, shape_of_decoder, IsConfigured};
 ghost use Rattle.rs_rate.specs.Shapes.{DecoderCanBeLaid, original_row, recovery_row, EncoderCanBeLaid};

@@ -8,8 +8,8 @@ use Rattle.rs_field.specs.words.Search.{first_below}
 use Rattle.rs_field.specs.words.Field.{product, combine, bits, from_bits, cantor_basis, monomials, carryless, reduce}
 use Rattle.rs_field.specs.words.Polynomial.{value}
 use Rattle.rs_field.specs.code.Column.{Shard, AreShards, shard_at, column}
-use Rattle.rs_field.specs.code.Counts.{next_power, supports, is_low, default_rate}
-use Rattle.rs_field.specs.code.Placement.{placement, low_placement, high_placement}
+use Rattle.rs_field.specs.code.Counts.{next_power, exponent_of, supports, is_low, default_rate}
+use Rattle.rs_field.specs.code.Frame.{frame_of, low_frame, high_frame}
 use Rattle.rs_field.specs.code.Configuration.{configuration}
 use Rattle.rs_field.specs.code.Code.{AreRecovery}
 use Rattle.rs_field.specs.code.CodeLaws.{changed_shards}
@@ -37,13 +37,13 @@ message_shards = shards_from 2 2 message refl
 
 -- The recovery shards of the message of two originals are values of the polynomial x.
 line : AreRecovery (configuration default_rate 2 3 2) message recovered
-unfolding passes_below placement low_placement high_placement is_low next_power first_below value product combine bits
+unfolding passes_below frame_of low_frame high_frame is_low next_power exponent_of first_below value product combine bits
     from_bits cantor_basis monomials carryless reduce column
 line = recovery_from _ _ _ ((0 ∷ 1 ∷ []) ∷ []) refl
 
 -- The recovery shards of one original are values of a constant.
 copies : AreRecovery (configuration default_rate 1 2 2) ((7 ∷ 9 ∷ []) ∷ []) ((7 ∷ 9 ∷ []) ∷ (7 ∷ 9 ∷ []) ∷ [])
-unfolding passes_below placement low_placement high_placement is_low next_power first_below value product combine bits
+unfolding passes_below frame_of low_frame high_frame is_low next_power exponent_of first_below value product combine bits
     from_bits cantor_basis monomials carryless reduce column
 copies = recovery_from _ _ _ ((2311 ∷ []) ∷ []) refl
 
@@ -62,7 +62,7 @@ agrees = record {
 
 -- No other message of two originals agrees with these two recovery shards.
 only : (m : List Shard) → IsAgreeing state_of_two m → m ≡ message
-unfolding supports next_power first_below with_entry count_below
+unfolding supports next_power exponent_of first_below with_entry count_below
 only m a = one_message state_of_two.configuration state_of_two.originals state_of_two.recovery m message refl refl
     (lit≤ tt) a agrees
 
@@ -100,7 +100,7 @@ four_more = low_bytes (11 ∷ 9 ∷ 14 ∷ 13 ∷ [])
 
 -- The recovery shards of the message of four originals are values of a polynomial that is zero from the point 8 on.
 cubic : AreRecovery (configuration default_rate 4 4 2) four four_more
-unfolding passes_below is_low next_power first_below value product combine bits from_bits cantor_basis monomials
+unfolding passes_below is_low next_power exponent_of first_below value product combine bits from_bits cantor_basis monomials
     carryless reduce column
 cubic = recovery_from_high 3 _ _ _ ((11 ∷ 6 ∷ 5 ∷ 1 ∷ []) ∷ []) refl
 
@@ -135,7 +135,7 @@ original_agrees = record {
 
 -- No message agrees with an original and a recovery shard that is no copy of the original.
 inconsistent : IsConsistent (state_of_surplus (7 ∷ 8 ∷ [])) → ⊥
-unfolding supports next_power first_below with_entry count_below changed_shards
+unfolding supports next_power exponent_of first_below with_entry count_below changed_shards
 inconsistent =
     let given = state_of_surplus (7 ∷ 8 ∷ []) in
     changes_noticed given.configuration original copied given.originals given.recovery refl refl
@@ -143,7 +143,7 @@ inconsistent =
 
 -- No other message of one original agrees with the original and its copy.
 only_original : (m : List Shard) → IsAgreeing (state_of_surplus (7 ∷ 9 ∷ [])) m → m ≡ original
-unfolding supports next_power first_below with_entry count_below
+unfolding supports next_power exponent_of first_below with_entry count_below
 only_original m a =
     let given = state_of_surplus (7 ∷ 9 ∷ []) in
     one_message given.configuration given.originals given.recovery m original refl refl (lit≤ tt) a original_agrees

@@ -5,8 +5,8 @@ use Rattle.rs_field.specs.words.Search.{first_below}
 use Rattle.rs_field.specs.words.Field.{product, combine, bits, from_bits, cantor_basis, monomials, carryless, reduce}
 use Rattle.rs_field.specs.words.Polynomial.{value}
 use Rattle.rs_field.specs.code.Column.{column}
-use Rattle.rs_field.specs.code.Counts.{next_power, is_low, low_rate, high_rate, default_rate}
-use Rattle.rs_field.specs.code.Placement.{placement, low_placement, high_placement}
+use Rattle.rs_field.specs.code.Counts.{next_power, exponent_of, is_low, low_rate, high_rate, default_rate}
+use Rattle.rs_field.specs.code.Frame.{frame_of, low_frame, high_frame}
 use Rattle.rs_field.specs.code.CodeLaws.{xor_bytes, xor_shards}
 use Rattle.rs_field.specs.worked.Codes.{LowExamples, HighExamples, ShortLineExample, CubicExample, TailExample}
 use Rattle.rs_field.specs.worked.Codes.{ChunkAndTailExample}
@@ -17,7 +17,7 @@ use Rattle.rs_field.proofs.worked.codes.Goals as goal
 -- The examples of the low rate pass the tests.
 low : LowExamples low_rate × LowExamples default_rate × ShortLineExample low_rate × CubicExample low_rate × TailExample
     × ChunkAndTailExample
-unfolding passes_below placement low_placement high_placement is_low next_power first_below value product combine bits
+unfolding passes_below frame_of low_frame high_frame is_low next_power exponent_of first_below value product combine bits
     from_bits cantor_basis monomials carryless reduce column xor_bytes xor_shards
 low = (
   (
@@ -51,7 +51,7 @@ low = (
 
 -- The examples of the high rate pass the tests, below 4 or below 8.
 high : HighExamples high_rate × HighExamples default_rate
-unfolding passes_below is_low next_power first_below value product combine bits from_bits cantor_basis monomials
+unfolding passes_below is_low next_power exponent_of first_below value product combine bits from_bits cantor_basis monomials
     carryless reduce column
 high = (
   (

@@ -1,8 +1,8 @@
 use Rattle.std.proofs.Common.{rules}
-use Rattle.rs_field.specs.code.Counts.{supports, is_low, next_power}
+use Rattle.rs_field.specs.code.Counts.{supports, is_low, next_power, exponent_of}
 use Rattle.rs_field.specs.words.Search.{first_below}
 use Rattle.rs_field.proofs.worked.counts.Goals as goal
 
 pub returns : goal.returns
-unfolding supports is_low next_power first_below
+unfolding supports is_low next_power exponent_of first_below
 returns c = search rules

@@ -1,0 +1,94 @@
+-- The frame of a code: the points of its shards, and the rows of a decoder. A point is a number from 0 to 65535.
+use Rattle.std.specs.Prelude.{◌≡◌, ℕ, ◌+◌, ◌-◌, ◌*◌, ◌/◌, ◌^◌, ◌≤◌, ◌⊎◌, min, true, false, if◌then◌else◌}
+use Rattle.rs_field.specs.code.Counts.{Rate, next_power, exponent_of, is_low}
+use Rattle.rs_field.specs.declared.code.frame.Frame.{Frame}
+
+-- the low rate, with m the power of k: originals have the points from 0 on, recovery shards those from m on, and k to m
+-- - 1 are the zero points; a decoder has the power of m + r as its number of rows
+unfoldable pub low_frame : ℕ → ℕ → Frame
+low_frame k r =
+    let m = next_power k in
+    record {
+      is_low = true;
+      exponent = exponent_of (m + r);
+      originals_from = 0;
+      recovery_from = m;
+      zeros_from = k;
+      zeros_to = m;
+    }
+
+-- the high rate, with m the power of r: recovery shards have the points from 0 on, originals those from m on, and m + k
+-- to 65535 are the zero points; a decoder has the power of m + k as its number of rows
+unfoldable pub high_frame : ℕ → ℕ → Frame
+high_frame k r =
+    let m = next_power r in
+    record {
+      is_low = false;
+      exponent = exponent_of (m + k);
+      originals_from = m;
+      recovery_from = 0;
+      zeros_from = m + k;
+      zeros_to = 65536;
+    }
+
+-- the frame of a rate for these counts
+unfoldable pub frame_of : Rate → ℕ → ℕ → Frame
+frame_of rate k r = if is_low rate k r then low_frame k r else high_frame k r
+
+-- a bound on the degree: there is one coefficient for each point from the first original to the last zero point
+abbrev pub degree_bound : Frame → ℕ
+degree_bound frame = frame.zeros_to - frame.originals_from
+
+-- the number of rows of a decoder, one for each of the first points
+abbrev pub row_count : Frame → ℕ
+row_count frame = 2 ^ frame.exponent
+
+-- the row of an original
+abbrev pub original_row : Frame → ℕ → ℕ
+original_row frame index = frame.originals_from + index
+
+-- the row of a recovery shard
+abbrev pub recovery_row : Frame → ℕ → ℕ
+recovery_row frame index = frame.recovery_from + index
+
+-- the number m of rows of a block: the power of k at the low rate, and the power of r at the high rate
+unfoldable pub block_rows : Rate → ℕ → ℕ → ℕ
+block_rows rate k r = if is_low rate k r then next_power k else next_power r
+
+-- n rounded up to a multiple of m
+abbrev pub next_multiple : ℕ → ℕ → ℕ
+next_multiple n m = (n + m - 1) / m * m
+
+-- the number of rows of an encoder: the number of recovery shards at the low rate, or of originals at the high rate,
+-- rounded up to whole blocks
+unfoldable pub encoder_rows : Rate → ℕ → ℕ → ℕ
+encoder_rows rate k r = if is_low rate k r then next_multiple r (next_power k) else next_multiple k (next_power r)
+
+-- the number of rows of a decoder: at the low rate the power of m + r, with m the power of k; at the high rate the
+-- power of m + k, with m the power of r
+abbrev pub decoder_rows : Rate → ℕ → ℕ → ℕ
+decoder_rows rate k r = row_count (frame_of rate k r)
+
+-- the first row after the zero points, or after the last row
+unfoldable pub zeros_end : Frame → ℕ
+zeros_end frame = min frame.zeros_to (row_count frame)
+
+-- the number of coefficients of a polynomial that is zero at the zero points among the rows
+unfoldable pub coefficient_count : Frame → ℕ
+coefficient_count frame = zeros_end frame - frame.originals_from
+
+-- k originals, r recovery shards and the zero points have different rows, at most 65536. The zero points come right
+-- after the originals; recovery shards come after the zero points, or before the originals. The zero points end among
+-- the rows, or they are all further points.
+pub record IsFrame (frame : Frame) (k r : ℕ) : Type 0 where
+  pub few : frame.exponent ≤ 16
+  pub originals : original_row frame k ≤ row_count frame
+  pub recovery : recovery_row frame r ≤ row_count frame
+  pub zeros : (frame.zeros_from ≤ zeros_end frame) × (zeros_end frame ≤ row_count frame)
+  pub follow : frame.zeros_from ≡ original_row frame k
+  pub order : ((frame.originals_from ≡ 0) × (frame.recovery_from ≡ zeros_end frame))
+      ⊎ ((frame.recovery_from ≡ 0) × (r ≤ frame.originals_from) × (zeros_end frame ≡ row_count frame))
+  pub counts : zeros_end frame ≡ coefficient_count frame + frame.originals_from
+  pub whole : ((degree_bound frame ≡ coefficient_count frame) × (frame.zeros_to ≡ zeros_end frame))
+      ⊎ ((degree_bound frame ≡ coefficient_count frame + (65536 - row_count frame)) × (frame.zeros_to ≡ 65536)
+      × (zeros_end frame ≡ row_count frame))
