@@ -1,186 +1,204 @@
 -- The columns of a decoder's rows: the word that is given at each point, and the polynomial that a decode makes of the
 -- words.
-use Rattle.std.proofs.Common.{◌≡◌, ℕ, ◌+◌, ◌/◌, ◌%◌, ◌^◌, ◌<◌, ◌≤◌, ◌⊎◌, List, Bool, true, false, cond, refl, sym, ap}
-use Rattle.std.proofs.Common.{ap₂, ◌∙◌, arith, inl, inr, subst, true≢false, pow_mono}
-use Rattle.std.specs.Prelude.{slice_index, Option, Some, None, is_some, unwrap_or}
+use Rattle.std.proofs.Common.{◌≡◌, ℕ, ◌+◌, ◌/◌, ◌%◌, ◌<◌, ◌≤◌, ◌⊎◌, List, Bool, true, false, cond, sym, ap, ap₂, ◌∙◌}
+use Rattle.std.proofs.Common.{arith, inl, inr, refl, subst}
+use Rattle.std.specs.Prelude.{slice_index, Some, None, is_some, not, unwrap_or}
 use Rattle.std.proofs.lemmas.Bool.{cases_lt}
+use Rattle.std.proofs.lemmas.Option.{none-some}
 use Rattle.rs_field.specs.words.Field.{product, power}
-use Rattle.rs_field.specs.words.Transform.{IsBackward}
-use Rattle.rs_field.specs.words.Locator.{IsLocatorBelow, log_sum}
+use Rattle.rs_field.specs.words.Locator.{log_sum}
 use Rattle.rs_field.specs.code.Column.{Shard, IsShard, column}
 use Rattle.rs_field.specs.code.Counts.{Rate}
-use Rattle.rs_field.specs.code.Frame.{Placement, placement}
+use Rattle.rs_field.specs.code.Frame.{frame_of, row_count, original_row}
 use Rattle.rs_field.specs.code.Configuration.{configuration}
+use Rattle.rs_field.specs.code.Given.{count_below}
 use Rattle.rs_field.specs.rows.Layout.{row_len}
 use Rattle.rs_field.specs.rows.Rows.{Chunks}
 use Rattle.rs_field.specs.rows.MarkedRows.{is_marked}
 use Rattle.rs_field.proofs.of_code.Columns.{column_lt}
-use Rattle.rs_field.proofs.of_code.Frame.{IsFrame}
 use Rattle.rs_field.proofs.of_words.ExactCheck.{AreLocated, are_located}
 use Rattle.rs_field.proofs.of_words.LocatorProduct.{same_residue}
-use Rattle.rs_field.proofs.of_code.AgreeingMessages.{AreSized, HasWords}
+use Rattle.rs_field.proofs.of_code.AgreeingMessages.{AreSized}
 use Rattle.rs_field.proofs.of_code.Agreement.{AreColumns}
-use Rattle.rs_rate.specs.Marks.{erasure, given_shards, ArePlaced}
-use Rattle.rs_rate.specs.ShardRows.{word_in, shard_laid_out}
-use Rattle.rs_rate.specs.Decoding.{located_word}
+use Rattle.rs_rate.specs.declared.values.configuration.Configuration.{Configuration}
+use Rattle.rs_rate.specs.Configured.{IsConfigured, rate_configuration}
+use Rattle.rs_rate.specs.Decoding.{IsLocatorOf, RestoresShards, located_word}
+use Rattle.rs_rate.specs.Marks.{erasure, shards_by_row, part, originals_in, recovery_in, HoldGiven}
+use Rattle.rs_rate.specs.ShardRows.{word_in, shard_laid_out, shard_in_order}
 use Rattle.rs_rate.proofs.ShardRowsLemmas.{column-put}
-use Rattle.rs_rate.proofs.DecoderLemmas.{given_shards-in, given_shards-out, given-marked}
+use Rattle.rs_rate.proofs.RowMaps.{some-marked, marked-at, part-in, part-out}
 use Rattle.rs_rate.proofs.RestoringRows.{located_word-at}
+use Rattle.rs_rate.proofs.ConfiguredLemmas.{places-known}
 use Rattle.rs_rate.proofs.Erased.{erased-given, are_erased}
+use Rattle.rs_field.proofs.of_code.Frame.{zeros_end}
+
+-- What a decode does to the rows of a configuration with k + surplus given shards.
+pub record IsDecoded (c : Configuration) (marks new : List Bool) (locator : List ℕ) (surplus : ℕ)
+    (before after : Chunks) (agrees : Bool) : Type 0 where
+  pub configured : IsConfigured c
+  pub originals : ℕ
+  pub recovery : ℕ
+  pub given : HoldGiven c originals recovery (shards_by_row marks before c.shard_bytes)
+  pub counted : originals + recovery ≡ c.original_count + surplus
+  pub is_locator : IsLocatorOf c.frame marks locator
+  pub restores : RestoresShards c marks locator surplus before after agrees
+  pub marked : (i : ℕ) → i < c.original_count
+      → is_marked new (original_row c.frame i) ≡ not (is_marked marks (original_row c.frame i))
+  pub sized : (i : ℕ) → i < c.original_count
+      → IsShard c.shard_bytes (shard_in_order after c.shard_bytes (original_row c.frame i))
 
 -- The word of column j at point x: the word of the shard that is given there, or zero.
 unfoldable pub words_given : List Bool → Chunks → ℕ → ℕ → ℕ → ℕ
 words_given marks chunks size j x = cond (is_marked marks x) (column j (shard_laid_out chunks size x)) 0
 
-words_given-at : (marks : List Bool) (chunks : Chunks) (size j x : ℕ) (given : Bool) → is_marked marks x ≡ given
-    → words_given marks chunks size j x ≡ cond given (column j (shard_laid_out chunks size x)) 0
-unfolding words_given
-words_given-at marks chunks size j x given is = ap (λ b. cond b (column j (shard_laid_out chunks size x)) 0) is
+module _ (marks : List Bool) (chunks : Chunks) (size : ℕ) where
+  words_given-at : (j x : ℕ) (given : Bool) → is_marked marks x ≡ given
+      → words_given marks chunks size j x ≡ cond given (column j (shard_laid_out chunks size x)) 0
+  unfolding words_given
+  words_given-at j x given is = ap (λ b. cond b (column j (shard_laid_out chunks size x)) 0) is
 
--- A given shard has an index below the count and a marked row, and the row holds the shard.
-pub given_some : (marks : List Bool) (chunks : Chunks) (size from n i : ℕ) (shard : Shard)
-    → given_shards marks chunks size from n i ≡ Some shard
-    → (i < n) × (is_marked marks (from + i) ≡ true) × (shard_laid_out chunks size (from + i) ≡ shard)
-given_some marks chunks size from n i shard is =
-    elim (cases_lt i n) [
-      | inl inside ↦ let m =
-          by_mark (is_marked marks (from + i)) refl (sym (given_shards-in marks chunks size from n i inside) ∙ is) in
-          (inside, m.0, m.1)
-      | inr outside ↦ absurd (none_some (sym (given_shards-out marks chunks size from n i outside) ∙ is))
-    ]
-  where
-    none_some : ◌≡◌ {A = Option Shard} None (Some shard) → ⊥
-    none_some e = true≢false (sym (ap is_some e))
+  -- A shard in a row is the shard of a marked row.
+  pub row_some : (x : ℕ) (shard : Shard) → shards_by_row marks chunks size x ≡ Some shard
+      → (is_marked marks x ≡ true) × (shard_laid_out chunks size x ≡ shard)
+  row_some x shard is =
+      let mark = sym (some-marked marks (shard_laid_out chunks size) x) ∙ ap is_some is in (
+        mark,
+        ap (λ o. unwrap_or o shard) (sym (marked-at marks (shard_laid_out chunks size) x true mark) ∙ is),
+      )
 
-    by_mark : (given : Bool) → is_marked marks (from + i) ≡ given
-        → ◌≡◌ {A = Option Shard} (cond (is_marked marks (from + i)) (Some (shard_laid_out chunks size (from + i))) None)
-        (Some shard)
-        → (is_marked marks (from + i) ≡ true) × (shard_laid_out chunks size (from + i) ≡ shard)
-    by_mark true mark e = (
-      mark,
-      ap (λ o. unwrap_or o shard)
-          (sym (ap (λ b. cond b (Some (shard_laid_out chunks size (from + i))) None) mark) ∙ e),
-    )
-    by_mark false mark e =
-        absurd (none_some (sym (ap (λ b. cond b (Some (shard_laid_out chunks size (from + i))) None) mark) ∙ e))
+  -- A shard in a part of the rows has an index below the count, and is in its row.
+  pub given_some : (from n i : ℕ) (shard : Shard) → part (shards_by_row marks chunks size) from n i ≡ Some shard
+      → (i < n) × (shards_by_row marks chunks size (from + i) ≡ Some shard)
+  given_some from n i shard is =
+      elim (cases_lt i n) [
+        | inl inside ↦ (inside, sym (part-in (shards_by_row marks chunks size) from n i inside) ∙ is)
+        | inr outside ↦
+            absurd (none-some shard (sym (part-out (shards_by_row marks chunks size) from n i outside) ∙ is))
+      ]
 
--- The shards given in n rows have the shard size.
-given_sized : (marks : List Bool) (chunks : Chunks) (size from n : ℕ)
-    → ((p : ℕ) → is_marked marks p ≡ true → IsShard size (shard_laid_out chunks size p))
-    → AreSized n size (given_shards marks chunks size from n)
-given_sized marks chunks size from n shards = record {
-  each = λ i shard is.
-      let s = given_some marks chunks size from n i shard is in (s.0, subst (IsShard size) s.2 (shards (from + i) s.1));
-}
+  -- The given words are words of the given shards.
+  given_words : (from n j i : ℕ) (shard : Shard) → part (shards_by_row marks chunks size) from n i ≡ Some shard
+      → words_given marks chunks size j (from + i) ≡ column j shard
+  given_words from n j i shard is =
+      let s = row_some (from + i) shard (given_some from n i shard is).1 in
+      words_given-at j (from + i) true s.0 ∙ ap (column j) s.1
 
--- The given words are the columns of the given shards.
-given_words : (p : Placement) (k r : ℕ) (marks : List Bool) (chunks : Chunks) (size j : ℕ)
-    → HasWords p (given_shards marks chunks size p.originals_from k)
-    (given_shards marks chunks size p.recovery_from r) j (words_given marks chunks size j)
-given_words p k r marks chunks size j = record {
-  own = λ i shard is. at p.originals_from k i shard is;
-  coded = λ i shard is. at p.recovery_from r i shard is;
-}
-  where
-    at : (from n i : ℕ) (shard : Shard) → given_shards marks chunks size from n i ≡ Some shard
-        → words_given marks chunks size j (from + i) ≡ column j shard
-    at from n i shard is =
-        let s = given_some marks chunks size from n i shard is in words_given-at marks chunks size j (from + i) true s.1
-        ∙ ap (column j) s.2
+  -- A shard with an index below the count is given exactly if its row is marked.
+  pub given-marked : (from n i : ℕ) → i < n
+      → is_some (part (shards_by_row marks chunks size) from n i) ≡ is_marked marks (from + i)
+  given-marked from n i inside =
+      ap is_some (part-in (shards_by_row marks chunks size) from n i inside)
+      ∙ some-marked marks (shard_laid_out chunks size) (from + i)
 
--- The located words of a column are the given words times the powers of the locator.
-located_words : (n j size : ℕ) (marks : List Bool) (chunks : Chunks) (locator : List ℕ) (marked : ℕ → ℕ) → size % 2 ≡ 0
-    → j < size / 2
-    → ((x : ℕ) → x < n → is_marked marks x ≡ true → marked x ≡ 0)
-    → ((x : ℕ) → x < n → power (slice_index locator x) ≡ power (log_sum n marked x))
-    → AreLocated n marked (words_given marks chunks size j)
-    (located_word marks locator (word_in chunks (row_len size) (j / 32) (j % 32)))
-located_words n j size marks chunks locator marked even inside kept same =
-    are_located n marked (words_given marks chunks size j)
-    (located_word marks locator (word_in chunks (row_len size) (j / 32) (j % 32)))
-    (λ x hx one. erased_at x hx one (is_marked marks x) refl) (λ x hx none. other_at x hx (is_marked marks x) refl)
-  where
-    erased_at : (x : ℕ) → x < n → marked x ≡ 1 → (given : Bool) → is_marked marks x ≡ given
-        → located_word marks locator (word_in chunks (row_len size) (j / 32) (j % 32)) x ≡ 0
-    erased_at x hx one true is = absurd (let none : marked x ≡ 0 = kept x hx is in let no : ⊥ = omega arith in no)
-    erased_at x hx one false is =
-        located_word-at marks locator (word_in chunks (row_len size) (j / 32) (j % 32)) x false is
-
-    other_at : (x : ℕ) → x < n → (given : Bool) → is_marked marks x ≡ given
-        → ((words_given marks chunks size j x ≡ 0)
-        × (located_word marks locator (word_in chunks (row_len size) (j / 32) (j % 32)) x ≡ 0))
-        ⊎ (located_word marks locator (word_in chunks (row_len size) (j / 32) (j % 32)) x
-        ≡ product (words_given marks chunks size j x) (power (log_sum n marked x)))
-    other_at x hx true is =
-        inr (located_word-at marks locator (word_in chunks (row_len size) (j / 32) (j % 32)) x true is
-        ∙ ap₂ product (sym (words_given-at marks chunks size j x true is ∙ column-put chunks size x j even inside))
-        (same x hx))
-    other_at x hx false is =
-        inl (
-          words_given-at marks chunks size j x false is,
-          located_word-at marks locator
-              (word_in chunks (row_len size) (j / 32) (j % 32)) x false is,
-        )
-
--- The word at each point is below 65536.
-given_lt : (marks : List Bool) (chunks : Chunks) (size j x : ℕ)
-    → ((p : ℕ) → is_marked marks p ≡ true → IsShard size (shard_laid_out chunks size p))
-    → words_given marks chunks size j x < 65536
-given_lt marks chunks size j x shards = by_mark (is_marked marks x) refl
-  where
-    by_mark : (given : Bool) → is_marked marks x ≡ given → words_given marks chunks size j x < 65536
-    by_mark true is = subst (λ (w : ℕ). w < 65536) (sym (words_given-at marks chunks size j x true is))
-        (column_lt size (shard_laid_out chunks size x) j (shards x is))
-    by_mark false is = subst (λ (w : ℕ). w < 65536) (sym (words_given-at marks chunks size j x false is)) (omega arith)
-
--- The columns of a decoder's rows, with the coefficients of the polynomial through the located words.
-pub are_columns : (rate : Rate) (k r size e bound zeros_end : ℕ) (marks : List Bool) (chunks : Chunks)
-    (locator : List ℕ) (coefficients : ℕ → ℕ → ℕ → ℕ) → size % 2 ≡ 0
-    → IsFrame (placement rate k r) k r e bound zeros_end
-    → ArePlaced (placement rate k r).originals_from k (placement rate k r).recovery_from r marks
-    → ((p : ℕ) → is_marked marks p ≡ true → IsShard size (shard_laid_out chunks size p))
-    → IsLocatorBelow (2 ^ e) (erasure (placement rate k r).zeros_from (placement rate k r).zeros_to marks)
-    (λ x. slice_index locator x)
-    → ((j s i : ℕ) → j < row_len size → s < 32 → i < 2 ^ e → coefficients j s i < 65536)
-    → ((j s : ℕ) → j < row_len size → s < 32
-    → IsBackward (2 ^ e) 0 (located_word marks locator (word_in chunks (row_len size) j s)) (coefficients j s))
-    → AreColumns (configuration rate k r size) (given_shards marks chunks size (placement rate k r).originals_from k)
-    (given_shards marks chunks size (placement rate k r).recovery_from r)
-    e bound zeros_end (erasure (placement rate k r).zeros_from (placement rate k r).zeros_to marks)
-    (words_given marks chunks size)
-    (λ j. located_word marks locator (word_in chunks (row_len size) (j / 32) (j % 32)))
-    (λ j. coefficients (j / 32) (j % 32))
-are_columns rate k r size e bound zeros_end marks chunks locator coefficients even frame placed shards is_locator words
-    back =
-    let few : 2 ^ e ≤ 2 ^ 16 = pow_mono frame.few in
-    record {
-      even = even;
-      own_sized = given_sized marks chunks size (placement rate k r).originals_from k shards;
-      coded_sized = given_sized marks chunks size (placement rate k r).recovery_from r shards;
-      has = λ j inside. given_words (placement rate k r) k r marks chunks size j;
-      each = λ j inside.
-          record {
-            frame = frame;
-            erasures = are_erased (placement rate k r) k r e bound zeros_end marks
-                (given_shards marks chunks size (placement rate k r).originals_from k)
-                (given_shards marks chunks size (placement rate k r).recovery_from r) frame placed
-                (λ i hi. given-marked marks chunks size (placement rate k r).originals_from k i hi)
-                (λ i hi. given-marked marks chunks size (placement rate k r).recovery_from r i hi);
-            are_words = λ x hx. given_lt marks chunks size j x shards;
-            known = λ x above below. words_given-at marks chunks size j x false (zero_row x above below);
-            are_located = located_words (2 ^ e) j size marks chunks locator
-                (erasure (placement rate k r).zeros_from (placement rate k r).zeros_to marks) even inside
-                (λ x hx is. erased-given (placement rate k r).zeros_from (placement rate k r).zeros_to x marks is)
-                (λ x hx. same_residue (slice_index locator x)
-                (log_sum (2 ^ e) (erasure (placement rate k r).zeros_from (placement rate k r).zeros_to marks) x)
-                (is_locator x hx));
-            row_words = λ x hx. words (j / 32) (j % 32) x (omega (arith, inside)) (omega arith) hx;
-            back = λ x hx. sym (back (j / 32) (j % 32) (omega (arith, inside)) (omega arith) x hx);
-          };
+  module _ (sized : (p : ℕ) (shard : Shard) → shards_by_row marks chunks size p ≡ Some shard → IsShard size shard) where
+    given_sized : (from n : ℕ) → AreSized n size (part (shards_by_row marks chunks size) from n)
+    given_sized from n = record {
+      each = λ i shard is.
+          let s = given_some from n i shard is in (s.0, sized (from + i) shard s.1);
     }
-  where
-    zero_row : (x : ℕ) → (placement rate k r).zeros_from ≤ x → x < zeros_end → is_marked marks x ≡ false
-    zero_row x above below =
-        let follow : (placement rate k r).zeros_from ≡ (placement rate k r).originals_from + k = frame.follow in
-        placed x (inr (omega arith))
-        (elim frame.order [ inl low ↦ inl (omega (arith, low.1)) | inr high ↦ inr (omega (arith, high.0, high.1)) ])
+
+    -- The word at each point is below 65536.
+    given_lt : (j x : ℕ) → words_given marks chunks size j x < 65536
+    given_lt j x = by_mark (is_marked marks x) refl
+      where
+        by_mark : (given : Bool) → is_marked marks x ≡ given → words_given marks chunks size j x < 65536
+        by_mark true is = subst (λ (w : ℕ). w < 65536) (sym (words_given-at j x true is))
+            (column_lt size (shard_laid_out chunks size x) j
+            (sized x (shard_laid_out chunks size x) (marked-at marks (shard_laid_out chunks size) x true is)))
+        by_mark false is = subst (λ (w : ℕ). w < 65536) (sym (words_given-at j x false is)) (omega arith)
+
+  -- The located words of a column are the given words times the powers of the locator.
+  located_words : (n j : ℕ) (locator : List ℕ) (marked : ℕ → ℕ) → size % 2 ≡ 0 → j < size / 2
+      → ((x : ℕ) → x < n → is_marked marks x ≡ true → marked x ≡ 0)
+      → ((x : ℕ) → x < n → power (slice_index locator x) ≡ power (log_sum n marked x))
+      → AreLocated n marked (words_given marks chunks size j)
+      (located_word marks locator (word_in chunks (row_len size) (j / 32) (j % 32)))
+  located_words n j locator marked even inside kept same =
+      are_located n marked (words_given marks chunks size j)
+      (located_word marks locator (word_in chunks (row_len size) (j / 32) (j % 32)))
+      (λ x hx one. erased_at x hx one (is_marked marks x) refl) (λ x hx none. other_at x hx (is_marked marks x) refl)
+    where
+      erased_at : (x : ℕ) → x < n → marked x ≡ 1 → (given : Bool) → is_marked marks x ≡ given
+          → located_word marks locator (word_in chunks (row_len size) (j / 32) (j % 32)) x ≡ 0
+      erased_at x hx one true is = absurd (let none : marked x ≡ 0 = kept x hx is in let no : ⊥ = omega arith in no)
+      erased_at x hx one false is =
+          located_word-at marks locator (word_in chunks (row_len size) (j / 32) (j % 32)) x false is
+
+      other_at : (x : ℕ) → x < n → (given : Bool) → is_marked marks x ≡ given
+          → ((words_given marks chunks size j x ≡ 0)
+          × (located_word marks locator (word_in chunks (row_len size) (j / 32) (j % 32)) x ≡ 0))
+          ⊎ (located_word marks locator (word_in chunks (row_len size) (j / 32) (j % 32)) x
+          ≡ product (words_given marks chunks size j x) (power (log_sum n marked x)))
+      other_at x hx true is =
+          inr (located_word-at marks locator (word_in chunks (row_len size) (j / 32) (j % 32)) x true is
+          ∙ ap₂ product (sym (words_given-at j x true is ∙ column-put chunks size x j even inside)) (same x hx))
+      other_at x hx false is =
+          inl (
+            words_given-at j x false is,
+            located_word-at marks locator (word_in chunks (row_len size) (j / 32) (j % 32)) x false is,
+          )
+
+module _ (rate : Rate) (k r size surplus : ℕ) (marks new : List Bool) (locator : List ℕ) (before after : Chunks)
+    (agrees : Bool)
+    (d : IsDecoded (rate_configuration rate k r size) marks new locator surplus before after agrees) where
+  -- The powers of a locator's entries are the powers of the locator's sums.
+  pub located_at : (x : ℕ) → x < row_count (frame_of rate k r)
+      → power (slice_index locator x)
+      ≡ power (log_sum (row_count (frame_of rate k r)) (erasure (frame_of rate k r) marks) x)
+  located_at x hx =
+      same_residue (slice_index locator x)
+      (log_sum (row_count (frame_of rate k r)) (erasure (frame_of rate k r) marks) x) (d.is_locator.values x hx)
+
+  -- Rows outside the originals and the recovery shards are not marked.
+  unmarked : (p : ℕ) → (shards_by_row marks before size p ≡ None) → is_marked marks p ≡ false
+  unmarked p none = sym (some-marked marks (shard_laid_out before size) p) ∙ ap is_some none
+
+  zero_row : (x : ℕ) → (frame_of rate k r).zeros_from ≤ x → x < zeros_end (frame_of rate k r)
+      → is_marked marks x ≡ false
+  zero_row x above below =
+      let f = places-known (rate_configuration rate k r size) d.configured in
+      let follow = f.follow in
+      unmarked x (d.given.placed x (inr (omega arith))
+      (elim f.order [ inl low ↦ inl (omega (arith, low.1)) | inr high ↦ inr (omega (arith, high.0, high.1)) ]))
+
+  -- The columns of the rows that were decoded, with the coefficients of the polynomial through the located words.
+  pub are_columns : AreColumns (configuration rate k r size)
+      (originals_in (rate_configuration rate k r size) (shards_by_row marks before size))
+      (recovery_in (rate_configuration rate k r size) (shards_by_row marks before size))
+      (erasure (frame_of rate k r) marks) (words_given marks before size)
+      (λ j. located_word marks locator (word_in before (row_len size) (j / 32) (j % 32)))
+      (λ j. d.restores.restored.coefficients (j / 32) (j % 32))
+  are_columns =
+      let frame = frame_of rate k r in
+      let found = d.restores.restored.found in
+      let places = places-known (rate_configuration rate k r size) d.configured in
+      record {
+        even = d.configured.even;
+        own_sized = given_sized marks before size d.given.sized frame.originals_from k;
+        coded_sized = given_sized marks before size d.given.sized frame.recovery_from r;
+        has = λ j inside. record {
+          own = given_words marks before size frame.originals_from k j;
+          coded = given_words marks before size frame.recovery_from r j;
+        };
+        each = λ j inside.
+            record {
+              is_frame = places;
+              erasures = are_erased frame marks k r places
+                  (originals_in (rate_configuration rate k r size) (shards_by_row marks before size))
+                  (recovery_in (rate_configuration rate k r size) (shards_by_row marks before size))
+                  (λ p not_own not_coded. unmarked p (d.given.placed p not_own not_coded))
+                  (given-marked marks before size frame.originals_from k)
+                  (given-marked marks before size frame.recovery_from r);
+              are_words = λ x hx. given_lt marks before size d.given.sized j x;
+              known = λ x above below. words_given-at marks before size j x false (zero_row x above below);
+              are_located = located_words marks before size (row_count frame) j locator (erasure frame marks)
+                  d.configured.even inside (λ x hx is. erased-given frame marks x is) (λ x hx. located_at x hx);
+              row_words = λ x hx. found.are_words (j / 32) (j % 32) x (omega (arith, inside)) (omega arith) hx;
+              back = λ x hx. sym (found.of_located (j / 32) (j % 32) (omega (arith, inside)) (omega arith) x hx);
+            };
+      }
+
+  -- The number of given shards.
+  pub given_count : count_below k (originals_in (rate_configuration rate k r size) (shards_by_row marks before size))
+      + count_below r (recovery_in (rate_configuration rate k r size) (shards_by_row marks before size)) ≡ k + surplus
+  given_count = omega (arith, d.given.originals_counted, d.given.recovery_counted, d.counted)

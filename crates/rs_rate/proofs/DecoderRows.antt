@@ -1,27 +1,36 @@
--- The rows of a decoder, what `decode` returns, and the state after `decode`.
-use Rattle.std.proofs.Common.{◌≡◌, ℕ, ◌+◌, refl, sym, ap, subst}
+-- Whether a decoder has enough shards, what `decode` returns, and the state after `decode`.
+use Rattle.std.proofs.Common.{◌≡◌, ℕ, ◌+◌, ◌<◌, ◌≤◌, refl, sym, ap, subst, ◌∙◌, inl, inr, true≢false}
+use Rattle.std.proofs.lemmas.Bool.{cases_lt, lt-ltb, le-ltb}
 use Rattle.std.specs.Prelude.{Result, Ok, Err, is_ok, cond, MatchResult}
 use Rattle.std.specs.Result.{result_map_both}
 use Rattle.rs_field.specs.declared.code.error.Error.{Error}
 use Rattle.rs_field.specs.code.Given.{Shards}
 use Rattle.rs_field.specs.code.Decoder.{DecoderState, fresh_decoder, enough_given, Restored, NoneAgrees, DecodeAnswers}
 use Rattle.rs_field.specs.code.Decoder.{after_decode}
-use Rattle.rs_field.specs.code.Counts.{next_power, is_low, low_rate}
-use Rattle.rs_field.specs.code.Frame.{placement, low_placement, decoder_rows}
-use Rattle.rs_rate.specs.Configured.{frame_of}
+use Rattle.rs_field.specs.declared.code.error.Error.TheVariants.{NotEnoughShards}
+use Rattle.rs_field.specs.code.Decoder.{originals_given, recovery_given}
 
--- The frame of a decoder of the low rate, with each number written out.
-pub low_frame-is : (k r : ℕ) → frame_of low_rate k r
-    ≡ record {
-      row_count = next_power (next_power k + r);
-      originals_from = 0;
-      recovery_from = next_power k;
-      zeros_from =
-          k;
-      zeros_to = next_power k;
-    }
-unfolding frame_of placement low_placement is_low decoder_rows
-low_frame-is k r = refl
+-- The outcome of the check for enough shards, from the numbers of given shards.
+pub enough-few : (s : DecoderState) (o r : ℕ) → o ≡ originals_given s → r ≡ recovery_given s
+    → o + r < s.configuration.original_count
+    → enough_given s ≡ Err (NotEnoughShards s.configuration.original_count o r)
+enough-few s o r originals recovery few =
+    rw (← originals, ← recovery, lt-ltb (o + r) s.configuration.original_count few) refl
+
+pub enough-many : (s : DecoderState) (o r : ℕ) → o ≡ originals_given s → r ≡ recovery_given s
+    → s.configuration.original_count ≤ o + r → enough_given s ≡ Ok tt
+enough-many s o r originals recovery many =
+    rw (← originals, ← recovery, le-ltb (o + r) s.configuration.original_count many) refl
+
+-- A decoder that has enough shards has at least as many shards as originals.
+pub enough-least : (s : DecoderState) → Ok tt ≡ enough_given s
+    → s.configuration.original_count ≤ originals_given s + recovery_given s
+enough-least s made =
+    elim (cases_lt (originals_given s + recovery_given s) s.configuration.original_count) [
+      | inl few ↦ absurd (true≢false
+          (ap is_ok (made ∙ enough-few s (originals_given s) (recovery_given s) refl refl few)))
+      | inr many ↦ many
+    ]
 
 -- The state after `decode` and the result of `decode`, by whether enough shards were added.
 abbrev LeftBy : DecoderState → Result (Unit {0}) Error → DecoderState

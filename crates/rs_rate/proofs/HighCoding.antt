@@ -10,7 +10,7 @@ use Rattle.std.proofs.lemmas.Nat.{pow_pos, div-add-mod'}
 use Rattle.rs_field.specs.words.Polynomial.{value}
 use Rattle.rs_field.specs.words.Transform.{sum_below, forward}
 use Rattle.rs_field.specs.code.Counts.{next_power, supports, is_low, high_rate}
-use Rattle.rs_field.specs.code.Frame.{placement, high_placement}
+use Rattle.rs_field.specs.code.Frame.{frame_of, high_frame}
 use Rattle.rs_field.proofs.of_words.UpTo.{get-up_to}
 use Rattle.rs_field.proofs.of_words.Combination.{sum_below-suc, sum_below-zero, sum_below-same, sum_below-add}
 use Rattle.rs_field.proofs.of_words.Combination.{forward-same, forward-zero}
@@ -279,7 +279,7 @@ pub high_coded : (k r n : ℕ) (old sums new : ℕ → ℕ) → supports high_ra
     → n * next_power r + next_power r ≤ 65536
     → SumsBlocks (next_power r) n k old sums → ((i : ℕ) → i < r → new i ≡ forward (next_power r) 0 sums i)
     → CodesWords high_rate k r old new
-unfolding placement high_placement is_low
+unfolding frame_of high_frame is_low
 high_coded k r n old sums new is enough room (those, values, zeros, sum) first =
     let known = next_power-small r (high_small k r is) in
     let m : ℕ = next_power r in

@@ -2,10 +2,11 @@
 use Rattle.std.proofs.Common.{◌≡◌, ℕ, true, ◌+◌, ◌-◌, ◌<◌, ◌≤◌, List, min, sym, ap, ◌∙◌, arith, inl, inr, zero-add}
 use Rattle.std.specs.Prelude.{slice_index}
 use Rattle.std.proofs.lemmas.Bool.{cases_lt}
+use Rattle.std.proofs.Math.Nat.{sub-zero}
 use Rattle.rs_field.specs.words.Polynomial.{value}
 use Rattle.rs_field.specs.words.Transform.{forward}
 use Rattle.rs_field.specs.code.Counts.{next_power, supports, is_low, low_rate}
-use Rattle.rs_field.specs.code.Frame.{placement, low_placement}
+use Rattle.rs_field.specs.code.Frame.{frame_of, low_frame}
 use Rattle.rs_field.specs.code.Code.{AreRecoveryWords}
 use Rattle.rs_field.specs.words.UpTo.{up_to}
 use Rattle.rs_field.proofs.of_words.Combination.{forward-same, forward-moved}
@@ -73,12 +74,12 @@ coded k r size old cleared combination further new originals zeros back same val
 recovery_words : (k r : ℕ) (old new : ℕ → ℕ) (words recovery : List ℕ) → CodesLow k r (next_power k) old new
     → ((j : ℕ) → j < k → slice_index words j ≡ old j) → ((i : ℕ) → i < r → slice_index recovery i ≡ new i)
     → next_power k + r ≤ 65536 → AreRecoveryWords low_rate k r words recovery
-unfolding placement low_placement is_low
+unfolding frame_of low_frame is_low
 recovery_words k r old new words recovery (combination, originals, zeros, values) read_words read_recovery fits =
     let polynomial = polynomial_of_terms (next_power k) combination (omega arith) in (
       polynomial.0,
       record {
-        degree = polynomial.1;
+        degree = polynomial.1 ∙ sym (sub-zero (next_power k));
         coefficients = polynomial.2;
         originals = λ j h. ap (value polynomial.0) (zero-add j) ∙ polynomial.3 j ∙ originals j h ∙ sym (read_words j h);
         zeros = λ x low high. polynomial.3 x ∙ zeros x low high;

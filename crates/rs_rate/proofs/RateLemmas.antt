@@ -1,32 +1,19 @@
 -- A rate uses the low or the high rate for two supported counts, and has the rows, the frame and the recovery shards of
 -- this rate.
-use Rattle.std.proofs.Common.{◌≡◌, ℕ, ◌+◌, ◌<◌, ◌≤◌, Bool, true, false, cond, List, refl, sym, ap, ap₂, ◌∙◌, subst}
+use Rattle.std.proofs.Common.{◌≡◌, ℕ, ◌+◌, ◌<◌, ◌≤◌, Bool, true, false, cond, List, refl, sym, ap, ◌∙◌, subst}
 use Rattle.std.proofs.Common.{true≢false, arith}
 use Rattle.std.specs.Prelude.{slice_index, if◌then◌else◌}
 use Rattle.rs_field.specs.code.Counts.{Rate, next_power, supports, is_low, low_rate, high_rate, default_rate}
-use Rattle.rs_field.specs.code.Frame.{Placement, placement, low_placement, high_placement, block_rows, decoder_rows}
+use Rattle.rs_field.specs.code.Frame.{frame_of, low_frame, high_frame, degree_bound, block_rows}
+use Rattle.rs_field.specs.declared.code.frame.Frame.{Frame}
 use Rattle.rs_field.specs.words.Polynomial.{value}
 use Rattle.rs_field.specs.code.Column.{Shard, columns}
 use Rattle.rs_field.specs.code.Configuration.{configuration}
 use Rattle.rs_field.specs.code.Code.{Codes, AreRecovery, AreRecoveryWords}
 use Rattle.rs_field.proofs.of_code.SupportedCounts.{default_fits, high_powers, low_powers}
-use Rattle.rs_rate.specs.declared.values.shapes.Frame.{Frame}
-use Rattle.rs_rate.specs.Configured.{frame_of, low_or_high}
+use Rattle.rs_rate.specs.Configured.{low_or_high}
 use Rattle.rs_rate.proofs.PowerLemmas.{low_supported}
 use Rattle.rs_rate.proofs.HighCounts.{high_turned}
-
--- The frame of a decoder of the high rate, with each number written out.
-pub high_frame-is : (k r : ℕ) → frame_of high_rate k r
-    ≡ record {
-      row_count = next_power (next_power r + k);
-      originals_from = next_power r;
-      recovery_from = 0;
-      zeros_from =
-          next_power r + k;
-      zeros_to = 65536;
-    }
-unfolding frame_of placement high_placement is_low decoder_rows
-high_frame-is k r = refl
 
 -- The low rate always uses the low rate, and the high rate always uses the high rate.
 pub chooses : (low : Bool) (k r : ℕ) → is_low (low_or_high low) k r ≡ low
@@ -58,8 +45,12 @@ pub chosen : (rate : Rate) (k r : ℕ) (low : Bool) → supports rate k r ≡ tr
 chosen rate k r true is low = chosen_low rate k r is low
 chosen rate k r false is high = chosen_high rate k r is high
 
--- Two rates that use the same one of the low and the high rate have the same blocks, frame, placement and recovery
--- words.
+-- Two rates that use the same one of the low and the high rate have the same frame and the same recovery words.
+pub frame_alike : (one other : Rate) (k r : ℕ) → is_low one k r ≡ is_low other k r
+    → frame_of one k r ≡ frame_of other k r
+unfolding frame_of
+frame_alike one other k r same = ap (λ b. if b then low_frame k r else high_frame k r) same
+
 pub block_alike : (one other : Rate) (k r : ℕ) → is_low one k r ≡ is_low other k r
     → block_rows one k r ≡ block_rows other k r
 unfolding block_rows
@@ -71,39 +62,35 @@ unfolding block_rows is_low
 block-is true k r = refl
 block-is false k r = refl
 
-placement_alike : (one other : Rate) (k r : ℕ) → is_low one k r ≡ is_low other k r
-    → placement one k r ≡ placement other k r
-unfolding placement
-placement_alike one other k r same = ap (λ b. if b then low_placement k else high_placement k r) same
+-- A frame is that of the low rate exactly if the rate uses the low rate.
+pub frame-low : (rate : Rate) (k r : ℕ) → (frame_of rate k r).is_low ≡ is_low rate k r
+unfolding frame_of low_frame high_frame
+frame-low rate k r = by_choice (is_low rate k r)
+  where
+    by_choice : (b : Bool) → (cond b (low_frame k r) (high_frame k r)).is_low ≡ b
+    by_choice true = refl
+    by_choice false = refl
 
-pub frame_alike : (one other : Rate) (k r : ℕ) → is_low one k r ≡ is_low other k r
-    → frame_of one k r ≡ frame_of other k r
-unfolding frame_of decoder_rows
-frame_alike one other k r same =
-    ap₂ (λ (n : ℕ) (p : Placement).
-    let frame : Frame = record {
-      row_count = n;
-      originals_from = p.originals_from;
-      recovery_from = p.recovery_from;
-      zeros_from =
-          p.zeros_from;
-      zeros_to = p.zeros_to;
-    } in frame)
-    (ap (λ b. if b then next_power (next_power k + r) else next_power (next_power r + k)) same)
-    (placement_alike one other k r same)
+-- The number of rows of a block of a frame, written out.
+pub frame_block-is : (low : Bool) (k r : ℕ)
+    → (if (frame_of (low_or_high low) k r).is_low then (frame_of (low_or_high low) k r).recovery_from
+    else (frame_of (low_or_high low) k r).originals_from) ≡ next_power (cond low k r)
+unfolding frame_of low_frame high_frame is_low
+frame_block-is true k r = refl
+frame_block-is false k r = refl
 
 codes_alike : (one other : Rate) (k r : ℕ) (words polynomial : List ℕ) → is_low one k r ≡ is_low other k r
     → Codes one k r words polynomial → Codes other k r words polynomial
 codes_alike one other k r words polynomial alike codes =
-    let same = placement_alike one other k r alike in
+    let same = frame_alike one other k r alike in
     record {
-      degree = codes.degree ∙ ap (λ p. p.degree_bound) same;
+      degree = codes.degree ∙ ap degree_bound same;
       coefficients = codes.coefficients;
-      originals = λ j h. subst (λ (p : Placement). value polynomial (p.originals_from + j) ≡ slice_index words j) same
+      originals = λ j h. subst (λ (p : Frame). value polynomial (p.originals_from + j) ≡ slice_index words j) same
           (codes.originals j h);
       zeros = λ x from to.
-          codes.zeros x (subst (λ (p : Placement). p.zeros_from ≤ x) (sym same) from)
-          (subst (λ (p : Placement). x < p.zeros_to) (sym same) to);
+          codes.zeros x (subst (λ (p : Frame). p.zeros_from ≤ x) (sym same) from)
+          (subst (λ (p : Frame). x < p.zeros_to) (sym same) to);
     }
 
 recovery_alike : (one other : Rate) (k r : ℕ) (words recovery : List ℕ) → is_low one k r ≡ is_low other k r
@@ -112,7 +99,7 @@ recovery_alike one other k r words recovery alike (polynomial, codes, values) = 
   polynomial,
   codes_alike one other k r words polynomial alike codes,
   λ i inside.
-      values i inside ∙ ap (λ p. value polynomial (p.recovery_from + i)) (placement_alike one other k r alike),
+      values i inside ∙ ap (λ p. value polynomial (p.recovery_from + i)) (frame_alike one other k r alike),
 )
 
 pub shards_alike : (one other : Rate) (k r size : ℕ) (message recovery : List Shard) → is_low one k r ≡ is_low other k r

@@ -10,13 +10,14 @@ use Rattle.rs_field.specs.declared.code.error.Error.TheVariants.{TooFewOriginalS
 use Rattle.rs_field.specs.code.Column.{Shard}
 use Rattle.rs_field.specs.code.Counts.{Rate, supports}
 use Rattle.rs_field.specs.code.Outcome.{answer_of, state_after, result_and_then}
-use Rattle.rs_field.specs.code.Configuration.{Configuration, validation_outcome, bytes_of_rows, start_outcome}
+use Rattle.rs_field.specs.code.Configuration.{Configuration as AsDefined, validation_outcome, bytes_of_rows}
+use Rattle.rs_field.specs.code.Configuration.{start_outcome}
 use Rattle.rs_field.specs.code.Encoder.{EncoderState, fresh_encoder, with_shard, message_of, EncodeAnswers}
 use Rattle.rs_field.specs.code.Encoder.{after_encode}
 use Rattle.rs_field.specs.code.Code.{AreRecovery}
 use Rattle.rs_field.specs.words.UpTo.{up_to}
 use Rattle.rs_rate.specs.declared.rows.encoder_work.EncoderRows.{EncoderRows}
-use Rattle.rs_rate.specs.declared.values.shapes.EncoderShape.{EncoderShape}
+use Rattle.rs_rate.specs.declared.values.configuration.Configuration.{Configuration}
 use Rattle.rs_rate.specs.Configured.{configuration_at}
 use Rattle.rs_rate.specs.EncoderView.{encoder_state}
 use Rattle.rs_rate.specs.ShardRows.{memory_outcome, chunk_count, shard_laid_out}
@@ -33,7 +34,7 @@ with_shard-added s shard room same =
     ) refl
 
 -- The outcome of setting up a valid configuration is the outcome of allocating its chunks.
-pub start_outcome-by : (rows : ℕ) (c : Configuration) (chunks : ℕ) → validation_outcome c ≡ Ok tt
+pub start_outcome-by : (rows : ℕ) (c : AsDefined) (chunks : ℕ) → validation_outcome c ≡ Ok tt
     → chunks ≡ chunk_count rows c.shard_bytes → start_outcome rows c ≡ memory_outcome chunks
 unfolding chunk_count
 start_outcome-by rows c chunks valid is =
@@ -45,7 +46,7 @@ memory_outcome-fits : (chunks : ℕ) → chunks * 64 < 2 ^ 64 → memory_outcome
 memory_outcome-fits chunks fits =
     ap (λ (b : Bool). cond b (Err OutOfMemory) (Ok tt)) (lt-leb (2 ^ 64) (chunks * 64) fits)
 
-pub start_outcome-roomy : (rows : ℕ) (c : Configuration) → validation_outcome c ≡ Ok tt
+pub start_outcome-roomy : (rows : ℕ) (c : AsDefined) → validation_outcome c ≡ Ok tt
     → chunk_count rows c.shard_bytes * 64 < 2 ^ 64 → start_outcome rows c ≡ Ok tt
 start_outcome-roomy rows c valid fits = start_outcome-by rows c (chunk_count rows c.shard_bytes) valid refl
     ∙ memory_outcome-fits (chunk_count rows c.shard_bytes) fits
@@ -66,13 +67,13 @@ on_err-at rate (Ok x) P h = tt
 on_err-at rate (Err e) P h = h rate
 
 -- The errors of a configuration, from the tests of its counts and its size.
-abbrev tested : Configuration → Bool → Bool → Bool → Result (Unit {0}) Error
+abbrev tested : AsDefined → Bool → Bool → Bool → Result (Unit {0}) Error
 tested c supported none odd =
     cond (not supported) (Err (UnsupportedShardCount c.original_count c.recovery_count))
     (cond (none || odd) (Err (InvalidShardSize c.shard_bytes)) (Ok tt))
 
 -- A valid configuration has counts that its rate supports.
-pub valid-supported : (c : Configuration) → validation_outcome c ≡ Ok tt
+pub valid-supported : (c : AsDefined) → validation_outcome c ≡ Ok tt
     → supports c.rate c.original_count c.recovery_count ≡ true
 valid-supported c valid = by_support (supports c.rate c.original_count c.recovery_count) valid
   where
@@ -129,11 +130,10 @@ encode_answers-made s recovery made right =
     subst (λ (m : Result (List Shard) Error). AnswersOf s m (Ok recovery))
     (sym (message-whole s made).1) right
 
--- An encoder over rows of a shape, with no originals added, is a fresh encoder.
-pub encoder_state-fresh : (rate : Rate) (rows : EncoderRows) (shape : EncoderShape) → rows.shape ≡ shape
-    → rows.originals_given ≡ 0
-    → encoder_state rate rows ≡ fresh_encoder (configuration_at rate shape.configuration)
-encoder_state-fresh rate rows shape same none =
-    let F : EncoderShape → List Shard → EncoderState = λ s given.
-    record { configuration = configuration_at rate s.configuration; given = given } in
-    ap₂ F same (ap (λ n. up_to n (shard_laid_out rows.chunks.items rows.shape.configuration.shard_bytes)) none)
+-- An encoder to whose rows no original was added is a fresh encoder.
+pub encoder_state-fresh : (rate : Rate) (rows : EncoderRows) (c : Configuration) → rows.configuration ≡ c
+    → rows.originals_given ≡ 0 → encoder_state rate rows ≡ fresh_encoder (configuration_at rate c)
+encoder_state-fresh rate rows c same none =
+    let F : Configuration → List Shard → EncoderState = λ x given.
+    record { configuration = configuration_at rate x; given = given } in
+    ap₂ F same (ap (λ n. up_to n (shard_laid_out rows.chunks.items rows.configuration.shard_bytes)) none)

@@ -1,21 +1,14 @@
 -- The configuration of an encoder or a decoder of a rate, and its rows.
-use Rattle.std.specs.Prelude.{◌≡◌, ◌%◌, ◌<◌, ℕ, Bool, true, if◌then◌else◌, Option, Some, None}
-use Rattle.rs_field.specs.code.Counts.{Rate, low_rate, high_rate, supports, is_low}
+use Rattle.std.specs.Prelude.{◌≡◌, ◌≤◌, ◌%◌, ◌<◌, ℕ, Bool, true, if◌then◌else◌, Option, Some, None}
+use Rattle.rs_field.specs.code.Counts.{Rate, low_rate, high_rate, supports}
 use Rattle.rs_field.specs.code.Configuration.{Configuration as AsDefined, configuration}
-use Rattle.rs_field.specs.code.Frame.{placement, block_rows, encoder_rows, decoder_rows}
+use Rattle.rs_field.specs.code.Frame.{frame_of, row_count, original_row, recovery_row, encoder_rows, decoder_rows}
+use Rattle.rs_field.specs.declared.code.frame.Frame.{Frame}
 use Rattle.rs_rate.specs.declared.values.configuration.Configuration.{Configuration}
-use Rattle.rs_rate.specs.declared.values.counts.Choice.{Choice}
-use Rattle.rs_rate.specs.declared.values.shapes.Frame.{Frame}
-use Rattle.rs_rate.specs.declared.values.shapes.DecoderShape.{DecoderShape}
-use Rattle.rs_rate.specs.declared.values.shapes.EncoderShape.{EncoderShape}
 
--- whether a rate is the low or the high rate for these counts, and the number of rows of a block
-abbrev pub choice_at : Rate → ℕ → ℕ → Choice
-choice_at rate k r = record { is_low = is_low rate k r; block_rows = block_rows rate k r }
-
--- the choice of a rate for these counts, if the rate supports them
-abbrev pub choice_of : Rate → ℕ → ℕ → Option Choice
-choice_of rate k r = if supports rate k r then Some (choice_at rate k r) else None
+-- the frame of a rate for these counts, if the rate supports them
+abbrev pub frame_if : Rate → ℕ → ℕ → Option Frame
+frame_if rate k r = if supports rate k r then Some (frame_of rate k r) else None
 
 -- a configuration together with the name of its rate
 abbrev pub configuration_at : Rate → Configuration → AsDefined
@@ -24,47 +17,38 @@ configuration_at rate c = configuration rate c.original_count c.recovery_count c
 -- the configuration of a rate for these counts and this size
 abbrev pub rate_configuration : Rate → ℕ → ℕ → ℕ → Configuration
 rate_configuration rate k r size =
-    record {
-      original_count = k;
-      recovery_count = r;
-      shard_bytes = size;
-      is_low = is_low rate k r;
-      block_rows =
-          block_rows rate k r;
-    }
+    record { original_count = k; recovery_count = r; shard_bytes = size; frame = frame_of rate k r }
 
 -- the low rate or the high rate
 abbrev pub low_or_high : Bool → Rate
 low_or_high low = if low then low_rate else high_rate
 
--- a configuration is valid: its size is positive and even, its rate, which is the low or the high rate, supports its
--- counts, and its blocks are those of this rate
+-- the rate whose frame a configuration has
+abbrev pub rate_of : Configuration → Rate
+rate_of c = low_or_high c.frame.is_low
+
+-- the number of rows of a block
+abbrev pub block_of : Configuration → ℕ
+block_of c = if c.frame.is_low then c.frame.recovery_from else c.frame.originals_from
+
+-- the number of rows of an encoder
+abbrev pub rows_to_encode : Configuration → ℕ
+rows_to_encode c = encoder_rows (rate_of c) c.original_count c.recovery_count
+
+-- the number of rows of a decoder
+abbrev pub rows_to_decode : Configuration → ℕ
+rows_to_decode c = row_count c.frame
+
+-- a configuration is valid: its size is positive and even, and its rate supports its counts. Its frame and the rows of
+-- its decoder are those of this rate, and both a decoder and an encoder have rows for all shards
 pub record IsConfigured (c : Configuration) : Type 0 where
   pub positive : 0 < c.shard_bytes
   pub even : c.shard_bytes % 2 ≡ 0
-  pub supported : supports (low_or_high c.is_low) c.original_count c.recovery_count ≡ true
-  pub block : c.block_rows ≡ block_rows (low_or_high c.is_low) c.original_count c.recovery_count
-
--- the frame of a decoder of this rate: its number of rows, and the rows of originals, of recovery shards and of known
--- zeros
-unfoldable pub frame_of : Rate → ℕ → ℕ → Frame
-frame_of rate k r =
-    let p = placement rate k r in
-    record {
-      row_count = decoder_rows rate k r;
-      originals_from = p.originals_from;
-      recovery_from =
-          p.recovery_from;
-      zeros_from = p.zeros_from;
-      zeros_to = p.zeros_to;
-    }
-
--- the shape of an encoder with this configuration
-abbrev pub shape_of_encoder : Configuration → EncoderShape
-shape_of_encoder c =
-    record { configuration = c; row_count = encoder_rows (low_or_high c.is_low) c.original_count c.recovery_count }
-
--- the shape of a decoder with this configuration
-abbrev pub shape_of_decoder : Configuration → DecoderShape
-shape_of_decoder c =
-    record { configuration = c; frame = frame_of (low_or_high c.is_low) c.original_count c.recovery_count }
+  pub supported : supports (rate_of c) c.original_count c.recovery_count ≡ true
+  pub framed : c.frame ≡ frame_of (rate_of c) c.original_count c.recovery_count
+  pub rows : rows_to_decode c ≡ decoder_rows (rate_of c) c.original_count c.recovery_count
+  pub few : c.frame.exponent ≤ 16
+  pub own_rows : original_row c.frame c.original_count ≤ rows_to_decode c
+  pub other_rows : recovery_row c.frame c.recovery_count ≤ rows_to_decode c
+  pub originals : c.original_count ≤ rows_to_encode c
+  pub recovery : c.recovery_count ≤ rows_to_encode c

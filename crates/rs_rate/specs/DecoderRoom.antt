@@ -1,15 +1,16 @@
 -- The memory of a decoder: the room that it has, and how it is laid out for rows.
 use Rattle.std.specs.Prelude.{◌≡◌, ◌*◌, ◌^◌, ◌<◌, ◌≤◌, ℕ, Option, Some, None, vec_len}
 use Rattle.std.specs.Vec.{vec_capacity}
-use Rattle.rs_rate.specs.declared.values.shapes.DecoderShape.{DecoderShape}
+use Rattle.rs_rate.specs.declared.values.configuration.Configuration.{Configuration}
+use Rattle.rs_rate.specs.Configured.{rows_to_decode}
 use Rattle.rs_rate.specs.declared.rows.decoder_work.DecoderMemory.{DecoderMemory}
 use Rattle.rs_rate.specs.declared.rows.decoder_work.DecoderWork.{DecoderWork}
 use Rattle.rs_rate.specs.Marks.{mark_count, mark_room}
 use Rattle.rs_rate.specs.ShardRows.{chunk_count}
 
--- the number of chunks of the rows of a shape
-abbrev pub shape_chunks : DecoderShape → ℕ
-shape_chunks shape = chunk_count shape.frame.row_count shape.configuration.shard_bytes
+-- the number of chunks of the rows of a decoder
+abbrev pub decoder_chunks : Configuration → ℕ
+decoder_chunks c = chunk_count (rows_to_decode c) c.shard_bytes
 
 -- the room of a decoder's memory: for how many chunks, for the marks of how many rows, and for how many entries of the
 -- locator
@@ -38,14 +39,13 @@ pub record HasRoom (room : DecoderRoom) (count size : ℕ) : Type 0 where
   pub rows : count ≤ room.rows
   pub entries : count ≤ room.entries
 
--- memory is laid out for a shape: it has the chunks, the marks and the entries of all rows of the shape, and room for
--- these
-pub record IsLaidOut (shape : DecoderShape) (memory : DecoderMemory) : Type 0 where
-  pub whole : vec_len memory.chunks ≡ shape_chunks shape
-  pub marked : mark_count memory.marks ≡ shape.frame.row_count
-  pub entries : vec_len memory.entries ≡ shape.frame.row_count
-  pub sized : shape_chunks shape * 64 < 2 ^ 64
-  pub room : HasRoom (memory_room memory) shape.frame.row_count shape.configuration.shard_bytes
+-- memory is laid out for a configuration: it has the chunks, the marks and the entries of all rows, and room for these
+pub record IsLaidOut (c : Configuration) (memory : DecoderMemory) : Type 0 where
+  pub whole : vec_len memory.chunks ≡ decoder_chunks c
+  pub marked : mark_count memory.marks ≡ rows_to_decode c
+  pub entries : vec_len memory.entries ≡ rows_to_decode c
+  pub sized : decoder_chunks c * 64 < 2 ^ 64
+  pub room : HasRoom (memory_room memory) (rows_to_decode c) c.shard_bytes
 
 -- the new room is at least as large as the old room
 pub record Grows (old new : DecoderRoom) : Type 0 where

@@ -1,43 +1,30 @@
 -- The abstract state and the room of a decoder's rows and work.
-use Rattle.std.specs.Prelude.{◌-◌, ℕ, Bool, List}
+use Rattle.std.specs.Prelude.{◌-◌, ℕ, List}
 use Rattle.rs_field.specs.code.Column.{Shard}
 use Rattle.rs_field.specs.code.Counts.{Rate}
 use Rattle.rs_field.specs.code.Given.{Shards, items_from}
 use Rattle.rs_field.specs.code.Decoder.{DecoderState}
-use Rattle.rs_field.specs.rows.Rows.{Chunks}
-use Rattle.rs_rate.specs.declared.values.shapes.DecoderShape.{DecoderShape}
+use Rattle.rs_rate.specs.declared.values.configuration.Configuration.{Configuration}
 use Rattle.rs_rate.specs.declared.rows.decoder_work.DecoderRows.{DecoderRows}
-use Rattle.rs_rate.specs.Configured.{configuration_at, rate_configuration, frame_of}
-use Rattle.rs_rate.specs.Marks.{given_marks, restored_marks, given_shards, restored_shards}
+use Rattle.rs_rate.specs.Configured.{configuration_at}
+use Rattle.rs_rate.specs.Entering.{given_rows}
+use Rattle.rs_rate.specs.Marks.{restored_marks, restored_by_row, originals_in, recovery_in}
 
--- the state of a decoder of this rate whose given shards are in the marked rows
-abbrev pub state_over : Rate → DecoderShape → List Bool → Chunks → DecoderState
-state_over rate s marks chunks =
-    record {
-      configuration = configuration_at rate s.configuration;
-      originals = given_shards marks chunks s.configuration.shard_bytes s.frame.originals_from
-          s.configuration.original_count;
-      recovery = given_shards marks chunks s.configuration.shard_bytes s.frame.recovery_from
-          s.configuration.recovery_count;
-    }
+-- the state of a decoder of this rate with given shards in its rows
+abbrev pub state_over : Rate → Configuration → Shards → DecoderState
+state_over rate c rows =
+    record { configuration = configuration_at rate c; originals = originals_in c rows; recovery = recovery_in c rows }
 
 -- the state of a decoder of this rate over the rows
 abbrev pub decoder_state : Rate → DecoderRows → DecoderState
-decoder_state rate rows = state_over rate rows.shape (given_marks rows.memory.marks) rows.memory.chunks.items
-
--- the restored originals of a decoder, which are in the marked rows
-abbrev pub restored_over : DecoderShape → List Bool → Chunks → Shards
-restored_over s marks chunks =
-    restored_shards marks chunks s.configuration.shard_bytes s.frame.originals_from s.configuration.original_count
+decoder_state rate rows =
+    state_over rate rows.configuration (given_rows rows.memory rows.configuration.shard_bytes)
 
 -- the restored originals in a decoder's rows after a round
 abbrev pub restored_by_rows : DecoderRows → Shards
-restored_by_rows rows = restored_over rows.shape (restored_marks rows.memory.marks) rows.memory.chunks.items
+restored_by_rows rows = originals_in rows.configuration
+    (restored_by_row (restored_marks rows.memory.marks) rows.memory.chunks.items rows.configuration.shard_bytes)
 
 -- the restored originals from an index on, with their indexes, in order of their index
 abbrev pub restored_from : DecoderRows → ℕ → List (ℕ × Shard)
-restored_from rows index = items_from index (rows.shape.configuration.original_count - index) (restored_by_rows rows)
-
--- the shape of a decoder of this rate for these counts and this size
-abbrev pub decoder_shape : Rate → ℕ → ℕ → ℕ → DecoderShape
-decoder_shape rate k r size = record { configuration = rate_configuration rate k r size; frame = frame_of rate k r }
+restored_from rows index = items_from index (rows.configuration.original_count - index) (restored_by_rows rows)

@@ -13,17 +13,17 @@ use Rattle.rs_rate.specs.ShardRows.{shard_laid_out, shard_in_order}
 -- the originals that were added, in order
 abbrev pub given_originals : EncoderRows → List Shard
 given_originals rows =
-    up_to rows.originals_given (shard_laid_out rows.chunks.items rows.shape.configuration.shard_bytes)
+    up_to rows.originals_given (shard_laid_out rows.chunks.items rows.configuration.shard_bytes)
 
 -- the state of an encoder of this rate over the rows
 abbrev pub encoder_state : Rate → EncoderRows → EncoderState
 encoder_state rate rows =
-    record { configuration = configuration_at rate rows.shape.configuration; given = given_originals rows }
+    record { configuration = configuration_at rate rows.configuration; given = given_originals rows }
 
 -- the recovery shards in the rows after a round
 abbrev pub lent_shards : EncoderRows → List Shard
-lent_shards rows = up_to rows.shape.configuration.recovery_count
-    (shard_in_order rows.chunks.items rows.shape.configuration.shard_bytes)
+lent_shards rows = up_to rows.configuration.recovery_count
+    (shard_in_order rows.chunks.items rows.configuration.shard_bytes)
 
 -- the number of chunks for which a work has room
 abbrev pub work_room : EncoderWork → ℕ

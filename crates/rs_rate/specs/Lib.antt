@@ -1,14 +1,13 @@
 pub mod Memory
 pub mod ShardRows
 pub mod Configured
-pub mod Shapes
 pub mod EncoderView
 pub mod ResultView
 pub mod Loan
 pub mod Coding
 pub mod ObjectLaws
 pub mod Marks
-pub mod Sides
+pub mod Entering
 pub mod DecoderRoom
 pub mod DecoderView
 pub mod SetUp

@@ -1,12 +1,12 @@
 -- The laws of an object's rows, proved from their numbers.
-use Rattle.std.specs.Prelude.{◌≡◌, ℕ, ◌+◌, ◌*◌, ◌^◌, ◌<◌, ◌≤◌, Option, Some, None, IfSome, if◌then◌else◌}
+use Rattle.std.specs.Prelude.{◌≡◌, ℕ, ◌*◌, ◌^◌, ◌<◌, ◌≤◌, Option, Some, None, IfSome, if◌then◌else◌}
 use Rattle.std.proofs.Common.{ap, arith}
 use Rattle.std.proofs.Math.Nat.{mul-le-mul_left}
 use Rattle.rs_field.specs.rows.Layout.{row_len}
 use Rattle.rs_field.specs.code.Counts.{Rate, next_power, is_low}
-use Rattle.rs_field.specs.code.Frame.{encoder_rows, decoder_rows, next_multiple}
+use Rattle.rs_field.specs.code.Frame.{encoder_rows, decoder_rows, next_multiple, frame_of, low_frame, high_frame, row_count}
 use Rattle.rs_rate.specs.declared.values.configuration.Configuration.{Configuration}
-use Rattle.rs_rate.specs.Configured.{low_or_high}
+use Rattle.rs_rate.specs.Configured.{rate_of}
 use Rattle.rs_rate.specs.SetUp.{IsSetUp, rows_of}
 use Rattle.rs_rate.specs.DecoderRoom.{DecoderRoom, HasRoom}
 use Rattle.rs_rate.specs.ShardRows.{chunk_count}
@@ -27,15 +27,15 @@ encoder_rows_alike one other k r same =
 pub encoder_rows_set_up : (rate : Rate) (c : Configuration) → IsSetUp rate c
     → rows_of encoder_rows c ≡ encoder_rows rate c.original_count c.recovery_count
 encoder_rows_set_up rate c is =
-    encoder_rows_alike (low_or_high c.is_low) rate c.original_count c.recovery_count is.alike
+    encoder_rows_alike (rate_of c) rate c.original_count c.recovery_count is.alike
 
 -- the rows that a decoder is set up with are the rows of its rate
 pub decoder_rows_set_up : (rate : Rate) (c : Configuration) → IsSetUp rate c
     → rows_of decoder_rows c ≡ decoder_rows rate c.original_count c.recovery_count
-unfolding decoder_rows
+unfolding frame_of
 decoder_rows_set_up rate c is =
-    ap (λ b. if b then next_power (next_power c.original_count + c.recovery_count) else next_power
-    (next_power c.recovery_count + c.original_count)) is.alike
+    ap (λ b. row_count (if b then low_frame c.original_count c.recovery_count
+    else high_frame c.original_count c.recovery_count)) is.alike
 
 -- rows for larger shards have at least as many chunks
 pub chunk_count-size : (n a b : ℕ) → a ≤ b → chunk_count n a ≤ chunk_count n b

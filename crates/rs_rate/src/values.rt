@@ -1,8 +1,6 @@
 //! What follows from counts and a shard size: whether a rate supports them, and how many rows there are. This is the lowest
 //! floor of the crate.
 pub mod configuration;
-pub mod counts;
+pub mod frames;
 pub mod rate_marker;
-pub mod shapes;
-pub mod side;
 pub mod supported_counts;

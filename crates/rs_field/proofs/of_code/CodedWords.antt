@@ -7,12 +7,11 @@ use Rattle.std.proofs.lemmas.Grind.{common_steps}
 use Rattle.rs_field.specs.words.Polynomial.{value}
 use Rattle.rs_field.specs.code.Counts.{Rate, supports}
 use Rattle.rs_field.specs.declared.code.frame.Frame.{Frame}
-use Rattle.rs_field.specs.code.Frame.{IsFrame, frame_of, row_count, original_row, recovery_row}
-use Rattle.rs_field.specs.code.Frame.{coefficient_count}
+use Rattle.rs_field.specs.code.Frame.{frame_of, row_count, original_row, recovery_row}
 use Rattle.rs_field.specs.code.Code.{Codes, AreRecoveryWords}
 use Rattle.rs_field.proofs.of_words.Roots.{value_lt, words_from}
 use Rattle.rs_field.proofs.of_words.Interpolation.{interpolated}
-use Rattle.rs_field.proofs.of_code.Frame.{CodesIn, unframed}
+use Rattle.rs_field.proofs.of_code.Frame.{IsFrame, coefficient_count, CodesIn, unframed}
 use Rattle.rs_field.proofs.of_code.RateFrames.{has_frame}
 
 -- The first k values of a function, and zero from k on.

@@ -12,8 +12,7 @@ use Rattle.rs_field.specs.words.Locator.{log_sum}
 use Rattle.rs_field.specs.words.Derivative.{IsDerivativeAdded}
 use Rattle.rs_field.specs.code.Counts.{Rate}
 use Rattle.rs_field.specs.declared.code.frame.Frame.{Frame}
-use Rattle.rs_field.specs.code.Frame.{IsFrame, frame_of, row_count, original_row, recovery_row, zeros_end}
-use Rattle.rs_field.specs.code.Frame.{coefficient_count}
+use Rattle.rs_field.specs.code.Frame.{frame_of, row_count, original_row, recovery_row}
 use Rattle.rs_field.specs.code.Given.{Shards, count_below}
 use Rattle.rs_field.specs.code.Code.{Codes}
 use Rattle.rs_field.proofs.of_words.Roots.{value_lt, words_from}
@@ -21,7 +20,7 @@ use Rattle.rs_field.proofs.of_words.LocatorProduct.{marked, residue_undone}
 use Rattle.rs_field.proofs.of_words.Total.{product-comm}
 use Rattle.rs_field.proofs.of_words.Restored.{restored}
 use Rattle.rs_field.proofs.of_words.ExactCheck.{located_values, AreLocated, Takes, zero_rows, taken_from_zero_rows}
-use Rattle.rs_field.proofs.of_code.Frame.{CodesIn, framed, unframed}
+use Rattle.rs_field.proofs.of_code.Frame.{IsFrame, coefficient_count, zeros_end, CodesIn, framed, unframed}
 use Rattle.rs_field.proofs.of_code.ErasedCount.{AreErasures, erased_count}
 use Rattle.rs_field.proofs.of_code.CodedWords.{values_of, values_of-at, length-values_of}
 

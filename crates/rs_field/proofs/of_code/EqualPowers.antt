@@ -6,7 +6,7 @@ use Rattle.std.specs.Int.Bits.{xor_comm, xor_shifted}
 use Rattle.std.proofs.lemmas.Bool.{cases_lt}
 use Rattle.rs_field.specs.words.Polynomial.{value}
 use Rattle.rs_field.specs.code.Counts.{low_rate, high_rate, next_power, exponent_of, supports, is_low}
-use Rattle.rs_field.specs.code.Frame.{frame_of, low_frame, high_frame, zeros_end, coefficient_count}
+use Rattle.rs_field.specs.code.Frame.{frame_of, low_frame, high_frame}
 use Rattle.rs_field.specs.code.Code.{Codes, AreRecoveryWords, AreRecovery}
 use Rattle.rs_field.specs.code.Column.{Shard}
 use Rattle.rs_field.specs.code.Configuration.{configuration}
@@ -16,7 +16,7 @@ use Rattle.rs_field.proofs.of_words.Factors.{add, with_root, value_add, value_wi
 use Rattle.rs_field.proofs.of_words.Factors.{words_add, words_with_root, all_words}
 use Rattle.rs_field.proofs.of_code.Unique.{codes_unique}
 use Rattle.rs_field.proofs.of_code.NextPower.{next_power-small, next_power-least, next_power-above}
-use Rattle.rs_field.proofs.of_code.Frame.{framed}
+use Rattle.rs_field.proofs.of_code.Frame.{coefficient_count, zeros_end, framed}
 use Rattle.rs_field.proofs.of_code.SupportedCounts.{high_fits}
 use Rattle.rs_field.proofs.of_code.RateFrames.{high_is}
 use Rattle.rs_field.proofs.of_code.CodedWords.{recovered, coded_lt}

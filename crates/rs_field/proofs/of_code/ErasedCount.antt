@@ -6,11 +6,12 @@ use Rattle.std.proofs.lemmas.Bool.{cases_eq}
 use Rattle.std.proofs.lemmas.Grind.{common_steps}
 use Rattle.rs_field.specs.code.Given.{Shards, count_below}
 use Rattle.rs_field.specs.declared.code.frame.Frame.{Frame}
-use Rattle.rs_field.specs.code.Frame.{IsFrame, row_count, original_row, recovery_row, zeros_end, coefficient_count}
+use Rattle.rs_field.specs.code.Frame.{row_count, original_row, recovery_row}
 use Rattle.rs_field.specs.words.Walsh.{total}
 use Rattle.rs_field.proofs.of_words.Totals.{total-zero, total-suc}
 use Rattle.rs_field.proofs.of_code.Given.{count_below-zero, count_below-suc}
 use Rattle.rs_field.proofs.of_words.LocatorProduct.{marked, marked-more, marked-same, AreMarks}
+use Rattle.rs_field.proofs.of_code.Frame.{IsFrame, coefficient_count, zeros_end}
 
 -- The marks of the rows: each row is marked except the known zeros and the places of given shards.
 pub record AreErasures (frame : Frame) (k r : ℕ) (originals recovery : Shards) (marks : ℕ → ℕ) : Type 0 where

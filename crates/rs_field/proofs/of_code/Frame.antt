@@ -1,16 +1,41 @@
 -- Both rates in one frame: the polynomials of a code, and polynomials with one coefficient for each row from the first
 -- original to the end of the zero points.
-use Rattle.std.proofs.Common.{◌≡◌, ℕ, ◌<◌, ◌≤◌, List, length, refl, sym, ◌∙◌, arith, inl, inr, pow_mono}
+use Rattle.std.proofs.Common.{◌≡◌, ℕ, ◌+◌, ◌-◌, ◌^◌, ◌<◌, ◌≤◌, ◌⊎◌, min, List, length, refl, sym, ◌∙◌, arith, inl, inr}
+use Rattle.std.proofs.Common.{pow_mono}
 use Rattle.std.specs.Prelude.{slice_index}
 use Rattle.std.proofs.lemmas.Bool.{cases_lt}
 use Rattle.rs_field.specs.words.Polynomial.{value}
 use Rattle.rs_field.specs.code.Counts.{Rate}
 use Rattle.rs_field.specs.declared.code.frame.Frame.{Frame}
-use Rattle.rs_field.specs.code.Frame.{IsFrame, frame_of, row_count, original_row, zeros_end, coefficient_count}
+use Rattle.rs_field.specs.code.Frame.{frame_of, row_count, original_row, recovery_row, degree_bound}
 use Rattle.rs_field.specs.code.Code.{Codes}
 use Rattle.rs_field.proofs.of_words.Roots.{WordsOneByOne, words_from}
 use Rattle.rs_field.proofs.of_words.Factors.{all_words}
 use Rattle.rs_field.proofs.of_words.ZerosPast.{narrowed, widened}
+
+-- The first row after the zero points, or after the last row
+unfoldable pub zeros_end : Frame → ℕ
+zeros_end frame = min frame.zeros_to (row_count frame)
+
+-- The number of coefficients of a polynomial that is zero at the zero points among the rows
+unfoldable pub coefficient_count : Frame → ℕ
+coefficient_count frame = zeros_end frame - frame.originals_from
+
+-- In a frame, k originals, r recovery shards and the zero points have different rows, at most 65536. The zero points come right
+-- after the originals; recovery shards come after the zero points, or before the originals. The zero points end among
+-- the rows, or they are all further points.
+pub record IsFrame (frame : Frame) (k r : ℕ) : Type 0 where
+  pub few : frame.exponent ≤ 16
+  pub originals : original_row frame k ≤ row_count frame
+  pub recovery : recovery_row frame r ≤ row_count frame
+  pub zeros : (frame.zeros_from ≤ zeros_end frame) × (zeros_end frame ≤ row_count frame)
+  pub follow : frame.zeros_from ≡ original_row frame k
+  pub order : ((frame.originals_from ≡ 0) × (frame.recovery_from ≡ zeros_end frame))
+      ⊎ ((frame.recovery_from ≡ 0) × (r ≤ frame.originals_from) × (zeros_end frame ≡ row_count frame))
+  pub counts : zeros_end frame ≡ coefficient_count frame + frame.originals_from
+  pub whole : ((degree_bound frame ≡ coefficient_count frame) × (frame.zeros_to ≡ zeros_end frame))
+      ⊎ ((degree_bound frame ≡ coefficient_count frame + (65536 - row_count frame)) × (frame.zeros_to ≡ 65536)
+      × (zeros_end frame ≡ row_count frame))
 
 -- A polynomial of the frame that has k words as values at the originals' points, and zero at the known zeros.
 pub record CodesIn (frame : Frame) (k : ℕ) (words q : List ℕ) : Type 0 where

@@ -18,6 +18,10 @@ exponent-small n small =
     first_below_most 64 (λ e. nat_le n (2 ^ e)) 16 (omega arith) (le-leb n 65536 small) in
     (most, leb-true n (2 ^ d) (first_below-passes 64 (λ e. nat_le n (2 ^ e)) (omega arith)))
 
+pub next_power-exponent : (n : ℕ) → next_power n ≡ 2 ^ exponent_of n
+unfolding next_power
+next_power-exponent n = refl
+
 -- For n up to 65536, `next_power n` is a power of two of at least n.
 pub next_power-small : (n : ℕ) → n ≤ 65536 → (d : ℕ) × (d ≤ 16) × (next_power n ≡ 2 ^ d) × (n ≤ next_power n)
 unfolding next_power

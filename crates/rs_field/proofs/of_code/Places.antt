@@ -9,7 +9,7 @@ use Rattle.rs_field.specs.words.Polynomial.{value}
 use Rattle.rs_field.specs.code.Column.{Shard, AreShards, shard_at, column, columns}
 use Rattle.rs_field.specs.code.Counts.{Rate, supports}
 use Rattle.rs_field.specs.declared.code.frame.Frame.{Frame}
-use Rattle.rs_field.specs.code.Frame.{IsFrame, frame_of, degree_bound, original_row, recovery_row}
+use Rattle.rs_field.specs.code.Frame.{frame_of, degree_bound, original_row, recovery_row}
 use Rattle.rs_field.specs.code.Configuration.{Configuration}
 use Rattle.rs_field.specs.code.Code.{Codes, AreRecoveryWords, AreRecovery}
 use Rattle.rs_field.specs.code.Given.{Shards, count_below, Agrees}
@@ -19,6 +19,7 @@ use Rattle.rs_field.proofs.of_words.Values.{same_from_values}
 use Rattle.rs_field.proofs.of_code.Columns.{columns-at, shards_from_columns}
 use Rattle.rs_field.proofs.of_code.Given.{count_below-zero, count_below-suc, count_below-same}
 use Rattle.rs_field.proofs.of_code.RateFrames.{has_frame}
+use Rattle.rs_field.proofs.of_code.Frame.{IsFrame}
 
 -- A choice between two functions, by whether a number is below a bound.
 below_or : {A : Type 0} → ℕ → (ℕ → A) → (ℕ → A) → ℕ → A

@@ -2,10 +2,10 @@
 use Rattle.std.proofs.Common.{rules, ◌≡◌, ℕ, ◌+◌, ◌^◌, ◌≤◌, Bool, true, false, cond, min, max, refl, arith}
 use Rattle.std.proofs.Common.{pow_mono}
 use Rattle.rs_field.specs.code.Counts.{Rate, low_rate, high_rate, default_rate, next_power, supports, is_low}
-use Rattle.rs_field.specs.code.Frame.{IsFrame, low_frame, high_frame, frame_of, row_count, zeros_end}
-use Rattle.rs_field.specs.code.Frame.{coefficient_count}
+use Rattle.rs_field.specs.code.Frame.{low_frame, high_frame, frame_of, row_count}
 use Rattle.rs_field.proofs.of_code.NextPower.{exponent-small, next_power-above}
 use Rattle.rs_field.proofs.of_code.SupportedCounts.{low_fits, high_fits, default_fits, low_powers, high_powers}
+use Rattle.rs_field.proofs.of_code.Frame.{IsFrame, coefficient_count, zeros_end}
 
 -- The low frame has the facts of a frame.
 low_is : (k r : ℕ) → next_power k + r ≤ 65536 → k ≤ next_power k → IsFrame (low_frame k r) k r

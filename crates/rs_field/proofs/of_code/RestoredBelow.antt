@@ -21,7 +21,7 @@ use Rattle.rs_field.specs.code.OneCall.{Items}
 use Rattle.rs_field.specs.code.Pieces.{pieces, IsStrip, ArePut, room_length}
 use Rattle.rs_field.specs.code.PieceStates.{pieces_of, state_of_pieces, shards_listed, HoldRestored}
 use Rattle.rs_field.specs.declared.code.frame.Frame.{Frame}
-use Rattle.rs_field.specs.code.Frame.{IsFrame, frame_of}
+use Rattle.rs_field.specs.code.Frame.{frame_of}
 use Rattle.rs_field.proofs.of_code.Agreement.{one_message}
 use Rattle.rs_field.proofs.of_code.AgreeingMessages.{AreSized, HasWords}
 use Rattle.rs_field.proofs.of_code.Given.{count_below-zero, count_below-suc}
@@ -31,6 +31,7 @@ use Rattle.rs_field.proofs.of_code.Pieces.{put-length, room-from, room-further, 
 use Rattle.rs_field.proofs.of_code.PieceStates.{is_some-map, agrees-cut, restored-cut, consistent-whole}
 use Rattle.rs_field.proofs.of_code.PieceStates.{AreConsistentBelow}
 use Rattle.rs_field.proofs.of_code.RateFrames.{has_frame}
+use Rattle.rs_field.proofs.of_code.Frame.{IsFrame}
 
 -- ---- numbers of pieces
 

@@ -68,27 +68,3 @@ encoder_rows rate k r = if is_low rate k r then next_multiple r (next_power k) e
 -- power of m + k, with m the power of r
 abbrev pub decoder_rows : Rate → ℕ → ℕ → ℕ
 decoder_rows rate k r = row_count (frame_of rate k r)
-
--- the first row after the zero points, or after the last row
-unfoldable pub zeros_end : Frame → ℕ
-zeros_end frame = min frame.zeros_to (row_count frame)
-
--- the number of coefficients of a polynomial that is zero at the zero points among the rows
-unfoldable pub coefficient_count : Frame → ℕ
-coefficient_count frame = zeros_end frame - frame.originals_from
-
--- k originals, r recovery shards and the zero points have different rows, at most 65536. The zero points come right
--- after the originals; recovery shards come after the zero points, or before the originals. The zero points end among
--- the rows, or they are all further points.
-pub record IsFrame (frame : Frame) (k r : ℕ) : Type 0 where
-  pub few : frame.exponent ≤ 16
-  pub originals : original_row frame k ≤ row_count frame
-  pub recovery : recovery_row frame r ≤ row_count frame
-  pub zeros : (frame.zeros_from ≤ zeros_end frame) × (zeros_end frame ≤ row_count frame)
-  pub follow : frame.zeros_from ≡ original_row frame k
-  pub order : ((frame.originals_from ≡ 0) × (frame.recovery_from ≡ zeros_end frame))
-      ⊎ ((frame.recovery_from ≡ 0) × (r ≤ frame.originals_from) × (zeros_end frame ≡ row_count frame))
-  pub counts : zeros_end frame ≡ coefficient_count frame + frame.originals_from
-  pub whole : ((degree_bound frame ≡ coefficient_count frame) × (frame.zeros_to ≡ zeros_end frame))
-      ⊎ ((degree_bound frame ≡ coefficient_count frame + (65536 - row_count frame)) × (frame.zeros_to ≡ 65536)
-      × (zeros_end frame ≡ row_count frame))

@@ -9,7 +9,6 @@ use crate::objects::traits::RateDecoder;
 use crate::rows::decoder_work::DecoderWork;
 use crate::values::configuration::Configuration;
 use crate::values::rate_marker::{DefaultRateMarker, HighRateMarker, LowRateMarker, RateMarker};
-use crate::values::side::Side;
 use crate::values::supported_counts::SupportedCounts;
 use rs_field::engine::{Engine, Steps};
 use rs_field::error::Error;
@@ -72,11 +71,11 @@ impl<E: Engine, C: RateMarker> RateDecoder<E> for Decoder<E, C> {
     }
 
     fn add_original_shard(&mut self, index: usize, original_shard: &[u8]) -> Result<(), Error> {
-        self.rows.add_shard(Side::Original, index, original_shard)
+        self.rows.add_original_shard(index, original_shard)
     }
 
     fn add_recovery_shard(&mut self, index: usize, recovery_shard: &[u8]) -> Result<(), Error> {
-        self.rows.add_shard(Side::Recovery, index, recovery_shard)
+        self.rows.add_recovery_shard(index, recovery_shard)
     }
 
     fn decode(&mut self, steps: &mut Steps) -> Result<DecoderResult<'_>, Error> {

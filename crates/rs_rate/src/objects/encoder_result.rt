@@ -66,7 +66,7 @@ impl<'a> Model for Recovery<'a> {
 
     ghost view = { λ x. drop x.next_index (lent_shards x.rows.now) };
 
-    ghost invariant = { λ x. x.next_index ≤ x.rows.now.shape.configuration.recovery_count };
+    ghost invariant = { λ x. x.next_index ≤ x.rows.now.configuration.recovery_count };
 }
 
 impl<'a> Iterator for Recovery<'a> {
@@ -94,7 +94,7 @@ impl<'a> Iterator for Recovery<'a> {
 
 impl<'a> ExactSizeIterator for Recovery<'a> {
     fn len(&self) -> usize {
-        self.rows.shape.configuration.recovery_count - self.next_index
+        self.rows.configuration.recovery_count - self.next_index
     }
 }
 

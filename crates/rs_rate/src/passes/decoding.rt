@@ -8,23 +8,24 @@ ghost use Rattle.rs_field.specs.code.Counts.{Rate};
 ghost use Rattle.rs_field.specs.code.Decoder.{fresh_decoder, Restored, NoneAgrees};
 ghost use Rattle.rs_field.specs.rows.MarkedRows.{is_marked};
 ghost use Rattle.rs_rate.specs.DecoderRoom.{memory_room};
-ghost use Rattle.rs_rate.specs.Configured.{configuration_at};
+ghost use Rattle.rs_field.specs.code.Frame.{original_row, row_count};
+ghost use Rattle.rs_rate.specs.Configured.{configuration_at, IsConfigured, rows_to_decode};
 ghost use Rattle.rs_rate.specs.DecoderView.{decoder_state, restored_by_rows, restored_from};
 ghost use Rattle.rs_rate.specs.Decoding.{CanBeRestored, IsLocatorOf, RestoresShards};
 ghost use Rattle.rs_rate.specs.Marks.{erasure, given_marks, restored_marks, mark_count, WantsMissing};
 ghost use Rattle.rs_rate.specs.SetUp.{IsSetUp};
-ghost use Rattle.rs_rate.specs.Shapes.{DecoderCanBeLaid, original_row};
 ghost use Rattle.rs_rate.specs.ShardRows.{chunk_count, shard_laid_out, shard_in_order};
 
 use crate::passes::restoring::restore_rows;
 use crate::rows::decoder_work::{DecoderMemory, DecoderRows};
 use crate::rows::marks::Marks;
 use crate::rows::shard_rows::{in_order_are_bytes, move_tail};
-use crate::values::shapes::{DecoderShape, Frame, Tally};
+use crate::values::configuration::{Configuration, Tally};
 use rs_field::bytes::are_words;
 use rs_field::engine::layout::row_len;
 use rs_field::engine::{Engine, GfElement, ShardsRefMut, Steps};
 use rs_field::error::Error;
+use rs_field::frame::Frame;
 
 // Restores the missing originals and returns their number, or fails if no message agrees with all given shards. The round ends.
 pub(crate) fn decode_rows<E: Engine>(
@@ -32,19 +33,19 @@ pub(crate) fn decode_rows<E: Engine>(
     steps: &mut Steps,
     rows: &mut DecoderRows,
 ) -> Result<usize, Error>
-    requires enough { rows.old.shape.configuration.original_count
+    requires enough { rows.old.configuration.original_count
         ≤ rows.old.originals_given + rows.old.recovery_given }
     ensures state { (rate : Rate)
         → decoder_state rate rows.new
-        ≡ fresh_decoder (configuration_at rate rows.old.shape.configuration) }
-    ensures answer { (rate : Rate) → IsSetUp rate rows.old.shape.configuration
+        ≡ fresh_decoder (configuration_at rate rows.old.configuration) }
+    ensures answer { (rate : Rate) → IsSetUp rate rows.old.configuration
         → MatchResult result
         (λ _. Restored (decoder_state rate rows.old) (restored_by_rows rows.new))
         (NoneAgrees (decoder_state rate rows.old)) }
     ensures counted { IfOk result (λ count. count ≡ length (restored_from rows.new 0)) }
-    ensures shape { rows.new.shape ≡ rows.old.shape }
+    ensures configuration { rows.new.configuration ≡ rows.old.configuration }
     ensures room { memory_room rows.new.memory ≡ memory_room rows.old.memory }
-    ensures counts { DecodeCounts rows.old.shape.frame.row_count steps.old steps.new }
+    ensures counts { DecodeCounts (rows_to_decode rows.old.configuration) steps.old steps.new }
 {
     let tally = rows.tally();
     let agrees = restore(engine, steps, &mut rows.memory, tally);
@@ -58,8 +59,8 @@ pub(crate) fn decode_rows<E: Engine>(
     };
     in_order_are_bytes(
         rows.memory.chunks.as_slice(),
-        tally.shape.frame.row_count,
-        tally.shape.configuration.shard_bytes,
+        tally.configuration.frame.row_count(),
+        tally.configuration.shard_bytes,
     );
     rows.originals_given = 0;
     rows.recovery_given = 0;
@@ -75,29 +76,31 @@ fn restore<E: Engine>(
     memory: &mut DecoderMemory,
     tally: Tally,
 ) -> bool
-    requires whole { chunk_count tally.shape.frame.row_count tally.shape.configuration.shard_bytes
+    requires whole { chunk_count
+        (rows_to_decode tally.configuration) tally.configuration.shard_bytes
         ≤ length memory.old.chunks.items }
-    requires entries { length memory.old.entries.items ≡ tally.shape.frame.row_count }
+    requires entries { length memory.old.entries.items ≡ rows_to_decode tally.configuration }
     requires facts { CanBeRestored tally memory.old.marks }
-    ensures marks { WantsMissing tally.shape memory.old.marks memory.new.marks }
+    ensures marks { WantsMissing tally.configuration memory.old.marks memory.new.marks }
     ensures length { length memory.new.chunks.items ≡ length memory.old.chunks.items }
     ensures entries { length memory.new.entries.items ≡ length memory.old.entries.items }
     ensures room { memory_room memory.new ≡ memory_room memory.old }
     ensures nothing { tally.missing ≡ 0 → tally.surplus ≡ 0 → result ≡ true }
     ensures restored { 0 < tally.missing + tally.surplus
-        → (locator : List ℕ) × IsLocatorOf tally.shape.frame (given_marks memory.old.marks) locator
-        × RestoresShards tally.shape
+        → (locator : List ℕ)
+        × IsLocatorOf tally.configuration.frame (given_marks memory.old.marks) locator
+        × RestoresShards tally.configuration
         (given_marks memory.old.marks) locator tally.surplus memory.old.chunks.items
         memory.new.chunks.items result }
-    ensures counts { DecodeCounts tally.shape.frame.row_count steps.old steps.new }
+    ensures counts { DecodeCounts (rows_to_decode tally.configuration) steps.old steps.new }
 {
-    let shape = tally.shape;
+    let configuration = tally.configuration;
     if tally.missing == 0 && tally.surplus == 0 {
-        memory.marks.want_missing(shape);
+        memory.marks.want_missing(configuration);
         return true;
     }
     let entries = memory.entries.as_mut_slice();
-    make_locator(engine, steps, entries, memory.marks.given(), shape);
+    make_locator(engine, steps, entries, memory.marks.given(), configuration);
     let chunks = memory.chunks.as_mut_slice();
     let locator = memory.entries.as_slice();
     restore_chunks(engine, steps, chunks, &mut memory.marks, locator, tally)
@@ -109,27 +112,27 @@ fn make_locator<E: Engine>(
     steps: &mut Steps,
     entries: &mut [GfElement],
     given: &[bool],
-    shape: DecoderShape,
+    configuration: Configuration,
 )
-    requires laid { DecoderCanBeLaid shape }
-    requires entries { length entries.old ≡ shape.frame.row_count }
-    requires marked { shape.frame.row_count ≤ length given.now }
-    ensures locator { IsLocatorOf shape.frame given.now entries.new }
+    requires configured { IsConfigured configuration }
+    requires entries { length entries.old ≡ rows_to_decode configuration }
+    requires marked { rows_to_decode configuration ≤ length given.now }
+    ensures locator { IsLocatorOf configuration.frame given.now entries.new }
     ensures counts { LocatorCounts steps.old steps.new }
 {
-    mark_erased(entries, given, shape.frame);
+    mark_erased(entries, given, configuration.frame);
     engine.locate(steps, entries);
     are_words(entries);
 }
 
 // Sets the entries of the erased rows to 1 and all other entries to 0.
 fn mark_erased(entries: &mut [GfElement], given: &[bool], frame: Frame)
-    requires entries { length entries.old ≡ frame.row_count }
-    requires marked { frame.row_count ≤ length given.now }
-    ensures { (row : ℕ) → row < frame.row_count
-        → slice_index entries.new row ≡ erasure frame.zeros_from frame.zeros_to given.now row }
+    requires marked { length entries.old ≤ length given.now }
+    ensures rows { (row : ℕ) → row < length entries.old
+        → slice_index entries.new row ≡ erasure frame given.now row }
+    ensures length { length entries.new ≡ length entries.old }
 {
-    for row in 0..frame.row_count {
+    for row in 0..entries.len() {
         entries[row] = erased_at(given, frame, row);
     }
 }
@@ -137,7 +140,7 @@ fn mark_erased(entries: &mut [GfElement], given: &[bool], frame: Frame)
 // Returns the entry of a row: 0 if the row is known to be zero or its shard is given, else 1.
 fn erased_at(given: &[bool], frame: Frame, row: usize) -> GfElement
     requires marked { row < length given.now }
-    ensures { result ≡ erasure frame.zeros_from frame.zeros_to given.now row }
+    ensures { result ≡ erasure frame given.now row }
 {
     let is_zero = frame.zeros_from <= row && row < frame.zeros_to;
     if is_zero || given[row] { 0 } else { 1 }
@@ -153,22 +156,22 @@ fn restore_chunks<E: Engine>(
     locator: &[GfElement],
     tally: Tally,
 ) -> bool
-    requires whole { chunk_count tally.shape.frame.row_count tally.shape.configuration.shard_bytes
-        ≤ length chunks.old }
+    requires whole { chunk_count
+        (rows_to_decode tally.configuration) tally.configuration.shard_bytes ≤ length chunks.old }
     requires facts { CanBeRestored tally marks.old }
-    requires located { length locator.now ≡ tally.shape.frame.row_count }
-    ensures marks { WantsMissing tally.shape marks.old marks.new }
-    ensures shards { RestoresShards tally.shape
+    requires located { length locator.now ≡ rows_to_decode tally.configuration }
+    ensures marks { WantsMissing tally.configuration marks.old marks.new }
+    ensures shards { RestoresShards tally.configuration
         (given_marks marks.old) locator.now tally.surplus chunks.old chunks.new result }
-    ensures counts { CountsUpTo
-        (3 * transform_steps tally.shape.frame.row_count + 4 * tally.shape.frame.row_count)
-        0 0 steps.old steps.new }
+    ensures counts { let w = rows_to_decode tally.configuration in
+        CountsUpTo (3 * transform_steps w + 4 * w) 0 0 steps.old steps.new }
 {
-    let len = row_len(tally.shape.configuration.shard_bytes);
-    let mut rows = ShardsRefMut::new(tally.shape.frame.row_count, len, chunks);
+    let configuration = tally.configuration;
+    let len = row_len(configuration.shard_bytes);
+    let mut rows = ShardsRefMut::new(configuration.frame.row_count(), len, chunks);
     let agrees = restore_rows(engine, steps, &mut rows, marks, locator, tally);
     if agrees {
-        move_restored_tails(steps, chunks, marks, tally.shape);
+        move_restored_tails(steps, chunks, marks, configuration);
     }
     agrees
 }
@@ -178,23 +181,24 @@ fn move_restored_tails(
     steps: &mut Steps,
     chunks: &mut [[u8; 64]],
     marks: &Marks,
-    shape: DecoderShape,
+    configuration: Configuration,
 )
-    requires laid { DecoderCanBeLaid shape }
-    requires marked { mark_count marks.now ≡ shape.frame.row_count }
-    requires whole { chunk_count shape.frame.row_count shape.configuration.shard_bytes
+    requires configured { IsConfigured configuration }
+    requires marked { mark_count marks.now ≡ rows_to_decode configuration }
+    requires whole { chunk_count (rows_to_decode configuration) configuration.shard_bytes
         ≤ length chunks.old }
-    ensures moved { (i : ℕ) → i < shape.configuration.original_count
-        → let p = original_row shape.frame i in is_marked (restored_marks marks.now) p ≡ true
-        → shard_in_order chunks.new shape.configuration.shard_bytes p
-        ≡ shard_laid_out chunks.old shape.configuration.shard_bytes p }
-    ensures counts { CountsUpTo shape.configuration.original_count 0 0 steps.old steps.new }
+    ensures moved { (i : ℕ) → i < configuration.original_count
+        → let p = original_row configuration.frame i in
+        is_marked (restored_marks marks.now) p ≡ true
+        → shard_in_order chunks.new configuration.shard_bytes p
+        ≡ shard_laid_out chunks.old configuration.shard_bytes p }
+    ensures counts { CountsUpTo configuration.original_count 0 0 steps.old steps.new }
 {
-    for i in 0..shape.configuration.original_count {
-        let row = shape.frame.original_row(i);
+    for i in 0..configuration.original_count {
+        let row = configuration.frame.original_row(i);
         if marks.is_restored(row) {
             steps.row_step();
-            move_tail(chunks, row, shape.configuration.shard_bytes);
+            move_tail(chunks, row, configuration.shard_bytes);
         }
     }
 }

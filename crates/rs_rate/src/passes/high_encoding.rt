@@ -8,7 +8,6 @@ ghost use Rattle.rs_field.specs.words.Transform.{forward};
 ghost use Rattle.rs_field.specs.rows.View.{word, Fits, SameExtent, SameRowsOutside};
 ghost use Rattle.rs_rate.specs.Coding.{SumsBlocks, CodesWords, CodingCounts, further_blocks};
 
-use crate::values::configuration::Configuration;
 use rs_field::engine::rows::clear_rows;
 use rs_field::engine::utils::xor_within;
 use rs_field::engine::{Engine, ShardsRefMut, Steps};
@@ -18,24 +17,23 @@ pub(crate) fn code_high<E: Engine>(
     engine: &E,
     steps: &mut Steps,
     rows: &mut ShardsRefMut<'_>,
-    configuration: Configuration,
+    original_count: usize,
+    recovery_count: usize,
+    block: usize,
 )
     requires fits { Fits rows.old }
-    requires supported { supports high_rate configuration.original_count
-        configuration.recovery_count ≡ true }
+    requires supported { supports high_rate original_count recovery_count ≡ true }
     requires rows { rows.old.shard_count
-        ≡ encoder_rows high_rate configuration.original_count configuration.recovery_count }
-    requires block { configuration.block_rows ≡ next_power configuration.recovery_count }
+        ≡ encoder_rows high_rate original_count recovery_count }
+    requires block { block ≡ next_power recovery_count }
     ensures extent { SameExtent rows.old rows.new }
     ensures words { (k s : ℕ) → k < rows.old.shard_len_64 → s < 32
-        → CodesWords high_rate configuration.original_count configuration.recovery_count
+        → CodesWords high_rate original_count recovery_count
         (word rows.old k s) (word rows.new k s) }
-    ensures counts { CodingCounts high_rate configuration.original_count
-        configuration.recovery_count steps.old steps.new }
+    ensures counts { CodingCounts high_rate original_count recovery_count steps.old steps.new }
 {
-    let block = configuration.block_rows;
-    sum_blocks(engine, steps, rows, configuration.original_count, block);
-    engine.fft(steps, rows, 0, block, configuration.recovery_count, 0);
+    sum_blocks(engine, steps, rows, original_count, block);
+    engine.fft(steps, rows, 0, block, recovery_count, 0);
 }
 
 // Transforms each block of originals backward into the coefficients of its combination, and sums these in the first block.

@@ -8,7 +8,6 @@ ghost use Rattle.rs_field.specs.words.Transform.{forward};
 ghost use Rattle.rs_field.specs.rows.View.{cell, word, Fits, SameExtent};
 ghost use Rattle.rs_rate.specs.Coding.{CodesWords, CodingCounts, further_blocks};
 
-use crate::values::configuration::Configuration;
 use rs_field::engine::rows::{clear_rows, copy_rows};
 use rs_field::engine::{Engine, ShardsRefMut, Steps};
 
@@ -17,24 +16,21 @@ pub(crate) fn code_low<E: Engine>(
     engine: &E,
     steps: &mut Steps,
     rows: &mut ShardsRefMut<'_>,
-    configuration: Configuration,
+    original_count: usize,
+    recovery_count: usize,
+    block: usize,
 )
     requires fits { Fits rows.old }
-    requires supported { supports low_rate configuration.original_count configuration.recovery_count
-        ≡ true }
+    requires supported { supports low_rate original_count recovery_count ≡ true }
     requires rows { rows.old.shard_count
-        ≡ encoder_rows low_rate configuration.original_count configuration.recovery_count }
-    requires block { configuration.block_rows ≡ next_power configuration.original_count }
+        ≡ encoder_rows low_rate original_count recovery_count }
+    requires block { block ≡ next_power original_count }
     ensures extent { SameExtent rows.old rows.new }
     ensures words { (k s : ℕ) → k < rows.old.shard_len_64 → s < 32
-        → CodesWords low_rate configuration.original_count configuration.recovery_count
+        → CodesWords low_rate original_count recovery_count
         (word rows.old k s) (word rows.new k s) }
-    ensures counts { CodingCounts low_rate configuration.original_count
-        configuration.recovery_count steps.old steps.new }
+    ensures counts { CodingCounts low_rate original_count recovery_count steps.old steps.new }
 {
-    let block = configuration.block_rows;
-    let recovery_count = configuration.recovery_count;
-    let original_count = configuration.original_count;
     clear_rows(steps, rows, original_count, block);
     engine.ifft(steps, rows, 0, block, original_count, 0);
     code_further(engine, steps, rows, recovery_count, block);

@@ -16,10 +16,11 @@ ghost use Rattle.rs_field.specs.rows.MarkedRows.{is_marked};
 ghost use Rattle.rs_rate.specs.Decoding.{located_word, AreRowsOf, AreCoefficients, CanBeRestored};
 ghost use Rattle.rs_rate.specs.Decoding.{restore_steps, RestoresWords};
 ghost use Rattle.rs_rate.specs.Marks.{given_marks, restored_marks, mark_count, WantsMissing};
-ghost use Rattle.rs_rate.specs.Shapes.{DecoderCanBeLaid, original_row};
+ghost use Rattle.rs_field.specs.code.Frame.{original_row};
+ghost use Rattle.rs_rate.specs.Configured.{IsConfigured, rows_to_decode};
 
 use crate::rows::marks::Marks;
-use crate::values::shapes::{DecoderShape, Tally};
+use crate::values::configuration::{Configuration, Tally};
 use rs_field::bytes::row_symbols_are_words;
 use rs_field::engine::derivative::formal_derivative;
 use rs_field::engine::layout::is_zero_row;
@@ -36,22 +37,22 @@ pub(crate) fn restore_rows<E: Engine>(
     locator: &[GfElement],
     tally: Tally,
 ) -> bool
-    requires rows { AreRowsOf tally.shape rows.old }
+    requires rows { AreRowsOf tally.configuration rows.old }
     requires facts { CanBeRestored tally marks.old }
-    requires located { length locator.now ≡ tally.shape.frame.row_count }
+    requires located { length locator.now ≡ rows_to_decode tally.configuration }
     ensures extent { SameExtent rows.old rows.new }
-    ensures marks { WantsMissing tally.shape marks.old marks.new }
-    ensures words { RestoresWords tally.shape (given_marks marks.old) locator.now tally.surplus
+    ensures marks { WantsMissing tally.configuration marks.old marks.new }
+    ensures words { RestoresWords tally.configuration (given_marks marks.old) locator.now tally.surplus
         (word rows.old) (word rows.new) result }
-    ensures counts { CountsUpTo (restore_steps tally.shape tally.surplus) 0 0 steps.old steps.new }
+    ensures counts { CountsUpTo (restore_steps tally.configuration tally.surplus) 0 0 steps.old steps.new }
 {
-    let shape = tally.shape;
+    let configuration = tally.configuration;
     let agrees = interpolate(engine, steps, rows, marks, locator, tally);
-    marks.want_missing(shape);
+    marks.want_missing(configuration);
     if agrees && tally.missing > 0 {
         formal_derivative(steps, rows);
         engine.fft_wanted(steps, rows, 0, marks.restored(), 0);
-        reveal_rows(engine, steps, rows, marks, locator, shape);
+        reveal_rows(engine, steps, rows, marks, locator, configuration);
     }
     agrees
 }
@@ -66,23 +67,22 @@ fn interpolate<E: Engine>(
     locator: &[GfElement],
     tally: Tally,
 ) -> bool
-    requires rows { AreRowsOf tally.shape rows.old }
+    requires rows { AreRowsOf tally.configuration rows.old }
     requires facts { CanBeRestored tally marks.now }
-    requires located { length locator.now ≡ tally.shape.frame.row_count }
+    requires located { length locator.now ≡ rows_to_decode tally.configuration }
     ensures extent { SameExtent rows.old rows.new }
-    ensures coefficients { AreCoefficients tally.shape
+    ensures coefficients { AreCoefficients tally.configuration
         (given_marks marks.now) locator.now tally.surplus (word rows.old) (word rows.new) result }
-    ensures counts { CountsUpTo
-        (tally.shape.frame.row_count
-        + (transform_steps tally.shape.frame.row_count + tally.surplus)) 0 0 steps.old steps.new }
+    ensures counts { let w = rows_to_decode tally.configuration in
+        CountsUpTo (w + (transform_steps w + tally.surplus)) 0 0 steps.old steps.new }
 {
-    let shape = tally.shape;
+    let configuration = tally.configuration;
     let given = marks.given();
     locate_rows(engine, steps, rows, given, locator);
     engine.ifft_given(steps, rows, 0, given, 0);
     row_symbols_are_words(rows);
-    let first = shape.frame.row_count - tally.surplus;
-    are_zero_rows(steps, rows, first, shape.configuration.shard_bytes)
+    let first = configuration.frame.row_count() - tally.surplus;
+    are_zero_rows(steps, rows, first, configuration.shard_bytes)
 }
 
 // Multiplies the given rows by the powers of the generator that the locator gives for their points, and clears the other rows.
@@ -149,22 +149,22 @@ fn reveal_rows<E: Engine>(
     rows: &mut ShardsRefMut<'_>,
     marks: &Marks,
     locator: &[GfElement],
-    shape: DecoderShape,
+    configuration: Configuration,
 )
-    requires laid { DecoderCanBeLaid shape }
-    requires rows { AreRowsOf shape rows.old }
+    requires configured { IsConfigured configuration }
+    requires rows { AreRowsOf configuration rows.old }
     requires marked { mark_count marks.now ≡ rows.old.shard_count }
     requires located { length locator.now ≡ rows.old.shard_count }
     ensures extent { SameExtent rows.old rows.new }
     ensures revealed { (k s i : ℕ) → k < rows.old.shard_len_64 → s < 32
-        → i < shape.configuration.original_count
-        → let p = original_row shape.frame i in is_marked (restored_marks marks.now) p ≡ true
+        → i < configuration.original_count
+        → let p = original_row configuration.frame i in is_marked (restored_marks marks.now) p ≡ true
         → word rows.new k s p
         ≡ product (word rows.old k s p) (power (65535 - slice_index locator.now p)) }
-    ensures counts { CountsUpTo shape.configuration.original_count 0 0 steps.old steps.new }
+    ensures counts { CountsUpTo configuration.original_count 0 0 steps.old steps.new }
 {
-    for i in 0..shape.configuration.original_count {
-        let row = shape.frame.original_row(i);
+    for i in 0..configuration.original_count {
+        let row = configuration.frame.original_row(i);
         if marks.is_restored(row) {
             mul_row_at(engine, steps, rows, row, GF_MODULUS - locator[row]);
         }

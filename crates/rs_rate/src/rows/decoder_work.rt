@@ -6,21 +6,19 @@ ghost use Rattle.rs_field.specs.code.Column.{IsShard};
 ghost use Rattle.rs_field.specs.code.Counts.{Rate};
 ghost use Rattle.rs_field.specs.code.Outcome.{answer_of, state_after};
 ghost use Rattle.rs_field.specs.code.Configuration.{UpToMemory};
-ghost use Rattle.rs_field.specs.code.Decoder.{fresh_decoder, enough_given};
+ghost use Rattle.rs_field.specs.code.Decoder.{fresh_decoder, enough_given, with_original, with_recovery};
 ghost use Rattle.rs_field.specs.rows.MarkedRows.{is_marked};
-ghost use Rattle.rs_rate.specs.Shapes.{DecoderCanBeLaid};
+ghost use Rattle.rs_rate.specs.Configured.{IsConfigured, rows_to_decode};
+ghost use Rattle.rs_rate.specs.Entering.{given_rows, entry_outcome};
 ghost use Rattle.rs_rate.specs.ShardRows.{memory_outcome, chunk_count, shard_laid_out};
 ghost use Rattle.rs_rate.specs.Marks.{given_marks, mark_count, mark_room, AreSameMarks, HoldGiven};
 ghost use Rattle.rs_rate.specs.DecoderRoom.{IsLaidOut};
-ghost use Rattle.rs_rate.specs.Sides.{with_shard_of_side};
 
 use crate::rows::marks::Marks;
 use crate::rows::memory::{make_room, set_chunks, set_length};
 use crate::rows::object_rows::ObjectRows;
 use crate::rows::shard_rows::{insert_at, shard_at, shard_is_bytes};
-use crate::values::configuration::Configuration;
-use crate::values::shapes::{DecoderShape, Tally, chunk_count};
-use crate::values::side::Side;
+use crate::values::configuration::{Configuration, Tally, chunk_count};
 use rs_field::engine::GfElement;
 use rs_field::error::Error;
 use std::alloc::Global;
@@ -46,18 +44,18 @@ pub struct DecoderMemory {
 /// The rows of a decoder.
 #[derive(Drop)]
 pub struct DecoderRows {
-    /// The configuration and the rows of the shards.
-    pub(crate) shape: DecoderShape,
+    /// The configuration for which the rows are set up.
+    pub(crate) configuration: Configuration,
     /// The number of originals that were added in the current round.
     pub(crate) originals_given: usize,
     /// The number of recovery shards that were added in the current round.
     pub(crate) recovery_given: usize,
     /// The chunks and marks of the rows, and the entries of the locator.
     pub(crate) memory: DecoderMemory,
-    pub ghost laid: { DecoderCanBeLaid shape },
-    pub ghost laid_out: { IsLaidOut shape memory },
-    pub ghost given: { HoldGiven shape originals_given recovery_given
-        (given_marks memory.marks) memory.chunks.items },
+    pub ghost configured: { IsConfigured configuration },
+    pub ghost laid_out: { IsLaidOut configuration memory },
+    pub ghost given: { HoldGiven configuration originals_given recovery_given
+        (given_rows memory configuration.shard_bytes) },
 }
 
 impl DecoderWork {
@@ -82,7 +80,7 @@ impl Default for DecoderWork {
 }
 
 impl DecoderMemory {
-    ghost use Rattle.rs_rate.specs.DecoderRoom.{HasRoom, Grows, memory_room, shape_chunks, work_room, IsLaidOut};
+    ghost use Rattle.rs_rate.specs.DecoderRoom.{HasRoom, Grows, memory_room, decoder_chunks, work_room, IsLaidOut};
 
     // Returns the memory that another object passes on, if there is any.
     fn of(work: Option<DecoderWork>) -> Option<DecoderMemory>
@@ -94,17 +92,18 @@ impl DecoderMemory {
         }
     }
 
-    // Allocates memory that is laid out for a shape, without given shards. The function is not inlined: if it were, the
+    // Allocates memory that is laid out for a configuration, without given shards. The function is not inlined: if it were, the
     // compiler would treat the clearing as rarely executed and would not use `memset`. The chunks are allocated last,
     // because clearing them removes from the cache what other allocations read.
     #[inline(never)]
-    fn new(alloc: Global, shape: DecoderShape) -> Result<DecoderMemory, Error>
-        ensures laid_out { IfOk result (IsLaidOut shape) }
+    fn new(alloc: Global, configuration: Configuration) -> Result<DecoderMemory, Error>
+        requires { IsConfigured configuration }
+        ensures laid_out { IfOk result (IsLaidOut configuration) }
         ensures empty { IfOk result (λ m. (p : ℕ) → is_marked (given_marks m.marks) p ≡ false) }
-        ensures answer { UpToMemory (memory_outcome (shape_chunks shape)) (answer_of result) }
+        ensures answer { UpToMemory (memory_outcome (decoder_chunks configuration)) (answer_of result) }
     {
-        let row_count = shape.frame.row_count;
-        let chunk_count = chunk_count(row_count, shape.configuration.shard_bytes)?;
+        let row_count = configuration.frame.row_count();
+        let chunk_count = chunk_count(row_count, configuration.shard_bytes)?;
         let marks = Marks::new(alloc, row_count)?;
         let entries = vec![in alloc; 0; row_count]?;
         Ok(DecoderMemory {
@@ -114,28 +113,28 @@ impl DecoderMemory {
         })
     }
 
-    // Returns memory that is laid out for a shape, without given shards. If there is a `work`, its memory is used.
+    // Returns memory that is laid out for a configuration, without given shards. If there is a `work`, its memory is used.
     #[inline(always)]
     fn laid_out(
         alloc: Global,
-        shape: DecoderShape,
+        configuration: Configuration,
         work: Option<DecoderWork>,
     ) -> Result<DecoderMemory, Error>
-        requires { DecoderCanBeLaid shape }
-        ensures laid_out { IfOk result (IsLaidOut shape) }
+        requires { IsConfigured configuration }
+        ensures laid_out { IfOk result (IsLaidOut configuration) }
         ensures empty { IfOk result (λ m. (p : ℕ) → is_marked (given_marks m.marks) p ≡ false) }
-        ensures answer { UpToMemory (memory_outcome (shape_chunks shape)) (answer_of result) }
+        ensures answer { UpToMemory (memory_outcome (decoder_chunks configuration)) (answer_of result) }
         ensures grown { IfOk result (λ m. IfSome work (λ w. Grows (work_room w) (memory_room m))) }
         ensures roomy { IfSome work
-            (λ w. HasRoom (work_room w) shape.frame.row_count shape.configuration.shard_bytes
-            → answer_of result ≡ memory_outcome (shape_chunks shape)) }
+            (λ w. HasRoom (work_room w) (rows_to_decode configuration) configuration.shard_bytes
+            → answer_of result ≡ memory_outcome (decoder_chunks configuration)) }
     {
         match DecoderMemory::of(work) {
             Some(mut memory) => {
-                memory.lay_out(shape)?;
+                memory.lay_out(configuration)?;
                 Ok(memory)
             }
-            None => DecoderMemory::new(alloc, shape),
+            None => DecoderMemory::new(alloc, configuration),
         }
     }
 
@@ -157,23 +156,24 @@ impl DecoderMemory {
         make_room(&mut self.entries, rows)
     }
 
-    // Lays the memory out for a shape, without given shards. All memory is allocated first. The entries of the locator may have
+    // Lays the memory out for a configuration, without given shards. All memory is allocated first. The entries of the locator may have
     // any values, because each decode writes them.
-    fn lay_out(&mut self, shape: DecoderShape) -> Result<(), Error>
-        ensures laid_out { OnOk result (IsLaidOut shape self.new) }
+    fn lay_out(&mut self, configuration: Configuration) -> Result<(), Error>
+        requires { IsConfigured configuration }
+        ensures laid_out { OnOk result (IsLaidOut configuration self.new) }
         ensures empty { OnOk result ((p : ℕ) → is_marked (given_marks self.new.marks) p ≡ false) }
         ensures kept { OnErr result
             ((self.new.chunks.items ≡ self.old.chunks.items)
             × AreSameMarks self.old.marks self.new.marks
             × (self.new.entries.items ≡ self.old.entries.items)) }
-        ensures answer { UpToMemory (memory_outcome (shape_chunks shape)) result }
+        ensures answer { UpToMemory (memory_outcome (decoder_chunks configuration)) result }
         ensures grown { Grows (memory_room self.old) (memory_room self.new) }
         ensures roomy { HasRoom
-            (memory_room self.old) shape.frame.row_count shape.configuration.shard_bytes
-            → result ≡ memory_outcome (shape_chunks shape) }
+            (memory_room self.old) (rows_to_decode configuration) configuration.shard_bytes
+            → result ≡ memory_outcome (decoder_chunks configuration) }
     {
-        let rows = shape.frame.row_count;
-        let chunks = chunk_count(rows, shape.configuration.shard_bytes)?;
+        let rows = configuration.frame.row_count();
+        let chunks = chunk_count(rows, configuration.shard_bytes)?;
         self.grow(chunks, rows)?;
         set_chunks(&mut self.chunks, chunks);
         self.marks.set_empty(rows);
@@ -181,8 +181,45 @@ impl DecoderMemory {
         Ok(())
     }
 
+    // Enters a shard of `shard_bytes` bytes in row `row`: lays it into the row, and marks the row. Fails with `repeated`
+    // if the row holds a given shard, and then with `DifferentShardSize`.
+    fn enter(
+        &mut self,
+        row: usize,
+        shard_bytes: usize,
+        shard: &[u8],
+        repeated: Error,
+    ) -> Result<(), Error>
+        requires room { chunk_count (row + 1) shard_bytes ≤ vec_len self.old.chunks }
+        requires even { shard_bytes % 2 ≡ 0 }
+        requires marked { row < mark_count self.old.marks }
+        ensures answer { result
+            ≡ answer_of (entry_outcome
+            (given_rows self.old shard_bytes) row shard_bytes repeated shard.now) }
+        ensures rows { given_rows self.new shard_bytes
+            ≡ state_after (given_rows self.old shard_bytes)
+            (entry_outcome (given_rows self.old shard_bytes) row shard_bytes repeated shard.now) }
+        ensures shard { OnOk result (IsShard shard_bytes shard.now) }
+        ensures chunks { vec_len self.new.chunks ≡ vec_len self.old.chunks }
+        ensures marks { mark_count self.new.marks ≡ mark_count self.old.marks }
+        ensures entries { vec_len self.new.entries ≡ vec_len self.old.entries }
+        ensures grown { memory_room self.new ≡ memory_room self.old }
+    {
+        if self.marks.is_given(row) {
+            return Err(repeated);
+        }
+        if shard.len() != shard_bytes {
+            return Err(Error::DifferentShardSize {
+                shard_bytes,
+                got: shard.len(),
+            });
+        }
+        self.put(row, shard);
+        Ok(())
+    }
+
     // Lays a shard into row `row` of rows of its size, and marks the row.
-    fn enter(&mut self, row: usize, shard: &[u8])
+    fn put(&mut self, row: usize, shard: &[u8])
         requires room { chunk_count (row + 1) (length shard.now) ≤ vec_len self.old.chunks }
         requires even { length shard.now % 2 ≡ 0 }
         requires marked { row < mark_count self.old.marks }
@@ -194,9 +231,9 @@ impl DecoderMemory {
         ensures mark { is_marked (given_marks self.new.marks) row ≡ true }
         ensures other_marks { (p : ℕ) → p ≢ row
             → is_marked (given_marks self.new.marks) p ≡ is_marked (given_marks self.old.marks) p }
-        ensures lengths { (vec_len self.new.chunks ≡ vec_len self.old.chunks)
-            × (mark_count self.new.marks ≡ mark_count self.old.marks)
-            × (vec_len self.new.entries ≡ vec_len self.old.entries) }
+        ensures chunks { vec_len self.new.chunks ≡ vec_len self.old.chunks }
+        ensures marks { mark_count self.new.marks ≡ mark_count self.old.marks }
+        ensures entries { vec_len self.new.entries ≡ vec_len self.old.entries }
         ensures grown { memory_room self.new ≡ memory_room self.old }
     {
         shard_is_bytes(shard);
@@ -221,7 +258,7 @@ impl ObjectRows for DecoderRows {
 
     ghost row_count = { decoder_rows };
 
-    ghost configuration_of = { λ x. x.shape.configuration };
+    ghost configuration_of = { λ x. x.configuration };
 
     ghost state = { decoder_state };
 
@@ -244,10 +281,9 @@ impl ObjectRows for DecoderRows {
         configuration: Configuration,
         work: Option<DecoderWork>,
     ) -> Result<DecoderRows, Error> {
-        let shape = configuration.decoder_shape();
-        let memory = DecoderMemory::laid_out(alloc, shape, work)?;
+        let memory = DecoderMemory::laid_out(alloc, configuration, work)?;
         Ok(DecoderRows {
-            shape,
+            configuration,
             originals_given: 0,
             recovery_given: 0,
             memory,
@@ -256,9 +292,8 @@ impl ObjectRows for DecoderRows {
 
     #[inline(always)]
     fn reset(&mut self, configuration: Configuration) -> Result<(), Error> {
-        let shape = configuration.decoder_shape();
-        self.memory.lay_out(shape)?;
-        self.shape = shape;
+        self.memory.lay_out(configuration)?;
+        self.configuration = configuration;
         self.originals_given = 0;
         self.recovery_given = 0;
         Ok(())
@@ -276,7 +311,7 @@ impl ObjectRows for DecoderRows {
     ghost rows_set_up = { decoder_rows_set_up };
 
     ghost own_room = { λ x size less.
-        room_within _ _ size _ _ x.laid.rows less x.laid_out.sized x.laid_out.room };
+        room_within _ _ size _ _ x.configured.rows less x.laid_out.sized x.laid_out.room };
 }
 
 impl DecoderRows {
@@ -284,49 +319,74 @@ impl DecoderRows {
     ghost use Rattle.rs_rate.specs.DecoderView.{decoder_state, restored_by_rows, restored_from};
     ghost use Rattle.rs_rate.specs.Decoding.{CanBeRestored};
 
-    // Adds a shard of a side: copies it into its row and marks the row. Fails with the error for an invalid index, then
-    // with the error for a duplicate index, then with `DifferentShardSize`.
-    pub(crate) fn add_shard(&mut self, side: Side, index: usize, shard: &[u8]) -> Result<(), Error>
+    // Adds an original: copies it into its row and marks the row. Fails with `InvalidOriginalShardIndex`, then with
+    // `DuplicateOriginalShardIndex`, then with `DifferentShardSize`.
+    pub(crate) fn add_original_shard(&mut self, index: usize, shard: &[u8]) -> Result<(), Error>
         ensures answer { (rate : Rate)
-            → result
-            ≡ answer_of (with_shard_of_side side (decoder_state rate self.old) index shard.now) }
+            → result ≡ answer_of (with_original (decoder_state rate self.old) index shard.now) }
         ensures left { (rate : Rate) → decoder_state rate self.new
             ≡ state_after (decoder_state rate self.old)
-            (with_shard_of_side side (decoder_state rate self.old) index shard.now) }
-        ensures shape { self.new.shape ≡ self.old.shape }
+            (with_original (decoder_state rate self.old) index shard.now) }
+        ensures configuration { self.new.configuration ≡ self.old.configuration }
         ensures room { memory_room self.new.memory ≡ memory_room self.old.memory }
     {
-        if index >= side.count(self.shape) {
-            return Err(side.index_refused(self.shape, index));
-        }
-        let row = side.row(self.shape, index);
-        if self.memory.marks.is_given(row) {
-            return Err(side.repeat_refused(index));
-        }
-        if shard.len() != self.shape.configuration.shard_bytes {
-            return Err(Error::DifferentShardSize {
-                shard_bytes: self.shape.configuration.shard_bytes,
-                got: shard.len(),
+        let original_count = self.configuration.original_count;
+        if index >= original_count {
+            return Err(Error::InvalidOriginalShardIndex {
+                original_count,
+                index,
             });
         }
-        self.memory.enter(row, shard);
-        self.originals_given += side.originals();
-        self.recovery_given += side.recovery();
+        let row = self.configuration.frame.original_row(index);
+        let repeated = Error::DuplicateOriginalShardIndex { index };
+        self.memory
+            .enter(row, self.configuration.shard_bytes, shard, repeated)?;
+        self.originals_given += 1;
+        Ok(())
+    }
+
+    // Adds a recovery shard: copies it into its row and marks the row. Fails with `InvalidRecoveryShardIndex`, then with
+    // `DuplicateRecoveryShardIndex`, then with `DifferentShardSize`.
+    pub(crate) fn add_recovery_shard(&mut self, index: usize, shard: &[u8]) -> Result<(), Error>
+        ensures answer { (rate : Rate)
+            → result ≡ answer_of (with_recovery (decoder_state rate self.old) index shard.now) }
+        ensures left { (rate : Rate) → decoder_state rate self.new
+            ≡ state_after (decoder_state rate self.old)
+            (with_recovery (decoder_state rate self.old) index shard.now) }
+        ensures configuration { self.new.configuration ≡ self.old.configuration }
+        ensures room { memory_room self.new.memory ≡ memory_room self.old.memory }
+    {
+        let recovery_count = self.configuration.recovery_count;
+        if index >= recovery_count {
+            return Err(Error::InvalidRecoveryShardIndex {
+                recovery_count,
+                index,
+            });
+        }
+        let row = self.configuration.frame.recovery_row(index);
+        let repeated = Error::DuplicateRecoveryShardIndex { index };
+        self.memory
+            .enter(row, self.configuration.shard_bytes, shard, repeated)?;
+        self.recovery_given += 1;
         Ok(())
     }
 
     // Returns the numbers on which a decode of the rows depends.
     pub(crate) fn tally(&self) -> Tally
-        requires { self.now.shape.configuration.original_count
+        requires { self.now.configuration.original_count
             ≤ self.now.originals_given + self.now.recovery_given }
-        ensures shape { result.shape ≡ self.now.shape }
+        ensures configuration { result.configuration ≡ self.now.configuration }
+        ensures missing { self.now.originals_given + result.missing
+            ≡ self.now.configuration.original_count }
+        ensures surplus { self.now.originals_given + self.now.recovery_given
+            ≡ self.now.configuration.original_count + result.surplus }
         ensures facts { CanBeRestored result self.now.memory.marks }
     {
         let given = self.originals_given + self.recovery_given;
         Tally {
-            shape: self.shape,
-            missing: self.shape.configuration.original_count - self.originals_given,
-            surplus: given - self.shape.configuration.original_count,
+            configuration: self.configuration,
+            missing: self.configuration.original_count - self.originals_given,
+            surplus: given - self.configuration.original_count,
         }
     }
 
@@ -334,9 +394,9 @@ impl DecoderRows {
     pub(crate) fn check_enough_given(&self) -> Result<(), Error>
         ensures { (rate : Rate) → result ≡ enough_given (decoder_state rate self.now) }
     {
-        if self.originals_given + self.recovery_given < self.shape.configuration.original_count {
+        if self.originals_given + self.recovery_given < self.configuration.original_count {
             return Err(Error::NotEnoughShards {
-                original_count: self.shape.configuration.original_count,
+                original_count: self.configuration.original_count,
                 original_received_count: self.originals_given,
                 recovery_received_count: self.recovery_given,
             });
@@ -348,16 +408,16 @@ impl DecoderRows {
     pub(crate) fn restored_original(&self, index: usize) -> Option<&[u8]>
         ensures { option_copied result ≡ restored_by_rows self.now index }
     {
-        if index >= self.shape.configuration.original_count {
+        if index >= self.configuration.original_count {
             return None;
         }
-        let row = self.shape.frame.original_row(index);
+        let row = self.configuration.frame.original_row(index);
         if !self.memory.marks.is_restored(row) {
             return None;
         }
         Some(shard_at(
             self.memory.chunks.as_slice(),
-            self.shape.configuration.shard_bytes,
+            self.configuration.shard_bytes,
             row,
         ))
     }
@@ -365,11 +425,11 @@ impl DecoderRows {
     // Returns the first restored original from an index on, with its index.
     pub(crate) fn next_restored(&self, from: usize) -> Option<(usize, &[u8])>
         ensures { MatchOption result (restored_from self.now from ≡ [])
-            (λ item. (item.0 < self.now.shape.configuration.original_count)
+            (λ item. (item.0 < self.now.configuration.original_count)
             × (restored_from self.now from
             ≡ (item.0, item.1.now) ∷ restored_from self.now (item.0 + 1))) }
     {
-        for index in from..self.shape.configuration.original_count {
+        for index in from..self.configuration.original_count {
             if let Some(shard) = self.restored_original(index) {
                 return Some((index, shard));
             }

@@ -5,14 +5,13 @@ ghost use Rattle.rs_field.specs.code.Column.{IsShard};
 ghost use Rattle.rs_field.specs.code.Counts.{Rate};
 ghost use Rattle.rs_field.specs.code.Outcome.{answer_of, state_after};
 ghost use Rattle.rs_field.specs.code.Encoder.{fresh_encoder, with_shard, message_of};
-ghost use Rattle.rs_rate.specs.Shapes.{EncoderCanBeLaid};
+ghost use Rattle.rs_rate.specs.Configured.{IsConfigured, rows_to_encode};
 ghost use Rattle.rs_rate.specs.ShardRows.{chunk_count, shard_laid_out, shard_in_order};
 
 use crate::rows::memory::{make_room, set_chunks, vec_of};
 use crate::rows::object_rows::ObjectRows;
 use crate::rows::shard_rows::{insert_at, shard_at, shard_is_bytes};
-use crate::values::configuration::Configuration;
-use crate::values::shapes::{EncoderShape, chunk_count};
+use crate::values::configuration::{Configuration, chunk_count};
 use rs_field::error::Error;
 use std::alloc::Global;
 
@@ -26,22 +25,23 @@ pub struct EncoderWork {
 /// The rows of an encoder.
 #[derive(Drop)]
 pub struct EncoderRows {
-    /// The configuration and the number of rows.
-    pub(crate) shape: EncoderShape,
+    /// The configuration for which the rows are set up.
+    pub(crate) configuration: Configuration,
     /// The number of originals that were added in the current round.
     pub(crate) originals_given: usize,
     /// The chunks of the rows, row after row.
     pub(crate) chunks: Vec<[u8; 64]>,
-    pub ghost laid: { EncoderCanBeLaid shape },
-    pub ghost no_more: { originals_given ≤ shape.configuration.original_count },
+    pub ghost configured: { IsConfigured configuration },
+    pub ghost no_more: { originals_given ≤ configuration.original_count },
     pub ghost whole: { vec_len chunks
-        ≡ chunk_count shape.row_count shape.configuration.shard_bytes },
-    pub ghost own_room: { chunk_count shape.row_count shape.configuration.shard_bytes
+        ≡ chunk_count (rows_to_encode configuration) configuration.shard_bytes },
+    pub ghost own_room: { chunk_count (rows_to_encode configuration) configuration.shard_bytes
         ≤ vec_capacity chunks },
-    pub ghost sized: { chunk_count shape.row_count shape.configuration.shard_bytes * 64 < 2 ^ 64 },
+    pub ghost sized: { chunk_count
+        (rows_to_encode configuration) configuration.shard_bytes * 64 < 2 ^ 64 },
     pub ghost shards: { (i : ℕ) → i < originals_given
-        → IsShard shape.configuration.shard_bytes
-        (shard_laid_out chunks.items shape.configuration.shard_bytes i) },
+        → IsShard configuration.shard_bytes
+        (shard_laid_out chunks.items configuration.shard_bytes i) },
 }
 
 impl EncoderWork {
@@ -66,7 +66,7 @@ impl Default for EncoderWork {
 }
 
 impl ObjectRows for EncoderRows {
-    ghost use Rattle.std.proofs.Common.{le_refl};
+    ghost use Rattle.std.proofs.Common.{le_refl, refl};
     ghost use Rattle.rs_field.specs.code.Encoder.{EncoderState};
     ghost use Rattle.rs_field.specs.code.Frame.{encoder_rows};
     ghost use Rattle.rs_rate.specs.RowsLaws.{some_anyway, encoder_rows_set_up, chunks_within};
@@ -80,7 +80,7 @@ impl ObjectRows for EncoderRows {
 
     ghost row_count = { encoder_rows };
 
-    ghost configuration_of = { λ x. x.shape.configuration };
+    ghost configuration_of = { λ x. x.configuration };
 
     ghost state = { encoder_state };
 
@@ -102,8 +102,7 @@ impl ObjectRows for EncoderRows {
         configuration: Configuration,
         work: Option<EncoderWork>,
     ) -> Result<EncoderRows, Error> {
-        let shape = configuration.encoder_shape();
-        let count = chunk_count(shape.row_count, configuration.shard_bytes)?;
+        let count = chunk_count(configuration.encoder_rows(), configuration.shard_bytes)?;
         let mut chunks = match work {
             Some(work) => vec_of(alloc, work.chunks),
             None => Vec::new(alloc),
@@ -111,19 +110,18 @@ impl ObjectRows for EncoderRows {
         make_room(&mut chunks, count)?;
         set_chunks(&mut chunks, count);
         Ok(EncoderRows {
-            shape,
+            configuration,
             originals_given: 0,
             chunks,
         })
     }
 
     fn reset(&mut self, configuration: Configuration) -> Result<(), Error> {
-        let shape = configuration.encoder_shape();
-        let count = chunk_count(shape.row_count, configuration.shard_bytes)?;
+        let count = chunk_count(configuration.encoder_rows(), configuration.shard_bytes)?;
         make_room(&mut self.chunks, count)?;
         self.originals_given = 0;
         set_chunks(&mut self.chunks, count);
-        self.shape = shape;
+        self.configuration = configuration;
         Ok(())
     }
 
@@ -135,7 +133,7 @@ impl ObjectRows for EncoderRows {
     ghost rows_set_up = { encoder_rows_set_up };
 
     ghost own_room = { λ x size less.
-        chunks_within _ _ size _ _ x.laid.rows less x.sized x.own_room };
+        chunks_within _ _ size _ _ refl less x.sized x.own_room };
 }
 
 impl EncoderRows {
@@ -150,17 +148,17 @@ impl EncoderRows {
             → encoder_state rate self.new
             ≡ state_after (encoder_state rate self.old)
             (with_shard (encoder_state rate self.old) original_shard.now) }
-        ensures shape { self.new.shape ≡ self.old.shape }
+        ensures configuration { self.new.configuration ≡ self.old.configuration }
         ensures room { vec_capacity self.new.chunks ≡ vec_capacity self.old.chunks }
     {
-        if self.originals_given == self.shape.configuration.original_count {
+        if self.originals_given == self.configuration.original_count {
             return Err(Error::TooManyOriginalShards {
-                original_count: self.shape.configuration.original_count,
+                original_count: self.configuration.original_count,
             });
         }
-        if original_shard.len() != self.shape.configuration.shard_bytes {
+        if original_shard.len() != self.configuration.shard_bytes {
             return Err(Error::DifferentShardSize {
-                shard_bytes: self.shape.configuration.shard_bytes,
+                shard_bytes: self.configuration.shard_bytes,
                 got: original_shard.len(),
             });
         }
@@ -178,9 +176,9 @@ impl EncoderRows {
     pub(crate) fn check_all_given(&self) -> Result<(), Error>
         ensures { (rate : Rate) → result ≡ answer_of (message_of (encoder_state rate self.now)) }
     {
-        if self.originals_given < self.shape.configuration.original_count {
+        if self.originals_given < self.configuration.original_count {
             return Err(Error::TooFewOriginalShards {
-                original_count: self.shape.configuration.original_count,
+                original_count: self.configuration.original_count,
                 original_received_count: self.originals_given,
             });
         }
@@ -189,18 +187,18 @@ impl EncoderRows {
 
     // Returns the recovery shard with this index, or `None` if there is none.
     pub(crate) fn recovery(&self, index: usize) -> Option<&[u8]>
-        ensures { MatchOption result (self.now.shape.configuration.recovery_count ≤ index)
-            (λ shard. (index < self.now.shape.configuration.recovery_count)
+        ensures { MatchOption result (self.now.configuration.recovery_count ≤ index)
+            (λ shard. (index < self.now.configuration.recovery_count)
             × (shard.now
             ≡ shard_in_order self.now.chunks.items
-            self.now.shape.configuration.shard_bytes index)) }
+            self.now.configuration.shard_bytes index)) }
     {
-        if index >= self.shape.configuration.recovery_count {
+        if index >= self.configuration.recovery_count {
             return None;
         }
         Some(shard_at(
             self.chunks.as_slice(),
-            self.shape.configuration.shard_bytes,
+            self.configuration.shard_bytes,
             index,
         ))
     }

@@ -3,10 +3,10 @@
 ghost use Rattle.std.specs.Prelude.{◌≡◌, ◌≢◌, ℕ, ◌^◌, ◌<◌, ◌≤◌, ◌⊎◌, not, true, false, length, IfOk, IfErr, OnOk};
 ghost use Rattle.rs_field.specs.rows.MarkedRows.{is_marked};
 ghost use Rattle.rs_rate.specs.Marks.{given_marks, restored_marks, mark_count, mark_room, AreSameMarks, WantsMissing};
-ghost use Rattle.rs_rate.specs.Shapes.{original_row};
+ghost use Rattle.rs_field.specs.code.Frame.{original_row};
 
 use crate::rows::memory::{make_room, set_length};
-use crate::values::shapes::DecoderShape;
+use crate::values::configuration::Configuration;
 use rs_field::error::Error;
 use std::alloc::Global;
 
@@ -148,27 +148,29 @@ impl Marks {
     }
 
     // Returns whether row `row` is the row of an original that is not given.
-    fn is_missing(&self, shape: DecoderShape, row: usize) -> bool
+    fn is_missing(&self, configuration: Configuration, row: usize) -> bool
         requires marked { row < mark_count self.now }
-        requires fits { original_row shape.frame shape.configuration.original_count < 2 ^ 64 }
-        ensures missing { shape.frame.originals_from ≤ row
-            → row < original_row shape.frame shape.configuration.original_count
+        requires fits { original_row configuration.frame configuration.original_count < 2 ^ 64 }
+        ensures missing { configuration.frame.originals_from ≤ row
+            → row < original_row configuration.frame configuration.original_count
             → result ≡ not (is_marked (given_marks self.now) row) }
-        ensures others { (row < shape.frame.originals_from)
-            ⊎ (original_row shape.frame shape.configuration.original_count ≤ row) → result ≡ false }
+        ensures others { (row < configuration.frame.originals_from)
+            ⊎ (original_row configuration.frame configuration.original_count ≤ row) → result ≡ false }
     {
-        let end = shape.frame.original_row(shape.configuration.original_count);
-        shape.frame.originals_from <= row && row < end && !self.is_given(row)
+        let end = configuration
+            .frame
+            .original_row(configuration.original_count);
+        configuration.frame.originals_from <= row && row < end && !self.is_given(row)
     }
 
     // Makes the marks those of restored originals: exactly the rows of originals that were not given are marked.
-    pub(crate) fn want_missing(&mut self, shape: DecoderShape)
-        requires { original_row shape.frame shape.configuration.original_count
+    pub(crate) fn want_missing(&mut self, configuration: Configuration)
+        requires { original_row configuration.frame configuration.original_count
             ≤ mark_count self.old }
-        ensures { WantsMissing shape self.old self.new }
+        ensures { WantsMissing configuration self.old self.new }
     {
         for row in 0..self.rows.len() {
-            let wanted = self.is_missing(shape, row);
+            let wanted = self.is_missing(configuration, row);
             self.set(row, wanted);
         }
         self.shards = MarkedShards::Restored;

@@ -1,14 +1,18 @@
-//! The configuration of an encoder or a decoder, which is validated once.
-ghost use Rattle.std.specs.Prelude.{◌≡◌, Err, MatchResult};
-ghost use Rattle.rs_field.specs.code.Configuration.{configuration, validation_outcome};
-ghost use Rattle.rs_rate.specs.Configured.{rate_configuration};
+//! The configuration of an encoder or a decoder, which is validated once, and the numbers of rows that follow from it.
+ghost use Rattle.std.specs.Prelude.{◌≡◌, ◌*◌, ◌^◌, ◌<◌, ◌≤◌, Err, MatchResult};
+ghost use Rattle.rs_field.specs.code.Configuration.{configuration, validation_outcome, start_outcome};
+ghost use Rattle.rs_field.specs.code.Frame.{encoder_rows, decoder_rows};
+ghost use Rattle.rs_rate.specs.Configured.{rate_configuration, IsConfigured, block_of, rows_to_encode};
 ghost use Rattle.rs_rate.specs.SetUp.{IsSetUp};
+ghost use Rattle.rs_rate.specs.ShardRows.{chunk_count};
 
 use crate::values::rate_marker::RateMarker;
 use crate::values::supported_counts::SupportedCounts;
+use rs_field::engine::layout::row_len;
 use rs_field::error::Error;
+use rs_field::frame::Frame;
 
-/// The counts and the shard size of an encoder or a decoder, and what the rate chooses for these counts.
+/// The counts and the shard size of an encoder or a decoder, and the frame of the rate for these counts.
 #[derive(Clone, Copy, Debug, PartialEq, Eq, Hash)]
 pub struct Configuration {
     /// The number of originals.
@@ -17,11 +21,19 @@ pub struct Configuration {
     pub recovery_count: usize,
     /// The size of a shard, in bytes.
     pub shard_bytes: usize,
-    /// Whether the rate is the low rate for these counts. If not, it is the high rate.
-    pub is_low: bool,
-    /// The number of rows of a block: the least power of two that is not below the number of originals at the low rate,
-    /// and not below the number of recovery shards at the high rate.
-    pub block_rows: usize,
+    /// The points of the shards, and the rows of a decoder.
+    pub frame: Frame,
+}
+
+// The data on which a decode depends.
+#[derive(Clone, Copy)]
+pub(crate) struct Tally {
+    // The configuration of the rows.
+    pub(crate) configuration: Configuration,
+    // The number of missing originals.
+    pub(crate) missing: usize,
+    // The number of shards that were added beyond the number of originals.
+    pub(crate) surplus: usize,
 }
 
 impl Configuration {
@@ -46,8 +58,7 @@ impl Configuration {
             original_count: counts.original_count,
             recovery_count: counts.recovery_count,
             shard_bytes,
-            is_low: counts.choice.is_low,
-            block_rows: counts.choice.block_rows,
+            frame: counts.frame,
         })
     }
 
@@ -67,5 +78,79 @@ impl Configuration {
     {
         let counts = SupportedCounts::<C>::new(original_count, recovery_count)?;
         Configuration::new(counts, shard_bytes)
+    }
+
+    // Returns the number of rows of a block.
+    pub(crate) fn block_rows(self) -> usize
+        ensures { result ≡ block_of self }
+    {
+        if self.frame.is_low {
+            self.frame.recovery_from
+        } else {
+            self.frame.originals_from
+        }
+    }
+
+    // Returns the number of rows of an encoder: the recovery shards at the low rate, or the originals at the high rate,
+    // rounded up to whole blocks.
+    pub(crate) fn encoder_rows(self) -> usize
+        requires { IsConfigured self }
+        ensures { result ≡ rows_to_encode self }
+    {
+        let coded = if self.frame.is_low {
+            self.recovery_count
+        } else {
+            self.original_count
+        };
+        coded.next_multiple_of(self.block_rows())
+    }
+}
+
+impl<C: RateMarker> SupportedCounts<C> {
+    /// Checks a shard size for an encoder of these counts, without allocating anything.
+    ///
+    /// # Errors
+    ///
+    /// - [`Error::InvalidShardSize`] if `shard_bytes` is zero or odd.
+    /// - [`Error::OutOfMemory`] if the bytes of an encoder's rows exceed `usize::MAX`.
+    pub fn check_encoder_rows(self, shard_bytes: usize) -> Result<(), Error>
+        ensures { let c =
+            configuration C.rate self.original_count self.recovery_count shard_bytes in
+            result ≡ start_outcome (encoder_rows C.rate c.original_count c.recovery_count) c }
+    {
+        let rows = Configuration::new(self, shard_bytes)?.encoder_rows();
+        chunk_count(rows, shard_bytes)?;
+        Ok(())
+    }
+
+    /// Checks a shard size for a decoder of these counts, without allocating anything.
+    ///
+    /// # Errors
+    ///
+    /// - [`Error::InvalidShardSize`] if `shard_bytes` is zero or odd.
+    /// - [`Error::OutOfMemory`] if the bytes of a decoder's rows exceed `usize::MAX`.
+    pub fn check_decoder_rows(self, shard_bytes: usize) -> Result<(), Error>
+        ensures { let c =
+            configuration C.rate self.original_count self.recovery_count shard_bytes in
+            result ≡ start_outcome (decoder_rows C.rate c.original_count c.recovery_count) c }
+    {
+        let configuration = Configuration::new(self, shard_bytes)?;
+        chunk_count(configuration.frame.row_count(), shard_bytes)?;
+        Ok(())
+    }
+}
+
+// Returns the number of chunks of n rows, or fails with `OutOfMemory` if their size in bytes does not fit a `usize`.
+pub(crate) fn chunk_count(row_count: usize, shard_bytes: usize) -> Result<usize, Error>
+    ensures { MatchResult result
+        (λ n. (n ≡ chunk_count row_count shard_bytes) × (n * 64 < 2 ^ 64))
+        (λ e. (e ≡ Error.OutOfMemory) × (2 ^ 64 ≤ chunk_count row_count shard_bytes * 64)) }
+{
+    let Some(chunks) = row_count.checked_mul(row_len(shard_bytes)) else {
+        return Err(Error::OutOfMemory);
+    };
+    match chunks.checked_mul(64) {
+        Some(_) => Ok(chunks),
+        None => Err(Error::OutOfMemory),
     }
 }

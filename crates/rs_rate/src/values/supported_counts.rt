@@ -1,11 +1,11 @@
 //! Counts that a rate supports. They are checked once, at the start of a call.
 ghost use Rattle.std.specs.Prelude.{◌≡◌, ⊤, true, false, MatchResult};
 ghost use Rattle.rs_field.specs.code.Counts.{supports};
-ghost use Rattle.rs_rate.specs.Configured.{choice_at};
+ghost use Rattle.rs_field.specs.code.Frame.{frame_of};
 
-use crate::values::counts::Choice;
 use crate::values::rate_marker::{DefaultRateMarker, HighRateMarker, LowRateMarker, RateMarker};
 use rs_field::error::Error;
+use rs_field::frame::Frame;
 use std::alloc::AllocError;
 use std::marker::PhantomData;
 
@@ -26,11 +26,11 @@ pub struct SupportedCounts<C: RateMarker> {
     pub original_count: usize,
     /// The number of recovery shards.
     pub recovery_count: usize,
-    /// What the rate chooses for these counts.
-    pub(crate) choice: Choice,
+    /// The frame of the rate for these counts.
+    pub(crate) frame: Frame,
     code: PhantomData<C>,
     pub ghost supported: { supports C.rate original_count recovery_count ≡ true },
-    pub ghost chosen: { choice ≡ choice_at C.rate original_count recovery_count },
+    pub ghost framed: { frame ≡ frame_of C.rate original_count recovery_count },
 }
 
 impl<C: RateMarker> SupportedCounts<C> {
@@ -46,7 +46,7 @@ impl<C: RateMarker> SupportedCounts<C> {
             (λ e. (supports C.rate original_count recovery_count ≡ false)
             × (e ≡ Error.UnsupportedShardCount original_count recovery_count)) }
     {
-        let Some(choice) = C::choose(original_count, recovery_count) else {
+        let Some(frame) = C::choose(original_count, recovery_count) else {
             return Err(Error::UnsupportedShardCount {
                 original_count,
                 recovery_count,
@@ -55,7 +55,7 @@ impl<C: RateMarker> SupportedCounts<C> {
         Ok(SupportedCounts {
             original_count,
             recovery_count,
-            choice,
+            frame,
             code: PhantomData,
         })
     }

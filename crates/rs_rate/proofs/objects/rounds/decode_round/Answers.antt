@@ -2,8 +2,7 @@ use Rattle.std.proofs.Common.{ℕ, sym, ◌∙◌, subst, arith}
 use Rattle.std.proofs.lemmas.Result.{err_from_is_err_and}
 use Rattle.rs_field.specs.code.Bounds.{DecodeCounts}
 use Rattle.rs_rate.specs.DecoderView.{decoder_state, restored_by_rows}
-use Rattle.rs_rate.proofs.EnoughGiven.{rows_given, enough-least}
-use Rattle.rs_rate.proofs.DecoderRows.{after_decode-refused, after_decode-made, decode_answers-refused}
+use Rattle.rs_rate.proofs.DecoderRows.{enough-least, after_decode-refused, after_decode-made, decode_answers-refused}
 use Rattle.rs_rate.proofs.DecoderRows.{decode_answers-made}
 use Rattle.rs_rate.specs.RowsLaws.{decoder_rows_set_up}
 use Rattle.rs_rate.proofs.objects.rounds.decode_round.Goals as goal
@@ -24,8 +23,7 @@ decode_rows-requires g c =
     let rows = c.args.decoder.now.rows in
     let least = enough-least (decoder_state g.C.RateMarker.rate rows)
     (c.in_ok-check_enough_given.ensures g.C.RateMarker.rate) in
-    let given = rows_given g.C.RateMarker.rate rows in
-    omega (arith, least, given.0, given.1)
+    omega (arith, least, rows.given.originals_counted, rows.given.recovery_counted)
 
 pub returns-clause-answer : goal.returns-clause-answer
 returns-clause-answer g c =
@@ -37,8 +35,8 @@ returns-clause-answer g c =
 pub returns-clause-counts : goal.returns-clause-counts
 returns-clause-counts g c =
     subst (λ (n : ℕ). DecodeCounts n c.args.steps.now c.decode_rows.new.steps)
-    (c.args.decoder.now.rows.laid.rows
-    ∙ decoder_rows_set_up g.C.RateMarker.rate c.args.decoder.now.rows.shape.configuration c.args.decoder.now.set_up)
+    (c.args.decoder.now.rows.configured.rows
+    ∙ decoder_rows_set_up g.C.RateMarker.rate c.args.decoder.now.rows.configuration c.args.decoder.now.set_up)
     c.decode_rows.ensures.counts
 
 pub returns-clause-state : goal.returns-clause-state

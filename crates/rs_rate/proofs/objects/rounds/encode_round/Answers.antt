@@ -2,7 +2,7 @@ use Rattle.std.proofs.Common.{ℕ, sym, ◌∙◌, subst, arith}
 use Rattle.std.proofs.lemmas.Result.{err_from_is_err_and}
 use Rattle.rs_field.proofs.of_words.UpTo.{length-up_to}
 use Rattle.rs_field.specs.words.StepBounds.{CountsUpTo}
-use Rattle.rs_rate.specs.Configured.{low_or_high}
+use Rattle.rs_rate.specs.Configured.{rate_of}
 use Rattle.rs_rate.specs.EncoderView.{encoder_state, given_originals, lent_shards}
 use Rattle.rs_rate.proofs.EncodeCounting.{steps_alike}
 use Rattle.rs_rate.proofs.RateLemmas.{shards_alike}
@@ -28,31 +28,31 @@ encode_rows-requires g c =
     let whole = message-whole (encoder_state g.C.RateMarker.rate rows)
     (c.in_ok-check_all_given.ensures g.C.RateMarker.rate) in
     let given = length-up_to rows.originals_given
-    (shard_laid_out rows.chunks.items rows.shape.configuration.shard_bytes) in
+    (shard_laid_out rows.chunks.items rows.configuration.shard_bytes) in
     omega (arith, whole.0, given, rows.no_more)
 
 pub returns-clause-answer : goal.returns-clause-answer
 returns-clause-answer g c =
     let rows = c.args.encoder.now.rows in
-    let own = rows.shape.configuration in
+    let own = rows.configuration in
     let state = encoder_state g.C.RateMarker.rate rows in
     encode_answers-made state (lent_shards c.encode_rows.new.rows) (c.in_ok-check_all_given.ensures g.C.RateMarker.rate)
-    (shards_alike (low_or_high own.is_low) g.C.RateMarker.rate own.original_count own.recovery_count own.shard_bytes
+    (shards_alike (rate_of own) g.C.RateMarker.rate own.original_count own.recovery_count own.shard_bytes
     (given_originals rows) (lent_shards c.encode_rows.new.rows) c.args.encoder.now.set_up.alike
     c.encode_rows.ensures.recovery)
 
 pub returns-clause-counts : goal.returns-clause-counts
 returns-clause-counts g c =
     let rows = c.args.encoder.now.rows in
-    let own = rows.shape.configuration in
+    let own = rows.configuration in
     subst (λ (n : ℕ). CountsUpTo n 0 0 c.args.steps.now c.encode_rows.new.steps)
-    (steps_alike (low_or_high own.is_low) g.C.RateMarker.rate own.original_count own.recovery_count
+    (steps_alike (rate_of own) g.C.RateMarker.rate own.original_count own.recovery_count
     c.args.encoder.now.set_up.alike) c.encode_rows.ensures.counts
 
 pub returns-clause-state : goal.returns-clause-state
 returns-clause-state g c =
     let rows = c.args.encoder.now.rows in
     let coded = c.encode_rows.ensures in
-    encoder_state-fresh g.C.RateMarker.rate c.encode_rows.new.rows rows.shape coded.shape coded.none
+    encoder_state-fresh g.C.RateMarker.rate c.encode_rows.new.rows rows.configuration coded.configuration coded.none
     ∙ sym (after_encode-made (encoder_state g.C.RateMarker.rate rows)
     (c.in_ok-check_all_given.ensures g.C.RateMarker.rate))

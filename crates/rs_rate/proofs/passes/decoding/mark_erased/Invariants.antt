@@ -4,6 +4,6 @@ use Rattle.rs_rate.proofs.passes.decoding.mark_erased.Given as goal
 
 abbrev pub invariant-loop-row : goal.invariant-loop-row
 invariant-loop-row l = record {
-  entries : length l.entries ≡ l.fn.frame.row_count;
-  erased : (y : ℕ) → y < l.row → slice_index l.entries y ≡ erasure l.fn.frame.zeros_from l.fn.frame.zeros_to l.given y;
+  entries : length l.entries ≡ length l.initial.entries;
+  erased : (y : ℕ) → y < l.row → slice_index l.entries y ≡ erasure l.frame l.given y;
 }

@@ -5,6 +5,7 @@ use Rattle.rs_field.specs.declared.words.steps.Steps.{Steps}
 use Rattle.rs_field.specs.rows.MarkedRows.{is_marked}
 use Rattle.rs_field.proofs.of_words.Counting.{counts_rows, counts_none, counts_then}
 use Rattle.rs_field.proofs.of_rows.LayoutLemmas.{laid_out-same, in_order-same}
+use Rattle.rs_rate.specs.Configured.{rows_to_decode}
 use Rattle.rs_rate.specs.Marks.{restored_marks}
 use Rattle.rs_rate.specs.ShardRows.{row_chunk, shard_laid_out, shard_in_order}
 use Rattle.rs_rate.proofs.RestoredRows.{TailMoved}
@@ -14,25 +15,25 @@ use Rattle.rs_rate.proofs.passes.decoding.move_restored_tails.Goals.{then-is_res
 
 pub move_tail-requires-clause-room : goal.move_tail-requires-clause-room
 move_tail-requires-clause-room c =
-    let s = c.args.shape in
-    let below : c.original_row-row.result < s.frame.row_count =
-    omega (arith, c.loop-i-test.true, c.original_row-row.ensures, c.requires.laid.places.originals) in
-    let within = chunk_count-within c.original_row-row.result s.frame.row_count s.configuration.shard_bytes
+    let s = c.args.configuration in
+    let below : c.original_row-row.result < rows_to_decode c.args.configuration =
+    omega (arith, c.loop-i-test.true, c.original_row-row.ensures, c.requires.configured.own_rows) in
+    let within = chunk_count-within c.original_row-row.result (rows_to_decode s) s.shard_bytes
     (length c.args.chunks.now) below c.requires.whole in
     omega (arith, within, c.loop-i.auto.chunks)
 
 pub loop-i-preserved : goal.loop-i-preserved
 loop-i-preserved c =
-    let size = c.args.shape.configuration.shard_bytes in
+    let size = c.args.configuration.shard_bytes in
     let marks = restored_marks c.args.marks.now in
-    let from = c.args.shape.frame.originals_from in
+    let from = c.args.configuration.frame.originals_from in
     let p = c.original_row-row.result in
     let old = c.args.chunks.now in
     let mid = c.loop-i.chunks in
     let new = c.if-is_restored.chunks in
     let before = c.loop-i.invariant in
     let step : TailMoved
-    (restored_marks c.args.marks.now) c.args.shape.configuration.shard_bytes c.original_row-row.result
+    (restored_marks c.args.marks.now) c.args.configuration.shard_bytes c.original_row-row.result
     c.loop-i.chunks c.if-is_restored.chunks c.loop-i.steps c.if-is_restored.steps =
     elim c.if-is_restored.branch [
       | then-is_restored w ↦
@@ -61,7 +62,7 @@ loop-i-preserved c =
             (λ k inside. step.others (from + j) k (let apart : from + j ≢ p = omega arith in apart) inside)
             ∙ before.moved j low marked
         | inr high ↦
-            let here : c.original_row-row.result ≡ c.args.shape.frame.originals_from + j = omega arith in
+            let here : c.original_row-row.result ≡ c.args.configuration.frame.originals_from + j = omega arith in
             subst (λ (q : ℕ). shard_in_order new size q ≡ shard_laid_out old size q) here
             (step.moved_here (ap (is_marked marks) here ∙ marked)
             ∙ laid_out-same size (row_chunk mid size p) (row_chunk old size p)

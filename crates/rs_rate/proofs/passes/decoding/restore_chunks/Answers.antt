@@ -10,8 +10,8 @@ use Rattle.rs_rate.proofs.passes.decoding.restore_chunks.Goals as goal
 
 pub returns-then-agrees-clause-shards : goal.returns-then-agrees-clause-shards
 returns-then-agrees-clause-shards g c =
-    let s = c.args.tally.shape in
-    let n : ℕ = row_len s.configuration.shard_bytes in
+    let s = c.args.tally.configuration in
+    let n : ℕ = row_len s.shard_bytes in
     let mid = c.chunks-1.given.0 in
     let missing = c.restore_rows-agrees.ensures.marks in
     let len : c.new-rows.result.shard_len_64 ≡ n = c.new-rows.ensures.len_64 ∙ c.row_len-len.ensures in
@@ -24,14 +24,14 @@ returns-then-agrees-clause-shards g c =
           (search rules) c.restore_rows-agrees.ensures.words;
       shards = λ _ i j inside hj none.
           ap (column j) (c.move_restored_tails.ensures.moved i inside (missing.missing i inside ∙ ap not none))
-          ∙ column-put mid s.configuration.shard_bytes
-          (s.frame.originals_from + i) j c.requires.facts.laid.configured.even hj;
+          ∙ column-put mid s.shard_bytes
+          (s.frame.originals_from + i) j c.requires.facts.configured.even hj;
     }
 
 pub returns-else-agrees-clause-shards : goal.returns-else-agrees-clause-shards
 returns-else-agrees-clause-shards g c =
-    let s = c.args.tally.shape in
-    let n : ℕ = row_len s.configuration.shard_bytes in
+    let s = c.args.tally.configuration in
+    let n : ℕ = row_len s.shard_bytes in
     let mid = c.chunks-1.given.0 in
     let len : c.new-rows.result.shard_len_64 ≡ n = c.new-rows.ensures.len_64 ∙ c.row_len-len.ensures in
     record {

@@ -5,16 +5,17 @@ use Rattle.rs_rate.specs.Coding.{CodesWords}
 use Rattle.rs_rate.specs.Configured.{low_or_high}
 use Rattle.rs_rate.specs.ShardRows.{word_in}
 use Rattle.rs_rate.proofs.Coded.{rows-read}
-use Rattle.rs_rate.proofs.ConfiguredLemmas.{rate_configuration-by}
+use Rattle.rs_rate.proofs.ConfiguredLemmas.{configuration-by}
 use Rattle.rs_rate.proofs.passes.encoding.code_chunks.Goals as goal
 
 pub code_low-requires-clause-block : goal.code_low-requires-clause-block
 code_low-requires-clause-block g c =
-    (rate_configuration-by c.args.shape.configuration true c.requires.laid.configured c.if-configuration.true).1
+    c.block_rows-block.ensures
+    ∙ (configuration-by c.args.configuration true c.requires.configured c.if-configuration.true).1
 
 pub returns-then-configuration-clause-words : goal.returns-then-configuration-clause-words
 returns-then-configuration-clause-words g c = λ k s inside symbols.
-    let own = c.args.shape.configuration in
+    let own = c.args.configuration in
     let n : ℕ = row_len own.shard_bytes in
     let len : c.new-rows.result.shard_len_64 ≡ n = c.new-rows.ensures.len_64 ∙ c.row_len-len.ensures in
     subst (λ (low : Bool).
@@ -27,11 +28,12 @@ returns-then-configuration-clause-words g c = λ k s inside symbols.
 
 pub code_high-requires-clause-block : goal.code_high-requires-clause-block
 code_high-requires-clause-block g c =
-    (rate_configuration-by c.args.shape.configuration false c.requires.laid.configured c.if-configuration.false).1
+    c.block_rows-block.ensures
+    ∙ (configuration-by c.args.configuration false c.requires.configured c.if-configuration.false).1
 
 pub returns-else-configuration-clause-words : goal.returns-else-configuration-clause-words
 returns-else-configuration-clause-words g c = λ k s inside symbols.
-    let own = c.args.shape.configuration in
+    let own = c.args.configuration in
     let n : ℕ = row_len own.shard_bytes in
     let len : c.new-rows.result.shard_len_64 ≡ n = c.new-rows.ensures.len_64 ∙ c.row_len-len.ensures in
     subst (λ (low : Bool).

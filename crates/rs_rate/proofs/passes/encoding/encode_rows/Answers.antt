@@ -7,7 +7,7 @@ use Rattle.rs_field.specs.rows.Rows.{Chunks}
 use Rattle.rs_field.specs.rows.Layout.{row_len}
 use Rattle.rs_field.specs.words.UpTo.{up_to}
 use Rattle.rs_field.proofs.of_words.Counting.{counts_rows}
-use Rattle.rs_rate.specs.Configured.{configuration_at, low_or_high}
+use Rattle.rs_rate.specs.Configured.{configuration_at, rate_of, rows_to_encode}
 use Rattle.rs_rate.specs.EncoderView.{given_originals}
 use Rattle.rs_rate.specs.ShardRows.{word_in, shard_laid_out, shard_in_order}
 use Rattle.rs_rate.proofs.ShardRowsLemmas.{chunk_count-more, column-put}
@@ -18,31 +18,31 @@ use Rattle.rs_rate.proofs.passes.encoding.encode_rows.Goals as goal
 pub laid_out_are_bytes-requires : goal.laid_out_are_bytes-requires
 laid_out_are_bytes-requires g c =
     let w = c.args.rows.now in
-    let rise = chunk_count-more w.shape.configuration.recovery_count w.shape.row_count w.shape.configuration.shard_bytes
-    w.laid.recovery in
+    let rise = chunk_count-more w.configuration.recovery_count (rows_to_encode w.configuration) w.configuration.shard_bytes
+    w.configured.recovery in
     record { room = omega (arith, rise, w.whole, c.code_chunks.auto.chunks, c.as_mut_slice-chunks.ensures.len) }
 
 pub move_tails-requires-clause-room : goal.move_tails-requires-clause-room
 move_tails-requires-clause-room g c =
     let w = c.args.rows.now in
-    let rise = chunk_count-more w.shape.configuration.recovery_count w.shape.row_count w.shape.configuration.shard_bytes
-    w.laid.recovery in
+    let rise = chunk_count-more w.configuration.recovery_count (rows_to_encode w.configuration) w.configuration.shard_bytes
+    w.configured.recovery in
     omega (arith, rise, w.whole, c.code_chunks.auto.chunks, c.as_mut_slice-chunks.ensures.len)
 
 pub returns-clause-recovery : goal.returns-clause-recovery
 returns-clause-recovery g c =
     let w = c.args.rows.now in
-    let own = w.shape.configuration in
+    let own = w.configuration in
     let size = own.shard_bytes in
-    let rate = low_or_high own.is_low in
+    let rate = rate_of own in
     let before = c.as_mut_slice-chunks.result.now in
     let coded =
-    are_recovery (configuration_at rate w.shape.configuration) (shard_laid_out before size)
+    are_recovery (configuration_at rate w.configuration) (shard_laid_out before size)
     (shard_in_order c.move_tails.new.chunks size)
     (λ i few. subst (λ s. IsShard size s) (sym (c.move_tails.ensures.moved i (omega arith)))
     (c.laid_out_are_bytes.ensures i few))
     (λ j inside.
-    let read = λ (xs : Chunks) (i : ℕ). column-put xs size i j w.laid.configured.even inside in
+    let read = λ (xs : Chunks) (i : ℕ). column-put xs size i j w.configured.even inside in
     words-read rate own.original_count own.recovery_count
     (word_in before (row_len size) (j / 32) (j % 32))
     (word_in c.code_chunks.new.chunks (row_len size) (j / 32) (j % 32))
@@ -51,25 +51,25 @@ returns-clause-recovery g c =
     (λ i few. ap (column j) (c.move_tails.ensures.moved i (omega arith)) ∙ read c.code_chunks.new.chunks i)
     (c.code_chunks.ensures.words (j / 32) (j % 32) (omega (arith, inside)) (omega arith))) in
     subst (λ (xs : Chunks).
-    AreRecovery (configuration_at rate w.shape.configuration) (given_originals w)
+    AreRecovery (configuration_at rate w.configuration) (given_originals w)
     (up_to own.recovery_count (shard_in_order xs size)))
     (sym (with_items_is w.chunks c.move_tails.new.chunks
     (omega (arith, c.move_tails.auto.chunks, c.code_chunks.auto.chunks, c.as_mut_slice-chunks.ensures.len))))
-    (subst (λ (n : ℕ). AreRecovery (configuration_at rate w.shape.configuration)
+    (subst (λ (n : ℕ). AreRecovery (configuration_at rate w.configuration)
     (up_to n (shard_laid_out w.chunks.items size))
     (up_to own.recovery_count (shard_in_order c.move_tails.new.chunks size))) (sym c.requires.full)
     (subst (λ (xs : Chunks).
-    AreRecovery (configuration_at rate w.shape.configuration) (up_to own.original_count (shard_laid_out xs size))
+    AreRecovery (configuration_at rate w.configuration) (up_to own.original_count (shard_laid_out xs size))
     (up_to own.recovery_count (shard_in_order c.move_tails.new.chunks size)))
     c.as_mut_slice-chunks.ensures.value coded))
 
 pub returns-clause-counts : goal.returns-clause-counts
 returns-clause-counts g c =
-    let own = c.args.rows.now.shape.configuration in
-    let rate = low_or_high own.is_low in
+    let own = c.args.rows.now.configuration in
+    let rate = rate_of own in
     let k = own.original_count in
     let r = own.recovery_count in
-    let room = tails_within rate k r c.args.rows.now.laid.configured.supported in
+    let room = tails_within rate k r c.args.rows.now.configured.supported in
     counts_both (encode_steps_at rate k r - r) r
     (encode_steps_at rate k r) c.args.steps.now c.code_chunks.new.steps c.move_tails.new.steps (omega (arith, room))
     c.code_chunks.ensures.counts

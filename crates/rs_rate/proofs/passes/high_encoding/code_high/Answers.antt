@@ -16,12 +16,12 @@ use Rattle.rs_rate.proofs.passes.high_encoding.code_high.Goals as goal
 
 pub sum_blocks-requires : goal.sum_blocks-requires
 sum_blocks-requires g c =
-    let rows = rows-fit false c.args.configuration.original_count c.args.configuration.recovery_count
+    let rows = rows-fit false c.args.original_count c.args.recovery_count
     c.requires.supported in
     record {
       fits = c.requires.fits;
       power = (rows.power.0, c.requires.block ∙ rows.power.1);
-      some = (high_fits c.args.configuration.original_count c.args.configuration.recovery_count c.requires.supported).0;
+      some = (high_fits c.args.original_count c.args.recovery_count c.requires.supported).0;
       enough = omega (arith, rows.enough, c.requires.rows);
       whole = rw (c.requires.rows, c.requires.block) rows.whole;
       points = omega (arith, rows.points, c.requires.rows, c.requires.block);
@@ -29,14 +29,14 @@ sum_blocks-requires g c =
 
 pub fft-requires : goal.fft-requires
 fft-requires g c =
-    let rows = rows-fit false c.args.configuration.original_count c.args.configuration.recovery_count
+    let rows = rows-fit false c.args.original_count c.args.recovery_count
     c.requires.supported in
     record {
       fits = fits_kept c.args.rows.now c.sum_blocks.new.rows c.sum_blocks.ensures.extent c.requires.fits;
       power = (rows.power.0, c.requires.block ∙ rows.power.1);
       truncated = omega (arith, rows.block, c.requires.block);
       within = omega (arith, rows.some, c.requires.rows, c.requires.block, c.sum_blocks.ensures.extent.count);
-      shift = zero-mod c.args.configuration.block_rows;
+      shift = zero-mod c.args.block;
       points = omega (arith, rows.points, c.requires.block);
     }
 
@@ -48,26 +48,26 @@ returns-clause-words g c = λ k s inside symbols.
     let mid : ℕ → ℕ = word c.sum_blocks.new.rows k s in
     let new : ℕ → ℕ = word c.fft.new.data k s in
     let sums = c.sum_blocks.ensures.sums in
-    high_coded c.args.configuration.original_count c.args.configuration.recovery_count sums.0 old mid new
+    high_coded c.args.original_count c.args.recovery_count sums.0 old mid new
     c.requires.supported
-    (subst (λ (m : ℕ). c.args.configuration.original_count ≤ sums.0 * m) block sums.1)
+    (subst (λ (m : ℕ). c.args.original_count ≤ sums.0 * m) block sums.1)
     (subst (λ (m : ℕ). sums.0 * m + m ≤ 65536) block sums.2)
-    (subst (λ (m : ℕ). SumsBlocks m sums.0 c.args.configuration.original_count old mid) block
+    (subst (λ (m : ℕ). SumsBlocks m sums.0 c.args.original_count old mid) block
     (sums.3 k s inside symbols))
     (λ i few.
     ap new (sym (zero-add i)) ∙ c.fft.ensures.values k s i (omega arith) symbols few
-    ∙ forward-same c.args.configuration.block_rows 0 (λ q. mid (0 + q)) mid i (λ q hq. ap mid (zero-add q))
+    ∙ forward-same c.args.block 0 (λ q. mid (0 + q)) mid i (λ q hq. ap mid (zero-add q))
     ∙ ap (λ m. forward m 0 mid i) block)
 
 pub returns-clause-counts : goal.returns-clause-counts
 returns-clause-counts g c =
-    let block : ℕ = c.args.configuration.block_rows in
-    let t : ℕ = transform_steps c.args.configuration.block_rows in
-    let all = high_total c.args.configuration.original_count c.args.configuration.recovery_count
-    c.args.configuration.block_rows c.args.rows.now.shard_count c.requires.supported c.requires.block
+    let block : ℕ = c.args.block in
+    let t : ℕ = transform_steps c.args.block in
+    let all = high_total c.args.original_count c.args.recovery_count
+    c.args.block c.args.rows.now.shard_count c.requires.supported c.requires.block
     c.requires.rows in
     counts_both (block + t + further_blocks block c.args.rows.now.shard_count * (2 * block + t)) t
-    (encode_steps_at high_rate c.args.configuration.original_count c.args.configuration.recovery_count -
-    c.args.configuration.recovery_count)
+    (encode_steps_at high_rate c.args.original_count c.args.recovery_count -
+    c.args.recovery_count)
     c.args.steps.now c.sum_blocks.new.steps c.fft.new.steps
     (omega (arith, all)) c.sum_blocks.ensures.counts c.fft.ensures.counts

@@ -18,7 +18,7 @@ use Rattle.rs_rate.proofs.passes.low_encoding.code_low.Goals as goal
 
 pub clear_rows-requires : goal.clear_rows-requires
 clear_rows-requires g c =
-    let rows = rows-fit true c.args.configuration.original_count c.args.configuration.recovery_count
+    let rows = rows-fit true c.args.original_count c.args.recovery_count
     c.requires.supported in
     record {
       fits = c.requires.fits;
@@ -28,21 +28,21 @@ clear_rows-requires g c =
 
 pub ifft-requires : goal.ifft-requires
 ifft-requires g c =
-    let rows = rows-fit true c.args.configuration.original_count c.args.configuration.recovery_count
+    let rows = rows-fit true c.args.original_count c.args.recovery_count
     c.requires.supported in
     record {
       fits = fits_kept c.args.rows.now c.clear_rows.new.rows c.clear_rows.ensures.extent c.requires.fits;
       power = (rows.power.0, c.requires.block ∙ rows.power.1);
       truncated = omega (arith, rows.block, c.requires.block);
       within = omega (arith, rows.some, c.requires.rows, c.requires.block, c.clear_rows.ensures.extent.count);
-      shift = zero-mod c.args.configuration.block_rows;
+      shift = zero-mod c.args.block;
       points = omega (arith, rows.points, c.requires.block);
       zeros = λ i k inside from to. c.clear_rows.ensures.zeros i k inside (omega arith) (omega arith);
     }
 
 pub code_further-requires : goal.code_further-requires
 code_further-requires g c =
-    let rows = rows-fit true c.args.configuration.original_count c.args.configuration.recovery_count
+    let rows = rows-fit true c.args.original_count c.args.recovery_count
     c.requires.supported in
     let passed = c.args.rows.now in
     let count : c.ifft.new.data.shard_count ≡ passed.shard_count =
@@ -58,7 +58,7 @@ code_further-requires g c =
 
 pub fft-requires : goal.fft-requires
 fft-requires g c =
-    let rows = rows-fit true c.args.configuration.original_count c.args.configuration.recovery_count
+    let rows = rows-fit true c.args.original_count c.args.recovery_count
     c.requires.supported in
     record {
       fits = fits_kept c.ifft.new.data c.code_further.new.rows c.code_further.ensures.extent
@@ -75,20 +75,20 @@ fft-requires g c =
         c.ifft.ensures.extent.count,
         c.code_further.ensures.extent.count,
       );
-      shift = mod_self c.args.configuration.block_rows;
+      shift = mod_self c.args.block;
       points = omega (arith, rows.some, rows.points, c.requires.block);
     }
 
 pub returns-clause-words : goal.returns-clause-words
 returns-clause-words g c = λ k s inside symbols.
-    let rows = rows-fit true c.args.configuration.original_count c.args.configuration.recovery_count
+    let rows = rows-fit true c.args.original_count c.args.recovery_count
     c.requires.supported in
-    let block : c.args.configuration.block_rows ≡ next_power c.args.configuration.original_count = c.requires.block in
-    let enough : c.args.configuration.recovery_count ≤ c.args.rows.now.shard_count =
+    let block : c.args.block ≡ next_power c.args.original_count = c.requires.block in
+    let enough : c.args.recovery_count ≤ c.args.rows.now.shard_count =
     omega (arith, rows.enough, c.requires.rows) in
-    let some : c.args.configuration.block_rows ≤ c.args.rows.now.shard_count =
+    let some : c.args.block ≤ c.args.rows.now.shard_count =
     omega (arith, rows.some, c.requires.rows, block) in
-    let given : c.args.configuration.original_count ≤ c.args.configuration.block_rows =
+    let given : c.args.original_count ≤ c.args.block =
     omega (arith, rows.block, block) in
     let len_1 : c.clear_rows.new.rows.shard_len_64 ≡ c.args.rows.now.shard_len_64 =
     c.clear_rows.ensures.extent.len_64 in
@@ -97,9 +97,9 @@ returns-clause-words g c = λ k s inside symbols.
     c.code_further.ensures.extent.len_64 ∙ len_2 in
     let old : ℕ → ℕ = word c.args.rows.now k s in
     let new : ℕ → ℕ = word c.fft.new.data k s in
-    let column : CodesLow c.args.configuration.original_count c.args.configuration.recovery_count
-    c.args.configuration.block_rows old new =
-    coded c.args.configuration.original_count c.args.configuration.recovery_count c.args.configuration.block_rows
+    let column : CodesLow c.args.original_count c.args.recovery_count
+    c.args.block old new =
+    coded c.args.original_count c.args.recovery_count c.args.block
     old (word c.clear_rows.new.rows k s) (word c.ifft.new.data k s) (word c.code_further.new.rows k s) new
     (λ j small. ap (λ x. symbol x s)
     (outside_cell _ _ c.args.rows.now c.clear_rows.new.rows c.clear_rows.ensures.extent c.clear_rows.ensures.others
@@ -113,22 +113,22 @@ returns-clause-words g c = λ k s inside symbols.
     (outside_cell _ _ c.code_further.new.rows c.fft.new.data c.fft.ensures.extent c.fft.ensures.others i k
     (omega arith) (inr (omega arith))))
     given in
-    codes_words c.args.configuration.original_count c.args.configuration.recovery_count old new c.requires.supported
-    (subst (λ (m : ℕ). CodesLow c.args.configuration.original_count c.args.configuration.recovery_count m old new) block
+    codes_words c.args.original_count c.args.recovery_count old new c.requires.supported
+    (subst (λ (m : ℕ). CodesLow c.args.original_count c.args.recovery_count m old new) block
     column)
 
 pub returns-clause-counts : goal.returns-clause-counts
 returns-clause-counts g c =
-    let t : ℕ = transform_steps c.args.configuration.block_rows in
-    let cleared : ℕ = c.args.configuration.block_rows - c.args.configuration.original_count in
-    let further : ℕ = further_blocks c.args.configuration.block_rows c.ifft.new.data.shard_count *
-    (c.args.configuration.block_rows + transform_steps c.args.configuration.block_rows) in
-    let all = low_total c.args.configuration.original_count c.args.configuration.recovery_count
-    c.args.configuration.block_rows c.ifft.new.data.shard_count c.requires.supported c.requires.block
+    let t : ℕ = transform_steps c.args.block in
+    let cleared : ℕ = c.args.block - c.args.original_count in
+    let further : ℕ = further_blocks c.args.block c.ifft.new.data.shard_count *
+    (c.args.block + transform_steps c.args.block) in
+    let all = low_total c.args.original_count c.args.recovery_count
+    c.args.block c.ifft.new.data.shard_count c.requires.supported c.requires.block
     (c.ifft.ensures.extent.count ∙ c.clear_rows.ensures.extent.count ∙ c.requires.rows) in
     counts_both (cleared + t + further) t
-    (encode_steps_at low_rate c.args.configuration.original_count c.args.configuration.recovery_count -
-    c.args.configuration.recovery_count)
+    (encode_steps_at low_rate c.args.original_count c.args.recovery_count -
+    c.args.recovery_count)
     c.args.steps.now c.code_further.new.steps c.fft.new.steps (omega (arith, all))
     (counts_then (cleared + t) further c.args.steps.now c.ifft.new.steps c.code_further.new.steps
     (counts_then cleared t c.args.steps.now c.clear_rows.new.steps c.ifft.new.steps

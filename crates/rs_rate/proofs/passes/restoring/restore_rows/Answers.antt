@@ -4,8 +4,7 @@ use Rattle.rs_field.specs.rows.MarkedRows.{is_marked}
 use Rattle.rs_field.specs.words.Field.{product, power}
 use Rattle.rs_field.specs.words.Derivative.{IsDerivativeAdded}
 use Rattle.rs_field.specs.rows.View.{word}
-use Rattle.rs_rate.specs.Marks.{given_marks}
-use Rattle.rs_rate.proofs.DecoderLemmas.{all_given, rows_power}
+use Rattle.rs_rate.specs.Configured.{rows_to_decode}
 use Rattle.rs_rate.proofs.RestoringRows.{from_row_zero}
 use Rattle.rs_rate.proofs.passes.restoring.restore_rows.Goals as goal
 use Rattle.rs_rate.proofs.passes.restoring.restore_rows.Goals.{else-agrees-via-then-agrees+else-tally-gt0}
@@ -13,19 +12,19 @@ use Rattle.rs_rate.proofs.passes.restoring.restore_rows.Goals.{else-agrees-via-e
 
 pub formal_derivative-requires-clause-power : goal.formal_derivative-requires-clause-power
 formal_derivative-requires-clause-power g c =
-    let p = rows_power c.args.tally.shape c.requires.facts.laid in
-    (p.0, c.interpolate-agrees.ensures.extent.count ∙ c.requires.rows.count ∙ p.1)
+    (c.args.tally.configuration.frame.exponent, c.interpolate-agrees.ensures.extent.count ∙ c.requires.rows.count)
 
 pub fft_wanted-requires-clause-power : goal.fft_wanted-requires-clause-power
 fft_wanted-requires-clause-power g c =
-    let p = rows_power c.args.tally.shape c.requires.facts.laid in
-    let missing = c.want_missing.ensures in
-    (p.0, c.restored.ensures.length ∙ missing.length ∙ c.requires.facts.marked ∙ p.1)
+    let missing = c.want_missing.ensures in (
+      c.args.tally.configuration.frame.exponent,
+      c.restored.ensures.length ∙ missing.length ∙ c.requires.facts.marked,
+    )
 
 pub returns-then-tally-gt0-clause-words : goal.returns-then-tally-gt0-clause-words
 returns-then-tally-gt0-clause-words g c =
-    let s = c.args.tally.shape in
-    let from = s.frame.originals_from in
+    let own = c.args.tally.configuration in
+    let from = own.frame.originals_from in
     let locator = c.args.locator.now in
     let passed = c.interpolate-agrees.new.rows in
     let added = c.formal_derivative.new.data in
@@ -33,7 +32,7 @@ returns-then-tally-gt0-clause-words g c =
     let shape = c.interpolate-agrees.ensures.extent in
     let added_extent = c.formal_derivative.ensures.extent in
     let valued_extent = c.fft_wanted.ensures.extent in
-    let rows = s.frame.row_count in
+    let rows = rows_to_decode own in
     let missing = c.want_missing.ensures in
     let wanted_size = c.restored.ensures.length ∙ missing.length ∙ c.requires.facts.marked in
     record {
@@ -57,16 +56,13 @@ returns-then-tally-gt0-clause-words g c =
 
 pub returns-else-agrees-clause-words : goal.returns-else-agrees-clause-words
 returns-else-agrees-clause-words g c =
-    let s = c.args.tally.shape in
-    let marks = given_marks c.args.marks.now in
     record {
       coefficients = word c.interpolate-agrees.new.rows;
       found = c.interpolate-agrees.ensures.coefficients;
       revealed = λ agreed k t hk ht i hi none. elim c.else-agrees.branch [
         | else-agrees-via-then-agrees+else-tally-gt0 w ↦
             absurd (true≢false (sym
-            (all_given marks s.frame.originals_from s.configuration.original_count
-            (omega (arith, w.if-tally-gt0.false, c.requires.facts.missing_counted)) i hi) ∙ none))
+            (c.requires.facts.none_missing (omega (arith, w.if-tally-gt0.false)) i hi) ∙ none))
         | else-agrees-via-else-agrees w ↦ absurd (true≢false (sym agreed ∙ w.if-agrees.false))
       ];
     }

@@ -22,7 +22,7 @@ loop-i-preserved g c =
     let new = c.if-is_restored.rows in
     let marks = restored_marks c.args.marks.now in
     let locator = c.args.locator.now in
-    let from = c.args.shape.frame.originals_from in
+    let from = c.args.configuration.frame.originals_from in
     let p = c.original_row-row.result in
     let before = c.loop-i.invariant in
     let count = before.extent.count in
@@ -62,7 +62,7 @@ loop-i-preserved g c =
         | inl low ↦ ap (λ x. symbol x s) (kept (from + j) k (omega arith) (inl (omega arith)))
             ∙ before.revealed k s j hk hs low marked
         | inr high ↦
-            let here : c.original_row-row.result ≡ c.args.shape.frame.originals_from + j = omega arith in
+            let here : c.original_row-row.result ≡ c.args.configuration.frame.originals_from + j = omega arith in
             subst (λ (q : ℕ). word new k s q ≡ product (word old k s q) (power (65535 - slice_index locator q))) here
             (step.revealed_here k s (omega arith) hs (ap (is_marked marks) here ∙ marked)
             ∙ ap (λ x. product (symbol x s) (power (65535 - slice_index locator p)))

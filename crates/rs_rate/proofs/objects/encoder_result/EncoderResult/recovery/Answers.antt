@@ -18,5 +18,5 @@ in_list n index f (Some shard) (inside, is) = let same = length-up_to n f in
 pub returns : goal.returns
 returns c =
     let rows = c.args.self.now.rows.now in
-    in_list rows.shape.configuration.recovery_count c.args.index
-    (shard_in_order rows.chunks.items rows.shape.configuration.shard_bytes) c.recovery.result c.recovery.ensures
+    in_list rows.configuration.recovery_count c.args.index
+    (shard_in_order rows.chunks.items rows.configuration.shard_bytes) c.recovery.result c.recovery.ensures

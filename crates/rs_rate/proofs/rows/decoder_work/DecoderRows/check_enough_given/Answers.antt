@@ -1,20 +1,25 @@
 use Rattle.std.proofs.Common.{arith, sym}
 use Rattle.rs_rate.specs.DecoderView.{decoder_state}
-use Rattle.rs_rate.proofs.EnoughGiven.{rows_given, rows_most, enough-few, enough-many}
+use Rattle.rs_rate.specs.Entering.{given_rows}
+use Rattle.rs_rate.proofs.DecoderRows.{enough-few, enough-many}
+use Rattle.rs_rate.proofs.RowMaps.{hold-most}
 use Rattle.rs_rate.proofs.rows.decoder_work.DecoderRows.check_enough_given.Goals as goal
 
 pub overflow_add-self : goal.overflow_add-self
 overflow_add-self c =
     let w = c.args.self.now in
-    let most = rows_most w in
-    omega (arith, most.0, most.1, w.laid.places.originals, w.laid.places.recovery, w.laid.places.few)
+    let most = hold-most w.configuration w.originals_given w.recovery_given
+    (given_rows w.memory w.configuration.shard_bytes) w.given in
+    omega (arith, most.0, most.1)
 
 pub returns-then-self : goal.returns-then-self
 returns-then-self c = λ rate.
-    let given = rows_given rate c.args.self.now in
-    sym (enough-few (decoder_state rate c.args.self.now) _ _ given.0 given.1 c.if-self.true)
+    let given = c.args.self.now.given in
+    sym (enough-few (decoder_state rate c.args.self.now) _ _ given.originals_counted given.recovery_counted
+    c.if-self.true)
 
 pub returns : goal.returns
 returns c = λ rate.
-    let given = rows_given rate c.args.self.now in
-    sym (enough-many (decoder_state rate c.args.self.now) _ _ given.0 given.1 c.if-self.false)
+    let given = c.args.self.now.given in
+    sym (enough-many (decoder_state rate c.args.self.now) _ _ given.originals_counted given.recovery_counted
+    c.if-self.false)

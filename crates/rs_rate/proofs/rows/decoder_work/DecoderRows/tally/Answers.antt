@@ -1,33 +1,50 @@
-use Rattle.std.proofs.Common.{arith}
-use Rattle.rs_rate.specs.Configured.{low_or_high}
-use Rattle.rs_rate.proofs.ChoiceLemmas.{supported-in_field}
-use Rattle.rs_rate.proofs.DecoderLemmas.{given_if_some}
-use Rattle.rs_rate.proofs.EnoughGiven.{rows_most}
+use Rattle.std.proofs.Common.{arith, sym, ◌∙◌}
+use Rattle.rs_field.proofs.of_code.Entries.{all_some}
+use Rattle.rs_rate.specs.Configured.{rate_of}
+use Rattle.rs_rate.specs.Entering.{given_rows}
+use Rattle.rs_rate.specs.Marks.{given_marks, originals_in}
+use Rattle.rs_rate.specs.ShardRows.{shard_laid_out}
+use Rattle.rs_rate.proofs.DecodedColumns.{given-marked}
+use Rattle.rs_rate.proofs.FrameLemmas.{supported-in_field}
+use Rattle.rs_rate.proofs.RowMaps.{given_if_some, hold-most}
 use Rattle.rs_rate.proofs.rows.decoder_work.DecoderRows.tally.Goals as goal
 
 pub overflow_add-given : goal.overflow_add-given
 overflow_add-given c =
     let w = c.args.self.now in
-    let most = rows_most w in
-    omega (arith, most.0, most.1, w.laid.places.originals, w.laid.places.recovery, w.laid.places.few)
+    let most = hold-most w.configuration w.originals_given w.recovery_given
+    (given_rows w.memory w.configuration.shard_bytes) w.given in
+    omega (arith, most.0, most.1)
 
 pub overflow_sub-result : goal.overflow_sub-result
-overflow_sub-result c = (rows_most c.args.self.now).0
+overflow_sub-result c =
+    let w = c.args.self.now in
+    (hold-most w.configuration w.originals_given w.recovery_given
+    (given_rows w.memory w.configuration.shard_bytes) w.given).0
+
+pub returns-clause-missing : goal.returns-clause-missing
+returns-clause-missing c =
+    let w = c.args.self.now in
+    let most = hold-most w.configuration w.originals_given w.recovery_given
+    (given_rows w.memory w.configuration.shard_bytes) w.given in
+    omega (arith, most.0)
 
 pub returns-clause-facts : goal.returns-clause-facts
 returns-clause-facts c =
     let w = c.args.self.now in
-    let most = rows_most w in
-    let own = w.shape.configuration in
-    let some = (supported-in_field
-    (low_or_high own.is_low) own.original_count own.recovery_count w.laid.configured.supported).0 in
+    let own = w.configuration in
+    let rows = given_rows w.memory own.shard_bytes in
+    let most = hold-most own w.originals_given w.recovery_given rows w.given in
+    let some = (supported-in_field (rate_of own) own.original_count own.recovery_count w.configured.supported).0 in
     record {
-      laid = w.laid;
+      configured = w.configured;
       marked = w.laid_out.marked;
-      shards = given_if_some w.memory.marks w.shape.frame.originals_from w.shape.configuration.original_count
-          w.shape.frame.recovery_from w.shape.configuration.recovery_count
-          (omega (arith, some, c.requires, w.given.originals_counted, w.given.recovery_counted));
-      missing_counted = omega (arith, most.0, w.given.originals_counted);
-      surplus_counted = omega (arith, c.requires, w.given.originals_counted, w.given.recovery_counted);
-      few_surplus = omega (arith, most.0, most.1, w.laid.places.recovery);
+      shards = given_if_some own w.originals_given w.recovery_given w.memory.marks
+          (shard_laid_out w.memory.chunks.items own.shard_bytes) (omega (arith, some, c.requires)) w.given;
+      none_missing = λ none i inside.
+          sym (given-marked (given_marks w.memory.marks) w.memory.chunks.items own.shard_bytes own.frame.originals_from
+          own.original_count i inside)
+          ∙ all_some own.original_count (originals_in own rows)
+          (omega (arith, none, most.0, w.given.originals_counted)) i inside;
+      few_surplus = omega (arith, most.0, most.1, w.configured.other_rows);
     }

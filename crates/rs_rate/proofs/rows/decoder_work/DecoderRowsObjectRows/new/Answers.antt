@@ -1,17 +1,15 @@
-use Rattle.rs_rate.proofs.DecoderLemmas.{hold_nothing, nothing-given}
+use Rattle.rs_rate.proofs.RowMaps.{hold_nothing, nothing-given, none-marked}
 use Rattle.rs_rate.proofs.rows.decoder_work.DecoderRowsObjectRows.new.Goals as goal
 
 pub invariant_of-result : goal.invariant_of-result
 invariant_of-result c =
     let made = c.in_ok-memory.ensures in
     record {
-      laid = c.decoder_shape-shape.ensures.laid;
+      configured = c.requires;
       laid_out = made.laid_out;
-      given =
-          hold_nothing _ _ _ made.empty;
+      given = hold_nothing _ _ (none-marked _ _ made.empty);
     }
 
 pub returns-clause-state : goal.returns-clause-state
 returns-clause-state c = λ rate.
-    rw (← c.decoder_shape-shape.ensures.own)
-    (nothing-given rate c.decoder_shape-shape.result _ _ c.in_ok-memory.ensures.empty)
+    nothing-given rate c.args.configuration _ (none-marked _ _ c.in_ok-memory.ensures.empty)

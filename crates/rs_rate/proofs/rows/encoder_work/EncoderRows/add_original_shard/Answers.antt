@@ -6,7 +6,7 @@ use Rattle.rs_field.specs.code.Column.{Shard, IsShard}
 use Rattle.rs_field.specs.code.Encoder.{EncoderState}
 use Rattle.rs_field.specs.words.UpTo.{up_to}
 use Rattle.rs_field.specs.rows.Rows.{Chunks}
-use Rattle.rs_rate.specs.Configured.{configuration_at}
+use Rattle.rs_rate.specs.Configured.{configuration_at, rows_to_encode}
 use Rattle.rs_rate.specs.EncoderView.{encoder_state}
 use Rattle.rs_rate.proofs.StateLemmas.{with_shard-added}
 use Rattle.rs_rate.specs.ShardRows.{chunk_count, shard_laid_out}
@@ -29,8 +29,8 @@ pub insert_at-requires-clause-room : goal.insert_at-requires-clause-room
 insert_at-requires-clause-room c =
     let w = c.args.self.now in
     let size = ap (λ n. chunk_count (w.originals_given + 1) n) c.if-original_shard-self.false in
-    let within = chunk_count-within w.originals_given w.shape.row_count w.shape.configuration.shard_bytes
-    (length w.chunks.items) (omega (arith, c.if-self.false, w.no_more, w.laid.originals))
+    let within = chunk_count-within w.originals_given (rows_to_encode w.configuration) w.configuration.shard_bytes
+    (length w.chunks.items) (omega (arith, c.if-self.false, w.no_more, w.configured.originals))
     (omega (arith, w.whole)) in
     omega (arith, size, within, c.as_mut_slice.ensures.len)
 
@@ -38,17 +38,17 @@ pub invariant_of-self : goal.invariant_of-self
 invariant_of-self c =
     let w = c.args.self.now in
     record {
-      laid = w.laid;
+      configured = w.configured;
       no_more = omega (arith, c.if-self.false, w.no_more);
       whole = omega (arith, w.whole, c.insert_at.auto.chunks, c.as_mut_slice.ensures.len);
       own_room = w.own_room;
       sized = w.sized;
       shards = λ i inside.
           subst (λ (xs : Chunks).
-          IsShard w.shape.configuration.shard_bytes (shard_laid_out xs w.shape.configuration.shard_bytes i))
+          IsShard w.configuration.shard_bytes (shard_laid_out xs w.configuration.shard_bytes i))
           (sym (with_items_is w.chunks c.insert_at.new.chunks
           (omega (arith, c.insert_at.auto.chunks, c.as_mut_slice.ensures.len))))
-          (shard-entered w.chunks.items c.insert_at.new.chunks w.shape.configuration.shard_bytes w.originals_given
+          (shard-entered w.chunks.items c.insert_at.new.chunks w.configuration.shard_bytes w.originals_given
           (length c.args.original_shard.now) i c.args.original_shard.now
           c.if-original_shard-self.false c.shard_is_bytes.ensures c.insert_at.ensures.here
           (subst (λ (xs : Chunks).
@@ -61,7 +61,7 @@ invariant_of-self c =
 pub returns-clause-left : goal.returns-clause-left
 returns-clause-left c = λ rate.
     let w = c.args.self.now in
-    let more = given-more w.chunks.items c.insert_at.new.chunks w.shape.configuration.shard_bytes w.originals_given
+    let more = given-more w.chunks.items c.insert_at.new.chunks w.configuration.shard_bytes w.originals_given
     (length c.args.original_shard.now) c.args.original_shard.now c.if-original_shard-self.false
     c.insert_at.ensures.here
     (subst (λ (xs : Chunks).
@@ -69,12 +69,12 @@ returns-clause-left c = λ rate.
     → shard_laid_out c.insert_at.new.chunks (length c.args.original_shard.now) j
     ≡ shard_laid_out xs (length c.args.original_shard.now) j) c.as_mut_slice.ensures.value
     c.insert_at.ensures.others) in
-    let few = length-up_to w.originals_given (shard_laid_out w.chunks.items w.shape.configuration.shard_bytes) in
+    let few = length-up_to w.originals_given (shard_laid_out w.chunks.items w.configuration.shard_bytes) in
     let F : List Shard → EncoderState = λ given.
-    record { configuration = configuration_at rate w.shape.configuration; given = given } in
-    let room : length (up_to w.originals_given (shard_laid_out w.chunks.items w.shape.configuration.shard_bytes)) <
-    w.shape.configuration.original_count = omega (arith, few, c.if-self.false, w.no_more) in
-    ap (λ (xs : Chunks). F (up_to (w.originals_given + 1) (shard_laid_out xs w.shape.configuration.shard_bytes)))
+    record { configuration = configuration_at rate w.configuration; given = given } in
+    let room : length (up_to w.originals_given (shard_laid_out w.chunks.items w.configuration.shard_bytes)) <
+    w.configuration.original_count = omega (arith, few, c.if-self.false, w.no_more) in
+    ap (λ (xs : Chunks). F (up_to (w.originals_given + 1) (shard_laid_out xs w.configuration.shard_bytes)))
     (with_items_is w.chunks c.insert_at.new.chunks
     (omega (arith, c.insert_at.auto.chunks, c.as_mut_slice.ensures.len)))
     ∙ ap F more ∙ sym (with_shard-added

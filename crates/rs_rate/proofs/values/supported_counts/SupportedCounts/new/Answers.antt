@@ -1,9 +1,9 @@
 use Rattle.std.proofs.Common.{sym, ◌∙◌}
-use Rattle.rs_rate.proofs.ChoiceLemmas.{choice-some}
+use Rattle.rs_rate.proofs.FrameLemmas.{frame-some}
 use Rattle.rs_rate.proofs.values.supported_counts.SupportedCounts.new.Goals as goal
 
 pub invariant_of-result : goal.invariant_of-result
 invariant_of-result g c =
-    let known = choice-some g.C.RateMarker.rate c.args.original_count c.args.recovery_count c.in-Some.choice
+    let known = frame-some g.C.RateMarker.rate c.args.original_count c.args.recovery_count c.in-Some.frame
     (sym c.in-Some.is ∙ c.choose.ensures) in
-    record { supported = known.0; chosen = known.1 }
+    record { supported = known.0; framed = known.1 }

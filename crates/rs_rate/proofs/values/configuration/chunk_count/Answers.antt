@@ -1,6 +1,6 @@
 use Rattle.std.proofs.Common.{◌*◌, ap, refl, arith}
 use Rattle.rs_rate.proofs.ShardRowsLemmas.{chunk_count-is}
-use Rattle.rs_rate.proofs.values.shapes.chunk_count.Goals as goal
+use Rattle.rs_rate.proofs.values.configuration.chunk_count.Goals as goal
 
 pub returns-in_default : goal.returns-in_default
 returns-in_default c =

@@ -1,8 +1,8 @@
-use Rattle.std.proofs.Common.{◌≡◌, ℕ, ◌^◌, ◌<◌, ◌≤◌, ◌/◌, max, arith, inl, inr, ◌∙◌, pow_mono}
+use Rattle.std.proofs.Common.{◌≡◌, ℕ, ◌^◌, ◌<◌, ◌≤◌, ◌/◌, max, arith, inl, inr, pow_mono}
 use Rattle.std.proofs.lemmas.Bool.{cases_lt}
 use Rattle.rs_field.specs.code.Counts.{next_power}
 use Rattle.rs_field.proofs.of_code.NextPower.{next_power-small, next_power-is}
-use Rattle.rs_rate.proofs.values.counts.power_of_two.Goals as goal
+use Rattle.rs_rate.proofs.values.frames.power_of_two.Goals as goal
 
 is_next : (n p x : ℕ) → n ≤ 65536 → p ≡ 2 ^ x → n ≤ p → p / 2 < max 1 n → p ≡ next_power n
 is_next n p x small power above half =
@@ -15,15 +15,8 @@ returns-clause-value c =
     let e = c.next_power_of_two.ensures in
     is_next c.args.n c.next_power_of_two.result e.power.0 c.requires e.power.1 e.lower_bound e.upper_bound
 
-pub returns-clause-power : goal.returns-clause-power
-returns-clause-power c =
-    let e = c.next_power_of_two.ensures in
-    let known = next_power-small c.args.n c.requires in
-    let same = is_next c.args.n c.next_power_of_two.result e.power.0 c.requires e.power.1 e.lower_bound e.upper_bound in
-    (known.0, known.1, same ∙ known.2)
-
 pub returns-clause-upper_bound : goal.returns-clause-upper_bound
 returns-clause-upper_bound c =
-    let p = returns-clause-power c in
-    let most : 2 ^ p.0 ≤ 2 ^ 16 = pow_mono p.1 in
-    omega (arith, p.2)
+    let known = next_power-small c.args.n c.requires in
+    let most : 2 ^ known.0 ≤ 2 ^ 16 = pow_mono known.1 in
+    omega (arith, known.2, returns-clause-value c)

@@ -1,0 +1,125 @@
+//! Powers of two, and the frame of each rate for the counts that it supports.
+ghost use Rattle.std.specs.Prelude.{◌≡◌, ◌↔◌, ℕ, ◌+◌, ◌^◌, ◌<◌, ◌≤◌, IsTrue, if◌then◌else◌};
+ghost use Rattle.rs_field.specs.code.Counts.{next_power, exponent_of, is_low};
+ghost use Rattle.rs_field.specs.code.Counts.{low_rate, high_rate, default_rate};
+ghost use Rattle.rs_field.specs.code.Frame.{low_frame, high_frame};
+ghost use Rattle.rs_rate.specs.Configured.{frame_if};
+
+use rs_field::engine::GF_ORDER;
+use rs_field::frame::Frame;
+
+// Returns the least power of two that is not below n.
+fn power_of_two(n: usize) -> usize
+    requires { n ≤ 65536 }
+    ensures value { result ≡ next_power n }
+    ensures lower_bound { n ≤ result }
+    ensures upper_bound { result ≤ 65536 }
+{
+    n.next_power_of_two()
+}
+
+// Returns the exponent of the least power of two that is not below n.
+fn exponent_of(n: usize) -> usize
+    requires { n ≤ 65536 }
+    ensures { result ≡ exponent_of n }
+{
+    power_of_two(n).trailing_zeros() as usize
+}
+
+// Returns whether both counts are at least 1 and at most 65536, the number of elements of the field.
+fn are_in_field(original_count: usize, recovery_count: usize) -> bool
+    ensures { IsTrue result
+        ↔ (0 < original_count) × (original_count ≤ 65536) × (0 < recovery_count)
+        × (recovery_count ≤ 65536) }
+{
+    let originals_fit = 0 < original_count && original_count <= GF_ORDER;
+    let recovery_fits = 0 < recovery_count && recovery_count <= GF_ORDER;
+    originals_fit && recovery_fits
+}
+
+// Returns the frame of the low rate, whose blocks have `block_rows` rows.
+fn with_low_blocks(original_count: usize, recovery_count: usize, block_rows: usize) -> Frame
+    requires block { block_rows ≡ next_power original_count }
+    requires fits { block_rows + recovery_count ≤ 65536 }
+    ensures { result ≡ low_frame original_count recovery_count }
+{
+    Frame {
+        is_low: true,
+        exponent: exponent_of(block_rows + recovery_count),
+        originals_from: 0,
+        recovery_from: block_rows,
+        zeros_from: original_count,
+        zeros_to: block_rows,
+    }
+}
+
+// Returns the frame of the high rate, whose blocks have `block_rows` rows.
+fn with_high_blocks(original_count: usize, recovery_count: usize, block_rows: usize) -> Frame
+    requires block { block_rows ≡ next_power recovery_count }
+    requires fits { block_rows + original_count ≤ 65536 }
+    ensures { result ≡ high_frame original_count recovery_count }
+{
+    Frame {
+        is_low: false,
+        exponent: exponent_of(block_rows + original_count),
+        originals_from: block_rows,
+        recovery_from: 0,
+        zeros_from: block_rows + original_count,
+        zeros_to: GF_ORDER,
+    }
+}
+
+// Returns the frame of the low rate: the rows of a block are the power of the number of originals.
+pub(crate) fn low_frame(original_count: usize, recovery_count: usize) -> Option<Frame>
+    ensures { result ≡ frame_if low_rate original_count recovery_count }
+{
+    if !are_in_field(original_count, recovery_count) {
+        return None;
+    }
+    let block_rows = power_of_two(original_count);
+    if block_rows + recovery_count > GF_ORDER {
+        return None;
+    }
+    Some(with_low_blocks(original_count, recovery_count, block_rows))
+}
+
+// Returns the frame of the high rate: the rows of a block are the power of the number of recovery shards.
+pub(crate) fn high_frame(original_count: usize, recovery_count: usize) -> Option<Frame>
+    ensures { result ≡ frame_if high_rate original_count recovery_count }
+{
+    if !are_in_field(original_count, recovery_count) {
+        return None;
+    }
+    let block_rows = power_of_two(recovery_count);
+    if block_rows + original_count > GF_ORDER {
+        return None;
+    }
+    Some(with_high_blocks(original_count, recovery_count, block_rows))
+}
+
+// Returns whether the default rate is the low rate for these counts: its blocks are smaller than those of the high rate,
+// or the blocks are equal and there are more originals than recovery shards.
+fn default_is_low(original_count: usize, recovery_count: usize) -> bool
+    requires originals { original_count ≤ 65536 }
+    requires recovery { recovery_count ≤ 65536 }
+    ensures { result ≡ is_low default_rate original_count recovery_count }
+{
+    let original_power = power_of_two(original_count);
+    let recovery_power = power_of_two(recovery_count);
+    original_power < recovery_power
+        || (original_power == recovery_power && recovery_count < original_count)
+}
+
+// Returns the frame of the default rate, which is the low or the high rate for these counts.
+pub(crate) fn default_frame(original_count: usize, recovery_count: usize) -> Option<Frame>
+    ensures { result ≡ frame_if default_rate original_count recovery_count }
+{
+    if !are_in_field(original_count, recovery_count) {
+        return None;
+    }
+    if default_is_low(original_count, recovery_count) {
+        low_frame(original_count, recovery_count)
+    } else {
+        high_frame(original_count, recovery_count)
+    }
+}
