@@ -29,3 +29,4 @@ pub mod RoundTrip
 pub mod DecodeSteps
 pub mod OneRoundTrip
 pub mod Left
+pub mod DirectColumn
