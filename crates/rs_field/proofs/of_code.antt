@@ -30,3 +30,4 @@ pub mod DecodeSteps
 pub mod OneRoundTrip
 pub mod Left
 pub mod DirectColumn
+pub mod AnyShards
