@@ -39,3 +39,4 @@ pub mod Interpolation
 pub mod WalshLanes
 pub mod PointValues
 pub mod DirectSum
+pub mod DirectSteps

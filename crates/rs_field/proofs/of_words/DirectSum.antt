@@ -31,7 +31,7 @@ use Rattle.rs_field.proofs.of_words.PointValues.{sum_of_values}
 -- ---- sums
 
 -- If two functions differ at one number only, and the second one is zero there, their sums differ by the value there.
-sum_below-one_more : (n y : ℕ) (f g : ℕ → ℕ) → y < n → g y ≡ 0 → ((x : ℕ) → x < n → x ≢ y → f x ≡ g x)
+pub sum_below-one_more : (n y : ℕ) (f g : ℕ → ℕ) → y < n → g y ≡ 0 → ((x : ℕ) → x < n → x ≢ y → f x ≡ g x)
     → sum_below n f ≡ bit_xor (sum_below n g) (f y)
 sum_below-one_more zero y f g hy none same = absurd (let no : ⊥ = omega arith in no)
 sum_below-one_more (suc n) y f g hy none same =
@@ -93,6 +93,18 @@ without_root y n (c ∷ cs) hy hn size words root =
 
 -- ---- the terms
 
+-- A received point adds its word times its factor.
+pub direct_term-received : (received : ℕ → Bool) (locator words : ℕ → ℕ) (y x : ℕ) → received x ≡ true
+    → direct_term received locator words y x ≡ product (words x) (power (direct_factor locator x y))
+direct_term-received received locator words y x is =
+    ap (λ (t : Bool). cond t (product (words x) (power (direct_factor locator x y))) 0) is
+
+-- A point that is not received adds 0.
+pub direct_term-other : (received : ℕ → Bool) (locator words : ℕ → ℕ) (y x : ℕ) → received x ≡ false
+    → direct_term received locator words y x ≡ 0
+direct_term-other received locator words y x is =
+    ap (λ (t : Bool). cond t (product (words x) (power (direct_factor locator x y))) 0) is
+
 -- The powers of 65535 minus a logarithm undo the power of the logarithm.
 undone : (a d b : ℕ) → d ≤ 65535 → b ≤ 65535
     → product (product (power ((a + (65535 - d) + (65535 - b)) % 65535)) (power b)) (power d) ≡ power a
@@ -147,20 +159,14 @@ direct_value e b y marks words locator received q he m size takes are logs most 
     term : ℕ → ℕ
     term x = direct_term received locator words y x
 
-    term-received : (x : ℕ) → received x ≡ true → term x ≡ product (words x) (power (direct_factor locator x y))
-    term-received x is = ap (λ (t : Bool). cond t (product (words x) (power (direct_factor locator x y))) 0) is
-
     term-zero : (x : ℕ) → words x ≡ 0 → term x ≡ 0
     term-zero x is = grind (arith, common_steps, zero_product)
 
-    term-erased : (x : ℕ) → received x ≡ false → term x ≡ 0
-    term-erased x is = ap (λ (t : Bool). cond t (product (words x) (power (direct_factor locator x y))) 0) is
-
     term_lt : (x : ℕ) → term x < 2 ^ 16
     term_lt x = elim (cases_Bool (received x)) [
-      | inl is ↦ subst (λ (w : ℕ). w < 2 ^ 16) (sym (term-received x is))
+      | inl is ↦ subst (λ (w : ℕ). w < 2 ^ 16) (sym (direct_term-received received locator words y x is))
           (product_lt (words x) (power (direct_factor locator x y)))
-      | inr not ↦ subst (λ (w : ℕ). w < 2 ^ 16) (sym (term-erased x not)) (pow_pos 16)
+      | inr not ↦ subst (λ (w : ℕ). w < 2 ^ 16) (sym (direct_term-other received locator words y x not)) (pow_pos 16)
     ]
 
     -- A term that is zero stays zero in the products.
@@ -179,7 +185,8 @@ direct_value e b y marks words locator received q he m size takes are logs most 
           ∙ ap (product (power (log_sum (2 ^ e) marks x))) (takes.given x hx none)
           ∙ elim (are.added x hx none) [
             | inl is ↦ ap (λ w. product w (words x)) (same x hx)
-                ∙ sym (ap (λ w. product (product w (power (locator y))) (bit_xor x y)) (term-received x is)
+                ∙ sym (ap (λ w. product (product w (power (locator y))) (bit_xor x y))
+                (direct_term-received received locator words y x is)
                 ∙ factored (words x) (locator x) (locator y) (bit_xor x y) (difference_pos x y (λ e. apart (sym e)))
                 (xor_lt 16 x y (omega (arith, room)) (omega (arith, room))) most)
             | inr empty ↦ ap (product (power (log_sum (2 ^ e) marks x))) empty
@@ -187,7 +194,8 @@ direct_value e b y marks words locator received q he m size takes are logs most 
           ]
       | inr some ↦
           let erased : marks x ≡ 1 = (let most = m.mark x hx in omega arith) in
-          locator_root (2 ^ e) marks q x m hx erased ∙ sym (zero-term x (term-erased x (are.erased x hx erased)))
+          locator_root (2 ^ e) marks q x m hx erased
+          ∙ sym (zero-term x (direct_term-other received locator words y x (are.erased x hx erased)))
     ]
 
     -- At each other point, the term times the locator's power is the value of the quotient.
@@ -208,7 +216,8 @@ direct_value e b y marks words locator received q he m size takes are logs most 
         let total : 0 ≡ bit_xor (product sum scale) (value r y) =
         sym (sum_of_values e r he quotient.degree quotient.coefficients)
         ∙ sum_below-one_more (2 ^ e) y (value r) (λ x. product (term x) scale) hy
-        (ap (λ w. product w scale) (term-erased y (are.erased y hy one)) ∙ zero_product scale) (term-at r quotient)
+        (ap (λ w. product w scale) (direct_term-other received locator words y y (are.erased y hy one))
+        ∙ zero_product scale) (term-at r quotient)
         ∙ ap (λ w. bit_xor w (value r y)) (sum_below-product (2 ^ e) term scale) in
         product_cancel scale sum (value q y) (power_pos (locator y)) (power_lt (locator y))
         (sum_below_lt (2 ^ e) term (λ x hx. term_lt x)) (value_lt q y takes.coefficients)

@@ -1,0 +1,82 @@
+-- How a loop computes a direct sum: point by point, in the order of the points or in the order of a list.
+use Rattle.std.proofs.Common.{◌≡◌, ℕ, zero, suc, ◌<◌, ◌≢◌, Bool, true, false, cond, bit_xor, eqb, sym, ap, ◌∙◌}
+use Rattle.std.proofs.Common.{arith, inl, inr, eq-eqb, ne_eqb}
+use Rattle.std.specs.Int.Bits.{xor_zero_r}
+use Rattle.std.proofs.lemmas.Bool.{cases_Bool, cases_eq}
+use Rattle.rs_field.specs.words.Field.{product, power}
+use Rattle.rs_field.specs.words.Transform.{sum_below}
+use Rattle.rs_field.specs.words.DirectSum.{direct_factor, direct_term, direct_sum}
+use Rattle.rs_field.proofs.of_words.Combination.{sum_below-suc, sum_below-same, sum_below-zero}
+use Rattle.rs_field.proofs.of_words.DirectSum.{direct_term-received, direct_term-other, sum_below-one_more}
+
+-- If point n is received, it adds its word times its factor to the direct sum.
+pub direct_sum-received : (n : ℕ) (received : ℕ → Bool) (locator words : ℕ → ℕ) (y : ℕ) → received n ≡ true
+    → direct_sum (suc n) received locator words y
+    ≡ bit_xor (direct_sum n received locator words y) (product (words n) (power (direct_factor locator n y)))
+direct_sum-received n received locator words y is =
+    sum_below-suc n (direct_term received locator words y)
+    ∙ ap (bit_xor (direct_sum n received locator words y)) (direct_term-received received locator words y n is)
+
+-- If point n is not received, it does not change the direct sum.
+pub direct_sum-other : (n : ℕ) (received : ℕ → Bool) (locator words : ℕ → ℕ) (y : ℕ) → received n ≡ false
+    → direct_sum (suc n) received locator words y ≡ direct_sum n received locator words y
+direct_sum-other n received locator words y is =
+    sum_below-suc n (direct_term received locator words y)
+    ∙ ap (bit_xor (direct_sum n received locator words y)) (direct_term-other received locator words y n is)
+    ∙ xor_zero_r (direct_sum n received locator words y)
+
+-- A direct sum depends only on the words at the received points.
+pub direct_sum-same : (n : ℕ) (received : ℕ → Bool) (locator words others : ℕ → ℕ) (y : ℕ)
+    → ((x : ℕ) → x < n → received x ≡ true → words x ≡ others x)
+    → direct_sum n received locator words y ≡ direct_sum n received locator others y
+direct_sum-same n received locator words others y same =
+    sum_below-same n (direct_term received locator words y) (direct_term received locator others y)
+    (λ x hx. elim (cases_Bool (received x)) [
+      | inl is ↦
+          direct_term-received received locator words y x is
+          ∙ ap (λ w. product w (power (direct_factor locator x y))) (same x hx is)
+          ∙ sym (direct_term-received received locator others y x is)
+      | inr not ↦ direct_term-other received locator words y x not
+          ∙ sym (direct_term-other received locator others y x not)
+    ])
+
+-- ---- sums in the order of a list
+
+-- A function that is made zero at one number.
+without : ℕ → (ℕ → ℕ) → ℕ → ℕ
+without y f x = cond (eqb x y) 0 (f x)
+
+without-there : (y : ℕ) (f : ℕ → ℕ) (x : ℕ) → x ≡ y → without y f x ≡ 0
+unfolding without
+without-there y f x e = ap (λ (b : Bool). cond b 0 (f x)) (eq-eqb x y e)
+
+without-other : (y : ℕ) (f : ℕ → ℕ) (x : ℕ) → x ≢ y → without y f x ≡ f x
+unfolding without
+without-other y f x apart = ap (λ (b : Bool). cond b 0 (f x)) (ne_eqb x y apart)
+
+-- If a function is zero at all numbers below a bound except n different ones, its sum is the sum of the values at these
+-- n numbers, in any order.
+pub sum_below-places : (n bound : ℕ) (place f : ℕ → ℕ) → ((i : ℕ) → i < n → place i < bound)
+    → ((i j : ℕ) → i < n → j < n → place i ≡ place j → i ≡ j)
+    → ((x : ℕ) → x < bound → ((i : ℕ) → i < n → place i ≢ x) → f x ≡ 0)
+    → sum_below bound f ≡ sum_below n (λ i. f (place i))
+sum_below-places zero bound place f below once zeros =
+    sum_below-zero bound f (λ x hx. zeros x hx (λ i hi. absurd (let no : ⊥ = omega arith in no)))
+    ∙ sym (sum_below-zero 0 (λ i. f (place i)) (λ i hi. absurd (let no : ⊥ = omega arith in no)))
+sum_below-places (suc n) bound place f below once zeros =
+    let y : ℕ = place n in
+    sum_below-one_more bound y f (without y f) (below n (omega arith)) (without-there y f y (λ i. y))
+    (λ x hx apart. sym (without-other y f x apart))
+    ∙ ap (λ w. bit_xor w (f y))
+    (sum_below-places n bound place (without y f) (λ i hi. below i (omega arith))
+    (λ i j hi hj. once i j (omega arith) (omega arith))
+    (λ x hx none. elim (cases_eq x y) [
+      | inl here ↦ without-there y f x here
+      | inr apart ↦ without-other y f x apart ∙ zeros x hx (λ i hi. elim (cases_eq i n) [
+        | inl last ↦ (λ (at : place i ≡ x). apart (sym at ∙ ap place last))
+        | inr before ↦ none i (omega arith)
+      ])
+    ])
+    ∙ sum_below-same n (λ i. without y f (place i)) (λ i. f (place i)) (λ i hi. without-other y f (place i)
+    (λ e. let same : i ≡ n = once i n (omega arith) (omega arith) e in let no : ⊥ = omega arith in no)))
+    ∙ sym (sum_below-suc n (λ i. f (place i)))
