@@ -31,3 +31,4 @@ pub mod OneRoundTrip
 pub mod Left
 pub mod DirectColumn
 pub mod AnyShards
+pub mod BaseShards

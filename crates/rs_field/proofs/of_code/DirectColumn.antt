@@ -1,5 +1,6 @@
 -- The words of shards that were not received, in one column, as direct sums over the received points.
-use Rattle.std.proofs.Common.{◌≡◌, ℕ, ◌+◌, ◌/◌, ◌^◌, ◌<◌, ◌≤◌, Bool, List, length, sym, ap, ◌∙◌, arith, pow_mono}
+use Rattle.std.proofs.Common.{◌≡◌, ℕ, ◌+◌, ◌/◌, ◌^◌, ◌<◌, ◌≤◌, Bool, false, cond, List, length, sym, ap, ◌∙◌, arith, pow_mono}
+use Rattle.std.specs.Prelude.{is_some}
 use Rattle.rs_field.specs.words.Polynomial.{value}
 use Rattle.rs_field.specs.words.Locator.{IsLocatorBelow}
 use Rattle.rs_field.specs.words.DirectSum.{direct_sum}
@@ -47,47 +48,57 @@ direct_word rate k r e bound zeros_end originals recovery marks words locator re
     d.are_received d.logarithms (d.most x hx) hx one
     ∙ same x hx
 
--- The direct sum at the point of a missing original is the word of this original.
+-- The columns from which the words of missing shards are summed.
+pub record AreDirectColumns (c : Configuration) (originals recovery : Shards) (e bound zeros_end : ℕ)
+    (marks locator : ℕ → ℕ) (received : ℕ → Bool) (words : ℕ → ℕ → ℕ) : Type 0 where
+  pub has : (j : ℕ) → j < c.shard_bytes / 2
+      → HasWords (placement c.rate c.original_count c.recovery_count) originals recovery j (words j)
+  pub each : (j : ℕ) → j < c.shard_bytes / 2
+      → IsDirectColumn (placement c.rate c.original_count c.recovery_count) c.original_count c.recovery_count e bound
+      zeros_end originals recovery marks (words j) locator received
+
+-- The direct sum at the point of an original that is not given is the word of this original.
 pub direct_original : (c : Configuration) (originals recovery : Shards) (e bound zeros_end : ℕ)
-    (marks words locator : ℕ → ℕ) (received : ℕ → Bool) (message : List Shard) (i j : ℕ)
-    → IsDirectColumn (placement c.rate c.original_count c.recovery_count) c.original_count c.recovery_count e bound
-    zeros_end originals recovery marks words locator received
-    → HasWords (placement c.rate c.original_count c.recovery_count) originals recovery j words
+    (marks locator : ℕ → ℕ) (received : ℕ → Bool) (words : ℕ → ℕ → ℕ) (message : List Shard) (i j : ℕ)
+    → AreDirectColumns c originals recovery e bound zeros_end marks locator received words
     → c.original_count ≤ count_below c.original_count originals + count_below c.recovery_count recovery
     → Agrees c originals recovery message → i < c.original_count → j < c.shard_bytes / 2
-    → marks ((placement c.rate c.original_count c.recovery_count).originals_from + i) ≡ 1
-    → direct_sum (2 ^ e) received locator words
+    → is_some (originals i) ≡ false
+    → direct_sum (2 ^ e) received locator (words j)
     ((placement c.rate c.original_count c.recovery_count).originals_from + i) ≡ column j (shard_at message i)
-direct_original c originals recovery e bound zeros_end marks words locator received message i j d has enough agrees hi
-    hj one =
-    let (p, codes, takes) = column_taken c originals recovery message j words hj agrees has in
-    let below = d.frame.originals in
-    direct_word c.rate c.original_count c.recovery_count e bound zeros_end originals recovery marks words locator
-    received (columns j message) p d enough codes takes
-    ((placement c.rate c.original_count c.recovery_count).originals_from + i) (omega arith) one
+direct_original c originals recovery e bound zeros_end marks locator received words message i j d enough agrees hi hj
+    missing =
+    let (p, codes, takes) = column_taken c originals recovery message j (words j) hj agrees (d.has j hj) in
+    let below = (d.each j hj).frame.originals in
+    direct_word c.rate c.original_count c.recovery_count e bound zeros_end originals recovery marks
+    (words j) locator received (columns j message) p
+    (d.each j hj) enough codes takes
+    ((placement c.rate c.original_count c.recovery_count).originals_from + i) (omega arith)
+    ((d.each j hj).erasures.own i hi ∙ ap (λ (b : Bool). cond b 0 1) missing)
     ∙ codes.originals i hi ∙ columns-at j message i
 
--- The direct sum at the point of a missing recovery shard is the word of this recovery shard.
+-- The direct sum at the point of a recovery shard that is not given is the word of this recovery shard.
 pub direct_recovery : (c : Configuration) (originals recovery : Shards) (e bound zeros_end : ℕ)
-    (marks words locator : ℕ → ℕ) (received : ℕ → Bool) (message : List Shard) (i j : ℕ)
-    → IsDirectColumn (placement c.rate c.original_count c.recovery_count) c.original_count c.recovery_count e bound
-    zeros_end originals recovery marks words locator received
-    → HasWords (placement c.rate c.original_count c.recovery_count) originals recovery j words
+    (marks locator : ℕ → ℕ) (received : ℕ → Bool) (words : ℕ → ℕ → ℕ) (message : List Shard) (i j : ℕ)
+    → AreDirectColumns c originals recovery e bound zeros_end marks locator received words
     → c.original_count ≤ count_below c.original_count originals + count_below c.recovery_count recovery
     → (a : Agrees c originals recovery message) → i < c.recovery_count → j < c.shard_bytes / 2
-    → marks ((placement c.rate c.original_count c.recovery_count).recovery_from + i) ≡ 1
-    → direct_sum (2 ^ e) received locator words
+    → is_some (recovery i) ≡ false
+    → direct_sum (2 ^ e) received locator (words j)
     ((placement c.rate c.original_count c.recovery_count).recovery_from + i) ≡ column j (shard_at a.coded.0 i)
-direct_recovery c originals recovery e bound zeros_end marks words locator received message i j d has enough a hi hj
-    one =
-    let (p, codes, takes) = column_taken c originals recovery message j words hj a has in
+direct_recovery c originals recovery e bound zeros_end marks locator received words message i j d enough a hi hj
+    missing =
+    let (p, codes, takes) = column_taken c originals recovery message j (words j) hj a (d.has j hj) in
     let (o, codes_o, at) = a.coded.1.words j hj in
-    let room : 2 ^ e ≤ 2 ^ 16 = pow_mono d.frame.few in
-    let own = d.frame.originals in
-    let below = d.frame.recovery in
-    direct_word c.rate c.original_count c.recovery_count e bound zeros_end originals recovery marks words locator
-    received (columns j message) p d enough codes takes
-    ((placement c.rate c.original_count c.recovery_count).recovery_from + i) (omega arith) one
+    let frame = (d.each j hj).frame in
+    let room : 2 ^ e ≤ 2 ^ 16 = pow_mono frame.few in
+    let own = frame.originals in
+    let below = frame.recovery in
+    direct_word c.rate c.original_count c.recovery_count e bound zeros_end originals recovery marks
+    (words j) locator received (columns j message) p
+    (d.each j hj) enough codes takes
+    ((placement c.rate c.original_count c.recovery_count).recovery_from + i) (omega arith)
+    ((d.each j hj).erasures.coded i hi ∙ ap (λ (b : Bool). cond b 0 1) missing)
     ∙ ap (λ (q : List ℕ). value q ((placement c.rate c.original_count c.recovery_count).recovery_from + i))
     (codes_unique c.rate c.original_count c.recovery_count (columns j message) p o (omega arith) codes codes_o)
     ∙ sym (at i hi) ∙ columns-at j a.coded.0 i

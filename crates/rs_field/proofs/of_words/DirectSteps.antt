@@ -1,13 +1,23 @@
 -- How a loop computes a direct sum: point by point, in the order of the points or in the order of a list.
-use Rattle.std.proofs.Common.{◌≡◌, ℕ, zero, suc, ◌<◌, ◌≢◌, Bool, true, false, cond, bit_xor, eqb, sym, ap, ◌∙◌}
-use Rattle.std.proofs.Common.{arith, inl, inr, eq-eqb, ne_eqb}
+use Rattle.std.proofs.Common.{◌≡◌, ℕ, zero, suc, ◌+◌, ◌-◌, ◌%◌, ◌<◌, ◌≢◌, Bool, true, false, cond, bit_xor, eqb}
+use Rattle.std.proofs.Common.{sym, ap, ◌∙◌, arith, inl, inr, eq-eqb, ne_eqb}
 use Rattle.std.specs.Int.Bits.{xor_zero_r}
 use Rattle.std.proofs.lemmas.Bool.{cases_Bool, cases_eq}
-use Rattle.rs_field.specs.words.Field.{product, power}
+use Rattle.rs_field.specs.words.Field.{product, power, log}
 use Rattle.rs_field.specs.words.Transform.{sum_below}
 use Rattle.rs_field.specs.words.DirectSum.{direct_factor, direct_term, direct_sum}
+use Rattle.rs_field.proofs.of_words.Power.{power-mod}
+use Rattle.rs_field.proofs.of_words.LocatorProduct.{same_residue}
 use Rattle.rs_field.proofs.of_words.Combination.{sum_below-suc, sum_below-same, sum_below-zero}
 use Rattle.rs_field.proofs.of_words.DirectSum.{direct_term-received, direct_term-other, sum_below-one_more}
+
+-- A sum of logarithms modulo 65535 is a logarithm of the factor. 0 and 65535 both represent zero.
+pub power-direct_factor : (locator : ℕ → ℕ) (x y l : ℕ)
+    → l % 65535 ≡ (locator x + (65535 - log (bit_xor x y)) + (65535 - locator y)) % 65535
+    → power l ≡ power (direct_factor locator x y)
+power-direct_factor locator x y l e =
+    let sum : ℕ = locator x + (65535 - log (bit_xor x y)) + (65535 - locator y) in
+    same_residue l sum e ∙ sym (power-mod sum)
 
 -- If point n is received, it adds its word times its factor to the direct sum.
 pub direct_sum-received : (n : ℕ) (received : ℕ → Bool) (locator words : ℕ → ℕ) (y : ℕ) → received n ≡ true
