@@ -1,5 +1,6 @@
 -- The words of shards that were not received, in one column, as direct sums over the received points.
-use Rattle.std.proofs.Common.{◌≡◌, ℕ, ◌+◌, ◌/◌, ◌^◌, ◌<◌, ◌≤◌, Bool, false, cond, List, length, sym, ap, ◌∙◌, arith, pow_mono}
+use Rattle.std.proofs.Common.{◌≡◌, ℕ, ◌+◌, ◌/◌, ◌^◌, ◌<◌, ◌≤◌, Bool, false, cond, List, length}
+use Rattle.std.proofs.Common.{sym, ap, ◌∙◌, arith, pow_mono}
 use Rattle.std.specs.Prelude.{is_some}
 use Rattle.rs_field.specs.words.Polynomial.{value}
 use Rattle.rs_field.specs.words.Locator.{IsLocatorBelow}
