@@ -143,6 +143,7 @@ pub direct_value : (e b y : ℕ) (marks words locator : ℕ → ℕ) (received :
     → AreMarks (2 ^ e) marks → length (marked (2 ^ e) marks) + b ≤ 2 ^ e → Takes (2 ^ e) b marks words q
     → AreReceived (2 ^ e) marks words received → IsLocatorBelow (2 ^ e) marks locator → locator y ≤ 65535 → y < 2 ^ e
     → marks y ≡ 1 → direct_sum (2 ^ e) received locator words y ≡ value q y
+unfolding direct_sum
 direct_value e b y marks words locator received q he m size takes are logs most hy one =
     by_quotient (without_root y (2 ^ e) (times (marked (2 ^ e) marks) q) hy room
     (omega (arith, length-marked_times (marked (2 ^ e) marks) q, takes.degree))

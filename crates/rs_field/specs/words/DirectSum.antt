@@ -1,6 +1,6 @@
--- The word at an erased point as a direct sum over the received points. The locator at a received point is the
--- logarithm of the polynomial with a root at each erased point. At an erased point, it is the logarithm of the
--- derivative of this polynomial.
+-- The word at an erased point as a direct sum over the received points. At a received point, the locator is the
+-- logarithm of the value of the polynomial with a root at each erased point. At an erased point, it is the logarithm of
+-- the value of the derivative of this polynomial.
 use Rattle.std.specs.Prelude.{ℕ, ◌+◌, ◌-◌, ◌%◌, Bool, if◌then◌else◌, bit_xor}
 use Rattle.rs_field.specs.words.Field.{product, power, log}
 use Rattle.rs_field.specs.words.Transform.{sum_below}
@@ -15,5 +15,5 @@ direct_term received locator words y x =
     if received x then product (words x) (power (direct_factor locator x y)) else 0
 
 -- the sum of the terms of the received points below n
-abbrev pub direct_sum : ℕ → (ℕ → Bool) → (ℕ → ℕ) → (ℕ → ℕ) → ℕ → ℕ
+unfoldable pub direct_sum : ℕ → (ℕ → Bool) → (ℕ → ℕ) → (ℕ → ℕ) → ℕ → ℕ
 direct_sum n received locator words y = sum_below n (direct_term received locator words y)
