@@ -29,3 +29,6 @@ pub mod RoundTrip
 pub mod DecodeSteps
 pub mod OneRoundTrip
 pub mod Left
+pub mod DirectColumn
+pub mod AnyShards
+pub mod BaseShards

@@ -37,3 +37,6 @@ pub mod ZerosPast
 pub mod ExactCheck
 pub mod Interpolation
 pub mod WalshLanes
+pub mod PointValues
+pub mod DirectSum
+pub mod DirectSteps

@@ -12,4 +12,5 @@ pub mod Products
 pub mod Laws
 pub mod Inverse
 pub mod Derivative
+pub mod DirectSum
 pub mod StepBounds

@@ -1,0 +1,273 @@
+-- Any k shards of one size are shards of exactly one codeword.
+use Rattle.std.proofs.Common.{◌≡◌, ℕ, ◌+◌, ◌-◌, ◌%◌, ◌^◌, ◌<◌, ◌≤◌, ◌⊎◌, Bool, true, false, cond, List, eqb, refl, sym}
+use Rattle.std.proofs.Common.{ap, ◌∙◌, subst, arith, inl, inr, add-zero}
+use Rattle.std.specs.Prelude.{Option, Some, None, is_some, nat_le, nat_lt, ◌&&◌, ◌||◌}
+use Rattle.std.proofs.lemmas.Option.{none-some}
+use Rattle.std.proofs.lemmas.Grind.{common_steps}
+use Rattle.rs_field.specs.words.Field.{product, power}
+use Rattle.rs_field.specs.words.Locator.{log_sum}
+use Rattle.rs_field.specs.code.Counts.{supports}
+use Rattle.rs_field.specs.code.Column.{Shard, IsShard, column}
+use Rattle.rs_field.specs.code.Placement.{Placement, placement}
+use Rattle.rs_field.specs.code.Configuration.{Configuration}
+use Rattle.rs_field.specs.code.Given.{Shards, count_below, Agrees, Consistent}
+use Rattle.rs_field.proofs.of_words.Product.{product_lt}
+use Rattle.rs_field.proofs.of_words.ExactCheck.{AreLocated}
+use Rattle.rs_field.proofs.of_words.PointValues.{coefficients_of}
+use Rattle.rs_field.proofs.of_code.Columns.{column_lt}
+use Rattle.rs_field.proofs.of_code.Frame.{IsFrame}
+use Rattle.rs_field.proofs.of_code.RateFrames.{HasFrame, has_frame}
+use Rattle.rs_field.proofs.of_code.ErasedCount.{AreErasures}
+use Rattle.rs_field.proofs.of_code.DecodedColumn.{IsColumnOf, some_message}
+use Rattle.rs_field.proofs.of_code.AgreeingMessages.{AreSized, HasWords, consistent}
+use Rattle.rs_field.proofs.of_code.Agreement.{one_message}
+
+-- ---- the given shards by their points
+
+-- The entry of a map at a point, if the point is one of the n points from `from` on, else another entry.
+in_range : ℕ → ℕ → Shards → Option Shard → ℕ → Option Shard
+in_range from n given other x = cond (nat_le from x && nat_lt x (from + n)) (given (x - from)) other
+
+in_range-at : (from n i : ℕ) (given : Shards) (other : Option Shard) → i < n
+    → in_range from n given other (from + i) ≡ given i
+unfolding in_range
+in_range-at from n i given other hi = grind (arith, common_steps)
+
+in_range-other : (from n x : ℕ) (given : Shards) (other : Option Shard) → (x < from) ⊎ (from + n ≤ x)
+    → in_range from n given other x ≡ other
+unfolding in_range
+in_range-other from n x given other outside = grind (arith, common_steps)
+
+-- The given shard at a point.
+given_at : Placement → ℕ → ℕ → Shards → Shards → ℕ → Option Shard
+given_at p k r originals recovery x =
+    in_range p.originals_from k originals (in_range p.recovery_from r recovery None x) x
+
+given_at-own : (p : Placement) (k r i : ℕ) (originals recovery : Shards) → i < k
+    → given_at p k r originals recovery (p.originals_from + i) ≡ originals i
+unfolding given_at
+given_at-own p k r i originals recovery hi = in_range-at p.originals_from k i originals _ hi
+
+given_at-coded : (p : Placement) (k r e bound zeros_end i : ℕ) (originals recovery : Shards)
+    → IsFrame p k r e bound zeros_end → i < r
+    → given_at p k r originals recovery (p.recovery_from + i) ≡ recovery i
+unfolding given_at
+given_at-coded p k r e bound zeros_end i originals recovery f hi =
+    let zeros = f.zeros in
+    in_range-other p.originals_from k (p.recovery_from + i) originals _
+    (elim f.order [ inl low ↦ inr (omega (arith, low.1)) | inr high ↦ inl (omega (arith, high.0, high.1)) ])
+    ∙ in_range-at p.recovery_from r i recovery None hi
+
+given_at-other : (p : Placement) (k r x : ℕ) (originals recovery : Shards)
+    → (x < p.originals_from) ⊎ (p.originals_from + k ≤ x) → (x < p.recovery_from) ⊎ (p.recovery_from + r ≤ x)
+    → given_at p k r originals recovery x ≡ None
+unfolding given_at
+given_at-other p k r x originals recovery not_own not_coded =
+    in_range-other p.originals_from k x originals _ not_own
+    ∙ in_range-other p.recovery_from r x recovery None not_coded
+
+-- The given shard at a point is an entry of one of the two maps, or there is none.
+given_at-cases : (p : Placement) (k r x : ℕ) (originals recovery : Shards)
+    → ((i : ℕ) × (given_at p k r originals recovery x ≡ originals i))
+    ⊎ (((i : ℕ) × (given_at p k r originals recovery x ≡ recovery i)) ⊎ (given_at p k r originals recovery x ≡ None))
+unfolding given_at in_range
+given_at-cases p k r x originals recovery =
+    by_tests (nat_le p.originals_from x && nat_lt x (p.originals_from + k))
+    (nat_le p.recovery_from x && nat_lt x (p.recovery_from + r))
+  where
+    by_tests : (own coded : Bool)
+        → ((i : ℕ) × (cond own (originals (x - p.originals_from)) (cond coded (recovery (x - p.recovery_from)) None)
+        ≡ originals i))
+        ⊎ (((i : ℕ) × (cond own (originals (x - p.originals_from)) (cond coded (recovery (x - p.recovery_from)) None)
+        ≡ recovery i))
+        ⊎ (cond own (originals (x - p.originals_from)) (cond coded (recovery (x - p.recovery_from)) None) ≡ None))
+    by_tests true coded = inl (x - p.originals_from, refl)
+    by_tests false true = inr (inl (x - p.recovery_from, refl))
+    by_tests false false = inr (inr refl)
+
+-- ---- the rows of a column
+
+-- The word of a column, or 0 if no shard is given.
+word_of : ℕ → Option Shard → ℕ
+word_of j None = 0
+word_of j (Some shard) = column j shard
+
+word_at : Placement → ℕ → ℕ → Shards → Shards → ℕ → ℕ → ℕ
+word_at p k r originals recovery j x = word_of j (given_at p k r originals recovery x)
+
+word_at-is : (p : Placement) (k r : ℕ) (originals recovery : Shards) (j x : ℕ) (o : Option Shard)
+    → given_at p k r originals recovery x ≡ o → word_at p k r originals recovery j x ≡ word_of j o
+unfolding word_at
+word_at-is p k r originals recovery j x o e = ap (word_of j) e
+
+word_of_lt : (size j : ℕ) (o : Option Shard) → ((shard : Shard) → o ≡ Some shard → IsShard size shard)
+    → word_of j o < 65536
+unfolding word_of
+word_of_lt size j None sized = omega arith
+word_of_lt size j (Some shard) sized = column_lt size shard j (sized shard refl)
+
+word_at_lt : (p : Placement) (k r size : ℕ) (originals recovery : Shards) (j x : ℕ) → AreSized k size originals
+    → AreSized r size recovery → word_at p k r originals recovery j x < 65536
+word_at_lt p k r size originals recovery j x own coded =
+    elim (given_at-cases p k r x originals recovery) [
+      | inl first ↦
+          subst (λ (w : ℕ). w < 65536)
+          (sym (word_at-is p k r originals recovery j x (originals first.0) first.1))
+          (word_of_lt size j (originals first.0) (λ s e. (own.each first.0 s e).1))
+      | inr rest ↦ elim rest [
+        | inl second ↦
+            subst (λ (w : ℕ). w < 65536)
+            (sym (word_at-is p k r originals recovery j x (recovery second.0) second.1))
+            (word_of_lt size j (recovery second.0) (λ s e. (coded.each second.0 s e).1))
+        | inr none ↦
+            subst (λ (w : ℕ). w < 65536) (sym (word_at-is p k r originals recovery j x None none))
+            (word_of_lt size j None (λ s e. absurd (none-some s e)))
+      ]
+    ]
+
+-- The words of a column are those of the given shards.
+words_given : (p : Placement) (k r e bound zeros_end size : ℕ) (originals recovery : Shards) (j : ℕ)
+    → IsFrame p k r e bound zeros_end → AreSized k size originals → AreSized r size recovery
+    → HasWords p originals recovery j (word_at p k r originals recovery j)
+unfolding word_of
+words_given p k r e bound zeros_end size originals recovery j f own coded = record {
+  own = λ i shard is.
+      word_at-is p k r originals recovery j (p.originals_from + i) (Some shard)
+      (given_at-own p k r i originals recovery (own.each i shard is).0 ∙ is);
+  coded = λ i shard is.
+      word_at-is p k r originals recovery j (p.recovery_from + i) (Some shard)
+      (given_at-coded p k r e bound zeros_end i originals recovery f (coded.each i shard is).0 ∙ is);
+}
+
+-- The word at a known zero is 0.
+word_at-zero : (p : Placement) (k r e bound zeros_end : ℕ) (originals recovery : Shards) (j x : ℕ)
+    → IsFrame p k r e bound zeros_end → p.zeros_from ≤ x → x < zeros_end → word_at p k r originals recovery j x ≡ 0
+unfolding word_of
+word_at-zero p k r e bound zeros_end originals recovery j x f above below =
+    let follow : p.zeros_from ≡ p.originals_from + k = f.follow in
+    word_at-is p k r originals recovery j x None
+    (given_at-other p k r x originals recovery (inr (omega arith))
+    (elim f.order [ inl low ↦ inl (omega (arith, low.1)) | inr high ↦ inr (omega (arith, high.0, high.1)) ]))
+
+-- The entry of a row: 0 if a shard is given there or the row is a known zero, else 1.
+mark_at : Placement → ℕ → ℕ → ℕ → Shards → Shards → ℕ → ℕ
+mark_at p k r zeros_end originals recovery x =
+    cond (is_some (given_at p k r originals recovery x) || (nat_le p.zeros_from x && nat_lt x zeros_end)) 0 1
+
+mark_at-most : (p : Placement) (k r zeros_end : ℕ) (originals recovery : Shards) (x : ℕ)
+    → mark_at p k r zeros_end originals recovery x ≤ 1
+unfolding mark_at
+mark_at-most p k r zeros_end originals recovery x = grind (arith, common_steps)
+
+mark_at-known : (p : Placement) (k r zeros_end : ℕ) (originals recovery : Shards) (x : ℕ) → p.zeros_from ≤ x
+    → x < zeros_end → mark_at p k r zeros_end originals recovery x ≡ 0
+unfolding mark_at
+mark_at-known p k r zeros_end originals recovery x above below = grind (arith, common_steps)
+
+mark_at-row : (p : Placement) (k r zeros_end : ℕ) (originals recovery : Shards) (x : ℕ) (o : Option Shard)
+    → (x < p.zeros_from) ⊎ (zeros_end ≤ x) → given_at p k r originals recovery x ≡ o
+    → mark_at p k r zeros_end originals recovery x ≡ cond (is_some o) 0 1
+unfolding mark_at
+mark_at-row p k r zeros_end originals recovery x o outside is = grind (arith, common_steps)
+
+-- These entries mark the erased rows of a frame.
+are_erasures : (p : Placement) (k r e bound zeros_end : ℕ) (originals recovery : Shards)
+    → IsFrame p k r e bound zeros_end
+    → AreErasures p k r (2 ^ e) zeros_end originals recovery (mark_at p k r zeros_end originals recovery)
+are_erasures p k r e bound zeros_end originals recovery f =
+    let follow : p.zeros_from ≡ p.originals_from + k = f.follow in
+    record {
+      are_marks = record { mark = λ y hy. mark_at-most p k r zeros_end originals recovery y };
+      own = λ i hi.
+          mark_at-row p k r zeros_end originals recovery (p.originals_from + i) (originals i) (inl (omega arith))
+          (given_at-own p k r i originals recovery hi);
+      coded = λ i hi.
+          mark_at-row p k r zeros_end originals recovery (p.recovery_from + i) (recovery i)
+          (elim f.order [ inl low ↦ inr (omega (arith, low.1)) | inr high ↦ inl (omega (arith, high.0, high.1)) ])
+          (given_at-coded p k r e bound zeros_end i originals recovery f hi);
+      known = λ x above below. mark_at-known p k r zeros_end originals recovery x above below;
+      other = λ x hx not_own not_coded not_zero.
+          mark_at-row p k r zeros_end originals recovery x None not_zero
+          (given_at-other p k r x originals recovery not_own not_coded);
+    }
+
+-- The located word of a row: the word times the power of the locator, or 0 if the row is marked.
+located_at : ℕ → (ℕ → ℕ) → (ℕ → ℕ) → ℕ → ℕ
+located_at n marks words x = cond (eqb (marks x) 0) (product (words x) (power (log_sum n marks x))) 0
+
+located_at-are : (n : ℕ) (marks words : ℕ → ℕ) → AreLocated n marks words (located_at n marks words)
+unfolding located_at
+located_at-are n marks words = record {
+  erased = λ x hx one. grind (arith, common_steps);
+  given = λ x hx none. grind (arith, common_steps);
+}
+
+located_at_lt : (n : ℕ) (marks words : ℕ → ℕ) (x : ℕ) → located_at n marks words x < 2 ^ 16
+unfolding located_at
+located_at_lt n marks words x = grind (arith, common_steps, product_lt)
+
+-- The rows of a column that is made from the given shards.
+is_column : (p : Placement) (k r e bound zeros_end size : ℕ) (originals recovery : Shards) (j : ℕ)
+    → IsFrame p k r e bound zeros_end → AreSized k size originals → AreSized r size recovery
+    → (rows : ℕ → ℕ) × IsColumnOf p k r e bound zeros_end originals recovery
+    (mark_at p k r zeros_end originals recovery) (word_at p k r originals recovery j)
+    (located_at (2 ^ e) (mark_at p k r zeros_end originals recovery) (word_at p k r originals recovery j)) rows
+is_column p k r e bound zeros_end size originals recovery j f own coded =
+    let marks : ℕ → ℕ = mark_at p k r zeros_end originals recovery in
+    let words : ℕ → ℕ = word_at p k r originals recovery j in
+    let (rows, are) = coefficients_of e (located_at (2 ^ e) marks words) f.few (located_at_lt (2 ^ e) marks words) in (
+      rows,
+      record {
+        frame = f;
+        erasures = are_erasures p k r e bound zeros_end originals recovery f;
+        are_words = λ x hx. word_at_lt p k r size originals recovery j x own coded;
+        known = λ x above below. word_at-zero p k r e bound zeros_end originals recovery j x f above below;
+        are_located = located_at-are (2 ^ e) marks words;
+        row_words = λ x hx. are.word x;
+        back = are.at;
+      },
+    )
+
+-- ---- codewords
+
+-- Some message agrees with any k shards of one size.
+pub any_consistent : (c : Configuration) (originals recovery : Shards)
+    → supports c.rate c.original_count c.recovery_count ≡ true → c.shard_bytes % 2 ≡ 0
+    → AreSized c.original_count c.shard_bytes originals → AreSized c.recovery_count c.shard_bytes recovery
+    → count_below c.original_count originals + count_below c.recovery_count recovery ≡ c.original_count
+    → Consistent c originals recovery
+any_consistent c originals recovery is even own coded count =
+    by_frame (has_frame c.rate c.original_count c.recovery_count is)
+  where
+    k : ℕ
+    k = c.original_count
+
+    r : ℕ
+    r = c.recovery_count
+
+    by_frame : HasFrame c.rate c.original_count c.recovery_count → Consistent c originals recovery
+    by_frame h =
+        let p : Placement = placement c.rate c.original_count c.recovery_count in
+        consistent c originals recovery (word_at p k r originals recovery) even own coded
+        (λ j hj. words_given p k r h.exponent h.bound h.zeros_end c.shard_bytes originals recovery j h.frame own coded)
+        (λ j hj.
+        let (rows, column) =
+        is_column p k r h.exponent h.bound h.zeros_end c.shard_bytes originals recovery j h.frame own coded in
+        let (message, q, _, codes, takes) =
+        some_message c.rate k r h.exponent h.bound h.zeros_end 0 originals recovery
+        (mark_at p k r h.zeros_end originals recovery) (word_at p k r originals recovery j)
+        (located_at (2 ^ h.exponent) (mark_at p k r h.zeros_end originals recovery)
+        (word_at p k r originals recovery j)) rows column (count ∙ sym (add-zero k))
+        (λ i above below. absurd (let no : ⊥ = omega arith in no)) in
+        (q, (message, codes, takes)))
+
+-- Any k shards of one size agree with exactly one message.
+pub one_codeword : (c : Configuration) (originals recovery : Shards)
+    → supports c.rate c.original_count c.recovery_count ≡ true → c.shard_bytes % 2 ≡ 0
+    → AreSized c.original_count c.shard_bytes originals → AreSized c.recovery_count c.shard_bytes recovery
+    → count_below c.original_count originals + count_below c.recovery_count recovery ≡ c.original_count
+    → (message : List Shard) × Agrees c originals recovery message
+    × ((other : List Shard) → Agrees c originals recovery other → other ≡ message)
+one_codeword c originals recovery is even own coded count =
+    let (message, agrees) = any_consistent c originals recovery is even own coded count in
+    (message, agrees, λ other a. one_message c originals recovery other message is even (omega arith) a agrees)
