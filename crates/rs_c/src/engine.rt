@@ -9,7 +9,7 @@ use crate::tables::{RsTables, STAMP, whole};
 use rs_engines::any_factor::factor_of;
 use rs_engines::butterflies::{Backward, Forward};
 use rs_engines::factors::ThreeFactors;
-use rs_engines::shuffle_rows::{mul_chunks, one_layer, two_layers};
+use rs_engines::shuffle_rows::{add_row, mul_chunks, one_layer, two_layers};
 use rs_field::engine::GfElement;
 use rs_field::engine::kernel::{Kernel, ThreeLogarithms};
 use rs_field::engine::lent_tables::LentTables;
@@ -102,5 +102,10 @@ impl Kernel for TableEngine<'_> {
 
     fn mul_row(&self, x: &mut [[u8; 64]], log_m: GfElement) {
         mul_chunks::<Lanes>(x, &self.products(log_m));
+    }
+
+    fn mul_add_row(&self, x: &mut [[u8; 64]], y: &[[u8; 64]], log_m: GfElement) {
+        let products = self.products(log_m);
+        add_row::<Lanes>(x, y, factor_of(&products, log_m));
     }
 }

@@ -251,6 +251,15 @@ impl Engine for DefaultEngine<'_> {
         }
     }
 
+    fn mul_add(&self, steps: &mut Steps, x: &mut [[u8; 64]], y: &[[u8; 64]], log_m: GfElement) {
+        match self {
+            Self::Naive(engine) => engine.mul_add(steps, x, y, log_m),
+            Self::NoSimd(engine) => engine.mul_add(steps, x, y, log_m),
+            Self::Avx2(engine) => engine.mul_add(steps, x, y, log_m),
+            Self::Ssse3(engine) => engine.mul_add(steps, x, y, log_m),
+        }
+    }
+
     fn eval_poly(&self, steps: &mut Steps, erasures: &mut [GfElement], truncated_size: usize) {
         match self {
             Self::Naive(engine) => engine.eval_poly(steps, erasures, truncated_size),

@@ -105,37 +105,28 @@ fn mul_add_chunks(x: &mut [[u8; 64]], y: &[[u8; 64]], lists: &[[GfElement; 16]; 
     }
 }
 
-impl NoSimd<'_> {
-    // Adds the row y times the factor of a butterfly to the row x. The logarithm 65535 represents the factor zero. Then
-    // nothing is added.
-    fn mul_add(&self, x: &mut [[u8; 64]], y: &[[u8; 64]], log_m: GfElement)
-        requires { length x.old ≡ length y.now }
-        ensures { (k s : ℕ) → k < length x.old → s < 32
-            → symbol (chunk x.new k) s
-            ≡ bit_xor (symbol (chunk x.old k) s) (times_factor log_m (symbol (chunk y.now k) s)) }
-    {
-        if log_m != GF_MODULUS {
-            mul_add_chunks(x, y, &get_mul16(self.tables)[log_m as usize]);
-        }
-    }
-}
-
 impl Kernel for NoSimd<'_> {
     fn tables(&self) -> LentTables<'_> {
         self.tables.lent()
     }
 
     fn fft_butterfly(&self, x: &mut [[u8; 64]], y: &mut [[u8; 64]], log_m: GfElement) {
-        self.mul_add(x, y, log_m);
+        self.mul_add_row(x, y, log_m);
         utils::xor(y, x);
     }
 
     fn ifft_butterfly(&self, x: &mut [[u8; 64]], y: &mut [[u8; 64]], log_m: GfElement) {
         utils::xor(y, x);
-        self.mul_add(x, y, log_m);
+        self.mul_add_row(x, y, log_m);
     }
 
     fn mul_row(&self, x: &mut [[u8; 64]], log_m: GfElement) {
         mul_chunks(x, &get_mul16(self.tables)[log_m as usize]);
+    }
+
+    fn mul_add_row(&self, x: &mut [[u8; 64]], y: &[[u8; 64]], log_m: GfElement) {
+        if log_m != GF_MODULUS {
+            mul_add_chunks(x, y, &get_mul16(self.tables)[log_m as usize]);
+        }
     }
 }

@@ -7,7 +7,7 @@ use crate::any_factor::{AnyFactor, factor_of};
 use crate::butterflies::{Backward, Forward};
 use crate::byte_vector::ByteVector;
 use crate::factors::ThreeFactors;
-use crate::shuffle_rows::{mul_chunks, one_layer, two_layers};
+use crate::shuffle_rows::{add_row, mul_chunks, one_layer, two_layers};
 use rs_field::engine::GfElement;
 use rs_field::engine::kernel::{Kernel, ThreeLogarithms};
 use rs_field::engine::lent_tables::LentTables;
@@ -147,5 +147,9 @@ impl<V: ByteVector> Kernel for ByShuffles<'_, V> {
 
     fn mul_row(&self, x: &mut [[u8; 64]], log_m: GfElement) {
         mul_chunks::<V>(x, &get_mul128(self.tables)[log_m as usize]);
+    }
+
+    fn mul_add_row(&self, x: &mut [[u8; 64]], y: &[[u8; 64]], log_m: GfElement) {
+        add_row::<V>(x, y, self.factor(log_m));
     }
 }

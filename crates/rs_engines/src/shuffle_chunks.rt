@@ -1,6 +1,7 @@
 //! Products, butterflies and two layers of butterflies of chunks by shuffles. The vectors hold the 32 symbols of a
 //! chunk at once, or first one half of the symbols and then the other half.
-ghost use Rattle.std.specs.Prelude.{◌≡◌, ℕ, ◌+◌, ◌<◌, ◌≤◌, ◌⊎◌};
+ghost use Rattle.std.specs.Prelude.{◌≡◌, ℕ, ◌+◌, ◌<◌, ◌≤◌, ◌⊎◌, bit_xor};
+ghost use Rattle.rs_field.specs.words.Tables.{times_factor};
 ghost use Rattle.rs_field.specs.words.Field.{product};
 ghost use Rattle.rs_field.specs.rows.Rows.{symbol};
 ghost use Rattle.rs_field.specs.words.Products.{IsNibbleBytes};
@@ -35,6 +36,32 @@ pub fn mul_chunk<V: ByteVector>(c: &mut [u8; 64], factor: &Multiply128lutT)
     mul_lanes::<V>(c, 0, factor);
     if V::LANES < 32 {
         mul_lanes::<V>(c, 16, factor);
+    }
+}
+
+// Adds to as many symbols of a chunk as a vector has lanes, from symbol `at` on, the products of the same symbols of another
+// chunk with a factor.
+#[inline(always)]
+fn add_lanes<V: ByteVector, F: Factor>(x: &mut [u8; 64], y: &[u8; 64], at: usize, factor: F)
+    requires { at + V.LANES ≤ 32 }
+    ensures sums { (i s : ℕ) → i < V.LANES → s ≡ at + i
+        → symbol x.new s ≡ bit_xor (symbol x.old s) (times_factor (F.log factor) (symbol y.now s)) }
+    ensures kept { (s : ℕ) → s < 32 → (s < at) ⊎ (at + V.LANES ≤ s)
+        → symbol x.new s ≡ symbol x.old s }
+{
+    let sum = factor.add_product(words_at::<V>(x, at), words_at::<V>(y, at));
+    put_words(sum, x, at);
+}
+
+/// Adds to each symbol of a chunk the product of the same symbol of another chunk with a factor.
+#[inline(always)]
+pub fn add_chunk<V: ByteVector, F: Factor>(x: &mut [u8; 64], y: &[u8; 64], factor: F)
+    ensures { (s : ℕ) → s < 32
+        → symbol x.new s ≡ bit_xor (symbol x.old s) (times_factor (F.log factor) (symbol y.now s)) }
+{
+    add_lanes::<V, F>(x, y, 0, factor);
+    if V::LANES < 32 {
+        add_lanes::<V, F>(x, y, 16, factor);
     }
 }
 

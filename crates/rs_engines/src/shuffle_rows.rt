@@ -1,5 +1,6 @@
 //! Products, butterflies and two layers of butterflies of rows by shuffles, chunk by chunk.
-ghost use Rattle.std.specs.Prelude.{◌≡◌, ℕ, ◌<◌, length};
+ghost use Rattle.std.specs.Prelude.{◌≡◌, ℕ, ◌<◌, length, bit_xor};
+ghost use Rattle.rs_field.specs.words.Tables.{times_factor};
 ghost use Rattle.rs_field.specs.words.Field.{product};
 ghost use Rattle.rs_field.specs.rows.Rows.{chunk, symbol};
 ghost use Rattle.rs_field.specs.words.Products.{IsNibbleBytes};
@@ -11,7 +12,7 @@ use crate::any_factor::AnyFactor;
 use crate::butterflies::Butterflies;
 use crate::byte_vector::ByteVector;
 use crate::factors::{Factor, General, Small, ThreeFactors};
-use crate::shuffle_chunks::{four_chunks, mul_chunk, two_chunks};
+use crate::shuffle_chunks::{add_chunk, four_chunks, mul_chunk, two_chunks};
 use rs_field::engine::tables::Multiply128lutT;
 
 /// Multiplies each symbol of a row by a factor.
@@ -21,6 +22,20 @@ pub fn mul_chunks<V: ByteVector>(x: &mut [[u8; 64]], factor: &Multiply128lutT)
 {
     for k in 0..x.len() {
         mul_chunk::<V>(&mut x[k], factor);
+    }
+}
+
+// Adds to each symbol of a row the product of the same symbol of another row with a factor of class F.
+#[inline(always)]
+fn add_chunks<V: ByteVector, F: Factor>(x: &mut [[u8; 64]], y: &[[u8; 64]], factor: F)
+    requires { length x.old ≡ length y.now }
+    ensures { (k s : ℕ) → k < length x.old → s < 32
+        → symbol (chunk x.new k) s
+        ≡ bit_xor (symbol (chunk x.old k) s)
+        (times_factor (F.log factor) (symbol (chunk y.now k) s)) }
+{
+    for k in 0..x.len() {
+        add_chunk::<V, F>(&mut x[k], &y[k], factor);
     }
 }
 
@@ -72,6 +87,29 @@ fn copied(products: &Multiply128lutT) -> Multiply128lutT
     Multiply128lutT {
         lo: products.lo,
         hi: products.hi,
+    }
+}
+
+/// Adds to each symbol of a row the product of the same symbol of another row with a factor. There is a loop over chunks for
+/// each class of factors.
+#[inline(always)]
+pub fn add_row<V: ByteVector>(x: &mut [[u8; 64]], y: &[[u8; 64]], factor: AnyFactor<'_>)
+    requires { length x.old ≡ length y.now }
+    ensures { (k s : ℕ) → k < length x.old → s < 32
+        → symbol (chunk x.new k) s
+        ≡ bit_xor (symbol (chunk x.old k) s)
+        (times_factor (log_of factor.entry) (symbol (chunk y.now k) s)) }
+{
+    match factor {
+        AnyFactor::Zero(factor) => add_chunks::<V, _>(x, y, factor),
+        AnyFactor::Small(Small { log_m, products }) => {
+            let products = &copied(products);
+            add_chunks::<V, _>(x, y, Small { log_m, products })
+        }
+        AnyFactor::General(General { log_m, products }) => {
+            let products = &copied(products);
+            add_chunks::<V, _>(x, y, General { log_m, products })
+        }
     }
 }
 

@@ -246,6 +246,10 @@ impl Kernel for Butterflies<'_> {
     fn mul_row(&self, x: &mut [[u8; 64]], log_m: GfElement) {
         self.naive.mul_row(x, log_m);
     }
+
+    fn mul_add_row(&self, x: &mut [[u8; 64]], y: &[[u8; 64]], log_m: GfElement) {
+        self.naive.mul_add_row(x, y, log_m);
+    }
 }
 
 // Returns the engine after a decode of eight originals of zeros, which are all lost, from eight recovery shards.

@@ -8,18 +8,19 @@ use Rattle.rs_field.specs.words.Field.{product, power}
 use Rattle.rs_field.specs.words.Locator.{log_sum}
 use Rattle.rs_field.specs.code.Counts.{supports}
 use Rattle.rs_field.specs.code.Column.{Shard, IsShard, column}
-use Rattle.rs_field.specs.code.Placement.{Placement, placement}
+use Rattle.rs_field.specs.declared.code.frame.Frame.{Frame}
+use Rattle.rs_field.specs.code.Frame.{row_count, original_row, recovery_row}
 use Rattle.rs_field.specs.code.Configuration.{Configuration}
 use Rattle.rs_field.specs.code.Given.{Shards, count_below, Agrees, Consistent}
 use Rattle.rs_field.proofs.of_words.Product.{product_lt}
 use Rattle.rs_field.proofs.of_words.ExactCheck.{AreLocated}
 use Rattle.rs_field.proofs.of_words.PointValues.{coefficients_of}
 use Rattle.rs_field.proofs.of_code.Columns.{column_lt}
-use Rattle.rs_field.proofs.of_code.Frame.{IsFrame}
-use Rattle.rs_field.proofs.of_code.RateFrames.{HasFrame, has_frame}
+use Rattle.rs_field.proofs.of_code.Frame.{IsFrame, zeros_end}
+use Rattle.rs_field.proofs.of_code.RateFrames.{has_frame}
 use Rattle.rs_field.proofs.of_code.ErasedCount.{AreErasures}
 use Rattle.rs_field.proofs.of_code.DecodedColumn.{IsColumnOf, some_message}
-use Rattle.rs_field.proofs.of_code.AgreeingMessages.{AreSized, HasWords, consistent}
+use Rattle.rs_field.proofs.of_code.AgreeingMessages.{AreSized, HasWords, consistent, frame_at}
 use Rattle.rs_field.proofs.of_code.Agreement.{one_message}
 
 -- ---- the given shards by their points
@@ -39,26 +40,26 @@ unfolding in_range
 in_range-other from n x given other outside = grind (arith, common_steps)
 
 -- The given shard at a point.
-given_at : Placement → ℕ → ℕ → Shards → Shards → ℕ → Option Shard
+given_at : Frame → ℕ → ℕ → Shards → Shards → ℕ → Option Shard
 given_at p k r originals recovery x =
     in_range p.originals_from k originals (in_range p.recovery_from r recovery None x) x
 
-given_at-own : (p : Placement) (k r i : ℕ) (originals recovery : Shards) → i < k
-    → given_at p k r originals recovery (p.originals_from + i) ≡ originals i
+given_at-own : (p : Frame) (k r i : ℕ) (originals recovery : Shards) → i < k
+    → given_at p k r originals recovery (original_row p i) ≡ originals i
 unfolding given_at
 given_at-own p k r i originals recovery hi = in_range-at p.originals_from k i originals _ hi
 
-given_at-coded : (p : Placement) (k r e bound zeros_end i : ℕ) (originals recovery : Shards)
-    → IsFrame p k r e bound zeros_end → i < r
-    → given_at p k r originals recovery (p.recovery_from + i) ≡ recovery i
+given_at-coded : (p : Frame) (k r i : ℕ) (originals recovery : Shards)
+    → IsFrame p k r → i < r
+    → given_at p k r originals recovery (recovery_row p i) ≡ recovery i
 unfolding given_at
-given_at-coded p k r e bound zeros_end i originals recovery f hi =
+given_at-coded p k r i originals recovery f hi =
     let zeros = f.zeros in
-    in_range-other p.originals_from k (p.recovery_from + i) originals _
+    in_range-other p.originals_from k (recovery_row p i) originals _
     (elim f.order [ inl low ↦ inr (omega (arith, low.1)) | inr high ↦ inl (omega (arith, high.0, high.1)) ])
     ∙ in_range-at p.recovery_from r i recovery None hi
 
-given_at-other : (p : Placement) (k r x : ℕ) (originals recovery : Shards)
+given_at-other : (p : Frame) (k r x : ℕ) (originals recovery : Shards)
     → (x < p.originals_from) ⊎ (p.originals_from + k ≤ x) → (x < p.recovery_from) ⊎ (p.recovery_from + r ≤ x)
     → given_at p k r originals recovery x ≡ None
 unfolding given_at
@@ -67,7 +68,7 @@ given_at-other p k r x originals recovery not_own not_coded =
     ∙ in_range-other p.recovery_from r x recovery None not_coded
 
 -- The given shard at a point is an entry of one of the two maps, or there is none.
-given_at-cases : (p : Placement) (k r x : ℕ) (originals recovery : Shards)
+given_at-cases : (p : Frame) (k r x : ℕ) (originals recovery : Shards)
     → ((i : ℕ) × (given_at p k r originals recovery x ≡ originals i))
     ⊎ (((i : ℕ) × (given_at p k r originals recovery x ≡ recovery i)) ⊎ (given_at p k r originals recovery x ≡ None))
 unfolding given_at in_range
@@ -92,10 +93,10 @@ word_of : ℕ → Option Shard → ℕ
 word_of j None = 0
 word_of j (Some shard) = column j shard
 
-word_at : Placement → ℕ → ℕ → Shards → Shards → ℕ → ℕ → ℕ
+word_at : Frame → ℕ → ℕ → Shards → Shards → ℕ → ℕ → ℕ
 word_at p k r originals recovery j x = word_of j (given_at p k r originals recovery x)
 
-word_at-is : (p : Placement) (k r : ℕ) (originals recovery : Shards) (j x : ℕ) (o : Option Shard)
+word_at-is : (p : Frame) (k r : ℕ) (originals recovery : Shards) (j x : ℕ) (o : Option Shard)
     → given_at p k r originals recovery x ≡ o → word_at p k r originals recovery j x ≡ word_of j o
 unfolding word_at
 word_at-is p k r originals recovery j x o e = ap (word_of j) e
@@ -106,7 +107,7 @@ unfolding word_of
 word_of_lt size j None sized = omega arith
 word_of_lt size j (Some shard) sized = column_lt size shard j (sized shard refl)
 
-word_at_lt : (p : Placement) (k r size : ℕ) (originals recovery : Shards) (j x : ℕ) → AreSized k size originals
+word_at_lt : (p : Frame) (k r size : ℕ) (originals recovery : Shards) (j x : ℕ) → AreSized k size originals
     → AreSized r size recovery → word_at p k r originals recovery j x < 65536
 word_at_lt p k r size originals recovery j x own coded =
     elim (given_at-cases p k r x originals recovery) [
@@ -126,68 +127,68 @@ word_at_lt p k r size originals recovery j x own coded =
     ]
 
 -- The words of a column are those of the given shards.
-words_given : (p : Placement) (k r e bound zeros_end size : ℕ) (originals recovery : Shards) (j : ℕ)
-    → IsFrame p k r e bound zeros_end → AreSized k size originals → AreSized r size recovery
+words_given : (p : Frame) (k r size : ℕ) (originals recovery : Shards) (j : ℕ)
+    → IsFrame p k r → AreSized k size originals → AreSized r size recovery
     → HasWords p originals recovery j (word_at p k r originals recovery j)
 unfolding word_of
-words_given p k r e bound zeros_end size originals recovery j f own coded = record {
+words_given p k r size originals recovery j f own coded = record {
   own = λ i shard is.
-      word_at-is p k r originals recovery j (p.originals_from + i) (Some shard)
+      word_at-is p k r originals recovery j (original_row p i) (Some shard)
       (given_at-own p k r i originals recovery (own.each i shard is).0 ∙ is);
   coded = λ i shard is.
-      word_at-is p k r originals recovery j (p.recovery_from + i) (Some shard)
-      (given_at-coded p k r e bound zeros_end i originals recovery f (coded.each i shard is).0 ∙ is);
+      word_at-is p k r originals recovery j (recovery_row p i) (Some shard)
+      (given_at-coded p k r i originals recovery f (coded.each i shard is).0 ∙ is);
 }
 
 -- The word at a known zero is 0.
-word_at-zero : (p : Placement) (k r e bound zeros_end : ℕ) (originals recovery : Shards) (j x : ℕ)
-    → IsFrame p k r e bound zeros_end → p.zeros_from ≤ x → x < zeros_end → word_at p k r originals recovery j x ≡ 0
+word_at-zero : (p : Frame) (k r : ℕ) (originals recovery : Shards) (j x : ℕ)
+    → IsFrame p k r → p.zeros_from ≤ x → x < (zeros_end p) → word_at p k r originals recovery j x ≡ 0
 unfolding word_of
-word_at-zero p k r e bound zeros_end originals recovery j x f above below =
+word_at-zero p k r originals recovery j x f above below =
     let follow : p.zeros_from ≡ p.originals_from + k = f.follow in
     word_at-is p k r originals recovery j x None
     (given_at-other p k r x originals recovery (inr (omega arith))
     (elim f.order [ inl low ↦ inl (omega (arith, low.1)) | inr high ↦ inr (omega (arith, high.0, high.1)) ]))
 
 -- The entry of a row: 0 if a shard is given there or the row is a known zero, else 1.
-mark_at : Placement → ℕ → ℕ → ℕ → Shards → Shards → ℕ → ℕ
-mark_at p k r zeros_end originals recovery x =
-    cond (is_some (given_at p k r originals recovery x) || (nat_le p.zeros_from x && nat_lt x zeros_end)) 0 1
+mark_at : Frame → ℕ → ℕ → Shards → Shards → ℕ → ℕ
+mark_at p k r originals recovery x =
+    cond (is_some (given_at p k r originals recovery x) || (nat_le p.zeros_from x && nat_lt x (zeros_end p))) 0 1
 
-mark_at-most : (p : Placement) (k r zeros_end : ℕ) (originals recovery : Shards) (x : ℕ)
-    → mark_at p k r zeros_end originals recovery x ≤ 1
+mark_at-most : (p : Frame) (k r : ℕ) (originals recovery : Shards) (x : ℕ)
+    → mark_at p k r originals recovery x ≤ 1
 unfolding mark_at
-mark_at-most p k r zeros_end originals recovery x = grind (arith, common_steps)
+mark_at-most p k r originals recovery x = grind (arith, common_steps)
 
-mark_at-known : (p : Placement) (k r zeros_end : ℕ) (originals recovery : Shards) (x : ℕ) → p.zeros_from ≤ x
-    → x < zeros_end → mark_at p k r zeros_end originals recovery x ≡ 0
+mark_at-known : (p : Frame) (k r : ℕ) (originals recovery : Shards) (x : ℕ) → p.zeros_from ≤ x
+    → x < (zeros_end p) → mark_at p k r originals recovery x ≡ 0
 unfolding mark_at
-mark_at-known p k r zeros_end originals recovery x above below = grind (arith, common_steps)
+mark_at-known p k r originals recovery x above below = grind (arith, common_steps)
 
-mark_at-row : (p : Placement) (k r zeros_end : ℕ) (originals recovery : Shards) (x : ℕ) (o : Option Shard)
-    → (x < p.zeros_from) ⊎ (zeros_end ≤ x) → given_at p k r originals recovery x ≡ o
-    → mark_at p k r zeros_end originals recovery x ≡ cond (is_some o) 0 1
+mark_at-row : (p : Frame) (k r : ℕ) (originals recovery : Shards) (x : ℕ) (o : Option Shard)
+    → (x < p.zeros_from) ⊎ ((zeros_end p) ≤ x) → given_at p k r originals recovery x ≡ o
+    → mark_at p k r originals recovery x ≡ cond (is_some o) 0 1
 unfolding mark_at
-mark_at-row p k r zeros_end originals recovery x o outside is = grind (arith, common_steps)
+mark_at-row p k r originals recovery x o outside is = grind (arith, common_steps)
 
 -- These entries mark the erased rows of a frame.
-are_erasures : (p : Placement) (k r e bound zeros_end : ℕ) (originals recovery : Shards)
-    → IsFrame p k r e bound zeros_end
-    → AreErasures p k r (2 ^ e) zeros_end originals recovery (mark_at p k r zeros_end originals recovery)
-are_erasures p k r e bound zeros_end originals recovery f =
+are_erasures : (p : Frame) (k r : ℕ) (originals recovery : Shards)
+    → IsFrame p k r
+    → AreErasures p k r originals recovery (mark_at p k r originals recovery)
+are_erasures p k r originals recovery f =
     let follow : p.zeros_from ≡ p.originals_from + k = f.follow in
     record {
-      are_marks = record { mark = λ y hy. mark_at-most p k r zeros_end originals recovery y };
+      are_marks = record { mark = λ y hy. mark_at-most p k r originals recovery y };
       own = λ i hi.
-          mark_at-row p k r zeros_end originals recovery (p.originals_from + i) (originals i) (inl (omega arith))
+          mark_at-row p k r originals recovery (original_row p i) (originals i) (inl (omega arith))
           (given_at-own p k r i originals recovery hi);
       coded = λ i hi.
-          mark_at-row p k r zeros_end originals recovery (p.recovery_from + i) (recovery i)
+          mark_at-row p k r originals recovery (recovery_row p i) (recovery i)
           (elim f.order [ inl low ↦ inr (omega (arith, low.1)) | inr high ↦ inl (omega (arith, high.0, high.1)) ])
-          (given_at-coded p k r e bound zeros_end i originals recovery f hi);
-      known = λ x above below. mark_at-known p k r zeros_end originals recovery x above below;
+          (given_at-coded p k r i originals recovery f hi);
+      known = λ x above below. mark_at-known p k r originals recovery x above below;
       other = λ x hx not_own not_coded not_zero.
-          mark_at-row p k r zeros_end originals recovery x None not_zero
+          mark_at-row p k r originals recovery x None not_zero
           (given_at-other p k r x originals recovery not_own not_coded);
     }
 
@@ -207,22 +208,22 @@ unfolding located_at
 located_at_lt n marks words x = grind (arith, common_steps, product_lt)
 
 -- The rows of a column that is made from the given shards.
-is_column : (p : Placement) (k r e bound zeros_end size : ℕ) (originals recovery : Shards) (j : ℕ)
-    → IsFrame p k r e bound zeros_end → AreSized k size originals → AreSized r size recovery
-    → (rows : ℕ → ℕ) × IsColumnOf p k r e bound zeros_end originals recovery
-    (mark_at p k r zeros_end originals recovery) (word_at p k r originals recovery j)
-    (located_at (2 ^ e) (mark_at p k r zeros_end originals recovery) (word_at p k r originals recovery j)) rows
-is_column p k r e bound zeros_end size originals recovery j f own coded =
-    let marks : ℕ → ℕ = mark_at p k r zeros_end originals recovery in
+is_column : (p : Frame) (k r size : ℕ) (originals recovery : Shards) (j : ℕ)
+    → IsFrame p k r → AreSized k size originals → AreSized r size recovery
+    → (rows : ℕ → ℕ) × IsColumnOf p k r originals recovery
+    (mark_at p k r originals recovery) (word_at p k r originals recovery j)
+    (located_at (row_count p) (mark_at p k r originals recovery) (word_at p k r originals recovery j)) rows
+is_column p k r size originals recovery j f own coded =
+    let marks : ℕ → ℕ = mark_at p k r originals recovery in
     let words : ℕ → ℕ = word_at p k r originals recovery j in
-    let (rows, are) = coefficients_of e (located_at (2 ^ e) marks words) f.few (located_at_lt (2 ^ e) marks words) in (
+    let (rows, are) = coefficients_of p.exponent (located_at (row_count p) marks words) f.few (located_at_lt (row_count p) marks words) in (
       rows,
       record {
-        frame = f;
-        erasures = are_erasures p k r e bound zeros_end originals recovery f;
+        is_frame = f;
+        erasures = are_erasures p k r originals recovery f;
         are_words = λ x hx. word_at_lt p k r size originals recovery j x own coded;
-        known = λ x above below. word_at-zero p k r e bound zeros_end originals recovery j x f above below;
-        are_located = located_at-are (2 ^ e) marks words;
+        known = λ x above below. word_at-zero p k r originals recovery j x f above below;
+        are_located = located_at-are (row_count p) marks words;
         row_words = λ x hx. are.word x;
         back = are.at;
       },
@@ -237,29 +238,17 @@ pub any_consistent : (c : Configuration) (originals recovery : Shards)
     → count_below c.original_count originals + count_below c.recovery_count recovery ≡ c.original_count
     → Consistent c originals recovery
 any_consistent c originals recovery is even own coded count =
-    by_frame (has_frame c.rate c.original_count c.recovery_count is)
-  where
-    k : ℕ
-    k = c.original_count
-
-    r : ℕ
-    r = c.recovery_count
-
-    by_frame : HasFrame c.rate c.original_count c.recovery_count → Consistent c originals recovery
-    by_frame h =
-        let p : Placement = placement c.rate c.original_count c.recovery_count in
-        consistent c originals recovery (word_at p k r originals recovery) even own coded
-        (λ j hj. words_given p k r h.exponent h.bound h.zeros_end c.shard_bytes originals recovery j h.frame own coded)
-        (λ j hj.
-        let (rows, column) =
-        is_column p k r h.exponent h.bound h.zeros_end c.shard_bytes originals recovery j h.frame own coded in
-        let (message, q, _, codes, takes) =
-        some_message c.rate k r h.exponent h.bound h.zeros_end 0 originals recovery
-        (mark_at p k r h.zeros_end originals recovery) (word_at p k r originals recovery j)
-        (located_at (2 ^ h.exponent) (mark_at p k r h.zeros_end originals recovery)
-        (word_at p k r originals recovery j)) rows column (count ∙ sym (add-zero k))
-        (λ i above below. absurd (let no : ⊥ = omega arith in no)) in
-        (q, (message, codes, takes)))
+    let k = c.original_count in let r = c.recovery_count in let p = frame_at c in
+    let f = has_frame c.rate c.original_count c.recovery_count is in
+    consistent c originals recovery (word_at p k r originals recovery) even own coded
+    (λ j hj. words_given p k r c.shard_bytes originals recovery j f own coded)
+    (λ j hj.
+    let (rows, column) = is_column p k r c.shard_bytes originals recovery j f own coded in
+    let (message, q, _, codes, takes) = some_message c.rate k r originals recovery
+    (mark_at p k r originals recovery) (word_at p k r originals recovery j)
+    (located_at (row_count p) (mark_at p k r originals recovery) (word_at p k r originals recovery j)) rows column 0
+    (count ∙ sym (add-zero k)) (λ i above below. absurd (let no : ⊥ = omega arith in no)) in
+    (q, (message, codes, takes)))
 
 -- Any k shards of one size agree with exactly one message.
 pub one_codeword : (c : Configuration) (originals recovery : Shards)

@@ -1,17 +1,17 @@
 -- Any k of the given shards, the base, decide whether some message agrees with all given shards.
-use Rattle.std.proofs.Common.{◌≡◌, ℕ, ◌+◌, ◌/◌, ◌%◌, ◌^◌, ◌<◌, ◌⊎◌, Bool, true, false, List, refl, sym, ap, ◌∙◌, subst}
+use Rattle.std.proofs.Common.{◌≡◌, ℕ, ◌+◌, ◌/◌, ◌%◌, ◌<◌, ◌⊎◌, Bool, true, false, List, refl, sym, ap, ◌∙◌, subst}
 use Rattle.std.proofs.Common.{arith, inl, inr}
 use Rattle.std.specs.Prelude.{Option, Some, is_some, ◌↔◌}
 use Rattle.std.proofs.lemmas.Bool.{cases_Bool}
 use Rattle.rs_field.specs.words.DirectSum.{direct_sum}
 use Rattle.rs_field.specs.code.Counts.{supports}
 use Rattle.rs_field.specs.code.Column.{Shard, shard_at, column}
-use Rattle.rs_field.specs.code.Placement.{placement}
+use Rattle.rs_field.specs.code.Frame.{row_count, original_row, recovery_row}
 use Rattle.rs_field.specs.code.Configuration.{Configuration}
 use Rattle.rs_field.specs.code.Given.{Shards, count_below, AreAmong, Agrees, Consistent}
 use Rattle.rs_field.proofs.of_code.Given.{some_of}
 use Rattle.rs_field.proofs.of_code.Columns.{shard_from_columns, shard_in}
-use Rattle.rs_field.proofs.of_code.AgreeingMessages.{AreSized}
+use Rattle.rs_field.proofs.of_code.AgreeingMessages.{AreSized, frame_at}
 use Rattle.rs_field.proofs.of_code.DirectColumn.{AreDirectColumns, direct_original, direct_recovery}
 use Rattle.rs_field.proofs.of_code.AnyShards.{any_consistent}
 
@@ -38,28 +38,28 @@ one_shard : (entry : Option Shard) (one other : Shard) → entry ≡ Some one �
 one_shard entry one other e f = cc
 
 -- Each given shard that is not in the base has the direct sums over the base as its words.
-pub record AreDirectSums (c : Configuration) (originals recovery base_originals base_recovery : Shards) (e : ℕ)
+pub record AreDirectSums (c : Configuration) (originals recovery base_originals base_recovery : Shards)
     (locator : ℕ → ℕ) (received : ℕ → Bool) (words : ℕ → ℕ → ℕ) : Type 0 where
   pub own : (i : ℕ) (shard : Shard) (j : ℕ) → originals i ≡ Some shard → is_some (base_originals i) ≡ false
       → j < c.shard_bytes / 2
-      → direct_sum (2 ^ e) received locator (words j)
-      ((placement c.rate c.original_count c.recovery_count).originals_from + i) ≡ column j shard
+      → direct_sum (row_count (frame_at c)) received locator (words j)
+      (original_row (frame_at c) i) ≡ column j shard
   pub coded : (i : ℕ) (shard : Shard) (j : ℕ) → recovery i ≡ Some shard → is_some (base_recovery i) ≡ false
       → j < c.shard_bytes / 2
-      → direct_sum (2 ^ e) received locator (words j)
-      ((placement c.rate c.original_count c.recovery_count).recovery_from + i) ≡ column j shard
+      → direct_sum (row_count (frame_at c)) received locator (words j)
+      (recovery_row (frame_at c) i) ≡ column j shard
 
 -- Some message agrees with all given shards if and only if the direct sums over k of them are the words of the others.
 pub consistent_by_base : (c : Configuration) (originals recovery base_originals base_recovery : Shards)
-    (e bound zeros_end : ℕ) (marks locator : ℕ → ℕ) (received : ℕ → Bool) (words : ℕ → ℕ → ℕ)
+    (marks locator : ℕ → ℕ) (received : ℕ → Bool) (words : ℕ → ℕ → ℕ)
     → supports c.rate c.original_count c.recovery_count ≡ true → c.shard_bytes % 2 ≡ 0
     → AreSized c.original_count c.shard_bytes originals → AreSized c.recovery_count c.shard_bytes recovery
     → IsPartOf base_originals originals → IsPartOf base_recovery recovery
     → count_below c.original_count base_originals + count_below c.recovery_count base_recovery ≡ c.original_count
-    → AreDirectColumns c base_originals base_recovery e bound zeros_end marks locator received words
+    → AreDirectColumns c base_originals base_recovery marks locator received words
     → Consistent c originals recovery
-    ↔ AreDirectSums c originals recovery base_originals base_recovery e locator received words
-consistent_by_base c originals recovery base_originals base_recovery e bound zeros_end marks locator received words is
+    ↔ AreDirectSums c originals recovery base_originals base_recovery locator received words
+consistent_by_base c originals recovery base_originals base_recovery marks locator received words is
     even own_sized coded_sized own_part coded_part count d = (
       λ m.
           let (a, same) =
@@ -85,20 +85,20 @@ consistent_by_base c originals recovery base_originals base_recovery e bound zer
   where
     sums : (message : List Shard) (a : Agrees c base_originals base_recovery message) → AreAmong originals message
         → AreAmong recovery a.coded.0
-        → AreDirectSums c originals recovery base_originals base_recovery e locator received words
+        → AreDirectSums c originals recovery base_originals base_recovery locator received words
     sums message a own coded = record {
       own = λ i shard j given missing hj.
-          direct_original c base_originals base_recovery e bound zeros_end marks locator received words message i j d
-          (omega arith) a (own_sized.each i shard given).0 hj missing
+          direct_original c base_originals base_recovery marks locator received words message i j d (omega arith) a hj
+          (own_sized.each i shard given).0 missing
           ∙ ap (column j) (own i shard given);
       coded = λ i shard j given missing hj.
-          direct_recovery c base_originals base_recovery e bound zeros_end marks locator received words message i j d
-          (omega arith) a (coded_sized.each i shard given).0 hj missing
+          direct_recovery c base_originals base_recovery marks locator received words message i j d (omega arith) a hj
+          (coded_sized.each i shard given).0 missing
           ∙ ap (column j) (coded i shard given);
     }
 
     own_shard : (message : List Shard) (a : Agrees c base_originals base_recovery message)
-        → AreDirectSums c originals recovery base_originals base_recovery e locator received words
+        → AreDirectSums c originals recovery base_originals base_recovery locator received words
         → (i : ℕ) (shard : Shard) → originals i ≡ Some shard
         → (is_some (base_originals i) ≡ true) ⊎ (is_some (base_originals i) ≡ false) → shard_at message i ≡ shard
     own_shard message a s i shard given (inl some) =
@@ -109,12 +109,12 @@ consistent_by_base c originals recovery base_originals base_recovery e bound zer
         shard_from_columns c.shard_bytes (shard_at message i) shard
         (shard_in c.original_count c.shard_bytes message a.shards i sized.0) sized.1 even
         (λ j hj.
-        sym (direct_original c base_originals base_recovery e bound zeros_end marks locator received words message i j d
-        (omega arith) a sized.0 hj missing)
+        sym (direct_original c base_originals base_recovery marks locator received words message i j d (omega arith) a hj
+        sized.0 missing)
         ∙ s.own i shard j given missing hj)
 
     coded_shard : (message : List Shard) (a : Agrees c base_originals base_recovery message)
-        → AreDirectSums c originals recovery base_originals base_recovery e locator received words
+        → AreDirectSums c originals recovery base_originals base_recovery locator received words
         → (i : ℕ) (shard : Shard) → recovery i ≡ Some shard
         → (is_some (base_recovery i) ≡ true) ⊎ (is_some (base_recovery i) ≡ false) → shard_at a.coded.0 i ≡ shard
     coded_shard message a s i shard given (inl some) =
@@ -125,6 +125,6 @@ consistent_by_base c originals recovery base_originals base_recovery e bound zer
         shard_from_columns c.shard_bytes (shard_at a.coded.0 i) shard
         (shard_in c.recovery_count c.shard_bytes a.coded.0 a.coded.1.shards i sized.0) sized.1 even
         (λ j hj.
-        sym (direct_recovery c base_originals base_recovery e bound zeros_end marks locator received words message i j d
-        (omega arith) a sized.0 hj missing)
+        sym (direct_recovery c base_originals base_recovery marks locator received words message i j d (omega arith) a hj
+        sized.0 missing)
         ∙ s.coded i shard j given missing hj)

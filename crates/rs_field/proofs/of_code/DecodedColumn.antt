@@ -104,6 +104,31 @@ module _ (frame : Frame) (k r : ℕ) (originals recovery : Shards) (marks words 
             takes.given x (omega arith) (h.known x above below) ∙ known x above below;
       }
 
+-- A polynomial that codes and takes the given words is, at the rows, a polynomial of the frame that takes them.
+pub taken_from : (rate : Rate) (k r : ℕ) (originals recovery : Shards) (marks words : ℕ → ℕ)
+    → IsFrame (frame_of rate k r) k r → AreErasures (frame_of rate k r) k r originals recovery marks
+    → ((x : ℕ) → (frame_of rate k r).zeros_from ≤ x → x < zeros_end (frame_of rate k r) → words x ≡ 0)
+    → (message p : List ℕ) → Codes rate k r message p
+    → TakesGiven (frame_of rate k r) k r originals recovery words p
+    → (q : List ℕ) × Takes (row_count (frame_of rate k r)) (coefficient_count (frame_of rate k r)) marks words q
+    × ((x : ℕ) → x < row_count (frame_of rate k r) → value q x ≡ value p x)
+taken_from rate k r originals recovery marks words f erasures known message p codes takes =
+    let frame = frame_of rate k r in
+    let (q, in_frame, same) = framed rate k r f message p codes in
+    let takes_q : TakesGiven (frame_of rate k r) k r originals recovery words q = record {
+      own = λ i hi some. same (original_row frame i) (omega (arith, f.originals, hi)) ∙ takes.own i hi some;
+      coded = λ i hi some. same (recovery_row frame i) (omega (arith, f.recovery, hi)) ∙ takes.coded i hi some;
+    } in (
+      q,
+      record {
+        degree = in_frame.degree;
+        coefficients = in_frame.coefficients;
+        given = at_unmarked frame k r originals recovery marks words erasures q takes_q
+            (λ x a b. in_frame.zeros x a b ∙ sym (known x a b));
+      },
+      same,
+    )
+
 module _ (rate : Rate) (k r : ℕ) (originals recovery : Shards) (marks words located rows : ℕ → ℕ)
     (c : IsColumnOf (frame_of rate k r) k r originals recovery marks words located rows) where
   -- The erased rows, the coefficients and the given shards are together as many as the rows and the originals.
@@ -134,27 +159,10 @@ module _ (rate : Rate) (k r : ℕ) (originals recovery : Shards) (marks words lo
 
   module _ (message p : List ℕ) (codes : Codes rate k r message p)
       (takes : TakesGiven (frame_of rate k r) k r originals recovery words p) where
-    -- A polynomial that codes and takes the given words is, at the rows, a polynomial of the frame that takes them.
     taken_in : (q : List ℕ)
         × Takes (row_count (frame_of rate k r)) (coefficient_count (frame_of rate k r)) marks words q
         × ((x : ℕ) → x < row_count (frame_of rate k r) → value q x ≡ value p x)
-    taken_in =
-        let frame = frame_of rate k r in
-        let (q, in_frame, same) = framed rate k r c.is_frame message p codes in
-        let f = c.is_frame in
-        let takes_q : TakesGiven (frame_of rate k r) k r originals recovery words q = record {
-          own = λ i hi some. same (original_row frame i) (omega (arith, f.originals, hi)) ∙ takes.own i hi some;
-          coded = λ i hi some. same (recovery_row frame i) (omega (arith, f.recovery, hi)) ∙ takes.coded i hi some;
-        } in (
-          q,
-          record {
-            degree = in_frame.degree;
-            coefficients = in_frame.coefficients;
-            given = at_unmarked frame k r originals recovery marks words c.erasures q takes_q
-                (λ x a b. in_frame.zeros x a b ∙ sym (c.known x a b));
-          },
-          same,
-        )
+    taken_in = taken_from rate k r originals recovery marks words c.is_frame c.erasures c.known message p codes takes
 
     -- The last rows are zero, as many as there are surplus shards.
     pub surplus_rows : (t : ℕ) → count_below k originals + count_below r recovery ≡ k + t

@@ -1,6 +1,6 @@
 -- Both rates in one frame: the polynomials of a code, and polynomials with one coefficient for each row from the first
 -- original to the end of the zero points.
-use Rattle.std.proofs.Common.{◌≡◌, ℕ, ◌+◌, ◌-◌, ◌^◌, ◌<◌, ◌≤◌, ◌⊎◌, min, List, length, refl, sym, ◌∙◌, arith, inl, inr}
+use Rattle.std.proofs.Common.{◌≡◌, ℕ, ◌+◌, ◌-◌, ◌<◌, ◌≤◌, ◌⊎◌, min, List, length, refl, sym, ◌∙◌, arith, inl, inr}
 use Rattle.std.proofs.Common.{pow_mono}
 use Rattle.std.specs.Prelude.{slice_index}
 use Rattle.std.proofs.lemmas.Bool.{cases_lt}

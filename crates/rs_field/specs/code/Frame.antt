@@ -1,5 +1,5 @@
 -- The frame of a code: the points of its shards, and the rows of a decoder. A point is a number from 0 to 65535.
-use Rattle.std.specs.Prelude.{◌≡◌, ℕ, ◌+◌, ◌-◌, ◌*◌, ◌/◌, ◌^◌, ◌≤◌, ◌⊎◌, min, true, false, if◌then◌else◌}
+use Rattle.std.specs.Prelude.{ℕ, ◌+◌, ◌-◌, ◌*◌, ◌/◌, ◌^◌, true, false, if◌then◌else◌}
 use Rattle.rs_field.specs.code.Counts.{Rate, next_power, exponent_of, is_low}
 use Rattle.rs_field.specs.declared.code.frame.Frame.{Frame}
 

@@ -1,6 +1,8 @@
 //! The trait of an engine.
 ghost use Rattle.std.specs.Prelude.{◌≡◌, ℕ, ◌+◌, ◌%◌, ◌^◌, ◌<◌, ◌≤◌, true, length, slice_index};
+ghost use Rattle.std.specs.Prelude.{bit_xor};
 ghost use Rattle.rs_field.specs.words.Field.{product, power};
+ghost use Rattle.rs_field.specs.words.Tables.{times_factor};
 ghost use Rattle.rs_field.specs.rows.MarkedRows.{is_marked, OthersAreZero};
 ghost use Rattle.rs_field.specs.words.Transform.{forward};
 ghost use Rattle.rs_field.specs.rows.Rows.{chunk, symbol};
@@ -10,7 +12,8 @@ ghost use Rattle.rs_field.specs.words.StepBounds.{LocatorCounts, TransformCounts
 
 use super::ShardsRefMut;
 use super::marked_rows::marked_end;
-use crate::words::{GF_ORDER, GfElement, Steps};
+use super::sums::xor;
+use crate::words::{GF_MODULUS, GF_ORDER, GfElement, Steps};
 
 /// An engine: the transforms of rows, the product of a row, and the locator that encoders and decoders need.
 ///
@@ -18,7 +21,7 @@ use crate::words::{GF_ORDER, GfElement, Steps};
 /// codes"), in the form of Leopard-RS. They lead from coefficients in the basis of subspace polynomials to values on a coset,
 /// for each symbol by itself. Every call succeeds and allocates nothing.
 ///
-/// A type that provides `fft`, `ifft`, `mul` and `eval_poly` is an engine. The other three calls have default bodies.
+/// A type that provides `fft`, `ifft`, `mul` and `eval_poly` is an engine. The other four calls have default bodies.
 pub trait Engine: Drop {
     /// Transforms the `size` rows from `pos` on forward, at `skew_delta`.
     ///
@@ -138,6 +141,26 @@ pub trait Engine: Drop {
         ensures products { (k s : ℕ) → k < length x.old → s < 32
             → symbol (chunk x.new k) s ≡ product (symbol (chunk x.old k) s) (power log_m) }
         ensures counts { RowProductCounts steps.old steps.new };
+
+    /// Adds `y` times the generator to the power `log_m` to `x`, symbol by symbol. 65535 represents the factor zero, as in
+    /// butterflies. Both rows have the same number of chunks. The default body makes a `mul` for each chunk.
+    fn mul_add(&self, steps: &mut Steps, x: &mut [[u8; 64]], y: &[[u8; 64]], log_m: GfElement)
+        requires { length x.old ≡ length y.now }
+        ensures sums { (k s : ℕ) → k < length x.old → s < 32
+            → symbol (chunk x.new k) s
+            ≡ bit_xor (symbol (chunk x.old k) s) (times_factor log_m (symbol (chunk y.now k) s)) }
+        ensures counts { RowProductCounts steps.old steps.new }
+    {
+        steps.row_step();
+        if log_m != GF_MODULUS {
+            let mut uncounted = Steps::new();
+            for k in 0..x.len() {
+                let mut products = [y[k]];
+                self.mul(&mut uncounted, &mut products, log_m);
+                xor(&mut x[k..k + 1], &products);
+            }
+        }
+    }
 
     /// Computes the locator of the marked points, at all points at once: entry x becomes, modulo 65535, the sum over all
     /// points y other than x of entry y times the logarithm of `x XOR y`.

@@ -62,21 +62,6 @@ fn mul_add(xs: &mut [[u8; 64]], ys: &[[u8; 64]], log_m: GfElement, exp: Exp<'_>,
     }
 }
 
-impl Naive<'_> {
-    // Adds a row times a factor to another row. The logarithm 65535 marks the factor zero, whose product is left out.
-    fn mul_add_row(&self, xs: &mut [[u8; 64]], ys: &[[u8; 64]], log_m: GfElement)
-        requires { length xs.old ≡ length ys.now }
-        ensures { (k s : ℕ) → k < length xs.old → s < 32
-            → symbol (chunk xs.new k) s
-            ≡ bit_xor (symbol (chunk xs.old k) s) (times_factor log_m (symbol (chunk ys.now k) s)) }
-    {
-        if log_m != GF_MODULUS {
-            let t = get_exp_log(self.tables);
-            mul_add(xs, ys, log_m, &t.exp, &t.log);
-        }
-    }
-}
-
 impl Kernel for Naive<'_> {
     fn tables(&self) -> LentTables<'_> {
         self.tables.lent()
@@ -96,6 +81,13 @@ impl Kernel for Naive<'_> {
         let t = get_exp_log(self.tables);
         for k in 0..x.len() {
             mul_chunk(&mut x[k], log_m, &t.exp, &t.log);
+        }
+    }
+
+    fn mul_add_row(&self, x: &mut [[u8; 64]], y: &[[u8; 64]], log_m: GfElement) {
+        if log_m != GF_MODULUS {
+            let t = get_exp_log(self.tables);
+            mul_add(x, y, log_m, &t.exp, &t.log);
         }
     }
 }

@@ -20,7 +20,7 @@ pub struct ThreeLogarithms {
     pub log_m23: GfElement,
 }
 
-/// The parts in which engines differ: the tables that they read, the butterflies of two rows, and the product of a row.
+/// The parts in which engines differ: the tables that they read, the butterflies of two rows, and the products of a row.
 ///
 /// Each type with these parts is an engine. `impl Engine` defines its transforms, which handle blocks, cosets and unused rows, and
 /// its products and its locator. The factor of a butterfly is given by its logarithm `log_m`; 65535 represents the factor zero.
@@ -107,4 +107,12 @@ pub trait Kernel: Drop {
     fn mul_row(&self, x: &mut [[u8; 64]], log_m: GfElement)
         ensures { (k s : ℕ) → k < length x.old → s < 32
             → symbol (chunk x.new k) s ≡ product (symbol (chunk x.old k) s) (power log_m) };
+
+    /// Adds `y` times the factor of a butterfly to `x`; 65535 represents the factor zero. Both rows have the same number of
+    /// chunks.
+    fn mul_add_row(&self, x: &mut [[u8; 64]], y: &[[u8; 64]], log_m: GfElement)
+        requires { length x.old ≡ length y.now }
+        ensures { (k s : ℕ) → k < length x.old → s < 32
+            → symbol (chunk x.new k) s
+            ≡ bit_xor (symbol (chunk x.old k) s) (times_factor log_m (symbol (chunk y.now k) s)) };
 }

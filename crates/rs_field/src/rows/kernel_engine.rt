@@ -73,6 +73,11 @@ impl<K: Kernel> Engine for K {
         self.mul_row(x, log_m);
     }
 
+    fn mul_add(&self, steps: &mut Steps, x: &mut [[u8; 64]], y: &[[u8; 64]], log_m: GfElement) {
+        steps.row_step();
+        self.mul_add_row(x, y, log_m);
+    }
+
     fn eval_poly(&self, steps: &mut Steps, erasures: &mut [GfElement], truncated_size: usize) {
         let log_walsh = self.tables().log_walsh();
         locating::eval_poly(steps, erasures, truncated_size, log_walsh);

@@ -1,0 +1,12 @@
+use Rattle.std.proofs.Common.{◌≡◌, ℕ, ◌<◌, ◌≤◌, bit_xor}
+use Rattle.rs_field.specs.rows.Rows.{symbol, chunk}
+use Rattle.rs_field.specs.words.Tables.{times_factor}
+use Rattle.rs_engines.proofs.shuffle_rows.add_chunks.Given as goal
+
+abbrev pub invariant-loop-k : goal.invariant-loop-k
+invariant-loop-k g l = record {
+  done : (j s : ℕ) → j < l.k → s < 32
+      → symbol (chunk l.x j) s
+      ≡ bit_xor (symbol (chunk l.initial.x j) s) (times_factor (g.F.Factor.log l.factor) (symbol (chunk l.y j) s));
+  rest : (j : ℕ) → l.k ≤ j → chunk l.x j ≡ chunk l.initial.x j;
+}
