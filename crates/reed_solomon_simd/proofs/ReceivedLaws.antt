@@ -1,27 +1,13 @@
--- Facts about received shards.
-use Rattle.std.proofs.Common.{◌≡◌, Bool, List, Ok, refl, sym}
+-- What a decode by strips restores.
+use Rattle.std.proofs.Common.{◌≡◌, Bool, List, Ok, sym}
 use Rattle.rs_field.specs.code.Column.{Shard}
 use Rattle.rs_field.specs.code.Counts.{default_rate}
 use Rattle.rs_field.specs.code.Decoder.{DecoderState, IsDecoder, enough_given}
 use Rattle.rs_field.specs.code.PieceStates.{HoldRestored}
 use Rattle.rs_field.proofs.of_code.RestoredBelow.{IsRestoredBelow, restored-all}
-use Rattle.rs_rate.proofs.EnoughGiven.{enough-least}
+use Rattle.rs_rate.proofs.DecoderRows.{enough-least}
 use Rattle.rs_rate.proofs.StateLemmas.{valid-supported}
-use Rattle.reed_solomon_simd.specs.declared.received_shards.ReceivedShards.{ReceivedShards}
-use Rattle.reed_solomon_simd.specs.ReceivedState.{received_state}
-use Rattle.reed_solomon_simd.proofs.SetUp.{started-parts, valid-even}
-
--- The state of received shards is one that a decoder can have.
-pub received-decoder : (x : ReceivedShards) → IsDecoder default_rate (received_state x)
-received-decoder x =
-    let parts = started-parts _ (received_state x).configuration x.set_up in
-    record {
-      of_rate = refl;
-      valid = parts.0;
-      fits = parts.1;
-      originals_within = x.originals_within;
-      recovery_within = x.recovery_within;
-    }
+use Rattle.reed_solomon_simd.proofs.SetUp.{valid-even}
 
 -- After all strips are restored, the rooms hold the restored originals.
 pub strips-restored : (s : DecoderState) (grows : Bool) (rooms : List Shard) → IsDecoder default_rate s

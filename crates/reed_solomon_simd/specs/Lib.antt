@@ -11,7 +11,7 @@ pub use Rattle.rs_field.specs.rows.View
 pub use Rattle.rs_field.specs.rows.Lending
 pub use Rattle.rs_field.specs.code.Bounds
 pub use Rattle.rs_field.specs.code.Counts
-pub use Rattle.rs_field.specs.code.Placement
+pub use Rattle.rs_field.specs.code.Frame
 pub use Rattle.rs_field.specs.code.Column
 pub use Rattle.rs_field.specs.rows.Layout
 pub use Rattle.rs_field.specs.code.Outcome

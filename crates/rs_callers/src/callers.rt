@@ -2,7 +2,7 @@
 //! they call.
 ghost use Rattle.std.specs.Prelude.{◌≡◌, ◌<◌, ◌+◌, ◌⊎◌, length, Ok, IfOk, IfErr, OnOk, OnErr, MatchResult, Err};
 ghost use Rattle.reed_solomon_simd.specs.Counts.{default_rate};
-ghost use Rattle.reed_solomon_simd.specs.Placement.{encoder_rows, decoder_rows};
+ghost use Rattle.reed_solomon_simd.specs.Frame.{encoder_rows, decoder_rows};
 ghost use Rattle.reed_solomon_simd.specs.Configuration.{configuration, validation_outcome, start_outcome, UpToMemory};
 ghost use Rattle.reed_solomon_simd.specs.Outcome.{answer_of};
 ghost use Rattle.reed_solomon_simd.specs.Encoder.{fresh_encoder};
