@@ -1,4 +1,4 @@
--- The code: counts, placement, states, errors, and what each call returns. This module depends on `words`.
+-- The code: counts, frames, states, errors, and what each call returns. This module depends on `words`.
 pub mod Column
 pub mod Counts
 pub mod Frame
@@ -14,5 +14,6 @@ pub mod Bounds
 pub mod Pieces
 pub mod CodeLaws
 pub mod CountLaws
+pub mod DirectLaws
 pub mod PieceStates
 pub mod RoundTrip

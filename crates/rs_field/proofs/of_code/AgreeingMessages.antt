@@ -2,14 +2,15 @@
 use Rattle.std.proofs.Common.{◌≡◌, ℕ, zero, suc, ◌+◌, ◌/◌, ◌%◌, ◌<◌, Bool, cond, eqb, List, [], sym, ap, ◌∙◌, subst}
 use Rattle.std.proofs.Common.{arith, inl, inr, eq-eqb, ne_eqb}
 use Rattle.std.specs.Prelude.{slice_index, Some, is_some}
-use Rattle.std.proofs.lemmas.Bool.{cases_eq}
+use Rattle.std.proofs.lemmas.Bool.{cases_eq, cases_lt}
+use Rattle.std.proofs.lemmas.Option.{none-some}
 use Rattle.std.proofs.Math.Nat.{mod-eq_of_lt}
 use Rattle.rs_field.specs.words.Polynomial.{value}
 use Rattle.rs_field.specs.code.Column.{Shard, IsShard, AreShards, shard_at, column, columns}
 use Rattle.rs_field.specs.declared.code.frame.Frame.{Frame}
 use Rattle.rs_field.specs.code.Frame.{frame_of, original_row, recovery_row}
 use Rattle.rs_field.specs.code.Configuration.{Configuration}
-use Rattle.rs_field.specs.code.Given.{Shards, Agrees, Consistent}
+use Rattle.rs_field.specs.code.Given.{Shards, AreWithin, Agrees, Consistent}
 use Rattle.rs_field.specs.code.Code.{Codes}
 use Rattle.rs_field.proofs.of_words.Roots.{value_lt, words_from}
 use Rattle.rs_field.proofs.of_code.Given.{some_of}
@@ -20,6 +21,17 @@ use Rattle.rs_field.proofs.of_code.MadeShards.{shards_of}
 -- The given shards have indexes below a count, and all have one size.
 pub record AreSized (count size : ℕ) (given : Shards) : Type 0 where
   pub each : (i : ℕ) (shard : Shard) → given i ≡ Some shard → (i < count) × IsShard size shard
+
+-- Given shards that are within bounds have indexes below the count.
+pub sized-within : (count size : ℕ) (given : Shards) → AreWithin count size given → AreSized count size given
+sized-within count size given within =
+    record {
+      each = λ i shard is. (
+        elim (cases_lt i count)
+            [ inl inside ↦ inside | inr past ↦ absurd (none-some shard (sym (within.none_past i past) ∙ is)) ],
+        within.sized i shard is,
+      );
+    }
 
 -- The words at the places of the given shards are the words of column j of these shards.
 pub record HasWords (frame : Frame) (originals recovery : Shards) (j : ℕ) (words : ℕ → ℕ) : Type 0 where

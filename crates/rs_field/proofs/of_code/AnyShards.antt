@@ -1,7 +1,8 @@
 -- Any k shards of one size are shards of exactly one codeword.
-use Rattle.std.proofs.Common.{◌≡◌, ℕ, ◌+◌, ◌-◌, ◌%◌, ◌^◌, ◌<◌, ◌≤◌, ◌⊎◌, Bool, true, false, cond, List, eqb, refl, sym}
+use Rattle.std.proofs.Common.{pow_mono}
+use Rattle.std.proofs.Common.{◌≡◌, ℕ, ◌+◌, ◌-◌, ◌%◌, ◌^◌, ◌<◌, ◌≤◌, ◌⊎◌, Bool, true, false, cond, eqb, refl, sym}
 use Rattle.std.proofs.Common.{ap, ◌∙◌, subst, arith, inl, inr, add-zero}
-use Rattle.std.specs.Prelude.{Option, Some, None, is_some, nat_le, nat_lt, ◌&&◌, ◌||◌}
+use Rattle.std.specs.Prelude.{Option, Some, None, is_some, nat_le, nat_lt, ◌&&◌}
 use Rattle.std.proofs.lemmas.Option.{none-some}
 use Rattle.std.proofs.lemmas.Grind.{common_steps}
 use Rattle.rs_field.specs.words.Field.{product, power}
@@ -11,7 +12,8 @@ use Rattle.rs_field.specs.code.Column.{Shard, IsShard, column}
 use Rattle.rs_field.specs.declared.code.frame.Frame.{Frame}
 use Rattle.rs_field.specs.code.Frame.{row_count, original_row, recovery_row}
 use Rattle.rs_field.specs.code.Configuration.{Configuration}
-use Rattle.rs_field.specs.code.Given.{Shards, count_below, Agrees, Consistent}
+use Rattle.rs_field.specs.code.Given.{Shards, count_below, Consistent}
+use Rattle.rs_field.specs.code.DirectLaws.{entry_in, given_at, word_of, word_at, mark_at, HasOneMessage}
 use Rattle.rs_field.proofs.of_words.Product.{product_lt}
 use Rattle.rs_field.proofs.of_words.ExactCheck.{AreLocated}
 use Rattle.rs_field.proofs.of_words.PointValues.{coefficients_of}
@@ -20,58 +22,49 @@ use Rattle.rs_field.proofs.of_code.Frame.{IsFrame, zeros_end}
 use Rattle.rs_field.proofs.of_code.RateFrames.{has_frame}
 use Rattle.rs_field.proofs.of_code.ErasedCount.{AreErasures}
 use Rattle.rs_field.proofs.of_code.DecodedColumn.{IsColumnOf, some_message}
-use Rattle.rs_field.proofs.of_code.AgreeingMessages.{AreSized, HasWords, consistent, frame_at}
+use Rattle.rs_field.proofs.of_code.AgreeingMessages.{AreSized, HasWords, consistent, frame_at, sized-within}
 use Rattle.rs_field.proofs.of_code.Agreement.{one_message}
 
 -- ---- the given shards by their points
 
--- The entry of a map at a point, if the point is one of the n points from `from` on, else another entry.
-in_range : ℕ → ℕ → Shards → Option Shard → ℕ → Option Shard
-in_range from n given other x = cond (nat_le from x && nat_lt x (from + n)) (given (x - from)) other
+entry_in-at : (from n i : ℕ) (given : Shards) (other : Option Shard) → i < n
+    → entry_in from n given other (from + i) ≡ given i
+unfolding entry_in
+entry_in-at from n i given other hi = grind (arith, common_steps)
 
-in_range-at : (from n i : ℕ) (given : Shards) (other : Option Shard) → i < n
-    → in_range from n given other (from + i) ≡ given i
-unfolding in_range
-in_range-at from n i given other hi = grind (arith, common_steps)
+entry_in-other : (from n x : ℕ) (given : Shards) (other : Option Shard) → (x < from) ⊎ (from + n ≤ x)
+    → entry_in from n given other x ≡ other
+unfolding entry_in
+entry_in-other from n x given other outside = grind (arith, common_steps)
 
-in_range-other : (from n x : ℕ) (given : Shards) (other : Option Shard) → (x < from) ⊎ (from + n ≤ x)
-    → in_range from n given other x ≡ other
-unfolding in_range
-in_range-other from n x given other outside = grind (arith, common_steps)
-
--- The given shard at a point.
-given_at : Frame → ℕ → ℕ → Shards → Shards → ℕ → Option Shard
-given_at p k r originals recovery x =
-    in_range p.originals_from k originals (in_range p.recovery_from r recovery None x) x
-
-given_at-own : (p : Frame) (k r i : ℕ) (originals recovery : Shards) → i < k
+pub given_at-own : (p : Frame) (k r i : ℕ) (originals recovery : Shards) → i < k
     → given_at p k r originals recovery (original_row p i) ≡ originals i
 unfolding given_at
-given_at-own p k r i originals recovery hi = in_range-at p.originals_from k i originals _ hi
+given_at-own p k r i originals recovery hi = entry_in-at p.originals_from k i originals _ hi
 
-given_at-coded : (p : Frame) (k r i : ℕ) (originals recovery : Shards)
+pub given_at-coded : (p : Frame) (k r i : ℕ) (originals recovery : Shards)
     → IsFrame p k r → i < r
     → given_at p k r originals recovery (recovery_row p i) ≡ recovery i
 unfolding given_at
 given_at-coded p k r i originals recovery f hi =
     let zeros = f.zeros in
-    in_range-other p.originals_from k (recovery_row p i) originals _
+    entry_in-other p.originals_from k (recovery_row p i) originals _
     (elim f.order [ inl low ↦ inr (omega (arith, low.1)) | inr high ↦ inl (omega (arith, high.0, high.1)) ])
-    ∙ in_range-at p.recovery_from r i recovery None hi
+    ∙ entry_in-at p.recovery_from r i recovery None hi
 
 given_at-other : (p : Frame) (k r x : ℕ) (originals recovery : Shards)
     → (x < p.originals_from) ⊎ (p.originals_from + k ≤ x) → (x < p.recovery_from) ⊎ (p.recovery_from + r ≤ x)
     → given_at p k r originals recovery x ≡ None
 unfolding given_at
 given_at-other p k r x originals recovery not_own not_coded =
-    in_range-other p.originals_from k x originals _ not_own
-    ∙ in_range-other p.recovery_from r x recovery None not_coded
+    entry_in-other p.originals_from k x originals _ not_own
+    ∙ entry_in-other p.recovery_from r x recovery None not_coded
 
 -- The given shard at a point is an entry of one of the two maps, or there is none.
-given_at-cases : (p : Frame) (k r x : ℕ) (originals recovery : Shards)
+pub given_at-cases : (p : Frame) (k r x : ℕ) (originals recovery : Shards)
     → ((i : ℕ) × (given_at p k r originals recovery x ≡ originals i))
     ⊎ (((i : ℕ) × (given_at p k r originals recovery x ≡ recovery i)) ⊎ (given_at p k r originals recovery x ≡ None))
-unfolding given_at in_range
+unfolding given_at entry_in
 given_at-cases p k r x originals recovery =
     by_tests (nat_le p.originals_from x && nat_lt x (p.originals_from + k))
     (nat_le p.recovery_from x && nat_lt x (p.recovery_from + r))
@@ -87,14 +80,6 @@ given_at-cases p k r x originals recovery =
     by_tests false false = inr (inr refl)
 
 -- ---- the rows of a column
-
--- The word of a column, or 0 if no shard is given.
-word_of : ℕ → Option Shard → ℕ
-word_of j None = 0
-word_of j (Some shard) = column j shard
-
-word_at : Frame → ℕ → ℕ → Shards → Shards → ℕ → ℕ → ℕ
-word_at p k r originals recovery j x = word_of j (given_at p k r originals recovery x)
 
 word_at-is : (p : Frame) (k r : ℕ) (originals recovery : Shards) (j x : ℕ) (o : Option Shard)
     → given_at p k r originals recovery x ≡ o → word_at p k r originals recovery j x ≡ word_of j o
@@ -127,7 +112,7 @@ word_at_lt p k r size originals recovery j x own coded =
     ]
 
 -- The words of a column are those of the given shards.
-words_given : (p : Frame) (k r size : ℕ) (originals recovery : Shards) (j : ℕ)
+pub words_given : (p : Frame) (k r size : ℕ) (originals recovery : Shards) (j : ℕ)
     → IsFrame p k r → AreSized k size originals → AreSized r size recovery
     → HasWords p originals recovery j (word_at p k r originals recovery j)
 unfolding word_of
@@ -141,7 +126,7 @@ words_given p k r size originals recovery j f own coded = record {
 }
 
 -- The word at a known zero is 0.
-word_at-zero : (p : Frame) (k r : ℕ) (originals recovery : Shards) (j x : ℕ)
+pub word_at-zero : (p : Frame) (k r : ℕ) (originals recovery : Shards) (j x : ℕ)
     → IsFrame p k r → p.zeros_from ≤ x → x < (zeros_end p) → word_at p k r originals recovery j x ≡ 0
 unfolding word_of
 word_at-zero p k r originals recovery j x f above below =
@@ -150,29 +135,35 @@ word_at-zero p k r originals recovery j x f above below =
     (given_at-other p k r x originals recovery (inr (omega arith))
     (elim f.order [ inl low ↦ inl (omega (arith, low.1)) | inr high ↦ inr (omega (arith, high.0, high.1)) ]))
 
--- The entry of a row: 0 if a shard is given there or the row is a known zero, else 1.
-mark_at : Frame → ℕ → ℕ → Shards → Shards → ℕ → ℕ
-mark_at p k r originals recovery x =
-    cond (is_some (given_at p k r originals recovery x) || (nat_le p.zeros_from x && nat_lt x (zeros_end p))) 0 1
-
 mark_at-most : (p : Frame) (k r : ℕ) (originals recovery : Shards) (x : ℕ)
     → mark_at p k r originals recovery x ≤ 1
 unfolding mark_at
 mark_at-most p k r originals recovery x = grind (arith, common_steps)
 
+-- Below the last row, the zero points among the rows are all zero points.
+zeros_among : (p : Frame) (k r x : ℕ) → IsFrame p k r
+    → (x < zeros_end p → x < p.zeros_to) × (x < row_count p → zeros_end p ≤ x → p.zeros_to ≤ x)
+zeros_among p k r x f =
+    let room : row_count p ≤ 2 ^ 16 = pow_mono f.few in
+    let end = f.zeros in
+    elim f.whole [
+      | inl same ↦ (λ below. omega (arith, same.1), λ row past. omega (arith, same.1))
+      | inr all ↦ (λ below. omega (arith, all.1), λ row past. omega (arith, all.1, all.2))
+    ]
+
 mark_at-known : (p : Frame) (k r : ℕ) (originals recovery : Shards) (x : ℕ) → p.zeros_from ≤ x
-    → x < (zeros_end p) → mark_at p k r originals recovery x ≡ 0
+    → x < p.zeros_to → mark_at p k r originals recovery x ≡ 0
 unfolding mark_at
 mark_at-known p k r originals recovery x above below = grind (arith, common_steps)
 
 mark_at-row : (p : Frame) (k r : ℕ) (originals recovery : Shards) (x : ℕ) (o : Option Shard)
-    → (x < p.zeros_from) ⊎ ((zeros_end p) ≤ x) → given_at p k r originals recovery x ≡ o
+    → (x < p.zeros_from) ⊎ (p.zeros_to ≤ x) → given_at p k r originals recovery x ≡ o
     → mark_at p k r originals recovery x ≡ cond (is_some o) 0 1
 unfolding mark_at
 mark_at-row p k r originals recovery x o outside is = grind (arith, common_steps)
 
 -- These entries mark the erased rows of a frame.
-are_erasures : (p : Frame) (k r : ℕ) (originals recovery : Shards)
+pub are_erasures : (p : Frame) (k r : ℕ) (originals recovery : Shards)
     → IsFrame p k r
     → AreErasures p k r originals recovery (mark_at p k r originals recovery)
 are_erasures p k r originals recovery f =
@@ -184,11 +175,16 @@ are_erasures p k r originals recovery f =
           (given_at-own p k r i originals recovery hi);
       coded = λ i hi.
           mark_at-row p k r originals recovery (recovery_row p i) (recovery i)
-          (elim f.order [ inl low ↦ inr (omega (arith, low.1)) | inr high ↦ inl (omega (arith, high.0, high.1)) ])
+          (let below = f.recovery in
+          elim f.order [
+            | inl low ↦ inr ((zeros_among p k r (recovery_row p i) f).1 (omega arith) (omega (arith, low.1)))
+            | inr high ↦ inl (omega (arith, high.0, high.1))
+          ])
           (given_at-coded p k r i originals recovery f hi);
-      known = λ x above below. mark_at-known p k r originals recovery x above below;
+      known = λ x above below. mark_at-known p k r originals recovery x above ((zeros_among p k r x f).0 below);
       other = λ x hx not_own not_coded not_zero.
-          mark_at-row p k r originals recovery x None not_zero
+          mark_at-row p k r originals recovery x None
+          (elim not_zero [ inl before ↦ inl before | inr past ↦ inr ((zeros_among p k r x f).1 hx past) ])
           (given_at-other p k r x originals recovery not_own not_coded);
     }
 
@@ -251,12 +247,9 @@ any_consistent c originals recovery is even own coded count =
     (q, (message, codes, takes)))
 
 -- Any k shards of one size agree with exactly one message.
-pub one_codeword : (c : Configuration) (originals recovery : Shards)
-    → supports c.rate c.original_count c.recovery_count ≡ true → c.shard_bytes % 2 ≡ 0
-    → AreSized c.original_count c.shard_bytes originals → AreSized c.recovery_count c.shard_bytes recovery
-    → count_below c.original_count originals + count_below c.recovery_count recovery ≡ c.original_count
-    → (message : List Shard) × Agrees c originals recovery message
-    × ((other : List Shard) → Agrees c originals recovery other → other ≡ message)
-one_codeword c originals recovery is even own coded count =
+pub one_codeword : HasOneMessage
+one_codeword c originals recovery is even own_within coded_within count =
+    let own = sized-within c.original_count c.shard_bytes originals own_within in
+    let coded = sized-within c.recovery_count c.shard_bytes recovery coded_within in
     let (message, agrees) = any_consistent c originals recovery is even own coded count in
     (message, agrees, λ other a. one_message c originals recovery other message is even (omega arith) a agrees)

@@ -2,17 +2,16 @@
 -- originals after all strips.
 use Rattle.std.proofs.Common.{◌≡◌, ℕ, zero, suc, ◌+◌, ◌-◌, ◌/◌, ◌%◌, ◌<◌, ◌≤◌, ◌⊎◌, Bool, true, false, cond, List, []}
 use Rattle.std.proofs.Common.{◌++◌, length, take, drop, get_or, All, refl, sym, ap, ap₂, ◌∙◌, subst, inl, inr, arith}
-use Rattle.std.specs.Prelude.{Some, None, is_some, unwrap_or, not, ◌&&◌, nat_le, nat_lt, Result, Ok, Err}
+use Rattle.std.specs.Prelude.{Some, None, is_some, unwrap_or, not, ◌&&◌, nat_lt, Result, Ok, Err}
 use Rattle.std.specs.List.{between}
 use Rattle.std.specs.Option.{option_map}
 use Rattle.std.proofs.Math.Path.{fun_ext}
 use Rattle.std.proofs.Math.Seq.{take-add, take-append-add, take-append_seam}
-use Rattle.std.proofs.lemmas.Bool.{cases_lt, lt-ltb, le-ltb, le-leb, lt-leb}
+use Rattle.std.proofs.lemmas.Bool.{cases_lt, lt-ltb, le-ltb}
 use Rattle.std.proofs.lemmas.List.{get_or-map, get_or_default, length-map, length-take-le, take_all, ext_get_or}
-use Rattle.std.proofs.lemmas.Option.{none-some}
 use Rattle.rs_field.specs.declared.code.error.Error.{Error}
 use Rattle.rs_field.specs.declared.code.error.Error.TheVariants.{InconsistentShards, NotEnoughShards}
-use Rattle.rs_field.specs.code.Column.{Shard, column}
+use Rattle.rs_field.specs.code.Column.{Shard}
 use Rattle.rs_field.specs.code.Counts.{supports}
 use Rattle.rs_field.specs.code.Decoder.{DecoderState, IsAgreeing, originals_given, recovery_given, enough_given}
 use Rattle.rs_field.specs.code.Decoder.{missing_of, Restored, NoneAgrees}
@@ -20,18 +19,19 @@ use Rattle.rs_field.specs.code.Given.{Shards, AreWithin, Consistent, Lists, item
 use Rattle.rs_field.specs.code.OneCall.{Items}
 use Rattle.rs_field.specs.code.Pieces.{pieces, IsStrip, ArePut, room_length}
 use Rattle.rs_field.specs.code.PieceStates.{pieces_of, state_of_pieces, shards_listed, HoldRestored}
-use Rattle.rs_field.specs.declared.code.frame.Frame.{Frame}
 use Rattle.rs_field.specs.code.Frame.{frame_of}
 use Rattle.rs_field.proofs.of_code.Agreement.{one_message}
-use Rattle.rs_field.proofs.of_code.AgreeingMessages.{AreSized, HasWords}
+use Rattle.rs_field.proofs.of_code.AgreeingMessages.{AreSized}
 use Rattle.rs_field.proofs.of_code.Given.{count_below-zero, count_below-suc}
+use Rattle.rs_field.proofs.of_code.AgreeingMessages.{sized-within}
+use Rattle.rs_field.proofs.of_code.AnyShards.{words_given}
+use Rattle.rs_field.specs.code.DirectLaws.{word_at}
 use Rattle.rs_field.proofs.of_code.Listed.{length-listed}
 use Rattle.rs_field.proofs.of_code.ListedMaps.{lists-same, listed-changed, listed-all}
 use Rattle.rs_field.proofs.of_code.Pieces.{put-length, room-from, room-further, room-whole}
 use Rattle.rs_field.proofs.of_code.PieceStates.{is_some-map, agrees-cut, restored-cut, consistent-whole}
 use Rattle.rs_field.proofs.of_code.PieceStates.{AreConsistentBelow}
 use Rattle.rs_field.proofs.of_code.RateFrames.{has_frame}
-use Rattle.rs_field.proofs.of_code.Frame.{IsFrame}
 
 -- ---- numbers of pieces
 
@@ -72,75 +72,6 @@ module _ (start end : ℕ) where
         );
       }
 
--- ---- the words at the points of given shards
-
--- The word of column j at a point: the word of the original or the recovery shard that has this point.
-word_at : Frame → ℕ → Shards → Shards → ℕ → ℕ → ℕ
-word_at p k originals recovery j x =
-    cond (nat_le p.originals_from x && nat_lt x (p.originals_from + k))
-    (column j (unwrap_or (originals (x - p.originals_from)) []))
-    (column j (unwrap_or (recovery (x - p.recovery_from)) []))
-
--- The words at the points of given shards are words of these shards.
-has-words : (p : Frame) (k r size j : ℕ) (originals recovery : Shards)
-    → IsFrame p k r
-    → AreSized k size originals → AreSized r size recovery
-    → HasWords p originals recovery j (word_at p k originals recovery j)
-unfolding word_at
-has-words p k r size j originals recovery frame own_sized coded_sized =
-    record {
-      own = λ i s is.
-          let below = (own_sized.each i s is).0 in
-          let from : p.originals_from ≤ p.originals_from + i = omega arith in
-          let to : p.originals_from + i < p.originals_from + k = omega (arith, below) in
-          let place : p.originals_from + i - p.originals_from ≡ i = omega arith in
-          rw (
-            le-leb p.originals_from (p.originals_from + i) from,
-            lt-ltb (p.originals_from + i)
-                (p.originals_from + k) to,
-            place,
-            is,
-          ) refl;
-      coded = λ i s is.
-          let below = (coded_sized.each i s is).0 in
-          let place : p.recovery_from + i - p.recovery_from ≡ i = omega arith in
-          elim (cases_lt (p.recovery_from + i) (p.originals_from + k)) [
-            | inl less ↦
-                let outside : p.recovery_from + i < p.originals_from = apart i below less in
-                rw (lt-leb p.originals_from (p.recovery_from + i) outside, place, is) refl
-            | inr past ↦
-                by_first (nat_le p.originals_from (p.recovery_from + i)) i s place is past
-          ];
-    }
-  where
-    apart : (i : ℕ) → i < r → p.recovery_from + i < p.originals_from + k → p.recovery_from + i < p.originals_from
-    apart i below less =
-        elim frame.order [
-          | inl first ↦ absurd
-              (let zeros = frame.zeros in let no : ⊥ = omega (arith, first.0, first.1, zeros.0, frame.follow, less) in
-              no)
-          | inr later ↦ omega (arith, later.0, later.1, below)
-        ]
-
-    by_first : (b : Bool) (i : ℕ) (s : Shard) → p.recovery_from + i - p.recovery_from ≡ i → recovery i ≡ Some s
-        → p.originals_from + k ≤ p.recovery_from + i
-        → cond (b && nat_lt (p.recovery_from + i) (p.originals_from + k))
-        (column j (unwrap_or (originals (p.recovery_from + i - p.originals_from)) []))
-        (column j (unwrap_or (recovery (p.recovery_from + i - p.recovery_from)) [])) ≡ column j s
-    by_first true i s place is past = rw (le-ltb (p.recovery_from + i) (p.originals_from + k) past, place, is) refl
-    by_first false i s place is past = rw (place, is) refl
-
--- Given shards that are within bounds have indexes below the count.
-sized-within : (count size : ℕ) (given : Shards) → AreWithin count size given → AreSized count size given
-sized-within count size given within =
-    record {
-      each = λ i shard is. (
-        elim (cases_lt i count)
-            [ inl inside ↦ inside | inr past ↦ absurd (none-some shard (sym (within.none_past i past) ∙ is)) ],
-        within.sized i shard is,
-      );
-    }
-
 -- If the pieces in all strips are consistent, the shards are consistent.
 all-consistent : (s : DecoderState)
     → supports s.configuration.rate s.configuration.original_count s.configuration.recovery_count ≡ true
@@ -155,9 +86,9 @@ all-consistent s supported even own_sized coded_sized each =
     let p = frame_of c.rate c.original_count c.recovery_count in
     let h = has_frame c.rate c.original_count c.recovery_count supported in
     consistent-whole c.rate c.original_count c.recovery_count c.shard_bytes s.originals s.recovery
-    (word_at p c.original_count s.originals s.recovery) even own_sized coded_sized
-    (λ j inside. has-words p c.original_count c.recovery_count c.shard_bytes j s.originals s.recovery h
-    own_sized coded_sized) each
+    (word_at p c.original_count c.recovery_count s.originals s.recovery) even own_sized coded_sized
+    (λ j inside. words_given p c.original_count c.recovery_count c.shard_bytes s.originals s.recovery j h own_sized
+    coded_sized) each
 
 -- ---- rooms
 

@@ -7,6 +7,7 @@ ghost use Rattle.rs_field.specs.code.CodeLaws.{HasOneCodeAtOnePower, IsFixedByPl
 ghost use Rattle.rs_field.specs.code.CodeLaws.{HasOneRestoration, NoticesChanges};
 ghost use Rattle.rs_field.specs.code.Column.{ColumnsTellShard, IsColumn};
 ghost use Rattle.rs_field.specs.code.CountLaws.{SupportsRanges};
+ghost use Rattle.rs_field.specs.code.DirectLaws.{HasOneMessage, IsSummedDirectly, IsDecidedByBase};
 ghost use Rattle.rs_field.specs.words.Field.{cantor_basis, polynomial};
 ghost use Rattle.rs_field.specs.words.Laws.{IsField, IsGenerated, IsProductOfBits};
 ghost use Rattle.rs_field.specs.words.Locator.{LocatesByProduct};
@@ -69,6 +70,14 @@ pub fn codeword_laws()
     ensures places { IsFixedByPlaces }
     ensures restored { HasOneRestoration }
     ensures changes { NoticesChanges }
+{}
+
+/// States that any k shards belong to exactly one message, and that each word of any other shard of this message is a
+/// sum of their words, each multiplied by a factor. These sums also decide whether further shards belong to the message.
+pub fn direct_laws()
+    ensures message { HasOneMessage }
+    ensures sums { IsSummedDirectly }
+    ensures base { IsDecidedByBase }
 {}
 
 /// States that a decoder of any rate that gets at least k of the originals and recovery shards of a message returns
