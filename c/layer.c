@@ -26,10 +26,10 @@ struct build {
     __typeof__(rs_decode_shards) *decode_shards;
 };
 
-#define PROVED(level)                                 \
-    __typeof__(rs_tables_make) rs_tables_make_##level; \
-    __typeof__(rs_encode) rs_encode_##level;           \
-    __typeof__(rs_decode) rs_decode_##level;           \
+#define PROVED(level)                                      \
+    __typeof__(rs_tables_make) rs_tables_make_##level;     \
+    __typeof__(rs_encode) rs_encode_##level;               \
+    __typeof__(rs_decode) rs_decode_##level;               \
     __typeof__(rs_encode_shards) rs_encode_shards_##level; \
     __typeof__(rs_decode_shards) rs_decode_shards_##level
 #define BUILD(level) \
@@ -54,12 +54,13 @@ struct processor {
     unsigned ecx1, ebx7, extended_ecx, states;
 };
 
+/* Every processor of x86-64 has cpuid 1 and 0x80000001, and some have no cpuid 7. */
 static struct processor asked(void) {
     struct processor told = {0, 0, 0, 0};
     unsigned a, b, c, d;
-    if (__get_cpuid(1, &a, &b, &c, &d)) told.ecx1 = c;
+    __cpuid(1, a, b, told.ecx1, d);
+    __cpuid(0x80000001, a, b, told.extended_ecx, d);
     if (__get_cpuid_count(7, 0, &a, &b, &c, &d)) told.ebx7 = b;
-    if (__get_cpuid(0x80000001, &a, &b, &c, &d)) told.extended_ecx = c;
     if (told.ecx1 & bit_OSXSAVE) __asm__("xgetbv" : "=a"(told.states), "=d"(d) : "c"(0));
     return told;
 }
