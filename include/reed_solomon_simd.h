@@ -10,14 +10,20 @@
  * the size of long shards. But a decode that gets more than k shards also takes memory for the missing originals, and pieces bound it.
  * The same holds for an rs_decode_shards whose rooms do not fit.
  *
+ * On x86-64, the library holds three builds of its code: for every 64-bit processor, for x86-64-v2 (with SSE4.2) and for x86-64-v3 (with
+ * AVX2). At its first call, it asks the processor and the system which of them they can run, and all calls use the newest of these. All
+ * builds write the same bytes, and tables that one build filled serve the others. On arm64, the library holds one build.
+ *
  * Beside its rows, rs_encode takes a list of 16 bytes for each original. rs_decode takes a list of 8 bytes for each original, and
  * rs_decode_shards takes two lists of references to shards, 24 bytes for each of the k + r shards. A decode without recovery shards
- * takes no memory.
+ * takes no memory. If an entry of an array of shards or rooms has NULL as its pointer, the call makes a copy of this array, and fails with
+ * RS_OUT_OF_MEMORY before all other checks if it cannot allocate the copy.
  *
  * The caller must keep these rules. Nothing checks them:
- *   - Pointers: each pointer points to as many bytes or entries as the length that belongs to it says, and is aligned for its type. No
- *     pointer is NULL, not even with length 0. This holds for the pointers in arrays of shards too, and for those in arrays of rooms. A
- *     room is a place for a shard that a call writes.
+ *   - Pointers: each pointer points to as many bytes or entries as the length that belongs to it says, and is aligned for its type. If
+ *     this length is 0, the pointer may be NULL, or any other pointer. This holds for the pointers in arrays of shards too, and for those
+ *     in arrays of rooms. A room is a place for a shard that a call writes. The pointer to a fault that a call writes may be NULL. The
+ *     pointer to tables, and the pointer to the fault that rs_fault_text reads, are never NULL.
  *   - While a call runs, nobody else writes to memory that was passed to the call, whether the call reads or writes it: no other
  *     thread, no signal handler, no other process and no device. Nobody else reads memory that the call writes. Memory that a call
  *     writes overlaps no other memory that was passed to it.
@@ -27,8 +33,6 @@
  *     of lost shards in rs_decode, the memory that rooms point to, texts, and *fault.
  *   - Nobody but rs_tables_make writes to tables that rs_tables_make has filled. The last thing that rs_tables_make writes is a stamp.
  *     Other memory that is passed as tables must not hold this stamp by chance. Memory full of zeros doesn't hold it.
- *   - The processor has the instructions of x86-64-v2, which include SSE4.2 and POPCNT. On an older processor, such as a Core 2, the
- *     program stops with SIGILL.
  *   - A program that links its own allocator instead of c/heap.c must provide all three functions of c/heap.c: rattle_alloc,
  *     rattle_realloc and rattle_dealloc. Each block must have the alignment that the library asks for, which is at most 16 bytes. The
  *     first two functions return a struct with a pointer `at`. This pointer must never be NULL, not even if memory cannot be allocated.
@@ -116,7 +120,9 @@ uint32_t rs_supports(size_t original_count, size_t recovery_count);
  * filled them: for example, if they hold only zeros, or if a version with another layout, such as 1.1, filled them. The stamp is no
  * checksum: no call notices that other bytes of the tables were changed.
  *
- * rs_encode and rs_decode take buffers, where shard i begins at byte i * shard_bytes. No pointer that is passed to them may be NULL. */
+ * If fault is NULL, a call only returns the number.
+ *
+ * rs_encode and rs_decode take buffers, where shard i begins at byte i * shard_bytes. */
 
 /* Writes the recovery shards of the originals.
  *
@@ -157,9 +163,8 @@ uint32_t rs_decode(const struct rs_tables *tables, size_t original_count, size_t
                    const uint8_t *marks, size_t marks_length, struct rs_fault *fault);
 
 /* rs_encode_shards and rs_decode_shards take arrays of shards and of rooms. A room is a place for a shard that the call writes. Shards
- * and rooms can lie anywhere in memory. No array may be NULL, not even an empty one, and no pointer in an array may be NULL. A call leaves
- * an array of rooms as it was, and writes to the memory that the rooms point to. struct rs_bytes and struct rs_room have the layout of
- * POSIX's struct iovec. */
+ * and rooms can lie anywhere in memory. A call doesn't write to an array of rooms. It writes to the memory that the rooms point to. struct
+ * rs_bytes and struct rs_room have the layout of POSIX's struct iovec. */
 struct rs_bytes {
     const uint8_t *bytes;
     size_t length;
@@ -189,7 +194,7 @@ struct rs_shard {
  *   - RS_OUT_OF_MEMORY for the rows */
 uint32_t rs_encode_shards(const struct rs_tables *tables, size_t original_count, size_t recovery_count,
                           const struct rs_bytes *originals, size_t originals_number,
-                          struct rs_room *recovery, size_t recovery_number, struct rs_fault *fault);
+                          const struct rs_room *recovery, size_t recovery_number, struct rs_fault *fault);
 
 /* Restores the originals that are not in the array originals, and writes them into rooms. The array restored holds one room for each of
  * these originals, in order of index. Shards can be in any order in the arrays originals and recovery. The size of all shards is that of
@@ -218,12 +223,21 @@ uint32_t rs_encode_shards(const struct rs_tables *tables, size_t original_count,
 uint32_t rs_decode_shards(const struct rs_tables *tables, size_t original_count, size_t recovery_count,
                           const struct rs_shard *originals, size_t originals_number,
                           const struct rs_shard *recovery, size_t recovery_number,
-                          struct rs_room *restored, size_t restored_number, struct rs_fault *fault);
+                          const struct rs_room *restored, size_t restored_number, struct rs_fault *fault);
 
-/* Writes the text of a fault in ASCII, without a NUL at its end, and returns the length of the whole text. If the text has more than
- * text_length bytes, the call writes only its beginning. The length is 0 if fault->number is not the number of a fault. The call needs no
- * memory, and doesn't change the bytes after the text. fault and text must not be NULL. */
-size_t rs_fault_text(const struct rs_fault *fault, uint8_t *text, size_t text_length);
+/* Writes the text of a fault in ASCII and a NUL after it, as snprintf does, and returns the length of the whole text without the NUL. If
+ * the text and its NUL have more than text_length bytes, the call writes the first text_length - 1 bytes of the text and then the NUL. If
+ * text_length is 0, the call writes nothing, and text may be NULL. A text has fewer than 128 bytes. It is empty if fault->number is not the
+ * number of a fault. The call needs no memory, and doesn't change the bytes after the NUL. fault must not be NULL. */
+size_t rs_fault_text(const struct rs_fault *fault, char *text, size_t text_length);
+
+/* Returns the name of a number of enum rs_status, for example "RS_WRONG_LENGTH", or "unknown" if the number is not one of them. The string
+ * is constant and ends with a NUL. */
+const char *rs_status_name(uint32_t number);
+
+/* Returns how long shards must be for a message of total bytes: the least even size, and at least 2, with which original_count shards hold
+ * total bytes. Returns 0 if there is no such size, which is so if original_count is 0, or if the size would be larger than SIZE_MAX. */
+size_t rs_shard_bytes(size_t total, size_t original_count);
 
 /* Returns the version of the library: the major number times 65536, plus the minor number. */
 uint32_t rs_version(void);

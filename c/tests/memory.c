@@ -137,9 +137,8 @@ static uint32_t decode_none(void) {
 
 static uint32_t decode_none_anywhere(void) {
     struct rs_shard all[3] = {{2, originals, size}, {0, originals, size}, {1, originals, size}};
-    struct rs_room none[1];
     struct rs_fault fault;
-    uint32_t answer = rs_decode_shards(tables, 3, 2, all, 3, all, 0, none, 0, &fault);
+    uint32_t answer = rs_decode_shards(tables, 3, 2, all, 3, all, 0, NULL, 0, &fault);
     return answer == fault.number ? answer : 99;
 }
 
@@ -147,7 +146,7 @@ static uint32_t make(void) {
     return rs_tables_make(tables);
 }
 
-static uint8_t text[40];
+static char text[40];
 static uint32_t text_made(void) {
     const struct rs_fault fault = {RS_INVALID_SHARD_SIZE, 3, 0, 0};
     return rs_fault_text(&fault, text, sizeof text) == 61 ? RS_OK : 99;

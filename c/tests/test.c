@@ -1,5 +1,5 @@
 /* The library from C. Words: `rows FILE..` reads cases of rs_cases; `refusals`; `rounds SEED COUNT`; `pieces SEED COUNT`; `threads`. */
-#define _POSIX_C_SOURCE 200809L
+#define _DEFAULT_SOURCE
 #include "reed_solomon_simd.h"
 
 #include <inttypes.h>
@@ -7,6 +7,7 @@
 #include <stdio.h>
 #include <stdlib.h>
 #include <string.h>
+#include <sys/mman.h>
 
 static struct rs_tables *tables;
 
@@ -363,11 +364,12 @@ static void texts(void) {
         "invalid original shard index: 10 >= original_count 0"};
     for (size_t i = 0; i < sizeof faults / sizeof *faults; i++)
         for (size_t length = 0; length < 130; length++) {
-            uint8_t text[130];
-            size_t whole = strlen(wanted[i]), written = whole < length ? whole : length;
+            char text[130];
+            size_t whole = strlen(wanted[i]), written = !length || whole < length ? whole : length - 1;
             memset(text, '#', sizeof text);
-            if (rs_fault_text(&faults[i], text, length) != whole || memcmp(text, wanted[i], written)) wrong("another text");
-            for (size_t n = written; n < sizeof text; n++)
+            if (rs_fault_text(&faults[i], length ? text : NULL, length) != whole) wrong("the length of a text");
+            if (length && (memcmp(text, wanted[i], written) || text[written])) wrong("another text");
+            for (size_t n = length ? written + 1 : 0; n < sizeof text; n++)
                 if (text[n] != '#') wrong("a text has written past its end");
         }
 }
@@ -419,6 +421,72 @@ static void refused_unmade(const struct rs_tables *unmade) {
     }
     tables = made_tables;
     let_go(&m);
+}
+
+/* NULL with length 0, in buffers and arrays, and NULL as the fault. */
+static void nulls(void) {
+    uint8_t bytes[12] = {0}, marks[5] = {1, 1, 1, 0, 0};
+    struct rs_fault fault;
+    struct rs_bytes from[3] = {{bytes, 4}, {NULL, 0}, {bytes, 4}}, empty = {NULL, 0};
+    struct rs_room to[3] = {{bytes, 4}, {NULL, 0}, {NULL, 0}};
+    struct rs_shard own[3] = {{2, NULL, 0}, {0, NULL, 0}, {1, bytes, 4}}, other[2] = {{0, bytes, 4}, {1, NULL, 0}};
+    if (rs_encode(tables, 3, 2, 4, NULL, 0, bytes, 8, &fault) != RS_WRONG_LENGTH || !told(&fault, RS_WRONG_LENGTH, 12, 0, 0) ||
+        rs_encode(tables, 3, 2, 4, bytes, 12, NULL, 0, NULL) != RS_WRONG_LENGTH ||
+        rs_encode(tables, 3, 2, 0, NULL, 0, NULL, 0, NULL) != RS_INVALID_SHARD_SIZE)
+        wrong("an encode with NULL");
+    if (rs_decode(tables, 3, 2, 4, bytes, 12, bytes, 8, NULL, 0, &fault) != RS_WRONG_LENGTH || !told(&fault, RS_WRONG_LENGTH, 5, 0, 0) ||
+        rs_decode(tables, 3, 2, 0, NULL, 0, NULL, 0, marks, 5, NULL) != RS_OK)
+        wrong("a decode with NULL");
+    if (rs_encode_shards(tables, 3, 2, NULL, 0, NULL, 0, &fault) != RS_TOO_FEW_ORIGINAL_SHARDS ||
+        rs_encode_shards(tables, 3, 2, &empty, 1, NULL, 0, NULL) != RS_INVALID_SHARD_SIZE ||
+        rs_encode_shards(tables, 3, 2, from, 3, to, 2, &fault) != RS_DIFFERENT_SHARD_SIZE || !told(&fault, RS_DIFFERENT_SHARD_SIZE, 4, 0, 0) ||
+        rs_encode_shards(tables, 1, 2, from, 1, to, 2, &fault) != RS_WRONG_LENGTH || !told(&fault, RS_WRONG_LENGTH, 4, 0, 0))
+        wrong("an encode over arrays with NULL");
+    if (rs_decode_shards(tables, 3, 2, NULL, 0, NULL, 0, NULL, 0, &fault) != RS_NOT_ENOUGH_SHARDS ||
+        rs_decode_shards(tables, 3, 2, own, 3, NULL, 0, NULL, 0, NULL) != RS_OK ||
+        rs_decode_shards(tables, 3, 2, own, 3, other + 1, 1, NULL, 0, NULL) != RS_INVALID_SHARD_SIZE ||
+        rs_decode_shards(tables, 3, 2, own + 2, 1, other, 2, to + 1, 2, &fault) != RS_DIFFERENT_SHARD_SIZE ||
+        rs_decode_shards(tables, 1, 1, NULL, 0, other, 1, to + 1, 1, &fault) != RS_WRONG_LENGTH || !told(&fault, RS_WRONG_LENGTH, 4, 0, 0))
+        wrong("a decode over arrays with NULL");
+    if (own[0].bytes || own[1].bytes || other[1].bytes || from[1].bytes || to[1].bytes) wrong("an array with NULL has changed");
+    memset(bytes, 7, sizeof bytes);
+    to[0].bytes = bytes + 8;
+    other[0].bytes = bytes + 4;
+    if (rs_encode(tables, 1, 1, 4, bytes, 4, bytes + 4, 4, NULL) || rs_decode_shards(tables, 1, 1, NULL, 0, other, 1, to, 1, NULL))
+        wrong("a round without a fault");
+}
+
+/* Arrays of rooms in memory that can't be written. */
+static void const_rooms(void) {
+    struct rs_room *rooms = mmap(NULL, 4096, PROT_READ | PROT_WRITE, MAP_PRIVATE | MAP_ANONYMOUS, -1, 0);
+    uint8_t originals[12], recovery[8], restored[8];
+    struct rs_bytes from[3];
+    struct rs_shard own, other[2];
+    struct rs_fault fault;
+    if (rooms == MAP_FAILED) wrong("no memory for the test");
+    for (size_t i = 0; i < 12; i++) originals[i] = (uint8_t)(3 * i + 1);
+    for (size_t i = 0; i < 3; i++) from[i].bytes = originals + 4 * i, from[i].length = 4;
+    for (size_t i = 0; i < 2; i++) {
+        rooms[i].bytes = recovery + 4 * i, rooms[i + 2].bytes = restored + 4 * i, rooms[i].length = rooms[i + 2].length = 4;
+        other[i].index = i, other[i].bytes = recovery + 4 * i, other[i].length = 4;
+    }
+    own.index = 1, own.bytes = originals + 4, own.length = 4;
+    if (mprotect(rooms, 4096, PROT_READ)) wrong("no protection of memory");
+    if (rs_encode_shards(tables, 3, 2, from, 3, rooms, 2, &fault) || rs_decode_shards(tables, 3, 2, &own, 1, other, 2, rooms + 2, 2, &fault) ||
+        memcmp(restored, originals, 4) || memcmp(restored + 4, originals + 8, 4))
+        wrong("constant arrays of rooms");
+    munmap(rooms, 4096);
+}
+
+/* The name of each number, and how long shards must be. */
+static void names_and_sizes(void) {
+#define NAMED(number) if (strcmp(rs_status_name(number), #number)) wrong("the name of " #number)
+    NAMED(RS_OK); NAMED(RS_OUT_OF_MEMORY); NAMED(RS_UNSUPPORTED_SHARD_COUNT); NAMED(RS_INVALID_SHARD_SIZE); NAMED(RS_DIFFERENT_SHARD_SIZE);
+    NAMED(RS_TOO_FEW_ORIGINAL_SHARDS); NAMED(RS_TOO_MANY_ORIGINAL_SHARDS); NAMED(RS_NOT_ENOUGH_SHARDS); NAMED(RS_INVALID_ORIGINAL_SHARD_INDEX);
+    NAMED(RS_INVALID_RECOVERY_SHARD_INDEX); NAMED(RS_DUPLICATE_ORIGINAL_SHARD_INDEX); NAMED(RS_DUPLICATE_RECOVERY_SHARD_INDEX);
+    NAMED(RS_INCONSISTENT_SHARDS); NAMED(RS_WRONG_LENGTH); NAMED(RS_WRONG_NUMBER_OF_ROOMS); NAMED(RS_TABLES_NOT_MADE);
+    if (strcmp(rs_status_name(16), "unknown") || rs_shard_bytes(0, 3) != 2 || rs_shard_bytes(35, 3) != 12 || rs_shard_bytes(SIZE_MAX, 1))
+        wrong("a name or a size");
 }
 
 /* Tables of zeros, of ones, and made ones whose last word was lost. */
@@ -485,6 +553,9 @@ static void refusals(void) {
     decodes_refused_anywhere();
     texts();
     unmade();
+    nulls();
+    const_rooms();
+    names_and_sizes();
     puts("test: refusals");
 }
 

@@ -1,0 +1,3 @@
+module reedsolomon
+
+go 1.19

@@ -1,0 +1,88 @@
+//! The calls of `reed_solomon_simd.h` as they are in C. The header says what each call does and what the caller must ensure.
+#![no_std]
+#![allow(non_camel_case_types)]
+use core::ffi::c_char;
+
+pub const RS_VERSION: u32 = 65539;
+pub const RS_OK: u32 = 0;
+pub const RS_OUT_OF_MEMORY: u32 = 1;
+pub const RS_UNSUPPORTED_SHARD_COUNT: u32 = 2;
+pub const RS_INVALID_SHARD_SIZE: u32 = 3;
+pub const RS_DIFFERENT_SHARD_SIZE: u32 = 4;
+pub const RS_TOO_FEW_ORIGINAL_SHARDS: u32 = 5;
+pub const RS_TOO_MANY_ORIGINAL_SHARDS: u32 = 6;
+pub const RS_NOT_ENOUGH_SHARDS: u32 = 7;
+pub const RS_INVALID_ORIGINAL_SHARD_INDEX: u32 = 8;
+pub const RS_INVALID_RECOVERY_SHARD_INDEX: u32 = 9;
+pub const RS_DUPLICATE_ORIGINAL_SHARD_INDEX: u32 = 10;
+pub const RS_DUPLICATE_RECOVERY_SHARD_INDEX: u32 = 11;
+pub const RS_INCONSISTENT_SHARDS: u32 = 12;
+pub const RS_WRONG_LENGTH: u32 = 13;
+pub const RS_WRONG_NUMBER_OF_ROOMS: u32 = 14;
+pub const RS_TABLES_NOT_MADE: u32 = 15;
+
+#[repr(C)]
+#[derive(Clone, Copy, Debug, Default, PartialEq, Eq)]
+pub struct rs_fault {
+    pub number: u32,
+    pub first: usize,
+    pub second: usize,
+    pub third: usize,
+}
+
+pub const RS_TABLE_WORDS: usize = 1097728;
+
+/// 8.8 MB. Allocate it on the heap without a copy on the stack, for example by `std::alloc::alloc_zeroed`.
+#[repr(C)]
+pub struct rs_tables {
+    pub words: [u64; RS_TABLE_WORDS],
+}
+
+#[repr(C)]
+#[derive(Clone, Copy, Debug)]
+pub struct rs_bytes {
+    pub bytes: *const u8,
+    pub length: usize,
+}
+
+#[repr(C)]
+#[derive(Clone, Copy, Debug)]
+pub struct rs_room {
+    pub bytes: *mut u8,
+    pub length: usize,
+}
+
+#[repr(C)]
+#[derive(Clone, Copy, Debug)]
+pub struct rs_shard {
+    pub index: usize,
+    pub bytes: *const u8,
+    pub length: usize,
+}
+
+extern "C" {
+    pub fn rs_tables_make(tables: *mut rs_tables) -> u32;
+    pub fn rs_supports(original_count: usize, recovery_count: usize) -> u32;
+    pub fn rs_encode(
+        tables: *const rs_tables, original_count: usize, recovery_count: usize, shard_bytes: usize,
+        originals: *const u8, originals_length: usize, recovery: *mut u8, recovery_length: usize, fault: *mut rs_fault,
+    ) -> u32;
+    pub fn rs_decode(
+        tables: *const rs_tables, original_count: usize, recovery_count: usize, shard_bytes: usize,
+        originals: *mut u8, originals_length: usize, recovery: *const u8, recovery_length: usize,
+        marks: *const u8, marks_length: usize, fault: *mut rs_fault,
+    ) -> u32;
+    pub fn rs_encode_shards(
+        tables: *const rs_tables, original_count: usize, recovery_count: usize, originals: *const rs_bytes, originals_number: usize,
+        recovery: *const rs_room, recovery_number: usize, fault: *mut rs_fault,
+    ) -> u32;
+    pub fn rs_decode_shards(
+        tables: *const rs_tables, original_count: usize, recovery_count: usize, originals: *const rs_shard, originals_number: usize,
+        recovery: *const rs_shard, recovery_number: usize, restored: *const rs_room, restored_number: usize, fault: *mut rs_fault,
+    ) -> u32;
+    pub fn rs_fault_text(fault: *const rs_fault, text: *mut c_char, text_length: usize) -> usize;
+    pub fn rs_status_name(number: u32) -> *const c_char;
+    pub fn rs_shard_bytes(total: usize, original_count: usize) -> usize;
+    pub fn rs_version() -> u32;
+}
+
