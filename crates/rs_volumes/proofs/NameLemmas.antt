@@ -58,6 +58,10 @@ pub parts_end : (part name : List ℕ) (i : ℕ) → length name ≤ i → has_p
 unfolding has_parts
 parts_end part name i h = rw (drop_all i name h) refl
 
+-- the steps of the loop over the bytes of a name
+pub ruleset steps_in_parts =
+    (zero_ends, slash_goes, slash_ends, byte_goes, between_further, between_nothing, parts_end)
+
 -- ---- the order of names
 
 pub before_further : (one other : List ℕ) (i : ℕ) → i < length one → i < length other
@@ -96,6 +100,9 @@ before_ends one other i h =
           let no : ltb (length one) (length other) ≡ false = le-ltb _ _ le in
           rw (drop_all i one ended, drop_all i other outside, no) refl
     ]
+
+-- the steps of the loop that compares two names
+pub ruleset steps_in_order = (before_further, before_differs, before_longer, before_ends)
 
 -- ---- UTF-8
 

@@ -10,9 +10,6 @@ use Rattle.rs_volumes.specs.Sound.{set_outcome, IsSound, reading}
 use Rattle.rs_volumes.proofs.Fields.{IsBytes, bind_ok, ok_is}
 use Rattle.rs_volumes.proofs.Files.{description_takes, description_again}
 
-one_value : (x : Unit {0}) → x ≡ tt
-one_value x = refl
-
 reading_takes : (bytes : List ℕ) (s : FileSet) → IsBytes bytes → reading bytes ≡ Ok s → IsSound s × (bytes ≡ spelling s)
 unfolding reading
 reading_takes bytes s fits e =

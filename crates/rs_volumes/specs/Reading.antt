@@ -26,8 +26,9 @@ Gives view (Err e) read = Fails e read
 
 -- a number of this width at the front, and the bytes after it
 abbrev pub number_at : Width → List ℕ → Result (ℕ × List ℕ) Fault
-number_at w bytes = if nat_lt (length bytes) (byte_len w) then Err Short else Ok
-    (from_le_bytes w (take (byte_len w) bytes), drop (byte_len w) bytes)
+number_at w bytes =
+    if nat_lt (length bytes) (byte_len w) then Err Short
+    else Ok (from_le_bytes w (take (byte_len w) bytes), drop (byte_len w) bytes)
 
 -- a name at the front, and the bytes after it
 unfoldable pub name_at : List ℕ → Result (List ℕ × List ℕ) Fault
@@ -79,8 +80,9 @@ opening_at bytes = do
 -- bytes that are all digests of this many blocks
 unfoldable pub digests_in : ℕ → List ℕ → Result (List ℕ) Fault
 digests_in blocks bytes =
-    if nat_lt (length bytes) (32 * blocks) then Err Short else if nat_lt (32 * blocks)
-    (length bytes) then Err Trailing else Ok bytes
+    if nat_lt (length bytes) (32 * blocks) then Err Short
+    else if nat_lt (32 * blocks) (length bytes) then Err Trailing
+    else Ok bytes
 
 -- a description that takes all of the bytes
 unfoldable pub description_in : List ℕ → Result FileSet Fault

@@ -1,5 +1,5 @@
 //! The head of a volume: 64 bytes, which are both its first and its last bytes.
-ghost use Rattle.std.specs.Prelude.{◌≡◌, ◌≤◌, length};
+ghost use Rattle.std.specs.Prelude.{◌≤◌};
 
 use crate::fault::Fault;
 use std::alloc::{AllocError, Global};

@@ -2,7 +2,7 @@
 ghost use Rattle.std.specs.Prelude.{◌≡◌, ◌+◌, ◌<◌, ◌^◌, IfOk, Ok};
 ghost use Rattle.std.specs.Int.{w16, w32, w64};
 ghost use Rattle.rs_volumes.specs.Description.{FileSet, file_of, files_of, set_of, spelling};
-ghost use Rattle.rs_volumes.specs.Reading.{Gives, number_at, name_at, file_at, files_at, one_at, opening_at, Opening, digests_in, description_in};
+ghost use Rattle.rs_volumes.specs.Reading.{Gives, number_at, name_at, file_at, files_at, one_at, opening_at, digests_in, description_in};
 ghost use Rattle.rs_volumes.specs.Sound.{IsSound, reading};
 
 use crate::checking::check;
