@@ -4,7 +4,6 @@ use Rattle.std.proofs.Common.{◌∷◌, ◌++◌, length, Result, Ok, Err, refl
 use Rattle.std.specs.List.{flat_map, AllByRecursion}
 use Rattle.std.specs.Int.{w32, w64, to_le_bytes}
 use Rattle.std.proofs.lemmas.Bool.{eqb-true, ltb-false, le-ltb}
-use Rattle.std.proofs.lemmas.List.{append-nil, length-append}
 use Rattle.std.proofs.lemmas.List.Concat.{flat_map-cons}
 use Rattle.rs_volumes.specs.declared.fault.Fault.{Fault}
 use Rattle.rs_volumes.specs.declared.fault.Fault.TheVariants.{Short, Trailing, Code, Digest}

@@ -1,7 +1,6 @@
 -- What is read is sound and spelled so, and the bytes of a sound set are read.
-use Rattle.std.proofs.Common.{◌≡◌, ℕ, List, Result, Ok, Err, refl, sym, ap, subst, ◌∙◌}
+use Rattle.std.proofs.Common.{◌≡◌, ℕ, List, Result, Ok, Err, refl, subst}
 use Rattle.std.specs.Prelude.{IfOk}
-use Rattle.rs_volumes.specs.declared.fault.Fault.{Fault}
 use Rattle.rs_volumes.specs.declared.fault.ReadError.{ReadError}
 use Rattle.rs_volumes.specs.declared.description.Description.{Description}
 use Rattle.rs_volumes.specs.Description.{FileSet, set_of, spelling}
