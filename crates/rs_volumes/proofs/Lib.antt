@@ -8,3 +8,5 @@ pub mod Strips
 pub mod Coded
 pub mod Created
 pub mod Restored
+pub mod Written
+pub mod Originals
