@@ -3,6 +3,8 @@ pub mod Files
 pub mod Loop
 pub mod NameLemmas
 pub mod Sets
+pub mod HeadLemmas
+pub mod PlaceLemmas
 pub mod Hashes
 pub mod Strips
 pub mod Coded

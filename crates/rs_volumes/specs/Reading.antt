@@ -24,6 +24,11 @@ abbrev pub Gives : {X Y : Type 0} → (X → Y) → Result X ReadError → Resul
 Gives view (Ok x) read = read ≡ Ok (view x)
 Gives view (Err e) read = Fails e read
 
+-- a function that allocates nothing returned what the reading gives
+abbrev pub Reads : {X Y : Type 0} → (X → Y) → Result X Fault → Result Y Fault → Type 0
+Reads view (Ok x) read = read ≡ Ok (view x)
+Reads view (Err fault) read = read ≡ Err fault
+
 -- a number of this width at the front, and the bytes after it
 abbrev pub number_at : Width → List ℕ → Result (ℕ × List ℕ) Fault
 number_at w bytes =
@@ -60,17 +65,17 @@ pub record Opening : Type 0 where
   pub recovery_count : ℕ
   pub file_count : ℕ
 
--- the number 1 at the front, or this fault, and the bytes after it
-unfoldable pub one_at : Fault → List ℕ → Result (List ℕ) Fault
-one_at fault bytes = do
+-- this number of four bytes at the front, or this fault, and the bytes after it
+unfoldable pub fixed_at : ℕ → Fault → List ℕ → Result (List ℕ) Fault
+fixed_at wanted fault bytes = do
   n ← number_at w32 bytes
-  if n.0 == 1 then Ok n.1 else Err fault
+  if n.0 == wanted then Ok n.1 else Err fault
 
 -- the opening at the front, and the bytes after it
 unfoldable pub opening_at : List ℕ → Result (Opening × List ℕ) Fault
 opening_at bytes = do
-  code ← one_at Code bytes
-  digest ← one_at Digest code
+  code ← fixed_at 1 Code bytes
+  digest ← fixed_at 1 Digest code
   block ← number_at w64 digest
   k ← number_at w32 block.1
   r ← number_at w32 k.1
