@@ -1,5 +1,7 @@
 -- Where the original blocks lie in the files.
-use Rattle.std.specs.Prelude.{ℕ, zero, suc, ◌*◌, ◌/◌, ◌%◌, ◌==◌, List, [], ◌∷◌, ◌++◌, if◌then◌else◌}
+use Rattle.std.specs.Prelude.{◌≡◌, ℕ, zero, suc, ◌+◌, ◌*◌, ◌/◌, ◌%◌, ◌==◌, List, [], ◌∷◌, ◌++◌, length, map, if◌then◌else◌}
+use Rattle.std.specs.List.{between, concat, flat_map}
+use Rattle.rs_field.specs.code.Column.{Shard, shard_at}
 use Rattle.rs_volumes.specs.declared.placement.Place.{Place}
 use Rattle.rs_volumes.specs.Description.{SetFile}
 
@@ -23,3 +25,14 @@ file_places file block size = full_places file block (size / block) ++ rest_plac
 unfoldable pub set_places : ℕ → ℕ → List SetFile → List Place
 set_places index block [] = []
 set_places index block (file ∷ files) = file_places index block file.size ++ set_places (suc index) block files
+
+-- the bytes of the files at a place, where the files have these contents
+abbrev pub bytes_at : List Shard → Place → Shard
+bytes_at contents place = between place.offset (place.offset + place.bytes) (shard_at contents place.file)
+
+-- places cover files exactly once and in order: whatever the files hold, the bytes at the places, one place after
+-- another, are the contents of the files, one file after another
+abbrev pub Cover : List SetFile → List Place → Type 0
+Cover files places =
+    (contents : List Shard) → map (λ bytes. length bytes) contents ≡ map (λ file. file.size) files
+    → flat_map (bytes_at contents) places ≡ concat contents

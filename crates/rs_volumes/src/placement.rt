@@ -1,7 +1,7 @@
 //! Where the original blocks lie in the files.
 ghost use Rattle.std.specs.Prelude.{◌≡◌, ◌<◌, ◌++◌, OnOk, IfOk};
 ghost use Rattle.rs_volumes.specs.Description.{files_of};
-ghost use Rattle.rs_volumes.specs.Places.{file_places, set_places};
+ghost use Rattle.rs_volumes.specs.Places.{Cover, file_places, set_places};
 
 use crate::description::Description;
 use std::alloc::{AllocError, Global};
@@ -59,8 +59,11 @@ fn push_places(
 /// the second one has the offset 4096 and 1 byte.
 pub fn places_of(alloc: Global, description: &Description) -> Result<Vec<Place>, AllocError>
     requires { 0 < description.now.block_bytes }
-    ensures { IfOk result (λ places. places.items
+    // The places are those of the definition `set_places`.
+    ensures exact { IfOk result (λ places. places.items
         ≡ set_places 0 description.now.block_bytes (files_of description.now.files.items)) }
+    // The places cover each file exactly once, in order.
+    ensures cover { IfOk result (λ places. Cover (files_of description.now.files.items) places.items) }
 {
     let mut places = Vec::new(alloc);
     for (index, file) in description.files.as_slice().iter().enumerate() {
