@@ -69,6 +69,33 @@ fn finish<R: Runtime>(
     Ok(count)
 }
 
+// Restores the damaged and missing files of a set. The files are in `folder`, and the restored files are written into
+// this folder, or into the folder after `--to`. Returns the number of restored files.
+fn restore_files<R: Runtime>(
+    rt: &R,
+    alloc: Global,
+    request: &Request,
+    found: &Scan,
+    folder: &str,
+) -> Result<usize> {
+    let target = match &request.to {
+        Some(to) => to.as_str(),
+        None => folder,
+    };
+    let paths = targets(alloc, found, target)?;
+    let parts = begin_parts(rt, alloc, found, paths.as_slice())?;
+    write_blocks(
+        rt,
+        alloc,
+        found,
+        parts.as_slice(),
+        request.memory,
+        request.progress,
+    )?;
+    let in_place = request.to.is_none();
+    finish(rt, alloc, found, parts.as_slice(), in_place, request.force)
+}
+
 /// Runs `repair`: restores the damaged and missing files of a set. Returns the exit status.
 ///
 /// # Errors
@@ -98,28 +125,7 @@ pub fn repair<R: Runtime + AllocGlobal>(rt: &R, request: &Request) -> Result<u8>
             STATUS_WHOLE
         });
     }
-    let target = match &request.to {
-        Some(to) => to.as_str(),
-        None => folder,
-    };
-    let paths = targets(alloc, &found, target)?;
-    let parts = begin_parts(rt, alloc, &found, paths.as_slice())?;
-    write_blocks(
-        rt,
-        alloc,
-        &found,
-        parts.as_slice(),
-        request.memory,
-        request.progress,
-    )?;
-    let count = finish(
-        rt,
-        alloc,
-        &found,
-        parts.as_slice(),
-        request.to.is_none(),
-        request.force,
-    )?;
+    let count = restore_files(rt, alloc, request, &found, folder)?;
     if !request.quiet {
         println!(rt; "{count} files were restored")?;
     }

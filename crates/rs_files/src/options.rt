@@ -7,6 +7,9 @@ use std::alloc::Global;
 use std::env;
 use std::rt::Runtime;
 
+/// The help text of `--block`.
+const BLOCK_HELP: &str = "Cut the files into blocks of this size";
+
 /// A request, or the status with which the program ends at once.
 #[derive(Drop)]
 pub enum Parsed {
@@ -70,49 +73,34 @@ fn command<'a>(
     )
 }
 
+// Returns the command `create`.
+fn creator<'a>(alloc: Global) -> Result<Command<'a>> {
+    let about = "Make a volume with recovery blocks beside the files";
+    let output = value(alloc, "output", "VOLUME", "Write this volume").short('o');
+    let help = "Make so many recovery blocks, as 10% or 300";
+    let recovery = value(alloc, "recovery", "COUNT", help).short('r');
+    let block = value(alloc, "block", "BYTES", BLOCK_HELP);
+    let create = command(alloc, "create", "FILE", about)?;
+    Ok(create.arg(output)?.arg(recovery)?.arg(block)?)
+}
+
+// Returns the command `split`.
+fn splitter<'a>(alloc: Global) -> Result<Command<'a>> {
+    let about = "Spread the files over volumes";
+    let help = "Write the volumes into this folder";
+    let output = value(alloc, "output", "FOLDER", help).short('o');
+    let volumes = value(alloc, "volumes", "COUNT", "Make so many volumes").short('n');
+    let help = "Allow that so many volumes are lost [default: 1]";
+    let lose = value(alloc, "lose", "COUNT", help);
+    let block = value(alloc, "block", "BYTES", BLOCK_HELP);
+    let split = command(alloc, "split", "FILE", about)?;
+    Ok(split.arg(output)?.arg(volumes)?.arg(lose)?.arg(block)?)
+}
+
 // Adds the commands that make volumes: `create` and `split`.
 fn makers<'a>(alloc: Global, top: Command<'a>) -> Result<Command<'a>> {
-    let create = command(
-        alloc,
-        "create",
-        "FILE",
-        "Make a volume with recovery blocks beside the files",
-    )?
-    .arg(value(alloc, "output", "VOLUME", "Write this volume").short('o'))?
-    .arg(value(
-        alloc,
-        "recovery",
-        "COUNT",
-        "Make so many recovery blocks, as 10% or 300",
-    )
-    .short('r'))?
-    .arg(value(
-        alloc,
-        "block",
-        "BYTES",
-        "Cut the files into blocks of this size",
-    ))?;
-    let split = command(alloc, "split", "FILE", "Spread the files over volumes")?
-        .arg(value(
-            alloc,
-            "output",
-            "FOLDER",
-            "Write the volumes into this folder",
-        )
-        .short('o'))?
-        .arg(value(alloc, "volumes", "COUNT", "Make so many volumes").short('n'))?
-        .arg(value(
-            alloc,
-            "lose",
-            "COUNT",
-            "Allow that so many volumes are lost [default: 1]",
-        ))?
-        .arg(value(
-            alloc,
-            "block",
-            "BYTES",
-            "Cut the files into blocks of this size",
-        ))?;
+    let create = creator(alloc)?;
+    let split = splitter(alloc)?;
     Ok(top.subcommand(create)?.subcommand(split)?)
 }
 

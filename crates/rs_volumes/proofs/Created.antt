@@ -1,15 +1,13 @@
 -- A set that is created piece by piece.
-use Rattle.std.proofs.Common.{◌≡◌, ℕ, zero, suc, ◌+◌, ◌-◌, ◌<◌, ◌≤◌, ◌%◌, ◌⊎◌, List, [], ◌∷◌, ◌++◌, length, get_or}
-use Rattle.std.proofs.Common.{take, All, Some, refl, sym, ap, subst, ◌∙◌, inl, inr, arith}
-use Rattle.std.specs.Prelude.{replicate}
-use Rattle.std.specs.List.{between, flat_map}
+use Rattle.std.proofs.Common.{◌≡◌, ℕ, zero, suc, ◌+◌, ◌-◌, ◌<◌, ◌≤◌, ◌⊎◌, List, [], ◌++◌, length, get_or}
+use Rattle.std.proofs.Common.{take, Some, refl, sym, ap, subst, ◌∙◌, inl, inr, arith}
+use Rattle.std.specs.List.{flat_map}
 use Rattle.std.proofs.lemmas.Bool.{cases_lt}
 use Rattle.std.proofs.lemmas.List.{take_all, get_or-append_right, get_or_default}
 use Rattle.std.proofs.Math.ListN.{get_or-append}
 use Rattle.sha2.specs.Sha256.{sha256}
 use Rattle.sha2.specs.declared.Sha256.{Sha256}
 use Rattle.rs_field.specs.code.Column.{Shard, IsShard, AreShards, shard_at}
-use Rattle.rs_field.specs.code.Code.{AreRecovery}
 use Rattle.rs_field.specs.code.Given.{Shards}
 use Rattle.rs_field.specs.code.OneCall.{default_of}
 use Rattle.rs_field.specs.code.Pieces.{IsStrip}
@@ -39,7 +37,7 @@ pub length-empty : (n : ℕ) → length (empty_blocks n) ≡ n
 length-empty zero = refl
 length-empty (suc n) = ap suc (length-empty n)
 
-pub shard_at-empty : (n i : ℕ) → shard_at (empty_blocks n) i ≡ []
+shard_at-empty : (n i : ℕ) → shard_at (empty_blocks n) i ≡ []
 shard_at-empty zero i = refl
 shard_at-empty (suc n) zero = refl
 shard_at-empty (suc n) (suc i) = shard_at-empty n i

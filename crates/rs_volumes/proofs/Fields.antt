@@ -1,23 +1,22 @@
 -- A field that is read is the field that was written, and what was written is read again.
-use Rattle.std.proofs.Common.{◌≡◌, ℕ, zero, suc, ◌+◌, ◌^◌, ◌<◌, ◌≤◌, Bool, true, false, cond, ltb, List, [], ◌∷◌, ◌++◌}
-use Rattle.std.proofs.Common.{length, get_or, take, drop, Option, Some, None, Result, Ok, Err, refl, sym, ap, subst}
+use Rattle.std.proofs.Common.{◌≡◌, ℕ, ◌+◌, ◌^◌, ◌<◌, ◌≤◌, Bool, true, false, cond, eqb, ltb, List, ◌++◌}
+use Rattle.std.proofs.Common.{length, get_or, take, drop, Result, Ok, Err, refl, sym, ap, subst}
 use Rattle.std.proofs.Common.{◌∙◌, append_assoc, arith, inl, inr}
-use Rattle.std.specs.Prelude.{IfSome}
 use Rattle.std.specs.Int.{Width, w16, w32, w64, byte_len, from_le_bytes, to_le_bytes}
-use Rattle.std.proofs.lemmas.Bool.{cases_lt, ltb-false, le-ltb}
+use Rattle.std.proofs.lemmas.Bool.{cases_lt, ltb-false, le-ltb, eqb-true, eq-eqb}
 use Rattle.std.proofs.lemmas.List.{take_at, drop_at, take-append-drop, length-append, length-take, get_or-drop}
 use Rattle.std.proofs.lemmas.List.{get_or-take, get_or_past}
 use Rattle.std.proofs.lemmas.Nat.{le_bytes_2, le_bytes_4, le_bytes_8, from_le_bytes-to_le_bytes_2}
 use Rattle.std.proofs.lemmas.Nat.{from_le_bytes-to_le_bytes_4, from_le_bytes-to_le_bytes_8}
 use Rattle.rs_volumes.specs.declared.fault.Fault.{Fault}
-use Rattle.rs_volumes.specs.declared.fault.Fault.TheVariants.{Short, Trailing}
+use Rattle.rs_volumes.specs.declared.fault.Fault.TheVariants.{Short}
 use Rattle.rs_volumes.specs.Description.{name_spelling}
-use Rattle.rs_volumes.specs.Reading.{◌>>=◌, number_at, name_at}
+use Rattle.rs_volumes.specs.Reading.{◌>>=◌, number_at, fixed_at, name_at}
 
 abbrev pub IsBytes : List ℕ → Type 0
 IsBytes bytes = (i : ℕ) → get_or bytes i 0 < 256
 
-IsBytes-drop : (n : ℕ) (bytes : List ℕ) → IsBytes bytes → IsBytes (drop n bytes)
+pub IsBytes-drop : (n : ℕ) (bytes : List ℕ) → IsBytes bytes → IsBytes (drop n bytes)
 IsBytes-drop n bytes h i = rw get_or-drop (h (n + i))
 
 IsBytes-take : (n : ℕ) (bytes : List ℕ) → IsBytes bytes → IsBytes (take n bytes)
@@ -119,6 +118,28 @@ number_again w limit wide n rest lt =
           (byte_len w) len,
       wide.again n lt,
     ) refl
+
+pub guard_passed : {A : Type 0} (b : Bool) (d : Fault) (x y : A) → cond b (Ok x) (Err d) ≡ Ok y → (b ≡ true) × (x ≡ y)
+guard_passed true d x y e = (refl, cc)
+guard_passed false d x y e = absurd cc
+
+pub fixed_takes : (wanted : ℕ) (fault : Fault) (bytes rest : List ℕ) → IsBytes bytes
+    → fixed_at wanted fault bytes ≡ Ok rest → Takes bytes (to_le_bytes w32 wanted) rest
+unfolding fixed_at
+fixed_takes wanted fault bytes rest fits e =
+    let a = bind_ok (number_at w32 bytes) (λ n. cond (eqb n.0 wanted) (Ok n.1) (Err fault)) rest e in
+    let g = guard_passed (eqb a.0.0 wanted) fault a.0.1 rest a.2 in
+    let t = number_takes w32 (2 ^ 32) wide32 bytes a.0.0 a.0.1 fits a.1 in
+    let same : a.0.0 ≡ wanted = eqb-true _ _ g.0 in
+    subst (λ (r : List ℕ). Takes bytes (to_le_bytes w32 wanted) r) g.1
+    (subst (λ (n : ℕ). Takes bytes (to_le_bytes w32 n) a.0.1) same t.0)
+
+pub fixed_again : (wanted : ℕ) (fault : Fault) (rest : List ℕ) → wanted < 2 ^ 32
+    → fixed_at wanted fault (to_le_bytes w32 wanted ++ rest) ≡ Ok rest
+unfolding fixed_at
+fixed_again wanted fault rest lt =
+    let same : eqb wanted wanted ≡ true = eq-eqb wanted wanted refl in
+    rw (number_again w32 (2 ^ 32) wide32 wanted rest lt, same) refl
 
 -- ---- names
 

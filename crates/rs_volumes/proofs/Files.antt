@@ -1,23 +1,18 @@
 -- What is read is spelled so, and what is spelled so is read.
-use Rattle.std.proofs.Common.{◌≡◌, ℕ, zero, suc, ◌+◌, ◌*◌, ◌^◌, ◌<◌, ◌≤◌, Bool, true, false, cond, eqb, ltb, List, []}
+use Rattle.std.proofs.Common.{◌≡◌, ℕ, zero, suc, ◌+◌, ◌*◌, ◌^◌, ◌<◌, ◌≤◌, Bool, true, false, cond, ltb, List, []}
 use Rattle.std.proofs.Common.{◌∷◌, ◌++◌, length, Result, Ok, Err, refl, sym, ap, subst, ◌∙◌, append_assoc, arith}
 use Rattle.std.specs.List.{flat_map, AllByRecursion}
 use Rattle.std.specs.Int.{w32, w64, to_le_bytes}
-use Rattle.std.proofs.lemmas.Bool.{eqb-true, ltb-false, le-ltb}
-use Rattle.std.proofs.lemmas.List.{append-nil, length-append}
+use Rattle.std.proofs.lemmas.Bool.{ltb-false, le-ltb}
 use Rattle.std.proofs.lemmas.List.Concat.{flat_map-cons}
 use Rattle.rs_volumes.specs.declared.fault.Fault.{Fault}
 use Rattle.rs_volumes.specs.declared.fault.Fault.TheVariants.{Short, Trailing, Code, Digest}
 use Rattle.rs_volumes.specs.Description.{SetFile, FileSet, name_spelling, file_spelling, opening_spelling, spelling}
 use Rattle.rs_volumes.specs.Description.{FileFits, Fits}
-use Rattle.rs_volumes.specs.Reading.{◌>>=◌, number_at, name_at, file_at, files_at, Opening, one_at, opening_at}
+use Rattle.rs_volumes.specs.Reading.{◌>>=◌, number_at, name_at, file_at, files_at, Opening, fixed_at, opening_at}
 use Rattle.rs_volumes.specs.Reading.{digests_in, description_in}
 use Rattle.rs_volumes.proofs.Fields.{IsBytes, bind_ok, guard_ok, ok_is, Takes, Takes-then, wide32, wide64, number_takes}
-use Rattle.rs_volumes.proofs.Fields.{number_again, name_takes, name_again}
-
-guard_passed : {A : Type 0} (b : Bool) (d : Fault) (x y : A) → cond b (Ok x) (Err d) ≡ Ok y → (b ≡ true) × (x ≡ y)
-guard_passed true d x y e = (refl, cc)
-guard_passed false d x y e = absurd cc
+use Rattle.rs_volumes.proofs.Fields.{number_again, fixed_takes, fixed_again, name_takes, name_again}
 
 -- ---- a file
 
@@ -103,21 +98,6 @@ files_again (f ∷ fs) rest fits =
 
 -- ---- the opening
 
-one_takes : (fault : Fault) (bytes rest : List ℕ) → IsBytes bytes → one_at fault bytes ≡ Ok rest
-    → Takes bytes (to_le_bytes w32 1) rest
-unfolding one_at
-one_takes fault bytes rest fits e =
-    let a = bind_ok (number_at w32 bytes) (λ n. cond (eqb n.0 1) (Ok n.1) (Err fault)) rest e in
-    let g = guard_passed (eqb a.0.0 1) fault a.0.1 rest a.2 in
-    let t = number_takes w32 (2 ^ 32) wide32 bytes a.0.0 a.0.1 fits a.1 in
-    let one : a.0.0 ≡ 1 = eqb-true _ _ g.0 in
-    subst (λ (r : List ℕ). Takes bytes (to_le_bytes w32 1) r) g.1
-    (subst (λ (n : ℕ). Takes bytes (to_le_bytes w32 n) a.0.1) one t.0)
-
-one_again : (fault : Fault) (rest : List ℕ) → one_at fault (to_le_bytes w32 1 ++ rest) ≡ Ok rest
-unfolding one_at
-one_again fault rest = rw (number_again w32 (2 ^ 32) wide32 1 rest (omega arith)) refl
-
 -- the numbers of an opening fit their fields
 record OpeningFits (o : Opening) : Type 0 where
   pub block_bytes : o.block_bytes < 2 ^ 64
@@ -132,14 +112,14 @@ opening_takes : (bytes : List ℕ) (x : Opening × List ℕ) → IsBytes bytes �
     → Takes bytes (spelled x.0) x.1 × OpeningFits x.0
 unfolding opening_at
 opening_takes bytes x fits e =
-    let o1 = bind_ok (one_at Code bytes)
-    (λ code. one_at Digest code >>= λ digest. number_at w64 digest >>= λ block. number_at w32 block.1 >>= λ k.
+    let o1 = bind_ok (fixed_at 1 Code bytes)
+    (λ code. fixed_at 1 Digest code >>= λ digest. number_at w64 digest >>= λ block. number_at w32 block.1 >>= λ k.
     number_at w32 k.1 >>= λ r. number_at w32 r.1 >>= λ count.
     Ok (
       record { block_bytes = block.0; original_count = k.0; recovery_count = r.0; file_count = count.0 },
       count.1,
     )) x e in
-    let o2 = bind_ok (one_at Digest o1.0)
+    let o2 = bind_ok (fixed_at 1 Digest o1.0)
     (λ digest. number_at w64 digest >>= λ block. number_at w32 block.1 >>= λ k. number_at w32 k.1 >>= λ r.
     number_at w32 r.1 >>= λ count.
     Ok (
@@ -169,8 +149,8 @@ opening_takes bytes x fits e =
       count.1,
     )) x r.2
     in
-    let t1 = one_takes Code bytes o1.0 fits o1.1 in
-    let t2 = one_takes Digest o1.0 o2.0 t1.rest_fits o2.1 in
+    let t1 = fixed_takes 1 Code bytes o1.0 fits o1.1 in
+    let t2 = fixed_takes 1 Digest o1.0 o2.0 t1.rest_fits o2.1 in
     let t3 = number_takes w64 (2 ^ 64) wide64 o2.0 b.0.0 b.0.1 t2.rest_fits b.1 in
     let t4 = number_takes w32 (2 ^ 32) wide32 b.0.1 k.0.0 k.0.1 t3.0.rest_fits k.1 in
     let t5 = number_takes w32 (2 ^ 32) wide32 k.0.1 r.0.0 r.0.1 t4.0.rest_fits r.1 in
@@ -202,8 +182,8 @@ opening_again o rest fits =
     let regrouped : spelled o ++ rest ≡ to_le_bytes w32 1 ++ (to_le_bytes w32 1 ++ b) = simp append_assoc in
     ap opening_at regrouped
     ∙ rw (
-      one_again Code (to_le_bytes w32 1 ++ b),
-      one_again Digest b,
+      fixed_again 1 Code (to_le_bytes w32 1 ++ b) (omega arith),
+      fixed_again 1 Digest b (omega arith),
       number_again w64 (2 ^ 64) wide64 o.block_bytes k fits.block_bytes,
       number_again w32 (2 ^ 32) wide32 o.original_count r fits.original_count,
       number_again w32 (2 ^ 32) wide32 o.recovery_count n fits.recovery_count,

@@ -1,13 +1,10 @@
 -- Hashers of blocks whose bytes come piece by piece.
-use Rattle.std.proofs.Common.{◌≡◌, ℕ, zero, suc, ◌+◌, ◌<◌, ◌≤◌, List, [], ◌∷◌, ◌++◌, length, get_or, take, refl, sym}
-use Rattle.std.proofs.Common.{ap, subst, ◌∙◌, inl, inr, arith}
-use Rattle.std.specs.Prelude.{replicate, map}
-use Rattle.std.proofs.lemmas.Bool.{cases_lt}
-use Rattle.std.proofs.lemmas.List.{length-append}
+use Rattle.std.proofs.Common.{◌≡◌, ℕ, zero, suc, ◌<◌, List, [], ◌∷◌, ◌++◌, length, get_or, refl, sym}
+use Rattle.std.proofs.Common.{ap, subst, arith}
 use Rattle.sha2.specs.Hashers.{Holds256}
 use Rattle.sha2.specs.declared.Sha256.{Sha256}
 use Rattle.rs_field.specs.code.Column.{Shard, shard_at}
-use Rattle.rs_volumes.specs.Hashing.{joined, AreHashed, empty_blocks}
+use Rattle.rs_volumes.specs.Hashing.{joined, AreHashed}
 
 -- joining pieces changes no number of blocks
 pub length-joined : (blocks pieces : List Shard) → length (joined blocks pieces) ≡ length blocks

@@ -3,8 +3,12 @@ pub mod Files
 pub mod Loop
 pub mod NameLemmas
 pub mod Sets
+pub mod HeadLemmas
+pub mod PlaceLemmas
 pub mod Hashes
 pub mod Strips
 pub mod Coded
 pub mod Created
 pub mod Restored
+pub mod Written
+pub mod Originals

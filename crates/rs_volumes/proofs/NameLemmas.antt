@@ -1,7 +1,7 @@
 -- The steps of the loops that check names and files.
-use Rattle.std.proofs.Common.{◌≡◌, ◌≢◌, ℕ, zero, suc, ◌+◌, ◌-◌, ◌^◌, ◌<◌, ◌≤◌, Bool, true, false, cond, eqb, ltb, leb}
-use Rattle.std.proofs.Common.{not, List, [], ◌∷◌, ◌++◌, length, get_or, take, drop, drop-cons, Result, Ok, Err, refl}
-use Rattle.std.proofs.Common.{sym, ap, subst, ◌∙◌, add-one, arith, inl, inr}
+use Rattle.std.proofs.Common.{◌≡◌, ◌≢◌, ℕ, suc, ◌+◌, ◌-◌, ◌^◌, ◌<◌, ◌≤◌, Bool, true, false, eqb, ltb}
+use Rattle.std.proofs.Common.{List, [], ◌∷◌, ◌++◌, length, get_or, take, drop, drop-cons, Ok, Err, refl}
+use Rattle.std.proofs.Common.{sym, ap, ◌∙◌, add-one, arith, inl, inr}
 use Rattle.std.specs.List.{between}
 use Rattle.std.proofs.lemmas.Bool.{ne_eqb, eq-eqb, lt-ltb, le-ltb, cases_lt}
 use Rattle.std.proofs.lemmas.List.{take_more, get_or-drop, length-drop, drop_all}
@@ -11,7 +11,6 @@ use Rattle.std.specs.Str.{IsUtf8, is_utf8}
 use Rattle.std.proofs.lemmas.Bool.Decides.{eqb_tells}
 use Rattle.rs_volumes.specs.Description.{SetFile, file_of, files_of}
 use Rattle.rs_volumes.specs.declared.description.FileEntry.{FileEntry}
-use Rattle.rs_volumes.specs.declared.fault.Fault.{Fault}
 use Rattle.rs_volumes.specs.declared.fault.Fault.TheVariants.{Length, Name, Order}
 use Rattle.std.proofs.lemmas.Bool.{le-leb, lt-leb}
 use Rattle.rs_volumes.specs.Sound.{is_part, has_parts, is_before, is_name, blocks_of, blocks_in, files_outcome}
@@ -58,6 +57,10 @@ pub parts_end : (part name : List ℕ) (i : ℕ) → length name ≤ i → has_p
 unfolding has_parts
 parts_end part name i h = rw (drop_all i name h) refl
 
+-- the steps of the loop over the bytes of a name
+pub ruleset steps_in_parts =
+    (zero_ends, slash_goes, slash_ends, byte_goes, between_further, between_nothing, parts_end)
+
 -- ---- the order of names
 
 pub before_further : (one other : List ℕ) (i : ℕ) → i < length one → i < length other
@@ -96,6 +99,9 @@ before_ends one other i h =
           let no : ltb (length one) (length other) ≡ false = le-ltb _ _ le in
           rw (drop_all i one ended, drop_all i other outside, no) refl
     ]
+
+-- the steps of the loop that compares two names
+pub ruleset steps_in_order = (before_further, before_differs, before_longer, before_ends)
 
 -- ---- UTF-8
 

@@ -1,26 +1,12 @@
 -- Hashers and a sink that get the same pieces.
-use Rattle.std.proofs.Common.{◌≡◌, ◌≢◌, ℕ, zero, suc, ◌+◌, ◌<◌, ◌≤◌, Bool, true, false, eqb, List, [], ◌∷◌, ◌++◌}
-use Rattle.std.proofs.Common.{length, get_or, Some, refl, sym, ap, subst, ◌∙◌, inl, inr, arith}
+use Rattle.std.proofs.Common.{◌≡◌, ◌≢◌, ℕ, ◌<◌, ◌≤◌, Bool, true, false, List, [], ◌∷◌, ◌++◌}
+use Rattle.std.proofs.Common.{length, get_or, Some, sym, ap, subst, ◌∙◌, inl, inr, arith}
 use Rattle.std.proofs.lemmas.Bool.Decides.{eqb_tells}
 use Rattle.sha2.specs.Hashers.{Holds256}
 use Rattle.sha2.specs.declared.Sha256.{Sha256}
-use Rattle.rs_field.specs.code.Column.{Shard, shard_at}
+use Rattle.rs_field.specs.code.Column.{Shard}
 use Rattle.rs_field.specs.code.Given.{Shards}
-use Rattle.rs_volumes.specs.Hashing.{AreHashed, empty_blocks}
 use Rattle.rs_volumes.specs.Restoring.{HasDigest, AreRestored, AreInStep}
-use Rattle.rs_volumes.proofs.Created.{length-empty, shard_at-empty}
-
-pub step_none : (hashers : List Sha256) (n : ℕ) (before : Shards) → AreHashed hashers (empty_blocks n)
-    → AreInStep hashers before before
-step_none hashers n before is =
-    record {
-      each = λ i d h. (
-        [],
-        subst (λ (bytes : Shard). Holds256 (get_or hashers i d) bytes) (shard_at-empty n i)
-            (is.each i d h),
-        λ same. same,
-      );
-    }
 
 pub step_one : (old new : List Sha256) (index : ℕ) (piece : Shard) (before now after : Shards) → length new ≡ length old
     → ((d : Sha256) (bytes : Shard) → Holds256 (get_or old index d) bytes

@@ -1,7 +1,6 @@
 -- What is read is sound and spelled so, and the bytes of a sound set are read.
-use Rattle.std.proofs.Common.{◌≡◌, ℕ, List, Result, Ok, Err, refl, sym, ap, subst, ◌∙◌}
+use Rattle.std.proofs.Common.{◌≡◌, ℕ, List, Result, Ok, Err, refl, subst}
 use Rattle.std.specs.Prelude.{IfOk}
-use Rattle.rs_volumes.specs.declared.fault.Fault.{Fault}
 use Rattle.rs_volumes.specs.declared.fault.ReadError.{ReadError}
 use Rattle.rs_volumes.specs.declared.description.Description.{Description}
 use Rattle.rs_volumes.specs.Description.{FileSet, set_of, spelling}
@@ -9,9 +8,6 @@ use Rattle.rs_volumes.specs.Reading.{◌>>=◌, Gives, description_in}
 use Rattle.rs_volumes.specs.Sound.{set_outcome, IsSound, reading}
 use Rattle.rs_volumes.proofs.Fields.{IsBytes, bind_ok, ok_is}
 use Rattle.rs_volumes.proofs.Files.{description_takes, description_again}
-
-one_value : (x : Unit {0}) → x ≡ tt
-one_value x = refl
 
 reading_takes : (bytes : List ℕ) (s : FileSet) → IsBytes bytes → reading bytes ≡ Ok s → IsSound s × (bytes ≡ spelling s)
 unfolding reading

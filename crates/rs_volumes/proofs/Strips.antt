@@ -1,14 +1,13 @@
 -- Blocks that grow by a piece each, and the strips in which their recovery blocks are known.
-use Rattle.std.proofs.Common.{◌≡◌, ℕ, zero, suc, ◌+◌, ◌-◌, ◌<◌, ◌≤◌, ◌%◌, ◌⊎◌, List, [], ◌∷◌, ◌++◌, length, get_or}
-use Rattle.std.proofs.Common.{take, drop, All, refl, sym, ap, subst, ◌∙◌, inl, inr, arith}
-use Rattle.std.specs.Prelude.{map}
+use Rattle.std.proofs.Common.{◌≡◌, ℕ, ◌+◌, ◌-◌, ◌<◌, ◌≤◌, List, [], ◌∷◌, ◌++◌, length, get_or}
+use Rattle.std.proofs.Common.{take, drop, refl, sym, ap, subst, ◌∙◌, inl, inr, arith}
 use Rattle.std.specs.List.{between, AllByRecursion}
 use Rattle.std.proofs.Math.Seq.{take-add}
 use Rattle.std.proofs.lemmas.Bool.{cases_lt}
-use Rattle.std.proofs.lemmas.List.{drop-append-le, take-append-le, take_all, take_at, drop_at, length-append}
-use Rattle.std.proofs.lemmas.List.{length-drop, length-take, get_or_default}
-use Rattle.std.proofs.lemmas.List.Elements.{All-append, recursion_from_All, All-from_recursion}
-use Rattle.rs_field.specs.code.Column.{Shard, IsShard, AreShards, shard_at}
+use Rattle.std.proofs.lemmas.List.{drop-append-le, take-append-le, take_all, drop_at, length-append}
+use Rattle.std.proofs.lemmas.List.{length-drop, get_or_default}
+use Rattle.std.proofs.lemmas.List.Elements.{All-append, recursion_from_All}
+use Rattle.rs_field.specs.code.Column.{Shard, IsShard, AreShards}
 use Rattle.rs_field.specs.code.Code.{AreRecovery}
 use Rattle.rs_field.specs.code.OneCall.{default_of}
 use Rattle.rs_field.specs.code.Pieces.{pieces, IsStrip}

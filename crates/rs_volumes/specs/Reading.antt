@@ -1,6 +1,6 @@
 -- Reading a description from left to right, with the first fault that is met.
 use Rattle.std.specs.Prelude.{◌≡◌, ℕ, zero, suc, ◌+◌, ◌*◌, List, [], ◌∷◌, length, take, drop, Result, Ok, Err, nat_lt}
-use Rattle.std.specs.Prelude.{◌==◌, not, if◌then◌else◌}
+use Rattle.std.specs.Prelude.{◌==◌, if◌then◌else◌}
 use Rattle.std.specs.Int.{Width, w16, w32, w64, byte_len, from_le_bytes}
 use Rattle.rs_volumes.specs.declared.fault.Fault.{Fault}
 use Rattle.rs_volumes.specs.declared.fault.Fault.TheVariants.{Short, Trailing, Code, Digest}
@@ -24,10 +24,16 @@ abbrev pub Gives : {X Y : Type 0} → (X → Y) → Result X ReadError → Resul
 Gives view (Ok x) read = read ≡ Ok (view x)
 Gives view (Err e) read = Fails e read
 
+-- a function that allocates nothing returned what the reading gives
+abbrev pub Reads : {X Y : Type 0} → (X → Y) → Result X Fault → Result Y Fault → Type 0
+Reads view (Ok x) read = read ≡ Ok (view x)
+Reads view (Err fault) read = read ≡ Err fault
+
 -- a number of this width at the front, and the bytes after it
 abbrev pub number_at : Width → List ℕ → Result (ℕ × List ℕ) Fault
-number_at w bytes = if nat_lt (length bytes) (byte_len w) then Err Short else Ok
-    (from_le_bytes w (take (byte_len w) bytes), drop (byte_len w) bytes)
+number_at w bytes =
+    if nat_lt (length bytes) (byte_len w) then Err Short
+    else Ok (from_le_bytes w (take (byte_len w) bytes), drop (byte_len w) bytes)
 
 -- a name at the front, and the bytes after it
 unfoldable pub name_at : List ℕ → Result (List ℕ × List ℕ) Fault
@@ -59,17 +65,17 @@ pub record Opening : Type 0 where
   pub recovery_count : ℕ
   pub file_count : ℕ
 
--- the number 1 at the front, or this fault, and the bytes after it
-unfoldable pub one_at : Fault → List ℕ → Result (List ℕ) Fault
-one_at fault bytes = do
+-- this number of four bytes at the front, or this fault, and the bytes after it
+unfoldable pub fixed_at : ℕ → Fault → List ℕ → Result (List ℕ) Fault
+fixed_at wanted fault bytes = do
   n ← number_at w32 bytes
-  if n.0 == 1 then Ok n.1 else Err fault
+  if n.0 == wanted then Ok n.1 else Err fault
 
 -- the opening at the front, and the bytes after it
 unfoldable pub opening_at : List ℕ → Result (Opening × List ℕ) Fault
 opening_at bytes = do
-  code ← one_at Code bytes
-  digest ← one_at Digest code
+  code ← fixed_at 1 Code bytes
+  digest ← fixed_at 1 Digest code
   block ← number_at w64 digest
   k ← number_at w32 block.1
   r ← number_at w32 k.1
@@ -79,8 +85,9 @@ opening_at bytes = do
 -- bytes that are all digests of this many blocks
 unfoldable pub digests_in : ℕ → List ℕ → Result (List ℕ) Fault
 digests_in blocks bytes =
-    if nat_lt (length bytes) (32 * blocks) then Err Short else if nat_lt (32 * blocks)
-    (length bytes) then Err Trailing else Ok bytes
+    if nat_lt (length bytes) (32 * blocks) then Err Short
+    else if nat_lt (32 * blocks) (length bytes) then Err Trailing
+    else Ok bytes
 
 -- a description that takes all of the bytes
 unfoldable pub description_in : List ℕ → Result FileSet Fault

@@ -1,5 +1,5 @@
 -- Which descriptions are sound, and the first fault of one that is not.
-use Rattle.std.specs.Prelude.{◌≡◌, ℕ, ◌+◌, ◌-◌, ◌*◌, ◌/◌, ◌%◌, ◌^◌, Bool, true, false, ◌&&◌, ◌||◌, not, ◌==◌, nat_lt}
+use Rattle.std.specs.Prelude.{◌≡◌, ℕ, ◌+◌, ◌-◌, ◌/◌, ◌%◌, ◌^◌, Bool, true, false, ◌&&◌, ◌||◌, not, ◌==◌, nat_lt}
 use Rattle.std.specs.Prelude.{nat_le, List, [], ◌∷◌, ◌++◌, length, Result, Ok, Err, if◌then◌else◌}
 use Rattle.std.specs.Str.{is_utf8, bytes_eq}
 use Rattle.rs_field.specs.code.Counts.{default_rate, supports}

@@ -1,5 +1,5 @@
 //! Checks whether a description is sound: whether its numbers fit each other, and its names are safe.
-ghost use Rattle.std.specs.Prelude.{◌≡◌, ◌<◌, ◌^◌, ◌==◌, true, [], All, OnOk, IsTrue, length};
+ghost use Rattle.std.specs.Prelude.{◌≡◌, ◌↔◌, ◌<◌, ◌^◌, ◌==◌, true, [], All, OnOk, IsTrue, length};
 ghost use Rattle.std.specs.Str.{is_utf8};
 ghost use Rattle.rs_volumes.specs.Description.{set_of, files_of};
 ghost use Rattle.rs_volumes.specs.Sound.{blocks_of, blocks_in, is_part, has_parts, is_name, is_before, files_outcome, allows_counts, allows_block, set_outcome};
@@ -32,7 +32,7 @@ fn is_part(part: &[u8]) -> bool
 }
 
 // Returns whether all parts of a name are allowed, and the name has no zero byte.
-#[tactic(auto, using(crate::proofs::NameLemmas::zero_ends, crate::proofs::NameLemmas::slash_goes, crate::proofs::NameLemmas::slash_ends, crate::proofs::NameLemmas::byte_goes, crate::proofs::NameLemmas::between_further, crate::proofs::NameLemmas::between_nothing, crate::proofs::NameLemmas::parts_end))]
+#[tactic(auto, using(crate::proofs::NameLemmas::steps_in_parts))]
 fn has_parts(name: &[u8]) -> bool
     ensures { result ≡ has_parts [] name.now }
 {
@@ -75,7 +75,7 @@ fn is_text(bytes: &[u8]) -> bool
 }
 
 /// Returns whether the name `one` comes before the name `other` in the order of their bytes.
-#[tactic(auto, using(crate::proofs::NameLemmas::before_further, crate::proofs::NameLemmas::before_differs, crate::proofs::NameLemmas::before_longer, crate::proofs::NameLemmas::before_ends))]
+#[tactic(auto, using(crate::proofs::NameLemmas::steps_in_order))]
 pub fn is_before(one: &[u8], other: &[u8]) -> bool
     ensures { result ≡ is_before one.now other.now }
 {
@@ -183,6 +183,9 @@ pub fn fits(description: &Description) -> bool
     ensures count { IsTrue result → length description.now.files.items < 2 ^ 32 }
     ensures names { IsTrue result
         → All (λ file. length file.name.items < 2 ^ 16) description.now.files.items }
+    ensures no_other { length description.now.files.items < 2 ^ 32
+        → All (λ file. length file.name.items < 2 ^ 16) description.now.files.items
+        → IsTrue result }
 {
     let files = description.files.as_slice();
     if files.len() >= 1 << 32 {
@@ -193,7 +196,7 @@ pub fn fits(description: &Description) -> bool
 
 // Returns whether each name is shorter than 2^16 bytes.
 fn has_short_names(files: &[FileEntry]) -> bool
-    ensures { IsTrue result → All (λ file. length file.name.items < 2 ^ 16) files.now }
+    ensures { IsTrue result ↔ All (λ file. length file.name.items < 2 ^ 16) files.now }
 {
     for file in files {
         if file.name.len() >= 1 << 16 {

@@ -1,5 +1,5 @@
 //! The SHA-256 digests of blocks.
-ghost use Rattle.std.specs.Prelude.{◌≡◌, ◌↔◌, ◌*◌, ◌+◌, ◌<◌, ◌≤◌, IsTrue, length};
+ghost use Rattle.std.specs.Prelude.{◌≡◌, ◌↔◌, ◌*◌, ◌+◌, ◌/◌, ◌<◌, IsTrue, length};
 ghost use Rattle.std.specs.List.{between};
 ghost use Rattle.sha2.specs.Sha256.{sha256};
 
@@ -23,7 +23,8 @@ pub fn digest_of(bytes: &[u8]) -> [u8; 32]
 ///
 /// Returns false if `digests` has no digest with this index.
 pub fn is_digest(digests: &[u8], index: usize, own: &[u8; 32]) -> bool
-    ensures { IsTrue result → between (32 * index) (32 * index + 32) digests.now ≡ own.now }
+    ensures { IsTrue result ↔ (index < length digests.now / 32)
+        × (between (32 * index) (32 * index + 32) digests.now ≡ own.now) }
 {
     if index >= digests.len() / 32 {
         return false;

@@ -1,6 +1,6 @@
 //! The faults of the bytes of a volume.
 ghost use Rattle.std.specs.Prelude.{◌≡◌};
-ghost use Rattle.rs_volumes.specs.declared.fault.ReadError.TheVariants.{Memory};
+ghost use Rattle.rs_volumes.specs.declared.fault.ReadError.TheVariants.{Memory, Fault};
 
 use std::alloc::{AllocError, AllocFailed};
 use std::error::Error;
@@ -79,6 +79,14 @@ impl fmt::Display for ReadError {
 }
 
 impl Error for ReadError {}
+
+impl From<Fault> for ReadError {
+    ghost from_gives = { λ fault e. e ≡ Fault fault };
+
+    fn from(fault: Fault) -> ReadError {
+        ReadError::Fault(fault)
+    }
+}
 
 impl From<AllocError> for ReadError {
     ghost from_gives = { λ _ e. e ≡ Memory };

@@ -12,6 +12,7 @@ pub mod digest;
 pub mod fault;
 pub mod hashing;
 pub mod head;
+mod numbers;
 pub mod pieces;
 pub mod placement;
 mod reading;

@@ -1,5 +1,7 @@
 //! Where the original blocks lie in the files.
-ghost use Rattle.std.specs.Prelude.{◌≡◌, ◌<◌, ◌^◌};
+ghost use Rattle.std.specs.Prelude.{◌≡◌, ◌<◌, ◌++◌, OnOk, IfOk};
+ghost use Rattle.rs_volumes.specs.Description.{files_of};
+ghost use Rattle.rs_volumes.specs.Places.{Cover, file_places, set_places};
 
 use crate::description::Description;
 use std::alloc::{AllocError, Global};
@@ -23,12 +25,14 @@ fn push_places(
     block_bytes: u64,
 ) -> Result<(), AllocError>
     requires { 0 < block_bytes }
+    ensures { OnOk result (places.new.items
+        ≡ places.old.items ++ file_places file block_bytes size) }
 {
     let full = size / block_bytes;
     for number in 0..full {
         places.push(Place {
             file,
-            offset: number.wrapping_mul(block_bytes),
+            offset: number * block_bytes,
             bytes: block_bytes,
         })?;
     }
@@ -36,7 +40,7 @@ fn push_places(
     if bytes > 0 {
         places.push(Place {
             file,
-            offset: full.wrapping_mul(block_bytes),
+            offset: full * block_bytes,
             bytes,
         })?;
     }
@@ -55,6 +59,11 @@ fn push_places(
 /// the second one has the offset 4096 and 1 byte.
 pub fn places_of(alloc: Global, description: &Description) -> Result<Vec<Place>, AllocError>
     requires { 0 < description.now.block_bytes }
+    // The places are those of the definition `set_places`.
+    ensures exact { IfOk result (λ places. places.items
+        ≡ set_places 0 description.now.block_bytes (files_of description.now.files.items)) }
+    // The places cover each file exactly once, in order.
+    ensures cover { IfOk result (λ places. Cover (files_of description.now.files.items) places.items) }
 {
     let mut places = Vec::new(alloc);
     for (index, file) in description.files.as_slice().iter().enumerate() {

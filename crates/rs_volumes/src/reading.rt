@@ -1,52 +1,14 @@
 //! Reads a description from its bytes.
 ghost use Rattle.std.specs.Prelude.{◌≡◌, ◌+◌, ◌<◌, ◌^◌, IfOk, Ok};
-ghost use Rattle.std.specs.Int.{w16, w32, w64};
 ghost use Rattle.rs_volumes.specs.Description.{FileSet, file_of, files_of, set_of, spelling};
-ghost use Rattle.rs_volumes.specs.Reading.{Gives, number_at, name_at, file_at, files_at, one_at, opening_at, Opening, digests_in, description_in};
+ghost use Rattle.rs_volumes.specs.Reading.{Gives, name_at, file_at, files_at, opening_at, digests_in, description_in};
 ghost use Rattle.rs_volumes.specs.Sound.{IsSound, reading};
 
 use crate::checking::check;
 use crate::description::{Description, FileEntry};
 use crate::fault::{Fault, ReadError};
+use crate::numbers::{fixed_of, u16_at, u32_at, u64_at};
 use std::alloc::Global;
-
-// Reads a number of two bytes, and returns the number and the remaining bytes.
-fn u16_at(bytes: &[u8]) -> Result<(u16, &[u8]), ReadError>
-    ensures { Gives (λ x. (x.0, x.1.now)) result (number_at w16 bytes.now) }
-{
-    if bytes.len() < 2 {
-        return Err(ReadError::Fault(Fault::Short));
-    }
-    let (front, rest) = bytes.split_at(2);
-    let number = u16::from_le_bytes([front[0], front[1]]);
-    Ok((number, rest))
-}
-
-// Reads a number of four bytes, and returns the number and the remaining bytes.
-fn u32_at(bytes: &[u8]) -> Result<(u32, &[u8]), ReadError>
-    ensures { Gives (λ x. (x.0, x.1.now)) result (number_at w32 bytes.now) }
-{
-    if bytes.len() < 4 {
-        return Err(ReadError::Fault(Fault::Short));
-    }
-    let (front, rest) = bytes.split_at(4);
-    let number = u32::from_le_bytes([front[0], front[1], front[2], front[3]]);
-    Ok((number, rest))
-}
-
-// Reads a number of eight bytes, and returns the number and the remaining bytes.
-fn u64_at(bytes: &[u8]) -> Result<(u64, &[u8]), ReadError>
-    ensures { Gives (λ x. (x.0, x.1.now)) result (number_at w64 bytes.now) }
-{
-    if bytes.len() < 8 {
-        return Err(ReadError::Fault(Fault::Short));
-    }
-    let (front, rest) = bytes.split_at(8);
-    let number = u64::from_le_bytes([
-        front[0], front[1], front[2], front[3], front[4], front[5], front[6], front[7],
-    ]);
-    Ok((number, rest))
-}
 
 // Reads the length of a name and then the name, and returns the name and the remaining bytes.
 #[tactic(auto, unfolding(crate::specs::Reading::name_at))]
@@ -94,18 +56,6 @@ fn entries_of(alloc: Global, count: u32, bytes: &[u8]) -> Result<(Vec<FileEntry>
     Ok((files, rest))
 }
 
-// Reads a number of four bytes, and returns the remaining bytes. Fails with `fault` if the number is not 1.
-#[tactic(auto, unfolding(crate::specs::Reading::one_at))]
-fn one_of(fault: Fault, bytes: &[u8]) -> Result<&[u8], ReadError>
-    ensures { Gives (λ x. x.now) result (one_at fault bytes.now) }
-{
-    let (number, rest) = u32_at(bytes)?;
-    if number != 1 {
-        return Err(ReadError::Fault(fault));
-    }
-    Ok(rest)
-}
-
 // The numbers with which a description begins.
 #[derive(Clone, Copy)]
 struct Numbers {
@@ -128,8 +78,8 @@ fn numbers_of(bytes: &[u8]) -> Result<(Numbers, &[u8]), ReadError>
       x.1.now,
     )) result (opening_at bytes.now) }
 {
-    let rest = one_of(Fault::Code, bytes)?;
-    let rest = one_of(Fault::Digest, rest)?;
+    let rest = fixed_of(1, Fault::Code, bytes)?;
+    let rest = fixed_of(1, Fault::Digest, rest)?;
     let (block_bytes, rest) = u64_at(rest)?;
     let (original_count, rest) = u32_at(rest)?;
     let (recovery_count, rest) = u32_at(rest)?;

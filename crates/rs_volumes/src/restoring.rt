@@ -1,10 +1,13 @@
 //! Restores blocks of a set from any k of its blocks, piece by piece.
-ghost use Rattle.std.specs.Prelude.{◌≡◌, ℕ, ◌<◌, ◌≤◌, ◌%◌, true, false, OnOk, length, slice_index_or};
+ghost use Rattle.std.specs.Prelude.{◌≡◌, ◌≢◌, ℕ, ◌+◌, ◌<◌, ◌≤◌, ◌%◌, ◌++◌, true, false, List, Some, IfOk, OnOk, length};
+ghost use Rattle.std.specs.Prelude.{slice_index_or};
 ghost use Rattle.sha2.specs.Hashers.{Holds256};
 ghost use Rattle.sha2.specs.declared.Sha256.{Sha256 as Hasher};
 ghost use Rattle.rs_field.specs.code.Column.{Shard};
 ghost use Rattle.rs_field.specs.code.Given.{Shards};
-ghost use Rattle.rs_volumes.specs.Restoring.{AreInStep, AreRestored, HasDigest};
+ghost use Rattle.rs_field.specs.code.OneCall.{shards_in};
+ghost use Rattle.rs_volumes.specs.Restoring.{AreInStep, AreRestored, HasDigest, ReadsSet, AreOriginals};
+ghost use Rattle.rs_volumes.specs.Restoring.{AreRead, Gets, PutsBack, items_of, bytes_of, piece_of};
 
 use crate::coding_error::CodingError;
 use crate::creating::Shape;
@@ -15,6 +18,7 @@ use reed_solomon_simd::decode_slice;
 use reed_solomon_simd::engine::DefaultEngine;
 use sha2::Sha256;
 use std::alloc::Global;
+use std::collections::BTreeMap;
 
 /// The blocks that a restore reads and writes.
 #[derive(Drop)]
@@ -44,6 +48,7 @@ struct Pieces {
 ///
 /// For each piece, in this order:
 ///
+/// - [`CodingError::Missing`] if the index of a recovery block does not fit into a `usize`.
 /// - [`CodingError::Read`] if the source fails.
 /// - [`CodingError::Write`] if the sink fails for a wanted block that is read.
 /// - [`CodingError::Code`] if the plan has recovery blocks, and the code fails. For example, the plan has too few
@@ -66,8 +71,13 @@ pub fn restore<S: BlockSource, W: BlockSink>(
 ) -> Result<(), CodingError>
     requires some { 0 < piece_bytes }
     requires chunks { piece_bytes % 64 ≡ 0 }
-    ensures { OnOk result (AreRestored plan.now.wanted.items digests.now (W.written sink.old)
+    // Each wanted block that was written has its digest.
+    ensures digests { OnOk result (AreRestored plan.now.wanted.items digests.now (W.written sink.old)
         (W.written sink.new)) }
+    // If the blocks that are read are blocks of a set, the blocks that are written are the originals of this set.
+    ensures originals { OnOk result ((originals recovery : List Shard)
+        → ReadsSet shape plan.now (S.blocks source.old) originals recovery
+        → AreOriginals plan.now originals (W.written sink.old) (W.written sink.new)) }
 {
     let mut hashers = new_hashers(alloc, plan.wanted.len())?;
     let mut start = 0;
@@ -100,6 +110,11 @@ fn read_all<S: BlockSource>(
     source: &mut S,
 ) -> Result<Pieces, CodingError>
     requires { start ≤ end }
+    ensures originals { IfOk result (λ pieces. AreRead 0 plan.now.originals.items start end
+        (S.blocks source.old) pieces.originals.items) }
+    ensures recovery { IfOk result (λ pieces. AreRead shape.original_count plan.now.recovery.items
+        start end (S.blocks source.old) pieces.recovery.items) }
+    ensures kept { OnOk result (S.blocks source.new ≡ S.blocks source.old) }
 {
     Ok(Pieces {
         originals: read_pieces(alloc, plan.originals.as_slice(), 0, start, end, source)?,
@@ -125,10 +140,15 @@ fn read_pieces<S: BlockSource>(
     source: &mut S,
 ) -> Result<Vec<(usize, Vec<u8>)>, CodingError>
     requires { start ≤ end }
+    ensures read { IfOk result (λ pieces. AreRead first numbers.now start end (S.blocks source.old)
+        pieces.items) }
+    ensures kept { OnOk result (S.blocks source.new ≡ S.blocks source.old) }
 {
     let mut pieces = Vec::new(alloc);
     for number in numbers {
-        let index = first.wrapping_add(*number);
+        let Some(index) = first.checked_add(*number) else {
+            return Err(CodingError::Missing(*number));
+        };
         match source.piece(index, start, end) {
             Ok(piece) => pieces.push((*number, piece))?,
             Err(error) => return Err(CodingError::Read(index, error)),
@@ -153,6 +173,9 @@ fn restore_piece<W: BlockSink>(
     ensures step { OnOk result ((before : Shards)
         → AreInStep hashers.old.items before (W.written sink.old)
         → AreInStep hashers.new.items before (W.written sink.new)) }
+    ensures back { OnOk result (PutsBack shape plan.now.wanted.items
+        (items_of pieces.now.originals.items) (items_of pieces.now.recovery.items)
+        (W.written sink.old) (W.written sink.new)) }
 {
     put_read(
         start,
@@ -172,17 +195,8 @@ fn restore_piece<W: BlockSink>(
         pieces.recovery.as_slice(),
         engine,
     )?;
-    let mut found = Vec::new(alloc);
-    for (index, piece) in restored {
-        found.push((index, piece))?;
-    }
-    put_read(
-        start,
-        plan.wanted.as_slice(),
-        found.as_slice(),
-        hashers,
-        sink,
-    )
+    put_restored(start, plan.wanted.as_slice(), &restored, hashers, sink)?;
+    Ok(())
 }
 
 // Writes those of the pieces that belong to wanted blocks, and adds them to the hashers of these blocks.
@@ -197,10 +211,37 @@ fn put_read<W: BlockSink>(
     ensures step { OnOk result ((before : Shards)
         → AreInStep hashers.old.items before (W.written sink.old)
         → AreInStep hashers.new.items before (W.written sink.new)) }
+    ensures put { OnOk result (Gets wanted.now (λ i. piece_of i (items_of pieces.now))
+        (W.written sink.old) (W.written sink.new)) }
 {
     for (index, piece) in pieces {
         if *index < wanted.len() && wanted[*index] {
             put_one(start, *index, piece.as_slice(), hashers, sink)?;
+        }
+    }
+    Ok(())
+}
+
+// Writes those of the restored pieces that belong to wanted blocks, and adds them to the hashers of these blocks.
+fn put_restored<W: BlockSink>(
+    start: usize,
+    wanted: &[bool],
+    restored: &BTreeMap<usize, Vec<u8>>,
+    hashers: &mut Vec<Sha256>,
+    sink: &mut W,
+) -> Result<(), CodingError>
+    ensures number { length hashers.new.items ≡ length hashers.old.items }
+    ensures step { OnOk result ((before : Shards)
+        → AreInStep hashers.old.items before (W.written sink.old)
+        → AreInStep hashers.new.items before (W.written sink.new)) }
+    ensures put { OnOk result (Gets wanted.now (λ i. bytes_of (shards_in restored.now i))
+        (W.written sink.old) (W.written sink.new)) }
+{
+    for (index, is_wanted) in wanted.iter().enumerate() {
+        if *is_wanted {
+            if let Some(piece) = restored.get(&index) {
+                put_one(start, index, piece.as_slice(), hashers, sink)?;
+            }
         }
     }
     Ok(())
@@ -218,6 +259,9 @@ fn put_one<W: BlockSink>(
     ensures step { OnOk result ((before : Shards)
         → AreInStep hashers.old.items before (W.written sink.old)
         → AreInStep hashers.new.items before (W.written sink.new)) }
+    ensures here { OnOk result ((before : Shard) → W.written sink.old index ≡ Some before
+        → W.written sink.new index ≡ Some (before ++ piece.now)) }
+    ensures others { OnOk result ((i : ℕ) → i ≢ index → W.written sink.new i ≡ W.written sink.old i) }
 {
     if index >= hashers.len() {
         return Err(CodingError::Missing(index));

@@ -1,4 +1,4 @@
-use Rattle.std.proofs.Common.{◌≡◌, ◌≤◌, drop, eqb}
+use Rattle.std.proofs.Common.{◌≡◌, drop, eqb}
 use Rattle.rs_volumes.specs.Description.{files_of}
 use Rattle.rs_volumes.specs.Sound.{blocks_in}
 use Rattle.rs_volumes.proofs.checking.fills.Given as goal

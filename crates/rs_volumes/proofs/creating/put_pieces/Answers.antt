@@ -1,4 +1,4 @@
-use Rattle.std.proofs.Common.{ap, ◌∙◌}
+use Rattle.std.proofs.Common.{◌∙◌}
 use Rattle.std.specs.Prelude.{map}
 use Rattle.rs_volumes.proofs.Coded.{done_next, rest_next, piece_at}
 use Rattle.rs_volumes.proofs.creating.put_pieces.Goals as goal

@@ -1,4 +1,4 @@
-use Rattle.std.proofs.Common.{◌≡◌, ℕ, ◌-◌, ◌<◌, Some, [], length, get_or}
+use Rattle.std.proofs.Common.{◌≡◌, ℕ, ◌-◌, ◌<◌, Some, length, get_or}
 use Rattle.std.specs.Prelude.{map}
 use Rattle.std.specs.List.{between}
 use Rattle.std.specs.Global.{Vec}

@@ -1,0 +1,141 @@
+-- The places of blocks, file by file.
+use Rattle.std.proofs.Common.{◌≡◌, ℕ, zero, suc, ◌+◌, ◌-◌, ◌*◌, ◌/◌, ◌%◌, ◌<◌, ◌≤◌, List, [], ◌∷◌, ◌++◌, length, get_or}
+use Rattle.std.proofs.Common.{take, map, refl, sym, ap, subst, ◌∙◌, inl, inr, append_assoc, add-one, arith}
+use Rattle.std.specs.List.{concat, flat_map}
+use Rattle.std.proofs.Math.Nat.{suc-mul, zero-mul}
+use Rattle.std.proofs.lemmas.Nat.{div-add-mod'}
+use Rattle.std.proofs.lemmas.Bool.{eq-eqb, ne_eqb}
+use Rattle.std.proofs.lemmas.Bool.Decides.{eqb_tells}
+use Rattle.std.proofs.lemmas.List.{append-nil, take_more, take_all, map-append, length-map, length-take, length-append}
+use Rattle.std.proofs.lemmas.List.{get_or-append_right}
+use Rattle.std.proofs.lemmas.Grind.{flat_map-append}
+use Rattle.rs_field.specs.code.Column.{Shard, shard_at}
+use Rattle.rs_volumes.specs.declared.description.FileEntry.{FileEntry}
+use Rattle.rs_volumes.specs.declared.placement.Place.{Place}
+use Rattle.rs_volumes.specs.Description.{SetFile, file_of, files_of}
+use Rattle.rs_volumes.specs.Places.{full_places, rest_place, file_places, set_places, bytes_at, Cover}
+use Rattle.rs_volumes.proofs.Strips.{take-further}
+
+pub full_next : (file block n : ℕ)
+    → full_places file block (n + 1) ≡ full_places file block n
+    ++ record { file = file; offset = n * block; bytes = block } ∷ []
+unfolding full_places
+full_next file block n = rw add-one refl
+
+places-append : (index block : ℕ) (files : List SetFile) (file : SetFile)
+    → set_places index block (files ++ file ∷ []) ≡ set_places index block files
+    ++ file_places (index + length files) block file.size
+unfolding set_places
+places-append index block [] file =
+    append-nil (file_places index block file.size)
+    ∙ ap (λ (i : ℕ). file_places i block file.size) (let same : index ≡ index + 0 = omega arith in same)
+places-append index block (first ∷ files) file =
+    ap (λ (l : List Place). file_places index block first.size ++ l) (places-append (suc index) block files file)
+    ∙ sym (append_assoc (file_places index block first.size) (set_places (suc index) block files)
+    (file_places (suc index + length files) block file.size))
+    ∙ ap (λ (i : ℕ). file_places index block first.size ++ set_places (suc index) block files
+    ++ file_places i block file.size)
+    (let same : suc index + length files ≡ index + suc (length files) = omega arith in same)
+
+pub places_next : (block : ℕ) (files : List FileEntry) (n : ℕ) (file : FileEntry) → n < length files
+    → file ≡ get_or files n file
+    → set_places 0 block (files_of (take (n + 1) files)) ≡ set_places 0 block (files_of (take n files))
+    ++ file_places n block file.size
+places_next block files n file h e =
+    ap (λ (fs : List FileEntry). set_places 0 block (files_of fs))
+    (take_more files n file h ∙ ap (λ (f : FileEntry). take n files ++ f ∷ []) (sym e))
+    ∙ ap (set_places 0 block) (map-append file_of (take n files) (file ∷ []))
+    ∙ places-append 0 block (files_of (take n files)) (file_of file)
+    ∙ ap (λ (i : ℕ). set_places 0 block (files_of (take n files)) ++ file_places i block file.size)
+    (let long = length-map (take n files) file_of in let front = length-take n files in
+    let same : 0 + length (files_of (take n files)) ≡ n = omega (arith, long, front, h) in same)
+
+-- a file whose last block is full has no further block, and another file has one
+pub rest-none : (file block size : ℕ) → size % block ≡ 0 → rest_place file block size ≡ []
+unfolding rest_place
+rest-none file block size none = rw (eq-eqb (size % block) 0 none) refl
+
+pub rest-some : (file block size : ℕ) → 0 < size % block
+    → rest_place file block size ≡ record { file = file; offset = size / block * block; bytes = size % block } ∷ []
+unfolding rest_place
+rest-some file block size some =
+    rw (ne_eqb (size % block) 0 (λ e. let no : ⊥ = omega (arith, some, e) in no)) refl
+
+-- ---- the bytes at the places
+
+full-covers : (contents : List Shard) (file block n : ℕ)
+    → flat_map (bytes_at contents) (full_places file block n) ≡ take (n * block) (shard_at contents file)
+unfolding full_places
+full-covers contents file block zero = ap (λ (m : ℕ). take m (shard_at contents file)) (sym (zero-mul block))
+full-covers contents file block (suc n) =
+    let x : Shard = shard_at contents file in
+    let place : Place = record { file = file; offset = n * block; bytes = block } in
+    let order : n * block ≤ n * block + block = omega arith in
+    flat_map-append (bytes_at contents) (full_places file block n) (place ∷ [])
+    ∙ ap (λ (l : Shard). l ++ (bytes_at contents place ++ [])) (full-covers contents file block n)
+    ∙ ap (λ (l : Shard). take (n * block) x ++ l) (append-nil (bytes_at contents place))
+    ∙ take-further (n * block) (n * block + block) x order
+    ∙ ap (λ (m : ℕ). take m x) (sym (suc-mul n block))
+
+rest-covers : (contents : List Shard) (file block size : ℕ) → length (shard_at contents file) ≡ size
+    → take (size / block * block) (shard_at contents file) ++ flat_map (bytes_at contents) (rest_place file block size)
+    ≡ shard_at contents file
+rest-covers contents file block size long =
+    let x : Shard = shard_at contents file in
+    let sum = div-add-mod' size block in
+    elim (eqb_tells (size % block) 0) [
+      | inl none ↦
+          ap (λ (l : List Place). take (size / block * block) x ++ flat_map (bytes_at contents) l)
+          (rest-none file block size none.1)
+          ∙ append-nil (take (size / block * block) x)
+          ∙ take_all (size / block * block) x (let e = none.1 in omega (arith, sum, e, long))
+      | inr some ↦
+          let place : Place = record { file = file; offset = size / block * block; bytes = size % block } in
+          let order : size / block * block ≤ size / block * block + size % block = omega arith in
+          let more : 0 < size % block = (let e = some.1 in omega (arith, e)) in
+          ap (λ (l : List Place). take (size / block * block) x ++ flat_map (bytes_at contents) l)
+          (rest-some file block size more)
+          ∙ ap (λ (l : Shard). take (size / block * block) x ++ l) (append-nil (bytes_at contents place))
+          ∙ take-further (size / block * block) (size / block * block + size % block) x order
+          ∙ take_all (size / block * block + size % block) x (omega (arith, sum, long))
+    ]
+
+file-covers : (contents : List Shard) (file block size : ℕ) → length (shard_at contents file) ≡ size
+    → flat_map (bytes_at contents) (file_places file block size) ≡ shard_at contents file
+file-covers contents file block size long =
+    flat_map-append (bytes_at contents) (full_places file block (size / block)) (rest_place file block size)
+    ∙ ap (λ (l : Shard). l ++ flat_map (bytes_at contents) (rest_place file block size))
+    (full-covers contents file block (size / block))
+    ∙ rest-covers contents file block size long
+
+set-covers : (block : ℕ) (files : List SetFile) (before contents : List Shard)
+    → map (λ bytes. length bytes) contents ≡ map (λ file. file.size) files
+    → flat_map (bytes_at (before ++ contents)) (set_places (length before) block files) ≡ concat contents
+unfolding set_places
+set-covers block [] before [] e = refl
+set-covers block [] before (x ∷ xs) e = absurd (let no : ⊥ = cc in no)
+set-covers block (file ∷ files) before [] e = absurd (let no : ⊥ = cc in no)
+set-covers block (file ∷ files) before (x ∷ xs) e =
+    let all : List Shard = before ++ x ∷ xs in
+    let none : length before - length before ≡ 0 = omega arith in
+    let here : shard_at all (length before) ≡ x =
+    get_or-append_right before (x ∷ xs) (length before) (length before) [] refl (omega arith)
+    ∙ ap (shard_at (x ∷ xs)) none in
+    let long : length x ≡ file.size = cc in
+    let others : map (λ (bytes : Shard). length bytes) xs ≡ map (λ (f : SetFile). f.size) files = cc in
+    let next : length (before ++ x ∷ []) ≡ suc (length before) = (
+    let n = length-append before (x ∷ []) in omega (arith, n)
+    ) in
+    let rest : flat_map (bytes_at all) (set_places (suc (length before)) block files) ≡ concat xs =
+    subst (λ (n : ℕ). flat_map (bytes_at all) (set_places n block files) ≡ concat xs) next
+    (subst (λ (l : List Shard). flat_map (bytes_at l) (set_places (length (before ++ x ∷ [])) block files) ≡ concat xs)
+    (append_assoc before (x ∷ []) xs) (set-covers block files (before ++ x ∷ []) xs others)) in
+    flat_map-append (bytes_at all) (file_places (length before) block file.size)
+    (set_places (suc (length before)) block files)
+    ∙ ap (λ (l : Shard). l ++ flat_map (bytes_at all) (set_places (suc (length before)) block files))
+    (file-covers all (length before) block file.size (ap length here ∙ long) ∙ here)
+    ∙ ap (λ (l : Shard). x ++ l) rest
+
+-- the places of a set cover its files
+pub places-cover : (block : ℕ) (files : List SetFile) → Cover files (set_places 0 block files)
+places-cover block files contents e = set-covers block files [] contents e
