@@ -6,20 +6,18 @@ use Rattle.rs_field.proofs.Walking.{pick, done, use1, use2, use3}
 use seplogic.Ra.Ura.{Ura}
 use base.Share
 use base.Logic.{ent, sep}
-use base.Fml.{Fml, Share, fobs}
+use base.Fml.{Fml, Share}
 pub use contract.BorrowLft.{meet_⊑_right}
 pub use types.Follow.{followed₂}
 pub use denote.Memory.{mem}
-pub use denote.Struct.Tuple.{tuple_laws}
-pub use types.Kit.{fpick}
 use contract.BorrowLft.{meet_⊑_left}
 use types.Logic.{Logic, sem}
 use types.Kit.{Item, mean, updating, now, show}
 use types.Tokens.{lft_new, lft_end}
 use base.Stored.{Gv}
 use denote.Array.{Array}
-use denote.Slice.{heres, finally}
-use denote.FollowSlice.{finally-res, heres_id}
+use denote.Slice.{finally}
+use denote.FollowSlice.{finally-res}
 use Rattle.rs_field.specs.rows.Rows.{Chunks}
 use Rattle.rs_field.proofs.of_rows.LentChunks.{E}
 use denote.Lend.{lends_again, comes_back, LentAgain}
@@ -27,17 +25,11 @@ use denote.Lend.{lends_again, comes_back, LentAgain}
 abbrev pub code₀ : Chunks → Gv
 code₀ = (Array E 0).coded.code
 
--- The last chunks of a lent row or list.
+-- The last chunks of a lent row.
 module _ {M : Type 1} {𝓤 : Ura M} (𝓛 : Logic 𝓤) (γ : GName) (last : Chunks) where
   pub row-ended : (end : Chunks) → last ≡ end → ent 𝓤 (sem 𝓛 (finally E γ last)) (sem 𝓛 (fres γ (code₀ end)))
   row-ended end is = qed 𝓛 (‵ (finally E γ last) ∷ []) ∵ use1 𝓛 (‵ (fres γ (code₀ last))) (finally-res 𝓛 E γ last) $
       rewrite ! 0 (λ (k : Chunks). ‵ (fres γ (code₀ k))) is refl $ done !
-
-  pub list-ended : (δ : GName) → γ ≡ δ → ent 𝓤 (sem 𝓛 (fobs γ (code₀ (heres E last)))) (sem 𝓛 (fres δ (code₀ last)))
-  list-ended δ same = qed 𝓛 (‵ (fobs γ (code₀ (heres E last))) ∷ []) ∵ rewrite ! 0
-      (λ (k : Chunks). ‵ (fobs γ (code₀ k))) (heres_id E last) refl $
-      use1 𝓛 (‵ (fres γ (code₀ last))) (𝓛.names.obs-res γ (code₀ last)) $ rewrite ! 0
-      (λ (β : GName). ‵ (fres β (code₀ last))) same refl $ done !
 
 module _ {M : Type 1} {𝓤 : Ura M} (𝓛 : Logic 𝓤) (Row : RattleType) (κ₀ κ₁ : Lft) (q₀ q₁ : Share)
     (self : MutBor Row.Denot) where

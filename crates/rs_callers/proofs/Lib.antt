@@ -1,6 +1,5 @@
 pub mod LentWalks
 pub mod LentRows
-pub mod LentHalves
 pub mod Chains
 pub mod InTurn
 pub mod LeftCount

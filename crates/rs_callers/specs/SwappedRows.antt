@@ -1,6 +1,6 @@
 -- Rows that change places.
-use Rattle.std.specs.Prelude.{◌≡◌, ℕ, ◌+◌, ◌*◌, ◌<◌, ◌≤◌, ◌⊎◌, ◌++◌, drop}
-use Rattle.reed_solomon_simd.specs.Rows.{Chunks, chunk}
+use Rattle.std.specs.Prelude.{◌≡◌, ℕ, ◌+◌, ◌*◌, ◌<◌, ◌≤◌, ◌⊎◌}
+use Rattle.reed_solomon_simd.specs.Rows.{chunk}
 use Rattle.reed_solomon_simd.specs.View.{SameExtent, cell}
 use Rattle.rs_field.specs.declared.rows.shards.ShardsRefMut.{ShardsRefMut}
 
@@ -18,8 +18,3 @@ pub record AreSwapped (i j : ℕ) (old new : ShardsRefMut) : Type 0 where
 -- rows i and j changed places, and then rows k and l
 abbrev pub AreSwappedTwice : ℕ → ℕ → ℕ → ℕ → ShardsRefMut → ShardsRefMut → Type 0
 AreSwappedTwice i j k l old new = (mid : ShardsRefMut) × AreSwapped i j old mid × AreSwapped k l mid new
-
--- the loan of the rows has the same name as before, and these chunks instead of its first row
-pub record HasFirstRow (old : ShardsRefMut) (row : Chunks) (new : ShardsRefMut) : Type 0 where
-  pub name : new.chunks.ghost_name ≡ old.chunks.ghost_name
-  pub chunks : new.chunks.now ≡ row ++ drop old.shard_len_64 old.chunks.now

@@ -1,8 +1,8 @@
 //! Callers of lent rows. Their proofs use only the contracts, which state that the list holds afterwards what was written to
 //! the lent rows.
 ghost use Rattle.std.specs.Prelude.{◌≡◌, ◌+◌, ◌*◌, ◌<◌, length};
-ghost use Rattle.reed_solomon_simd.specs.View.{Fits, row_at};
-ghost use Rattle.rs_callers.specs.SwappedRows.{AreSwapped, AreSwappedTwice, HasFirstRow};
+ghost use Rattle.reed_solomon_simd.specs.View.{Fits};
+ghost use Rattle.rs_callers.specs.SwappedRows.{AreSwapped, AreSwappedTwice};
 
 use reed_solomon_simd::engine::ShardsRefMut;
 
@@ -55,29 +55,4 @@ fn swap_four<'a>(
     let (w, x, y, z) = lent;
     w.swap_with_slice(x);
     y.swap_with_slice(z);
-}
-
-/// Splits the list at row `mid` and swaps the first rows of both parts. All other chunks stay.
-pub fn swap_across(rows: &mut ShardsRefMut<'_>, mid: usize)
-    requires fits { Fits rows.old }
-    requires apart { 0 < mid }
-    requires within { mid < rows.old.shard_count }
-    ensures { AreSwapped 0 mid rows.old rows.new }
-{
-    swap_first_rows(rows.split_at_mut(mid));
-}
-
-// Swaps the first rows of two lists, and returns the lists.
-fn swap_first_rows<'a>(
-    lists: (ShardsRefMut<'a>, ShardsRefMut<'a>),
-) -> (ShardsRefMut<'a>, ShardsRefMut<'a>)
-    requires fits { Fits lists.0 × Fits lists.1 }
-    requires some { (0 < lists.0.shard_count) × (0 < lists.1.shard_count) }
-    requires long { lists.0.shard_len_64 ≡ lists.1.shard_len_64 }
-    ensures first { HasFirstRow lists.entry.0 (row_at lists.entry.1 0) result.0 }
-    ensures second { HasFirstRow lists.entry.1 (row_at lists.entry.0 0) result.1 }
-{
-    let (mut front, mut back) = lists;
-    front.row_mut(0).swap_with_slice(back.row_mut(0));
-    (front, back)
 }

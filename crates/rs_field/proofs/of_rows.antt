@@ -1,5 +1,6 @@
 -- Lemmas of rows: layers, parts, lending and layout. They use the lemmas of `words`, and the columns and powers of two
 -- of `code`.
+pub mod Lenders
 pub mod LentChunks
 pub mod Runs
 pub mod FourRuns

@@ -46,6 +46,19 @@ LendsRun rows a n lent =
 abbrev pub LendsRow : MutBor ShardsRefMut → ℕ → MutBor Chunks → Fml
 LendsRow rows i lent = LendsRun rows (i * rows.now.shard_len_64) rows.now.shard_len_64 lent
 
+-- the n chunks from a on are lent from a list of chunks: afterwards they hold what was last written, and all other
+-- chunks are as before
+abbrev pub LendsChunks : MutBor Chunks → ℕ → ℕ → MutBor Chunks → Fml
+LendsChunks chunks a n lent =
+    Lends (Array (Array u8 64) 0) (Array (Array u8 64) 0) chunks lent (with_run chunks.now a n)
+
+-- the n chunks from a on and the m chunks from b on are lent from a list of chunks: afterwards they hold what was written
+-- to them, and all other chunks are as before
+abbrev pub LendsParts : MutBor Chunks → ℕ → ℕ → ℕ → ℕ → MutBor Chunks × MutBor Chunks → Fml
+LendsParts chunks a n b m lent =
+    LendsBoth (Array (Array u8 64) 0) (Array (Array u8 64) 0) (Array (Array u8 64) 0) chunks lent
+    (with_two chunks.now a n b m)
+
 -- the n chunks from a on and the m chunks from b on are lent: afterwards they hold what was written to them, and all
 -- other chunks are as before
 abbrev pub LendsTwoRuns : MutBor ShardsRefMut → ℕ → ℕ → ℕ → ℕ → MutBor Chunks × MutBor Chunks → Fml

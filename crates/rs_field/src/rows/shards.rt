@@ -3,9 +3,8 @@ ghost use Rattle.std.specs.Prelude.{◌≡◌, ℕ, ◌+◌, ◌-◌, ◌*◌, �
 ghost use Rattle.std.specs.Borrow.{sem};
 ghost use Rattle.rs_field.specs.rows.Rows.{chunk, SameOutside};
 ghost use Rattle.rs_field.specs.rows.View.{row_at, Fits, SameExtent, SameRowsOutside, AreZero, HasRows, IsListOf};
-ghost use Rattle.rs_field.specs.rows.Lending.{LendsAll, LendsRun, LendsRow, LendsTwoRuns};
-ghost use Rattle.rs_field.specs.rows.Lending.{LendsTwoRows, LendsFourRuns, LendsFourRows};
-ghost use Rattle.rs_field.specs.rows.Lending.{LendsHalves};
+ghost use Rattle.rs_field.specs.rows.Lending.{LendsAll, LendsRun, LendsRow, LendsParts};
+ghost use Rattle.rs_field.specs.rows.Lending.{LendsTwoRows, LendsFourRows, LendsHalves};
 
 use std::cell::UnsafeCell;
 use std::ops::Range;
@@ -73,7 +72,7 @@ impl<'a> ShardsRefMut<'a> {
         let len = self.shard_len_64;
         let a = pos * len;
         let b = (pos + dist) * len;
-        self.two_runs(a, len, b, len)
+        two_runs(self.all(), a, len, b, len)
     }
 
     /// Lends rows `pos`, `pos + dist`, `pos + 2 * dist` and `pos + 3 * dist` for writing. What is written to them is in the
@@ -99,11 +98,15 @@ impl<'a> ShardsRefMut<'a> {
         ensures fourth { result.3.now ≡ row_at self.old (pos + 3 * dist) }
     {
         let len = self.shard_len_64;
-        let first = pos * len;
-        let second = (pos + dist) * len;
-        let third = (pos + 2 * dist) * len;
-        let fourth = (pos + 3 * dist) * len;
-        self.four_runs(first, second, third, fourth, len)
+        let a = pos * len;
+        let b = (pos + 2 * dist) * len;
+        let far = dist * len;
+        // A span begins with one of the lent rows and ends with the next one.
+        let span = far + len;
+        let spans = two_runs(self.all(), a, span, b, span);
+        let front = two_runs(spans.0, 0, len, far, len);
+        let back = two_runs(spans.1, 0, len, far, len);
+        (front.0, front.1, back.0, back.1)
     }
 
     /// Lends the rows before `mid` and the rows from `mid` on as two lists. What is written to them is in this list afterwards,
@@ -118,7 +121,7 @@ impl<'a> ShardsRefMut<'a> {
         let len = self.shard_len_64;
         let rest = self.shard_count - mid;
         let a = mid * len;
-        two_lists(self.two_runs(0, a, a, rest * len), mid, rest, len)
+        two_lists(two_runs(self.all(), 0, a, a, rest * len), mid, rest, len)
     }
 
     /// Fills the rows of the range with zero bytes. The range ends at most at the number of rows.
@@ -164,8 +167,7 @@ impl<'a> ShardsRefMut<'a> {
         &mut *self.chunks
     }
 
-    // Lends the n chunks from a on, by the pointer to the chunks: the checker does not follow a loan through
-    // `split_at_mut`.
+    // Lends the n chunks from a on, by the pointer to the chunks, as `two_runs` does.
     fn run(&mut self, a: usize, n: usize) -> &mut [[u8; 64]]
         requires { a + n ≤ length self.old.chunks.now }
         ensures* lends { sem 𝓛 (LendsRun self.entry a n result) }
@@ -175,62 +177,29 @@ impl<'a> ShardsRefMut<'a> {
         let p = all.as_mut_ptr();
         unsafe { std::slice::from_raw_parts_mut(p.add(a), n) }
     }
+}
 
-    // Lends the n chunks from a on, and the m chunks from b on.
-    fn two_runs(
-        &mut self,
-        a: usize,
-        n: usize,
-        b: usize,
-        m: usize,
-    ) -> (&mut [[u8; 64]], &mut [[u8; 64]])
-        requires apart { a + n ≤ b }
-        requires within { b + m ≤ length self.old.chunks.now }
-        ensures* lends { sem 𝓛 (LendsTwoRuns self.entry a n b m result) }
-        ensures value { (result.0.now ≡ take n (drop a self.old.chunks.now))
-            × (result.1.now ≡ take m (drop b self.old.chunks.now)) }
-    {
-        let all = self.all();
-        let p = all.as_mut_ptr();
-        unsafe {
-            (
-                std::slice::from_raw_parts_mut(p.add(a), n),
-                std::slice::from_raw_parts_mut(p.add(b), m),
-            )
-        }
-    }
-
-    // Lends four runs of n chunks each, from a, b, c and d on.
-    fn four_runs(
-        &mut self,
-        a: usize,
-        b: usize,
-        c: usize,
-        d: usize,
-        n: usize,
-    ) -> (
-        &mut [[u8; 64]],
-        &mut [[u8; 64]],
-        &mut [[u8; 64]],
-        &mut [[u8; 64]],
-    )
-        requires apart { (a + n ≤ b) × (b + n ≤ c) × (c + n ≤ d) }
-        requires within { d + n ≤ length self.old.chunks.now }
-        ensures* lends { sem 𝓛 (LendsFourRuns self.entry a b c d n result) }
-        ensures value { let run = λ (start : ℕ). take n (drop start self.old.chunks.now) in
-            (result.0.now ≡ run a) × (result.1.now ≡ run b) × (result.2.now ≡ run c)
-            × (result.3.now ≡ run d) }
-    {
-        let all = self.all();
-        let p = all.as_mut_ptr();
-        unsafe {
-            (
-                std::slice::from_raw_parts_mut(p.add(a), n),
-                std::slice::from_raw_parts_mut(p.add(b), n),
-                std::slice::from_raw_parts_mut(p.add(c), n),
-                std::slice::from_raw_parts_mut(p.add(d), n),
-            )
-        }
+// Lends the n chunks from a on and the m chunks from b on, by the pointer to the chunks: the checker does not follow a loan
+// through `split_at_mut` if some of the chunks are not lent.
+fn two_runs(
+    chunks: &mut [[u8; 64]],
+    a: usize,
+    n: usize,
+    b: usize,
+    m: usize,
+) -> (&mut [[u8; 64]], &mut [[u8; 64]])
+    requires apart { a + n ≤ b }
+    requires within { b + m ≤ length chunks.old }
+    ensures* lends { sem 𝓛 (LendsParts chunks.entry a n b m result) }
+    ensures value { (result.0.now ≡ take n (drop a chunks.old))
+        × (result.1.now ≡ take m (drop b chunks.old)) }
+{
+    let p = chunks.as_mut_ptr();
+    unsafe {
+        (
+            std::slice::from_raw_parts_mut(p.add(a), n),
+            std::slice::from_raw_parts_mut(p.add(b), m),
+        )
     }
 }
 

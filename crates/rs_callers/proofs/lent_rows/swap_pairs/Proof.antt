@@ -5,7 +5,7 @@ use Rattle.rs_field.proofs.Walking.{feq_i, use0, use1, use2, await, pick, suffic
 use Rattle.rs_field.proofs.Walking.{enter, no_more, and_then, alloc_all, pass_all, free_all, look_at, get, through}
 use Rattle.rs_field.proofs.Walking.{sets, lands_as, usize, yes, Is, shows, uint_vals, uint_Tells, uint_Makes}
 use Rattle.rs_field.proofs.Walking.{RattleType, owns, Valss, MutBor, MutRef, mut_vals, mut_Tells, plain, named_lft}
-use Rattle.rs_field.proofs.Walking.{nothing, heard, only, peeks, owned, calls_at, lasts, triple_of, framed, Stays}
+use Rattle.rs_field.proofs.Walking.{Array, nothing, heard, only, peeks, owned, calls_at, lasts, triple_of, framed, Stays}
 use Rattle.rs_field.proofs.Walking.{stay_dropped, walk_of, ends_at, says, Goes-dropped, use3, unit_lit, stay_ref}
 use Rattle.rs_field.proofs.Walking.{Goes-ref, unit, fres, GName, vunit}
 use base.Share
@@ -145,7 +145,7 @@ swap_pairs_spec 𝓤 𝓛 𝓜 𝓡 wired =
     -- [the last values, each before three more; the tokens; ..]
     move ! (4 ∷ 0 ∷ []) $ join ! $ move ! (9 ∷ 6 ∷ []) $ join ! $ join ! $ move ! (0 ∷ 13 ∷ []) $
     use2 𝓛 (‵ (fres δ (Row.coded.code end)))
-    (followed₄ 𝓛 ShardsRefMut Bare.coded.code E δ x.0.ghost_name x.1.ghost_name x.2.ghost_name x.3.ghost_name ends
+    (followed₄ 𝓛 Bare (Array E 0) lent x ends
     (row_at h second, row_at h pos, row_at h fourth, row_at h third)) $
     move ! (11 ∷ []) $ split ! $ move ! (0 ∷ 13 ∷ []) $ join ! $ move ! (2 ∷ 0 ∷ 13 ∷ []) $
     use3 𝓛 (later (Back 𝓛 Row κ₀ κ₁ qs.0 q₁ self end))

@@ -1,24 +1,28 @@
-use Rattle.rs_field.proofs.Walking.{◌≡◌, refl, sym, ap, ◌∙◌, ◌+◌, ◌*◌, ◌^◌, ◌<◌, ◌≤◌, arith, List, [], ◌∷◌, length}
-use Rattle.rs_field.proofs.Walking.{take, drop_list, named, w64, Val, vstruct, of_list, id⊢, emp, full_share, ftrue}
-use Rattle.rs_field.proofs.Walking.{flft, fact, fact_i, tables, proved, mul-le-mul_right, ‵, ◌⊛◌, raw, some, later, ◌$◌}
-use Rattle.rs_field.proofs.Walking.{◌∵◌, !, qed, move, keep, drop, split, join, fsplit3, fjoin, fjoin3, use0, use1}
-use Rattle.rs_field.proofs.Walking.{use2, await, pick, suffices, done, rewrite, group, whole, sub, look_in, stop, fld}
+use Rattle.rs_field.proofs.Walking.{◌≡◌, refl, ap, ◌∙◌, ◌+◌, ◌*◌, ◌^◌, ◌<◌, ◌≤◌, arith, [], ◌∷◌, length}
+use Rattle.rs_field.proofs.Walking.{take, drop_list, named, w64, ftrue}
+use Rattle.rs_field.proofs.Walking.{flft, fact, tables, proved, mul-le-mul_right, ‵, ◌⊛◌, raw, ◌$◌}
+use Rattle.rs_field.proofs.Walking.{◌∵◌, !, qed, move, keep, split, join, fjoin}
+use Rattle.rs_field.proofs.Walking.{use2, suffices, done, group, whole, sub, look_in, stop, fld}
 use Rattle.rs_field.proofs.Walking.{addr, load, bin, of_opd, returns, enter, no_more, and_then, alloc_all, pass_all}
-use Rattle.rs_field.proofs.Walking.{free_all, look_at, get, through, sets, lands_as, usize, yes, no, Is, shows, cell_at}
-use Rattle.rs_field.proofs.Walking.{uint_vals, uint_Tells, uint_Makes, RattleType, owns, Valss, flat, MutBor, MutRef}
-use Rattle.rs_field.proofs.Walking.{mut_vals, mut_Tells, plain, named_lft, Room, nothing, heard, opens, closes, peeks}
-use Rattle.rs_field.proofs.Walking.{owned, fields, calls_at, lasts, triple_of, framed, Stays, stay_dropped, walk_of}
+use Rattle.rs_field.proofs.Walking.{free_all, look_at, get, through, sets, lands_as, usize, yes, no}
+use Rattle.rs_field.proofs.Walking.{uint_vals, uint_Tells, RattleType, owns, MutRef}
+use Rattle.rs_field.proofs.Walking.{mut_vals, mut_Tells, plain, named_lft, Room, nothing, heard}
+use Rattle.rs_field.proofs.Walking.{framed, Stays, stay_dropped, walk_of}
 use Rattle.rs_field.proofs.Walking.{ends_at, Goes-dropped, Goes-spent_ref}
 use Rattle.rs_field.specs.rows.Rows.{Chunks}
-use Rattle.rs_field.proofs.of_rows.LentChunks.{E, Pair, pair}
+use Rattle.rs_field.specs.rows.View.{row_at}
+use Rattle.rs_field.proofs.of_rows.LentChunks.{E, pair}
+use Rattle.rs_field.proofs.of_rows.Lenders.{opens_self, closes_self, calls_all, calls_two, had}
+use Rattle.rs_field.proofs.of_rows.Lenders.{lends_runs}
+use Rattle.rs_field.proofs.Walking.{ℕ}
+use Rattle.rs_field.proofs.rows.shards.ShardsRefMut.all.Met.{met as met₁}
+use Rattle.rs_field.proofs.rows.shards.two_runs.Met.{met as met₂}
 use Rattle.rs_field.specs.rows.Lending.{LendsTwoRuns}
 use Rattle.rs_field.specs.declared.rows.shards.ShardsRefMut.{ShardsRefMut}
-use Rattle.rs_field.specs.contracts.rows.shards.ShardsRefMut.{the_row, the_type}
+use Rattle.rs_field.specs.contracts.rows.shards.ShardsRefMut.{the_row}
 use Rattle.rs_field.specs.contracts.rows.shards.ShardsRefMut.dist2_mut as f
 use Rattle.rs_field.proofs.rows.shards.ShardsRefMut.dist2_mut.Statement.{statement}
 use Rattle.rs_field.proofs.rows.shards.ShardsRefMut.dist2_mut.Code as code
-use Rattle.rs_field.specs.contracts.rows.shards.ShardsRefMut.two_runs as g
-use Rattle.rs_field.proofs.rows.shards.ShardsRefMut.two_runs.Met.{met}
 
 abbrev stayed : Stays f.ended.signature.params f.ended.kept
 stayed = (stay_dropped _ no, (stay_dropped _ yes, (stay_dropped _ yes, tt)))
@@ -51,71 +55,40 @@ dist2_mut_spec 𝓤 𝓛 𝓜 𝓡 wired =
     enter ! _ _ _ _ _ $
     alloc_all ! (λ l. pass_all ! refl
     ((tt, tt), ((tt, record { fits = are.1.0.1 }), ((tt, record { fits = are.1.1.0.1 }), tt))) $
-    fsplit3 ! $ move ! (1 ∷ 2 ∷ 3 ∷ []) $ opens ! tt Row {h = h} b o
-    (λ us. move ! (1 ∷ []) $ peeks ! Row (Is Row) (shows 𝓛 Row) h us (λ is.
-    -- [what the rows own; the struct's cell; the open borrow, in three entries; what is left of self; the other tokens]
+    opens_self ! tt κs self (λ us is.
     let sized : n < 2 ^ 64 = is.1.1.1.0.1 in
     let rm : Room E (length ch) = is.1.1.1.1.0.0.1 in
     let bytes : length ch * 64 < 2 ^ 63 = rm.1 in
     let pos_below : (pos + 1) * n ≤ (pos + dist) * n = mul-le-mul_right n (omega (arith, apart)) in
     let ends_below : (pos + dist + 1) * n ≤ h.shard_count * n = mul-le-mul_right n (omega (arith, within)) in
-    let runs : pos * n + n ≤ (pos + dist) * n = omega arith in
-    let last : (pos + dist) * n + n ≤ length ch = omega arith in
-    let first_fits : pos * n < 2 ^ 64 = omega arith in
-    let second_fits : (pos + dist) * n < 2 ^ 64 = omega arith in
+    let i : ℕ = pos * n in let j : ℕ = (pos + dist) * n in
+    let runs : i + n ≤ j = omega arith in
+    let last : j + n ≤ length ch = omega arith in
+    let fi : i < 2 ^ 64 = omega arith in
+    let fj : j < 2 ^ 64 = omega arith in
     let sum_fits : pos + dist < 2 ^ 64 = omega arith in
-    let Cell = λ (ws : List Val). ‵ (cell_at full_share Row.mir ws b o) in
-    let word = λ (ws : List Val × List Val).
-    vstruct (of_list (flat (fields (the_type (named_lft 2 1 tt κs))) (ws.0, (ws.1, is.0.1.1)))) ∷ [] in
-    let held : us ≡ word (uint_vals w64 h.shard_count, uint_vals w64 n) =
-    is.1.0 ∙ ap word (λ i. (is.1.1.0.0 i, is.1.1.1.0.0 i)) in
-    rewrite ! 1 Cell held refl $
-    sets ! (of_opd ! (load ! (through ! refl (fld ! refl (stop !))) (look_in ! 1 (sub ! 1 refl (whole !))))) refl
+    sets ! (of_opd ! (load ! (through ! refl (fld ! refl (stop !))) (look_in ! 0 (sub ! 1 refl (whole !))))) refl
     (tt, record { fits = sized }) $
-    rewrite ! 1 Cell (sym held) refl $ move ! (1 ∷ []) $ closes ! tt Row h us b o $
-    -- [two runs of self; the token of the loan; what is left of self; the other tokens]
-    move ! (3 ∷ 0 ∷ 1 ∷ []) $ fjoin3 ! $
-    sets ! (bin ! (get ! refl) (get ! refl) (record { fits = first_fits })) refl (tt, record { fits = first_fits }) $
+    closes_self ! tt κs self us is $
+    sets ! (bin ! (get ! refl) (get ! refl) (record { fits = fi })) refl (tt, record { fits = fi }) $
     sets ! (bin ! (get ! refl) (get ! refl) (record { fits = sum_fits })) refl (tt, record { fits = sum_fits }) $
-    sets ! (bin ! (get ! refl) (get ! refl) (record { fits = second_fits })) refl (tt, record { fits = second_fits }) $
+    sets ! (bin ! (get ! refl) (get ! refl) (record { fits = fj })) refl (tt, record { fits = fj }) $
     sets ! (addr ! (through ! refl (stop !))) refl (tt, tt) $
-    -- [self; the token of the loan; the other tokens]
-    let args : Valss (usize ∷ usize ∷ usize ∷ usize ∷ []) =
-    (uint_vals w64 (pos * n), (uint_vals w64 n, (uint_vals w64 ((pos + dist) * n), (uint_vals w64 n, tt)))) in
-    let G = triple_of 𝓛 g.signature (g.spec 𝓛 𝓜.mem 𝓡.returns) in
-    let z : G.Ghost = ((κs, qs, bounds, (self, (pos * n, (n, ((pos + dist) * n, (n, tt))))), (vs, args)), tt) in
-    nothing ! $ owned ! usize _ (uint_Makes 𝓛 w64) n _ (refl, sized) $ fjoin ! $
-    owned ! usize _ (uint_Makes 𝓛 w64) ((pos + dist) * n) _ (refl, second_fits) $ fjoin ! $
-    owned ! usize _ (uint_Makes 𝓛 w64) n _ (refl, sized) $ fjoin ! $
-    owned ! usize _ (uint_Makes 𝓛 w64) (pos * n) _ (refl, first_fits) $ fjoin ! $
-    move ! (1 ∷ 0 ∷ []) $ join ! $ move ! (1 ∷ 2 ∷ []) $ join ! $ join ! $
-    use0 𝓛 (raw (fact 𝓤 ((pos + dist) * n + n ≤ length ch)))
-    (fact_i 𝓤 ((pos + dist) * n + n ≤ length ch) (emp 𝓤) last) $
-    use0 𝓛 (raw (fact 𝓤 (pos * n + n ≤ (pos + dist) * n))) (fact_i 𝓤 (pos * n + n ≤ (pos + dist) * n) (emp 𝓤) runs) $
-    join ! $ move ! (1 ∷ 0 ∷ []) $ use2 𝓛 (raw (G.pre z)) (id⊢ 𝓤 _) $
-    calls_at ! (framed 𝓤 𝓛.H 𝓜 𝓣) G
-    (met 𝓤 𝓛 𝓜 𝓡 (code.calls-rs_field::rows::shards::ShardsRefMut::two_runs 𝓡.env wired)) z
+    calls_all ! (framed 𝓤 𝓛.H 𝓜 𝓣)
+    (met₁ 𝓤 𝓛 𝓜 𝓡 (code.calls-rs_field::rows::shards::ShardsRefMut::all 𝓡.env wired)) κs qs bounds self
+    (and_then ! (get ! refl) (no_more !)) (λ x v₁ ex ev rx.
+    lands_as ! ev refl (tt, (tt, (record { fits = rx.0 }, tt))) $
+    calls_two ! (framed 𝓤 𝓛.H 𝓜 𝓣) (met₂ 𝓤 𝓛 𝓜 𝓡 (code.calls-rs_field::rows::shards::two_runs 𝓡.env wired))
+    κs.0 qs.0 x i n j n fi sized fj sized runs (let e : length x.now ≡ length ch = ap length ex in omega arith)
     (and_then ! (get ! refl)
     (and_then ! (get ! refl)
-    (and_then ! (get ! refl) (and_then ! (get ! refl) (and_then ! (get ! refl) (no_more !)))))) (λ v.
-    use1 𝓛 (later (some (λ (x : MutBor Chunks × MutBor Chunks).
-    ((‵ (flft κs.0 qs.0) ⊛ ‵ (flft κs.1.0 qs.1.0) ⊛ ‵ ftrue) ⊛ ‵ ((Pair κs.0).own_val x (v ∷ []))) ⊛
-    some (λ (ws : Unit {0} × (Unit {0} × (Unit {0} × (Unit {0} × (Unit {0} × Unit {0}))))).
-    ‵ (lasts g.ended κs z.0.3 ws) ⊛ ‵ (LendsTwoRuns self (pos * n) n ((pos + dist) * n) n x)
-    ⊛ raw (fact 𝓤 ((x.0.now ≡ take n (drop_list (pos * n) ch))
-    × (x.1.now ≡ take n (drop_list ((pos + dist) * n) ch)))))))) (id⊢ 𝓤 _) $
-    await ! tt $ pick ! (λ x.
-    split ! $ split ! $ move ! (2 ∷ []) $ pick !
-    (λ ws. split ! $ drop ! $ split ! $ move ! (1 ∷ []) $ heard ! _ (λ value. move ! (2 ∷ []) $
-    -- [the pair; what self follows; the tokens; the locals]
-    peeks ! (Pair κs.0) (Is (Pair κs.0)) (shows 𝓛 (Pair κs.0)) x (v ∷ []) (λ shown.
-    lands_as ! refl refl ((pair 𝓛 κs.0).typed x (v ∷ []) shown).0 $
+    (and_then ! (get ! refl) (and_then ! (get ! refl) (and_then ! (get ! refl) (no_more !)))))) (λ r v value shown.
+    lands_as ! refl refl ((pair 𝓛 κs.0).typed r (v ∷ []) shown).0 $
     returns ! (look_at ! 0 refl) $ free_all ! refl $
-    suffices ! _ (ends_at 𝓛 f.ended stayed c y v x (tt, (tt, (tt, tt))) (tt, (tt, (tt, tt)))) $
-    keep ! (0 ∷ 1 ∷ 2 ∷ []) $
-    use0 𝓛 (raw (fact 𝓤 (x.1.now ≡ take n (drop_list ((pos + dist) * n) ch))))
-    (fact_i 𝓤 (x.1.now ≡ take n (drop_list ((pos + dist) * n) ch)) (emp 𝓤) value.1) $
-    use0 𝓛 (raw (fact 𝓤 (x.0.now ≡ take n (drop_list (pos * n) ch))))
-    (fact_i 𝓤 (x.0.now ≡ take n (drop_list (pos * n) ch)) (emp 𝓤) value.0) $ join ! $ move ! (1 ∷ 2 ∷ 3 ∷ 0 ∷ []) $
-    nothing ! $ nothing ! $ fjoin ! $ nothing ! $ fjoin ! $ nothing ! $ fjoin ! $ join ! $ move !
-    (2 ∷ []) $ join ! $ group ! 3 $ done !))))))))))))
+    suffices ! _ (ends_at 𝓛 f.ended stayed c y v r (tt, (tt, (tt, tt))) (tt, (tt, (tt, tt)))) $
+    move ! (4 ∷ 2 ∷ []) $ use2 𝓛 (‵ (LendsTwoRuns self i n j n r)) (lends_runs 𝓛 self x i n j n r ex) $ move ! (1 ∷ []) $
+    -- [the pair; what self follows; the tokens]
+    nothing ! $ nothing ! $ fjoin ! $ nothing ! $ fjoin ! $ nothing ! $ fjoin ! $ join ! $ move ! (2 ∷ 3 ∷ []) $ join ! $
+    join ! $ had ! (r.1.now ≡ row_at h (pos + dist)) (value.1 ∙ ap (λ (l : Chunks). take n (drop_list j l)) ex) $
+    had ! (r.0.now ≡ row_at h pos) (value.0 ∙ ap (λ (l : Chunks). take n (drop_list i l)) ex) $ join ! $
+    move ! (1 ∷ 2 ∷ 0 ∷ []) $ group ! 3 $ done !))))))))

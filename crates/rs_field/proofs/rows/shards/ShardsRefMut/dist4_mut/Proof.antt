@@ -1,24 +1,32 @@
-use Rattle.rs_field.proofs.Walking.{◌≡◌, refl, sym, ap, ◌∙◌, ℕ, ◌+◌, ◌*◌, ◌^◌, ◌<◌, ◌≤◌, arith, List, [], ◌∷◌, length}
-use Rattle.rs_field.proofs.Walking.{take, drop_list, named, w64, Val, vstruct, of_list, id⊢, emp, full_share, ftrue}
-use Rattle.rs_field.proofs.Walking.{flft, fact, fact_i, tables, proved, mul-le-mul_right, ‵, ◌⊛◌, raw, some, later, ◌$◌}
-use Rattle.rs_field.proofs.Walking.{◌∵◌, !, qed, move, keep, drop, split, join, fsplit3, fjoin, fjoin3, use0, use1}
-use Rattle.rs_field.proofs.Walking.{use2, await, pick, suffices, done, rewrite, group, whole, sub, look_in, stop, fld}
+use Rattle.rs_field.proofs.Walking.{◌≡◌, refl, ap, ◌∙◌, ℕ, ◌+◌, ◌*◌, ◌^◌, ◌<◌, ◌≤◌, arith, [], ◌∷◌, length}
+use Rattle.rs_field.proofs.Walking.{named, w64, ftrue}
+use Rattle.rs_field.proofs.Walking.{flft, fact, tables, proved, mul-le-mul_right, ‵, ◌⊛◌, raw, ◌$◌}
+use Rattle.rs_field.proofs.Walking.{◌∵◌, !, qed, move, keep, split, join, fjoin, use1}
+use Rattle.rs_field.proofs.Walking.{suffices, done, group, whole, sub, look_in, stop, fld}
 use Rattle.rs_field.proofs.Walking.{addr, load, bin, lit, of_opd, returns, enter, no_more, and_then, alloc_all}
-use Rattle.rs_field.proofs.Walking.{pass_all, free_all, look_at, get, through, sets, lands_as, usize, yes, no, Is}
-use Rattle.rs_field.proofs.Walking.{shows, cell_at, uint_vals, uint_Tells, uint_Makes, RattleType, owns, Valss, flat}
-use Rattle.rs_field.proofs.Walking.{MutBor, MutRef, mut_vals, mut_Tells, plain, named_lft, Room, nothing, heard, opens}
-use Rattle.rs_field.proofs.Walking.{closes, peeks, owned, fields, calls_at, lasts, triple_of, framed, Stays}
+use Rattle.rs_field.proofs.Walking.{pass_all, free_all, look_at, get, through, sets, lands_as, usize, yes, no}
+use Rattle.rs_field.proofs.Walking.{uint_vals, uint_Tells, RattleType, owns}
+use Rattle.rs_field.proofs.Walking.{MutRef, mut_vals, mut_Tells, plain, named_lft, Room, nothing, heard}
+use Rattle.rs_field.proofs.Walking.{framed, Stays}
 use Rattle.rs_field.proofs.Walking.{stay_dropped, walk_of, ends_at, Goes-dropped, Goes-spent_ref}
 use Rattle.rs_field.specs.rows.Rows.{Chunks}
-use Rattle.rs_field.proofs.of_rows.LentChunks.{E, Fours, fours}
+use Rattle.rs_field.proofs.of_rows.LentChunks.{E, taken}
+use Rattle.rs_field.proofs.of_rows.Lenders.{opens_self, closes_self, calls_all, calls_two, had, parts}
+use Rattle.rs_field.proofs.of_rows.Lenders.{fours_made, four_val}
+use types.ByLocal.{get_in}
+use Rattle.std.proofs.Common.{lit<}
+use Rattle.rs_field.proofs.Walking.{agg, from, hop, look_in_at}
+use Rattle.rs_field.specs.rows.View.{row_at}
+use Rattle.rs_field.proofs.Walking.{ℕ}
+use Rattle.rs_field.proofs.rows.shards.ShardsRefMut.all.Met.{met as met₁}
+use Rattle.rs_field.proofs.rows.shards.two_runs.Met.{met as met₂}
 use Rattle.rs_field.specs.rows.Lending.{LendsFourRuns}
 use Rattle.rs_field.specs.declared.rows.shards.ShardsRefMut.{ShardsRefMut}
-use Rattle.rs_field.specs.contracts.rows.shards.ShardsRefMut.{the_row, the_type}
+use Rattle.rs_field.specs.contracts.rows.shards.ShardsRefMut.{the_row}
 use Rattle.rs_field.specs.contracts.rows.shards.ShardsRefMut.dist4_mut as f
 use Rattle.rs_field.proofs.rows.shards.ShardsRefMut.dist4_mut.Statement.{statement}
 use Rattle.rs_field.proofs.rows.shards.ShardsRefMut.dist4_mut.Code as code
-use Rattle.rs_field.specs.contracts.rows.shards.ShardsRefMut.four_runs as g
-use Rattle.rs_field.proofs.rows.shards.ShardsRefMut.four_runs.Met.{met}
+use Rattle.rs_field.proofs.of_rows.FourRuns.{two-rows, lends_four}
 
 abbrev stayed : Stays f.ended.signature.params f.ended.kept
 stayed = (stay_dropped _ no, (stay_dropped _ yes, (stay_dropped _ yes, tt)))
@@ -51,87 +59,108 @@ dist4_mut_spec 𝓤 𝓛 𝓜 𝓡 wired =
     enter ! _ _ _ _ _ $
     alloc_all ! (λ l. pass_all ! refl
     ((tt, tt), ((tt, record { fits = are.1.0.1 }), ((tt, record { fits = are.1.1.0.1 }), tt))) $
-    fsplit3 ! $ move ! (1 ∷ 2 ∷ 3 ∷ []) $ opens ! tt Row {h = h} b o
-    (λ us. move ! (1 ∷ []) $ peeks ! Row (Is Row) (shows 𝓛 Row) h us (λ is.
-    -- [what the rows own; the struct's cell; the open borrow, in three entries; what is left of self; the other tokens]
+    opens_self ! tt κs self (λ us is.
+    let counted : h.shard_count < 2 ^ 64 = is.1.1.0.1 in
     let sized : n < 2 ^ 64 = is.1.1.1.0.1 in
     let rm : Room E (length ch) = is.1.1.1.1.0.0.1 in
     let bytes : length ch * 64 < 2 ^ 63 = rm.1 in
     let i : ℕ = pos * n in let j : ℕ = (pos + dist) * n in let k : ℕ = (pos + 2 * dist) * n in let m : ℕ =
     (pos + 3 * dist) * n in
+    let d : ℕ = dist * n in let s : ℕ = d + n in
     let one_row : 1 * n ≤ dist * n = mul-le-mul_right n apart in
     let ends_below : (pos + 3 * dist + 1) * n ≤ h.shard_count * n = mul-le-mul_right n (omega (arith, within)) in
-    let runs : (i + n ≤ j) × (j + n ≤ k) × (k + n ≤ m) = (omega arith, omega arith, omega arith) in
-    let last : m + n ≤ length ch = omega arith in
-    let fi : i < 2 ^ 64 = omega arith in let fj : j < 2 ^ 64 = omega arith in let fk : k < 2 ^ 64 = omega arith in
-    let fm : m < 2 ^ 64 = omega arith in
-    let counted : h.shard_count < 2 ^ 64 = is.1.1.0.1 in
-    let fd : pos + dist < 2 ^ 64 = omega (arith, within, counted) in
-    let f2 : 2 * dist < 2 ^ 64 = omega (arith, within, counted) in let f3 : 3 * dist < 2 ^ 64 =
-    omega (arith, within, counted) in
-    let fd2 : pos + 2 * dist < 2 ^ 64 = omega (arith, within, counted) in let fd3 : pos + 3 * dist < 2 ^ 64 =
-    omega (arith, within, counted) in
-    let Cell = λ (ws : List Val). ‵ (cell_at full_share Row.mir ws b o) in
-    let word = λ (ws : List Val × List Val).
-    vstruct (of_list (flat (fields (the_type (named_lft 2 1 tt κs))) (ws.0, (ws.1, is.0.1.1)))) ∷ [] in
-    let held : us ≡ word (uint_vals w64 h.shard_count, uint_vals w64 n) =
-    is.1.0 ∙ ap word (λ i. (is.1.1.0.0 i, is.1.1.1.0.0 i)) in
-    rewrite ! 1 Cell held refl $
-    sets ! (of_opd ! (load ! (through ! refl (fld ! refl (stop !))) (look_in ! 1 (sub ! 1 refl (whole !))))) refl
+    let row : n ≤ d = omega arith in let row₀ : 0 + n ≤ d = omega arith in
+    let apart₂ : i + s ≤ k = omega arith in
+    let last : k + s ≤ length ch = omega arith in
+    let fi : i < 2 ^ 64 = omega arith in let fk : k < 2 ^ 64 = omega arith in
+    let fd : d < 2 ^ 64 = omega arith in let fs : s < 2 ^ 64 = omega arith in
+    let f2 : 2 * dist < 2 ^ 64 = omega (arith, within, counted) in
+    let fd2 : pos + 2 * dist < 2 ^ 64 = omega (arith, within, counted) in
+    sets ! (of_opd ! (load ! (through ! refl (fld ! refl (stop !))) (look_in ! 0 (sub ! 1 refl (whole !))))) refl
     (tt, record { fits = sized }) $
-    rewrite ! 1 Cell (sym held) refl $ move ! (1 ∷ []) $ closes ! tt Row h us b o $
-    -- [two runs of self; the token of the loan; what is left of self; the other tokens]
-    move ! (3 ∷ 0 ∷ 1 ∷ []) $ fjoin3 ! $
+    closes_self ! tt κs self us is $
     sets ! (bin ! (get ! refl) (get ! refl) (record { fits = fi })) refl (tt, record { fits = fi }) $
-    sets ! (bin ! (get ! refl) (get ! refl) (record { fits = fd })) refl (tt, record { fits = fd }) $
-    sets ! (bin ! (get ! refl) (get ! refl) (record { fits = fj })) refl (tt, record { fits = fj }) $
     sets ! (bin ! (lit ! tt) (get ! refl) (record { fits = f2 })) refl (tt, record { fits = f2 }) $
     sets ! (bin ! (get ! refl) (get ! refl) (record { fits = fd2 })) refl (tt, record { fits = fd2 }) $
     sets ! (bin ! (get ! refl) (get ! refl) (record { fits = fk })) refl (tt, record { fits = fk }) $
-    sets ! (bin ! (lit ! tt) (get ! refl) (record { fits = f3 })) refl (tt, record { fits = f3 }) $
-    sets ! (bin ! (get ! refl) (get ! refl) (record { fits = fd3 })) refl (tt, record { fits = fd3 }) $
-    sets ! (bin ! (get ! refl) (get ! refl) (record { fits = fm })) refl (tt, record { fits = fm }) $
+    sets ! (bin ! (get ! refl) (get ! refl) (record { fits = fd })) refl (tt, record { fits = fd }) $
+    sets ! (bin ! (get ! refl) (get ! refl) (record { fits = fs })) refl (tt, record { fits = fs }) $
     sets ! (addr ! (through ! refl (stop !))) refl (tt, tt) $
-    -- [self; the token of the loan; the other tokens]
-    let args : Valss (usize ∷ usize ∷ usize ∷ usize ∷ usize ∷ []) =
-    (uint_vals w64 i, (uint_vals w64 j, (uint_vals w64 k, (uint_vals w64 m, (uint_vals w64 n, tt))))) in
-    let G = triple_of 𝓛 g.signature (g.spec 𝓛 𝓜.mem 𝓡.returns) in
-    let z : G.Ghost = ((κs, qs, bounds, (self, (i, (j, (k, (m, (n, tt)))))), (vs, args)), tt) in
-    nothing ! $ owned ! usize _ (uint_Makes 𝓛 w64) n _ (refl, sized) $ fjoin ! $
-    owned ! usize _ (uint_Makes 𝓛 w64) m _ (refl, fm) $ fjoin ! $ owned ! usize _ (uint_Makes 𝓛 w64) k _
-    (refl, fk) $ fjoin ! $
-    owned ! usize _ (uint_Makes 𝓛 w64) j _ (refl, fj) $ fjoin ! $ owned ! usize _ (uint_Makes 𝓛 w64) i _
-    (refl, fi) $ fjoin ! $
-    move ! (1 ∷ 0 ∷ []) $ join ! $ move ! (1 ∷ 2 ∷ []) $ join ! $ join ! $
-    let RunsApart : Type 0 = (i + n ≤ j) × (j + n ≤ k) × (k + n ≤ m) in
-    use0 𝓛 (raw (fact 𝓤 (m + n ≤ length ch))) (fact_i 𝓤 (m + n ≤ length ch) (emp 𝓤) last) $
-    use0 𝓛 (raw (fact 𝓤 RunsApart)) (fact_i 𝓤 RunsApart (emp 𝓤) runs) $
-    join ! $ move ! (1 ∷ 0 ∷ []) $ use2 𝓛 (raw (G.pre z)) (id⊢ 𝓤 _) $
-    calls_at ! (framed 𝓤 𝓛.H 𝓜 𝓣) G
-    (met 𝓤 𝓛 𝓜 𝓡 (code.calls-rs_field::rows::shards::ShardsRefMut::four_runs 𝓡.env wired)) z
+    calls_all ! (framed 𝓤 𝓛.H 𝓜 𝓣)
+    (met₁ 𝓤 𝓛 𝓜 𝓡 (code.calls-rs_field::rows::shards::ShardsRefMut::all 𝓡.env wired)) κs qs bounds self
+    (and_then ! (get ! refl) (no_more !)) (λ x v₁ ex ev rx.
+    lands_as ! ev refl (tt, (tt, (record { fits = rx.0 }, tt))) $
+    let long : length x.now ≡ length ch = ap length ex in
+    let met = met₂ 𝓤 𝓛 𝓜 𝓡 (code.calls-rs_field::rows::shards::two_runs 𝓡.env wired) in
+    calls_two ! (framed 𝓤 𝓛.H 𝓜 𝓣) met κs.0 qs.0 x i s k s fi fs fk fs apart₂ (omega arith)
     (and_then ! (get ! refl)
     (and_then ! (get ! refl)
+    (and_then ! (get ! refl) (and_then ! (get ! refl) (and_then ! (get ! refl) (no_more !)))))) (λ r v₂ value shown.
+    parts ! κs.0 r v₂ (λ is₂ rm₀ rm₁.
+    lands_as ! is₂ refl (tt, ((tt, (record { fits = rm₀.0 }, tt)), ((tt, (record { fits = rm₁.0 }, tt)), tt))) $
+    let span₀ : length r.0.now ≡ s = ap length value.0 ∙ taken x.now i s (omega arith) in
+    let span₁ : length r.1.now ≡ s = ap length value.1 ∙ taken x.now k s (omega arith) in
+    sets ! (addr ! (from ! (fld ! refl (fld ! refl (hop ! (look_in_at ! 9 (sub ! 0 refl (sub ! 0 refl (whole !))))
+    (stop !)))))) refl (tt, tt) $
+    sets ! (agg ! (and_then ! (get ! refl) (and_then ! (get_in ! (fld ! refl (fld ! refl (stop !)))
+    (sub ! 1 refl (sub ! 0 refl (whole !)))) (no_more !)))) refl (tt, (tt, (record { fits = rm₀.0 }, tt))) $
+    move ! (0 ∷ 2 ∷ []) $
+    calls_two ! (framed 𝓤 𝓛.H 𝓜 𝓣) met κs.0 qs.0 r.0 0 n d n (lit< tt) sized fd sized row₀ (omega (arith, span₀))
     (and_then ! (get ! refl)
-    (and_then ! (get ! refl) (and_then ! (get ! refl) (and_then ! (get ! refl) (no_more !))))))) (λ v.
-    let run : ℕ → Chunks = λ start. take n (drop_list start ch) in
-    use1 𝓛 (later (some (λ (x : MutBor Chunks × MutBor Chunks × MutBor Chunks × MutBor Chunks).
-    ((‵ (flft κs.0 qs.0) ⊛ ‵ (flft κs.1.0 qs.1.0) ⊛ ‵ ftrue) ⊛ ‵ ((Fours κs.0).own_val x (v ∷ []))) ⊛
-    some (λ (ws : Unit {0} × (Unit {0} × (Unit {0} × (Unit {0} × (Unit {0} × (Unit {0} × Unit {0})))))).
-    ‵ (lasts g.ended κs z.0.3 ws) ⊛ ‵ (LendsFourRuns self i j k m n x)
-    ⊛ raw (fact 𝓤 ((x.0.now ≡ run i) × (x.1.now ≡ run j) × (x.2.now ≡ run k) × (x.3.now ≡ run m))))))) (id⊢ 𝓤 _) $
-    await ! tt $ pick ! (λ x.
-    split ! $ split ! $ move ! (2 ∷ []) $ pick !
-    (λ ws. split ! $ drop ! $ split ! $ move ! (1 ∷ []) $ heard ! _ (λ value. move ! (2 ∷ []) $
-    -- [the pair; what self follows; the tokens; the locals]
-    peeks ! (Fours κs.0) (Is (Fours κs.0)) (shows 𝓛 (Fours κs.0)) x (v ∷ []) (λ shown.
-    lands_as ! refl refl ((fours 𝓛 κs.0).typed x (v ∷ []) shown).0 $
+    (and_then ! (lit ! tt)
+    (and_then ! (get ! refl) (and_then ! (get ! refl) (and_then ! (get ! refl) (no_more !)))))) (λ p v₃ value₀ shown₀.
+    parts ! κs.0 p v₃ (λ is₃ rp₀ rp₁.
+    lands_as ! is₃ refl (tt, ((tt, (record { fits = rp₀.0 }, tt)), ((tt, (record { fits = rp₁.0 }, tt)), tt))) $
+    sets ! (addr ! (from ! (fld ! refl (fld ! refl (hop ! (look_in_at ! 9 (sub ! 0 refl (sub ! 1 refl (whole !))))
+    (stop !)))))) refl (tt, tt) $
+    sets ! (agg ! (and_then ! (get ! refl) (and_then ! (get_in ! (fld ! refl (fld ! refl (stop !)))
+    (sub ! 1 refl (sub ! 1 refl (whole !)))) (no_more !)))) refl (tt, (tt, (record { fits = rm₁.0 }, tt))) $
+    move ! (4 ∷ 2 ∷ []) $
+    calls_two ! (framed 𝓤 𝓛.H 𝓜 𝓣) met κs.0 qs.0 r.1 0 n d n (lit< tt) sized fd sized row₀ (omega (arith, span₁))
+    (and_then ! (get ! refl)
+    (and_then ! (lit ! tt)
+    (and_then ! (get ! refl) (and_then ! (get ! refl) (and_then ! (get ! refl) (no_more !)))))) (λ q v₄ value₁ shown₁.
+    parts ! κs.0 q v₄ (λ is₄ rq₀ rq₁.
+    lands_as ! is₄ refl (tt, ((tt, (record { fits = rq₀.0 }, tt)), ((tt, (record { fits = rq₁.0 }, tt)), tt))) $
+    sets ! (addr ! (from ! (fld ! refl (fld ! refl (hop ! (look_in_at ! 10 (sub ! 0 refl (sub ! 0 refl (whole !))))
+    (stop !)))))) refl (tt, tt) $
+    sets ! (agg ! (and_then ! (get ! refl) (and_then ! (get_in ! (fld ! refl (fld ! refl (stop !)))
+    (sub ! 1 refl (sub ! 0 refl (whole !)))) (no_more !)))) refl (tt, (tt, (record { fits = rp₀.0 }, tt))) $
+    sets ! (addr ! (from ! (fld ! refl (fld ! refl (hop ! (look_in_at ! 10 (sub ! 0 refl (sub ! 1 refl (whole !))))
+    (stop !)))))) refl (tt, tt) $
+    sets ! (agg ! (and_then ! (get ! refl) (and_then ! (get_in ! (fld ! refl (fld ! refl (stop !)))
+    (sub ! 1 refl (sub ! 1 refl (whole !)))) (no_more !)))) refl (tt, (tt, (record { fits = rp₁.0 }, tt))) $
+    sets ! (addr ! (from ! (fld ! refl (fld ! refl (hop ! (look_in_at ! 11 (sub ! 0 refl (sub ! 0 refl (whole !))))
+    (stop !)))))) refl (tt, tt) $
+    sets ! (agg ! (and_then ! (get ! refl) (and_then ! (get_in ! (fld ! refl (fld ! refl (stop !)))
+    (sub ! 1 refl (sub ! 0 refl (whole !)))) (no_more !)))) refl (tt, (tt, (record { fits = rq₀.0 }, tt))) $
+    sets ! (addr ! (from ! (fld ! refl (fld ! refl (hop ! (look_in_at ! 11 (sub ! 0 refl (sub ! 1 refl (whole !))))
+    (stop !)))))) refl (tt, tt) $
+    sets ! (agg ! (and_then ! (get ! refl) (and_then ! (get_in ! (fld ! refl (fld ! refl (stop !)))
+    (sub ! 1 refl (sub ! 1 refl (whole !)))) (no_more !)))) refl (tt, (tt, (record { fits = rq₁.0 }, tt))) $
+    sets ! (agg ! (and_then ! (get ! refl) (and_then ! (get ! refl) (and_then ! (get ! refl) (and_then ! (get ! refl)
+    (no_more !)))))) refl (
+      tt,
+      (
+        (tt, (record { fits = rp₀.0 }, tt)),
+        (
+          (tt, (record { fits = rp₁.0 }, tt)),
+          ((tt, (record { fits = rq₀.0 }, tt)), ((tt, (record { fits = rq₁.0 }, tt)), tt)),
+        ),
+      ),
+    ) $
+    move ! (9 ∷ 7 ∷ 6 ∷ 3 ∷ []) $ group ! 4 $
+    use1 𝓛 (‵ (LendsFourRuns self i j k m n (p.0, p.1, q.0, q.1)))
+    (lends_four 𝓛 self x i j k m n d r p q ex value.0 value.1 (omega arith) (omega arith)) $
+    -- [what self follows; the third; the fourth; the token of the loan; the first; the second; the other tokens]
+    move ! (4 ∷ 5 ∷ 1 ∷ 2 ∷ []) $ fours_made ! κs.0 p q $
     returns ! (look_at ! 0 refl) $ free_all ! refl $
-    suffices ! _ (ends_at 𝓛 f.ended stayed c y v x (tt, (tt, (tt, tt))) (tt, (tt, (tt, tt)))) $
-    keep ! (0 ∷ 1 ∷ 2 ∷ []) $
-    use0 𝓛 (raw (fact 𝓤 (x.3.now ≡ run m))) (fact_i 𝓤 (x.3.now ≡ run m) (emp 𝓤) value.3) $
-    use0 𝓛 (raw (fact 𝓤 (x.2.now ≡ run k))) (fact_i 𝓤 (x.2.now ≡ run k) (emp 𝓤) value.2) $ join ! $
-    use0 𝓛 (raw (fact 𝓤 (x.1.now ≡ run j))) (fact_i 𝓤 (x.1.now ≡ run j) (emp 𝓤) value.1) $ join ! $
-    use0 𝓛 (raw (fact 𝓤 (x.0.now ≡ run i))) (fact_i 𝓤 (x.0.now ≡ run i) (emp 𝓤) value.0) $ join ! $ move !
-    (1 ∷ 2 ∷ 3 ∷ 0 ∷ []) $
-    nothing ! $ nothing ! $ fjoin ! $ nothing ! $ fjoin ! $ nothing ! $ fjoin ! $ join ! $ move !
-    (2 ∷ []) $ join ! $ group ! 3 $ done !))))))))))))
+    suffices ! _ (ends_at 𝓛 f.ended stayed c y (four_val p q) (p.0, p.1, q.0, q.1) (tt, (tt, (tt, tt)))
+    (tt, (tt, (tt, tt)))) $
+    nothing ! $ nothing ! $ fjoin ! $ nothing ! $ fjoin ! $ nothing ! $ fjoin ! $ join ! $ move ! (2 ∷ 3 ∷ []) $ join ! $
+    join ! $
+    let rows₁ = two-rows x.now i n d ch r.0.now p.0.now p.1.now j ex (omega arith) value.0 value₀ in
+    let rows₂ = two-rows x.now k n d ch r.1.now q.0.now q.1.now m ex (omega arith) value.1 value₁ in
+    had ! (q.1.now ≡ row_at h (pos + 3 * dist)) rows₂.1 $ had ! (q.0.now ≡ row_at h (pos + 2 * dist)) rows₂.0 $ join ! $
+    had ! (p.1.now ≡ row_at h (pos + dist)) rows₁.1 $ join ! $ had ! (p.0.now ≡ row_at h pos) rows₁.0 $ join ! $
+    move ! (1 ∷ 2 ∷ 0 ∷ []) $ group ! 3 $ done !)))))))))))))
