@@ -39,4 +39,3 @@ pub mod Interpolation
 pub mod WalshLanes
 pub mod PointValues
 pub mod DirectSum
-pub mod DirectSteps

@@ -31,7 +31,7 @@ use Rattle.rs_field.proofs.of_words.PointValues.{sum_of_values}
 -- ---- sums
 
 -- If two functions differ at one number only, and the second one is zero there, their sums differ by the value there.
-pub sum_below-one_more : (n y : ℕ) (f g : ℕ → ℕ) → y < n → g y ≡ 0 → ((x : ℕ) → x < n → x ≢ y → f x ≡ g x)
+sum_below-one_more : (n y : ℕ) (f g : ℕ → ℕ) → y < n → g y ≡ 0 → ((x : ℕ) → x < n → x ≢ y → f x ≡ g x)
     → sum_below n f ≡ bit_xor (sum_below n g) (f y)
 sum_below-one_more zero y f g hy none same = absurd (let no : ⊥ = omega arith in no)
 sum_below-one_more (suc n) y f g hy none same =
@@ -94,13 +94,13 @@ without_root y n (c ∷ cs) hy hn size words root =
 -- ---- the terms
 
 -- A received point adds its word times its factor.
-pub direct_term-received : (received : ℕ → Bool) (locator words : ℕ → ℕ) (y x : ℕ) → received x ≡ true
+direct_term-received : (received : ℕ → Bool) (locator words : ℕ → ℕ) (y x : ℕ) → received x ≡ true
     → direct_term received locator words y x ≡ product (words x) (power (direct_factor locator x y))
 direct_term-received received locator words y x is =
     ap (λ (t : Bool). cond t (product (words x) (power (direct_factor locator x y))) 0) is
 
 -- A point that is not received adds 0.
-pub direct_term-other : (received : ℕ → Bool) (locator words : ℕ → ℕ) (y x : ℕ) → received x ≡ false
+direct_term-other : (received : ℕ → Bool) (locator words : ℕ → ℕ) (y x : ℕ) → received x ≡ false
     → direct_term received locator words y x ≡ 0
 direct_term-other received locator words y x is =
     ap (λ (t : Bool). cond t (product (words x) (power (direct_factor locator x y))) 0) is
