@@ -30,7 +30,7 @@ ghost use Rattle.rs_c.specs.Texts.{fault_with, text_with, WritesText};
 
 use decoding::{decode_arrays, decode_buffer};
 use encoding::{encode_arrays, encode_buffer};
-use engine::TableEngine;
+use engine::engine_over;
 use fault::{Fault, RsFault};
 use layouts::RsShard;
 use rs_rate::rate::DefaultRateCounts;
@@ -88,7 +88,7 @@ pub extern "C" fn rs_encode(
         originals.now recovery.old recovery.new answer }
     ensures returns_number { result ≡ fault.new.number }
 {
-    let answer = match TableEngine::new(tables) {
+    let answer = match engine_over(tables) {
         Some(engine) => encode_buffer(
             alloc,
             engine,
@@ -132,7 +132,7 @@ pub extern "C" fn rs_decode(
         × WantsNoMemory (marked_number (drop original_count marks.now)) answer }
     ensures returns_number { result ≡ fault.new.number }
 {
-    let answer = match TableEngine::new(tables) {
+    let answer = match engine_over(tables) {
         Some(engine) => decode_buffer(
             alloc,
             engine,
@@ -176,7 +176,7 @@ pub extern "C" fn rs_encode_shards(
     ensures kept { KeepsRooms recovery.old recovery.new }
     ensures returns_number { result ≡ fault.new.number }
 {
-    let answer = match TableEngine::new(tables) {
+    let answer = match engine_over(tables) {
         Some(engine) => encode_arrays(
             alloc,
             engine,
@@ -221,7 +221,7 @@ pub extern "C" fn rs_decode_shards(
     ensures kept { KeepsRooms restored.old restored.new }
     ensures returns_number { result ≡ fault.new.number }
 {
-    let answer = match TableEngine::new(tables) {
+    let answer = match engine_over(tables) {
         Some(engine) => decode_arrays(
             alloc,
             engine,

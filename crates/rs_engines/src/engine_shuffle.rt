@@ -1,6 +1,8 @@
 //! The engines that look up products by shuffles. The words of a chunk are in the lanes of vectors, and a product takes
 //! eight look-ups of nibbles, or six if the factor is small.
 ghost use Rattle.std.specs.Prelude.{◌≡◌, ℕ};
+ghost use Rattle.rs_field.specs.words.Field.{power};
+ghost use Rattle.rs_field.specs.words.Products.{IsNibbleBytes};
 ghost use Rattle.rs_engines.specs.Factors.{log_of};
 
 use crate::any_factor::{AnyFactor, factor_of};
@@ -8,27 +10,30 @@ use crate::butterflies::{Backward, Forward};
 use crate::byte_vector::ByteVector;
 use crate::factors::ThreeFactors;
 use crate::shuffle_rows::{add_row, mul_chunks, one_layer, two_layers};
+use crate::shuffle_tables::{Products, ShuffleTables};
 use rs_field::engine::GfElement;
 use rs_field::engine::kernel::{Kernel, ThreeLogarithms};
 use rs_field::engine::lent_tables::LentTables;
-use rs_field::engine::tables::{Tables, get_mul128};
+use rs_field::engine::tables::{Multiply128lutT, Tables};
 use std::marker::PhantomData;
 use std::simd::prelude::*;
 
-/// An engine that looks up products by shuffles of byte vectors. It borrows the tables and allocates nothing.
+/// An engine that looks up products by shuffles of byte vectors. It borrows the tables `T` and allocates nothing. The tables
+/// give the products with one factor as a `P`.
 ///
 /// The engine runs on any machine, and is fast if the processor shuffles bytes with one instruction.
 #[derive(Clone, Copy)]
-pub struct ByShuffles<'t, V: ByteVector> {
-    tables: &'t Tables,
+pub struct ByShuffles<V: ByteVector, T: ShuffleTables<P>, P: Products> {
+    tables: T,
     vectors: PhantomData<V>,
+    products: PhantomData<P>,
 }
 
 /// The engine with vectors of 16 bytes, the width of SSSE3. It is the fastest engine in the default build, x86-64-v2.
-pub type Ssse3<'t> = ByShuffles<'t, u8x16>;
+pub type Ssse3<'t> = ByShuffles<u8x16, &'t Tables, &'t Multiply128lutT>;
 
 /// The engine with vectors of 32 bytes, the width of AVX2. It is the fastest engine in a build for AVX2, `--cpu=x86-64-v3`.
-pub type Avx2<'t> = ByShuffles<'t, u8x32>;
+pub type Avx2<'t> = ByShuffles<u8x32, &'t Tables, &'t Multiply128lutT>;
 
 /// The width of the vectors of an engine.
 pub trait Lanes {
@@ -36,7 +41,7 @@ pub trait Lanes {
     ghost lanes: { ℕ };
 }
 
-impl<V: ByteVector> Lanes for ByShuffles<'_, V> {
+impl<V: ByteVector, T: ShuffleTables<P>, P: Products> Lanes for ByShuffles<V, T, P> {
     ghost lanes = { V.LANES };
 }
 
@@ -73,54 +78,54 @@ impl<'t> Avx2<'t> {
     }
 }
 
-impl<'t, V: ByteVector> ByShuffles<'t, V> {
-    // Makes the engine over these tables.
-    fn over(tables: &'t Tables) -> ByShuffles<'t, V>
-        ensures { result.tables.now ≡ tables.now }
+impl<V: ByteVector, T: ShuffleTables<P>, P: Products> ByShuffles<V, T, P> {
+    /// Makes the engine over these tables.
+    pub fn over(tables: T) -> ByShuffles<V, T, P>
+        ensures { result.tables ≡ tables }
     {
         ByShuffles {
             tables,
             vectors: PhantomData,
-        }
-    }
-
-    // Returns the factor of a butterfly that has the logarithm `log_m`.
-    #[inline(always)]
-    fn factor(&self, log_m: GfElement) -> AnyFactor<'_>
-        ensures { log_of result ≡ log_m }
-    {
-        factor_of(&get_mul128(self.tables)[log_m as usize], log_m)
-    }
-
-    // Returns the three factors of two layers of butterflies that have the logarithms `logs`.
-    #[inline(always)]
-    fn factors(
-        &self,
-        logs: ThreeLogarithms,
-    ) -> ThreeFactors<AnyFactor<'_>, AnyFactor<'_>, AnyFactor<'_>>
-        ensures f02 { log_of result.f02 ≡ logs.log_m02 }
-        ensures f01 { log_of result.f01 ≡ logs.log_m01 }
-        ensures f23 { log_of result.f23 ≡ logs.log_m23 }
-    {
-        ThreeFactors {
-            f02: self.factor(logs.log_m02),
-            f01: self.factor(logs.log_m01),
-            f23: self.factor(logs.log_m23),
+            products: PhantomData,
         }
     }
 }
 
-impl<V: ByteVector> Kernel for ByShuffles<'_, V> {
+// Returns the three factors of two layers of butterflies that have the logarithms `logs`.
+#[inline(always)]
+fn three_factors<'t>(
+    p02: &'t Multiply128lutT,
+    p01: &'t Multiply128lutT,
+    p23: &'t Multiply128lutT,
+    logs: ThreeLogarithms,
+) -> ThreeFactors<AnyFactor<'t>, AnyFactor<'t>, AnyFactor<'t>>
+    requires m02 { IsNibbleBytes (power logs.log_m02) p02.now }
+    requires m01 { IsNibbleBytes (power logs.log_m01) p01.now }
+    requires m23 { IsNibbleBytes (power logs.log_m23) p23.now }
+    ensures f02 { log_of result.f02 ≡ logs.log_m02 }
+    ensures f01 { log_of result.f01 ≡ logs.log_m01 }
+    ensures f23 { log_of result.f23 ≡ logs.log_m23 }
+{
+    ThreeFactors {
+        f02: factor_of(p02, logs.log_m02),
+        f01: factor_of(p01, logs.log_m01),
+        f23: factor_of(p23, logs.log_m23),
+    }
+}
+
+impl<V: ByteVector, T: ShuffleTables<P>, P: Products> Kernel for ByShuffles<V, T, P> {
     fn tables(&self) -> LentTables<'_> {
-        self.tables.lent()
+        self.tables.transform_tables()
     }
 
     fn fft_butterfly(&self, x: &mut [[u8; 64]], y: &mut [[u8; 64]], log_m: GfElement) {
-        one_layer::<V, Forward>(x, y, self.factor(log_m));
+        let products = self.tables.products(log_m);
+        one_layer::<V, Forward>(x, y, factor_of(products.lend(), log_m));
     }
 
     fn ifft_butterfly(&self, x: &mut [[u8; 64]], y: &mut [[u8; 64]], log_m: GfElement) {
-        one_layer::<V, Backward>(x, y, self.factor(log_m));
+        let products = self.tables.products(log_m);
+        one_layer::<V, Backward>(x, y, factor_of(products.lend(), log_m));
     }
 
     fn fft_two_layers(
@@ -131,7 +136,11 @@ impl<V: ByteVector> Kernel for ByShuffles<'_, V> {
         x3: &mut [[u8; 64]],
         logs: ThreeLogarithms,
     ) {
-        two_layers::<V, Forward>(x0, x1, x2, x3, self.factors(logs));
+        let p02 = self.tables.products(logs.log_m02);
+        let p01 = self.tables.products(logs.log_m01);
+        let p23 = self.tables.products(logs.log_m23);
+        let factors = three_factors(p02.lend(), p01.lend(), p23.lend(), logs);
+        two_layers::<V, Forward>(x0, x1, x2, x3, factors);
     }
 
     fn ifft_two_layers(
@@ -142,14 +151,20 @@ impl<V: ByteVector> Kernel for ByShuffles<'_, V> {
         x3: &mut [[u8; 64]],
         logs: ThreeLogarithms,
     ) {
-        two_layers::<V, Backward>(x0, x1, x2, x3, self.factors(logs));
+        let p02 = self.tables.products(logs.log_m02);
+        let p01 = self.tables.products(logs.log_m01);
+        let p23 = self.tables.products(logs.log_m23);
+        let factors = three_factors(p02.lend(), p01.lend(), p23.lend(), logs);
+        two_layers::<V, Backward>(x0, x1, x2, x3, factors);
     }
 
     fn mul_row(&self, x: &mut [[u8; 64]], log_m: GfElement) {
-        mul_chunks::<V>(x, &get_mul128(self.tables)[log_m as usize]);
+        let products = self.tables.products(log_m);
+        mul_chunks::<V>(x, products.lend());
     }
 
     fn mul_add_row(&self, x: &mut [[u8; 64]], y: &[[u8; 64]], log_m: GfElement) {
-        add_row::<V>(x, y, self.factor(log_m));
+        let products = self.tables.products(log_m);
+        add_row::<V>(x, y, factor_of(products.lend(), log_m));
     }
 }

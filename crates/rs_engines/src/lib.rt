@@ -10,4 +10,5 @@ pub mod engine_shuffle;
 pub mod factors;
 mod shuffle_chunks;
 pub mod shuffle_rows;
+pub mod shuffle_tables;
 mod words;

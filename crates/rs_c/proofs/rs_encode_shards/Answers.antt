@@ -2,8 +2,8 @@ use Rattle.rs_c.proofs.rs_encode_shards.Goals.{in-Some, in-None}
 use Rattle.rs_c.proofs.rs_encode_shards.Goals as goal
 
 pub returns-clause-answer : goal.returns-clause-answer
-returns-clause-answer c stamped = elim c.match-new.branch [
+returns-clause-answer c stamped = elim c.match-engine_over.branch [
   | in-Some w ↦
-      (c.match-new.answer, c.of.ensures, rw (w.answer-is, w.recovery-is) w.encode_arrays-answer.ensures.answer)
+      (c.match-engine_over.answer, c.of.ensures, rw (w.answer-is, w.recovery-is) w.encode_arrays-answer.ensures.answer)
   | in-None w ↦ absurd (w.in-None.ensures stamped)
 ]
