@@ -163,6 +163,10 @@ uint32_t rs_tables_make(struct rs_tables *tables) {
     return fitting()->tables_make(tables);
 }
 
+size_t rs_tables_bytes(void) {
+    return sizeof(struct rs_tables);
+}
+
 uint32_t rs_supports(size_t original_count, size_t recovery_count) {
     return rs_supports_v1(original_count, recovery_count);
 }

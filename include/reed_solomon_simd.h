@@ -107,6 +107,10 @@ typedef char rs_size_t_has_64_bits[sizeof(size_t) == 8 ? 1 : -1];
  * returns RS_OUT_OF_MEMORY and leaves the tables as they were. tables must not be NULL. */
 uint32_t rs_tables_make(struct rs_tables *tables);
 
+/* Returns how many bytes the tables have in this library. A program that gets the library by dlopen, or that is written in another language,
+ * can allocate the tables by this number. They must be aligned at 8 bytes. */
+size_t rs_tables_bytes(void);
+
 /* Returns 1 if the library supports these counts, else 0. */
 uint32_t rs_supports(size_t original_count, size_t recovery_count);
 

@@ -71,7 +71,7 @@ var (
 
 func made() (*C.struct_rs_tables, error) {
 	tablesOnce.Do(func() {
-		at := (*C.struct_rs_tables)(C.malloc(C.sizeof_struct_rs_tables))
+		at := (*C.struct_rs_tables)(C.malloc(C.rs_tables_bytes()))
 		if at != nil && C.rs_tables_make(at) == C.RS_OK {
 			tables = at
 		}

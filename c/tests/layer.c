@@ -231,7 +231,7 @@ static void sizes(void) {
             size_t size = rs_shard_bytes(total, k);
             if (size < 2 || size % 2 || size * k < total || (size > 2 && (size - 2) * k >= total)) wrong("the least size");
         }
-    if (rs_supports(3, 2) != 1 || rs_supports(2, 3) || rs_version() != RS_VERSION) wrong("counts and version");
+    if (rs_tables_bytes() != sizeof *tables || rs_supports(3, 2) != 1 || rs_supports(2, 3) || rs_version() != RS_VERSION) wrong("counts and version");
 }
 
 int main(void) {

@@ -17,7 +17,6 @@ __all__ = ["Error", "decode", "encode", "shard_bytes", "supports", "version"]
 # An object with a contiguous buffer. Python has no type for it before 3.12.
 Buffer = Any
 
-TABLE_BYTES = 8 * 1097728
 SIMPLE, WRITABLE = 0, 1
 
 
@@ -48,6 +47,8 @@ def _library() -> ctypes.CDLL:
     library = ctypes.CDLL(own if os.path.exists(own) else "libreed_solomon_simd.so.1")
     size, pointer, fault = ctypes.c_size_t, ctypes.c_void_p, ctypes.POINTER(_Fault)
     library.rs_tables_make.argtypes = [pointer]
+    library.rs_tables_bytes.argtypes = []
+    library.rs_tables_bytes.restype = size
     library.rs_supports.argtypes = [size, size]
     library.rs_encode_shards.argtypes = [pointer, size, size, pointer, size, pointer, size, fault]
     library.rs_decode_shards.argtypes = [pointer, size, size, pointer, size, pointer, size, pointer, size, fault]
@@ -86,7 +87,7 @@ def _made_tables() -> "ctypes.Array[ctypes.c_char]":
     global _tables
     with _lock:
         if _tables is None:
-            tables = ctypes.create_string_buffer(TABLE_BYTES)
+            tables = ctypes.create_string_buffer(_c.rs_tables_bytes())
             if _c.rs_tables_make(tables):
                 raise MemoryError("no memory for the tables")
             _tables = tables

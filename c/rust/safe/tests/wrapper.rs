@@ -24,6 +24,13 @@ fn round(state: &mut u64) {
 }
 
 #[test]
+fn tables() {
+    // SAFETY: the call takes nothing.
+    let bytes = unsafe { reed_solomon_simd_c_sys::rs_tables_bytes() };
+    assert_eq!(bytes, std::mem::size_of::<reed_solomon_simd_c_sys::rs_tables>());
+}
+
+#[test]
 fn rounds() {
     let mut state = 7;
     (0..300).for_each(|_| round(&mut state));

@@ -62,6 +62,7 @@ pub struct rs_shard {
 
 extern "C" {
     pub fn rs_tables_make(tables: *mut rs_tables) -> u32;
+    pub fn rs_tables_bytes() -> usize;
     pub fn rs_supports(original_count: usize, recovery_count: usize) -> u32;
     pub fn rs_encode(
         tables: *const rs_tables, original_count: usize, recovery_count: usize, shard_bytes: usize,
