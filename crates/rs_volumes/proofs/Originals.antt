@@ -19,7 +19,7 @@ use Rattle.rs_field.specs.code.Given.{Shards}
 use Rattle.rs_field.specs.code.OneCall.{Items, OneDecodeAnswers, default_of, with_both}
 use Rattle.rs_field.specs.code.Outcome.{result_and_then}
 use Rattle.rs_field.specs.code.Pieces.{pieces, IsStrip}
-use Rattle.rs_field.specs.code.Placement.{decoder_rows}
+use Rattle.rs_field.specs.code.Frame.{decoder_rows}
 use Rattle.rs_field.specs.code.RoundTrip.{AreCoded, AreLeft, lost_of}
 use Rattle.rs_field.proofs.of_code.OneRoundTrip.{restores_in_one_call}
 use Rattle.rs_field.proofs.of_code.PieceStates.{shard_at-pieces, shards-cut, recovery-cut}
