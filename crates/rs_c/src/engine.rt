@@ -13,7 +13,7 @@ use rs_field::engine::lent_tables::LentTables;
 use rs_field::engine::tables::Multiply128lutT;
 
 /// The engine by shuffles, over tables that a program in C lends.
-pub type TableEngine<'t> = ByShuffles<Lanes, MadeTables<'t>, Multiply128lutT>;
+pub type TableEngine<'t> = ByShuffles<Lanes, MadeTables<'t>>;
 
 /// Returns the engine over these tables. Returns `None` if the tables do not have the stamp that `rs_tables_make` writes.
 pub fn engine_over(tables: &RsTables) -> Option<TableEngine<'_>>
@@ -33,7 +33,7 @@ pub struct MadeTables<'t> {
     ghost made: { AreTables tables.now },
 }
 
-impl ShuffleTables<Multiply128lutT> for MadeTables<'_> {
+impl ShuffleTables for MadeTables<'_> {
     #[inline(always)]
     fn transform_tables(&self) -> LentTables<'_> {
         LentTables {

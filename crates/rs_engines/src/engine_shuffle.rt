@@ -10,7 +10,7 @@ use crate::butterflies::{Backward, Forward};
 use crate::byte_vector::ByteVector;
 use crate::factors::ThreeFactors;
 use crate::shuffle_rows::{add_row, mul_chunks, one_layer, two_layers};
-use crate::shuffle_tables::{Products, ShuffleTables};
+use crate::shuffle_tables::ShuffleTables;
 use rs_field::engine::GfElement;
 use rs_field::engine::kernel::{Kernel, ThreeLogarithms};
 use rs_field::engine::lent_tables::LentTables;
@@ -18,22 +18,20 @@ use rs_field::engine::tables::{Multiply128lutT, Tables};
 use std::marker::PhantomData;
 use std::simd::prelude::*;
 
-/// An engine that looks up products by shuffles of byte vectors. It borrows the tables `T` and allocates nothing. The tables
-/// give the products with one factor as a `P`.
+/// An engine that looks up products by shuffles of byte vectors. It borrows the tables `T` and allocates nothing.
 ///
 /// The engine runs on any machine, and is fast if the processor shuffles bytes with one instruction.
 #[derive(Clone, Copy)]
-pub struct ByShuffles<V: ByteVector, T: ShuffleTables<P>, P: Products> {
+pub struct ByShuffles<V: ByteVector, T: ShuffleTables> {
     tables: T,
     vectors: PhantomData<V>,
-    products: PhantomData<P>,
 }
 
 /// The engine with vectors of 16 bytes, the width of SSSE3. It is the fastest engine in the default build, x86-64-v2.
-pub type Ssse3<'t> = ByShuffles<u8x16, &'t Tables, &'t Multiply128lutT>;
+pub type Ssse3<'t> = ByShuffles<u8x16, &'t Tables>;
 
 /// The engine with vectors of 32 bytes, the width of AVX2. It is the fastest engine in a build for AVX2, `--cpu=x86-64-v3`.
-pub type Avx2<'t> = ByShuffles<u8x32, &'t Tables, &'t Multiply128lutT>;
+pub type Avx2<'t> = ByShuffles<u8x32, &'t Tables>;
 
 /// The width of the vectors of an engine.
 pub trait Lanes {
@@ -41,7 +39,7 @@ pub trait Lanes {
     ghost lanes: { ℕ };
 }
 
-impl<V: ByteVector, T: ShuffleTables<P>, P: Products> Lanes for ByShuffles<V, T, P> {
+impl<V: ByteVector, T: ShuffleTables> Lanes for ByShuffles<V, T> {
     ghost lanes = { V.LANES };
 }
 
@@ -78,15 +76,14 @@ impl<'t> Avx2<'t> {
     }
 }
 
-impl<V: ByteVector, T: ShuffleTables<P>, P: Products> ByShuffles<V, T, P> {
+impl<V: ByteVector, T: ShuffleTables> ByShuffles<V, T> {
     /// Makes the engine over these tables.
-    pub fn over(tables: T) -> ByShuffles<V, T, P>
+    pub fn over(tables: T) -> ByShuffles<V, T>
         ensures { result.tables ≡ tables }
     {
         ByShuffles {
             tables,
             vectors: PhantomData,
-            products: PhantomData,
         }
     }
 }
@@ -113,19 +110,19 @@ fn three_factors<'t>(
     }
 }
 
-impl<V: ByteVector, T: ShuffleTables<P>, P: Products> Kernel for ByShuffles<V, T, P> {
+impl<V: ByteVector, T: ShuffleTables> Kernel for ByShuffles<V, T> {
     fn tables(&self) -> LentTables<'_> {
         self.tables.transform_tables()
     }
 
     fn fft_butterfly(&self, x: &mut [[u8; 64]], y: &mut [[u8; 64]], log_m: GfElement) {
         let products = self.tables.products(log_m);
-        one_layer::<V, Forward>(x, y, factor_of(products.lend(), log_m));
+        one_layer::<V, Forward>(x, y, factor_of(&products, log_m));
     }
 
     fn ifft_butterfly(&self, x: &mut [[u8; 64]], y: &mut [[u8; 64]], log_m: GfElement) {
         let products = self.tables.products(log_m);
-        one_layer::<V, Backward>(x, y, factor_of(products.lend(), log_m));
+        one_layer::<V, Backward>(x, y, factor_of(&products, log_m));
     }
 
     fn fft_two_layers(
@@ -139,7 +136,7 @@ impl<V: ByteVector, T: ShuffleTables<P>, P: Products> Kernel for ByShuffles<V, T
         let p02 = self.tables.products(logs.log_m02);
         let p01 = self.tables.products(logs.log_m01);
         let p23 = self.tables.products(logs.log_m23);
-        let factors = three_factors(p02.lend(), p01.lend(), p23.lend(), logs);
+        let factors = three_factors(&p02, &p01, &p23, logs);
         two_layers::<V, Forward>(x0, x1, x2, x3, factors);
     }
 
@@ -154,17 +151,17 @@ impl<V: ByteVector, T: ShuffleTables<P>, P: Products> Kernel for ByShuffles<V, T
         let p02 = self.tables.products(logs.log_m02);
         let p01 = self.tables.products(logs.log_m01);
         let p23 = self.tables.products(logs.log_m23);
-        let factors = three_factors(p02.lend(), p01.lend(), p23.lend(), logs);
+        let factors = three_factors(&p02, &p01, &p23, logs);
         two_layers::<V, Backward>(x0, x1, x2, x3, factors);
     }
 
     fn mul_row(&self, x: &mut [[u8; 64]], log_m: GfElement) {
         let products = self.tables.products(log_m);
-        mul_chunks::<V>(x, products.lend());
+        mul_chunks::<V>(x, &products);
     }
 
     fn mul_add_row(&self, x: &mut [[u8; 64]], y: &[[u8; 64]], log_m: GfElement) {
         let products = self.tables.products(log_m);
-        add_row::<V>(x, y, factor_of(products.lend(), log_m));
+        add_row::<V>(x, y, factor_of(&products, log_m));
     }
 }

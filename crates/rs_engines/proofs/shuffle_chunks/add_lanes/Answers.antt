@@ -1,4 +1,4 @@
-use Rattle.std.proofs.Common.{bit_xor, ap, ap₂, ◌∙◌}
+use Rattle.std.proofs.Common.{bit_xor, ap₂, ◌∙◌}
 use Rattle.rs_field.specs.words.Tables.{times_factor}
 use Rattle.rs_engines.proofs.shuffle_chunks.add_lanes.Goals as goal
 
