@@ -1,14 +1,15 @@
 -- Steps of the proofs of functions that lend rows: a list of rows is read, its chunks are lent, and two runs of chunks
 -- are lent from them.
 use Rattle.rs_field.proofs.Walking.{◌≡◌, ap, ◌∙◌, ℕ, ◌+◌, ◌^◌, ◌<◌, ◌≤◌, List, [], ◌∷◌, length, take, drop_list, refl}
+use Rattle.rs_field.proofs.Walking.{vcons, vnil, only, feq_i, fpack, within, shape, tuple_type, sym, named, w64, Val}
+use Rattle.rs_field.proofs.Walking.{vstruct, of_list, full_share, Lft, ftrue, flft, fact, fact_i, emp, ‵, ◌⊛◌, raw}
+use Rattle.rs_field.proofs.Walking.{some, later, ◌$◌, move, drop, split, join, fsplit, fsplit3, fjoin, fjoin3, use0}
+use Rattle.rs_field.proofs.Walking.{await, pick, rewrite, feq_l, usize, Is, shows, cell_at, uint_vals, uint_Makes}
+use Rattle.rs_field.proofs.Walking.{RattleType, owns, Valss, flat, MutBor, MutRef, mut_vals, named_lft, Array}
+use Rattle.rs_field.proofs.Walking.{MutSlice, Room, room, slice_val, mut_slice_vals, mut_slice_at, pure_l, pure_i}
+use Rattle.rs_field.proofs.Walking.{nothing, heard, opens, closes, peeks, owned, fields, lasts, qed, use2, fres, wand}
+use Rattle.rs_field.proofs.Walking.{◌∵◌, !, use1, id⊢}
 use Rattle.std.proofs.Common.{ap₂}
-use Rattle.rs_field.proofs.Walking.{vcons, vnil, only, feq_i, fpack, within, shape, tuple_type}
-use Rattle.rs_field.proofs.Walking.{sym, named, w64, Val, vstruct, of_list, full_share, Lft, ftrue, flft, fact, fact_i, emp}
-use Rattle.rs_field.proofs.Walking.{‵, ◌⊛◌, raw, some, later, ◌$◌, move, drop, split, join, fsplit, fsplit3, fjoin, fjoin3}
-use Rattle.rs_field.proofs.Walking.{use0, await, pick, rewrite, feq_l, usize, Is, shows, cell_at, uint_vals, uint_Makes}
-use Rattle.rs_field.proofs.Walking.{RattleType, owns, Valss, flat, MutBor, MutRef, mut_vals, named_lft, Array, MutSlice}
-use Rattle.rs_field.proofs.Walking.{Room, room, slice_val, mut_slice_vals, mut_slice_at, pure_l, pure_i, nothing, heard}
-use Rattle.rs_field.proofs.Walking.{opens, closes, peeks, owned, fields, lasts, qed, use2, fres, wand, ◌∵◌, ! }
 use seplogic.Ra.Ura.{Ura}
 use base.Fml.{fsep, Share, Fml, fobs, fauth, fobor}
 use base.Logic.{ent, sep}
@@ -23,7 +24,6 @@ use denote.Triple.Call.{calls_from}
 use denote.Triple.Statement.{Contract, Triple}
 use mir.Val.{vint}
 use denote.Triple.Spec.{triple_of}
-use Rattle.rs_field.proofs.Walking.{use1, id⊢}
 use contract.Lifetimes.{Lfts, Shares, AllOutlive}
 use denote.Memory.{mem}
 use denote.Follow.{both_by, followed}
@@ -117,7 +117,8 @@ module _ {M : Type 1} {𝓤 : Ura M} {𝓛 : Logic 𝓤} {K : Type 0} {Γ : List
       → Step K 𝓛 (‵ (Self κs self) ∷ ‵ (flft κs.0 q) ∷ Γ) G
       (Opened κs self q (held κs self.now us is) us Γ) G
   closes_self t soaks κs self us is = step (λ s. let b = self.ref_ptr.0 in let o = self.ref_ptr.1 in
-      rewrite t 0 (λ (ws : List Val). ‵ (cell_at full_share (Row κs).mir ws b o)) (sym (is_held κs self.now us is)) refl $
+      rewrite t 0 (λ (ws : List Val). ‵ (cell_at full_share (Row κs).mir ws b o))
+      (sym (is_held κs self.now us is)) refl $
       closes t soaks (Row κs) self.now us b o $ move t (3 ∷ 0 ∷ 1 ∷ []) $ fjoin3 t $ s)
 
   -- A pair of slices is taken apart.
@@ -127,7 +128,8 @@ module _ {M : Type 1} {𝓤 : Ura M} {𝓛 : Logic 𝓤} {K : Type 0} {Γ : List
       → Seq K 𝓛 (‵ ((Pair κ).own_val r (v ∷ [])) ∷ Γ) G
   parts t κ r v k = fpick t (λ vss. fsplit t $ feq_l t (λ e. fsplit t $ move t (1 ∷ []) $ fsplit t $ move t (1 ∷ []) $
       drop t $ knows t κ r.1 vss.1.0 (λ e₁ rm₁. move t (1 ∷ []) $ knows t κ r.0 vss.0 (λ e₀ rm₀.
-      k (ap only e ∙ ap₂ (λ a b. vstruct (of_list (flat (MutSlice (named 0) κ E ∷ MutSlice (named 0) κ E ∷ []) (a, (b, tt)))))
+      let S = MutSlice (named 0) κ E in
+      k (ap only e ∙ ap₂ (λ a b. vstruct (of_list (flat (S ∷ S ∷ []) (a, (b, tt)))))
       e₀ e₁) rm₀ rm₁))))
 
   -- Four slices become a tuple.
@@ -171,7 +173,8 @@ module _ {M : Type 1} {𝓤 : Ura M} {𝓛 : Logic 𝓤} {K : Type 0} {Γ : List
       raw (fact 𝓤 (x.now ≡ self.now.chunks.now)))))) (id⊢ 𝓤 _) $
       await t tt $ pick t (λ x. split t $ split t $ move t (2 ∷ []) $ pick t (λ ws.
       split t $ drop t $ split t $ move t (1 ∷ []) $ heard t _ (λ ex. move t (2 ∷ []) $
-      knows t κs.0 x (v ∷ []) (λ ev rm. move t (2 ∷ []) $ split t $ move t (2 ∷ 0 ∷ 1 ∷ []) $ k x v ex (ap only ev) rm)))))
+      knows t κs.0 x (v ∷ []) (λ ev rm.
+      move t (2 ∷ []) $ split t $ move t (2 ∷ 0 ∷ 1 ∷ []) $ k x v ex (ap only ev) rm)))))
 
   pub calls_two : (t : K) → FmC 𝓤 𝓛.H 𝓛.laws C → Triple 𝓤 (C f) (TwoCall 𝓛) → (κ : Lft) (q : Share) (x : MutBor Chunks)
       (i n j m : ℕ) → i < 2 ^ 64 → n < 2 ^ 64 → j < 2 ^ 64 → m < 2 ^ 64 → i + n ≤ j → j + m ≤ length x.now
@@ -179,7 +182,8 @@ module _ {M : Type 1} {𝓤 : Ura M} {𝓛 : Logic 𝓤} {K : Type 0} {Γ : List
       (slice_val x.ref_ptr (length x.now) ∷ vint w64 i ∷ vint w64 n ∷ vint w64 j ∷ vint w64 m ∷ [])
       → ((r : MutBor Chunks × MutBor Chunks) → (v : Val)
       → (r.0.now ≡ take n (drop_list i x.now)) × (r.1.now ≡ take m (drop_list j x.now)) → Is (Pair κ) r (v ∷ [])
-      → Seq K 𝓛 (‵ ((Pair κ).own_val r (v ∷ [])) ∷ ‵ (flft κ q) ∷ ‵ (LendsParts x i n j m r) ∷ Γ) (lands C Λ E' d v rest q'))
+      → Seq K 𝓛 (‵ ((Pair κ).own_val r (v ∷ [])) ∷ ‵ (flft κ q) ∷ ‵ (LendsParts x i n j m r) ∷ Γ)
+      (lands C Λ E' d v rest q'))
       → Seq K 𝓛 (‵ (Slice κ x (mut_slice_vals x)) ∷ ‵ (flft κ q) ∷ Γ) (runs C Λ E' (seq (call f xs d) rest) q')
   calls_two t fm met κ q x i n j m fi fn fj fm' apart within os k =
       let G = TwoCall 𝓛 in let z : G.Ghost =

@@ -1,9 +1,10 @@
 -- A run of a slice's chunks is lent as a slice, and two runs are lent as two slices.
-use Rattle.rs_field.proofs.Walking.{use3, keep, List, ◌-◌, ◌≡◌, refl, sym, ap, ◌∙◌, ℕ, ◌+◌, ◌*◌, ◌≤◌, arith, [], ◌∷◌, ◌++◌, length, take}
-use Rattle.rs_field.proofs.Walking.{drop_list, take-append-drop, drop-drop, length-take-le, length-drop, Val, Lft, flft}
-use Rattle.rs_field.proofs.Walking.{‵, ◌⊛◌, ◌$◌, ◌∵◌, !, qed, named, move, drop, fsplit, fsplit3, fjoin, await, later}
-use Rattle.rs_field.proofs.Walking.{some, use1, use2, group, pick, done, split, split3, rewrite, feq_l, feq_i, join}
-use Rattle.rs_field.proofs.Walking.{MutBor, RattleType, Array, Room, slice_val, follows_both, fres, at, at_mul}
+use Rattle.rs_field.proofs.Walking.{use3, keep, List, ◌-◌, ◌≡◌, refl, sym, ap, ◌∙◌, ℕ, ◌+◌, ◌*◌, ◌≤◌, arith, [], ◌∷◌}
+use Rattle.rs_field.proofs.Walking.{◌++◌, length, take, drop_list, take-append-drop, drop-drop, length-take-le}
+use Rattle.rs_field.proofs.Walking.{length-drop, Val, Lft, flft, ‵, ◌⊛◌, ◌$◌, ◌∵◌, !, qed, named, move, drop, fsplit}
+use Rattle.rs_field.proofs.Walking.{fsplit3, fjoin, await, later, some, use1, use2, group, pick, done, split, split3}
+use Rattle.rs_field.proofs.Walking.{rewrite, feq_l, feq_i, join, MutBor, RattleType, Array, Room, slice_val}
+use Rattle.rs_field.proofs.Walking.{follows_both, fres, at, at_mul}
 use Rattle.std.proofs.Common.{ap₂}
 use Rattle.std.proofs.lemmas.List.{append_assoc}
 use Rattle.std.proofs.lemmas.Slice.{between_is}
@@ -75,9 +76,11 @@ module _ {M : Type 1} {𝓤 : Ura M} (𝓛 : Logic 𝓤) (κ : Lft) (q : Share) 
   put_run ws = qed 𝓛 (‵ ((Arr (mem E) (length mid)).own_at ws b p) ∷ ‵ (cells (mem E) front b o) ∷ ‵
       (cells (mem E) back b (at p 64 (length mid))) ∷ []) ∵
       fsplit ! $ feq_l ! (λ e.
-      let whole : length x.now ≡ length front + length (mid ++ back) = ap length cut ∙ length-append front (mid ++ back) in
+      let whole : length x.now ≡ length front + length (mid ++ back) =
+      ap length cut ∙ length-append front (mid ++ back) in
       let inner : length (mid ++ back) ≡ length mid + length back = length-append mid back in
-      let now_whole : length (with_run x.now a n ws) ≡ length front + length (ws ++ back) = length-append front (ws ++ back) in
+      let now_whole : length (with_run x.now a n ws) ≡ length front + length (ws ++ back) =
+      length-append front (ws ++ back) in
       let now_inner : length (ws ++ back) ≡ length ws + length back = length-append ws back in
       rewrite ! 2 (λ (k : ℕ). ‵ (cells (mem E) back b (at p 64 k))) (sym e) refl $ move ! (0 ∷ 2 ∷ []) $
       use2 𝓛 (‵ (cells (mem E) (ws ++ back) b p)) (join_app 𝓛 (mem E) ws back b p) $
@@ -108,8 +111,8 @@ module _ {M : Type 1} {𝓤 : Ura M} (𝓛 : Logic 𝓤) (κ : Lft) (q : Share) 
       use1 𝓛 (later (some (λ (δ : GName).
       ‵ (fobs δ ((coded_list E.coded).code mid)) ⊛ ‵ (fbor κ (Body (Arr (mem E) (length mid)) b p δ)) ⊛ ‵
       (flft κ q) ⊛ ‵ (LendsChunks x a n (run_of x a n δ)))))
-      (takes_part 𝓛 (Arr (mem E) (length x.now)) (Arr (mem E) (length mid)) (with_run x.now a n) κ q b o b p x.ghost_name
-      Others put_run ((coded_list E.coded).code x.now) ((coded_list E.coded).code x.now) mid) $
+      (takes_part 𝓛 (Arr (mem E) (length x.now)) (Arr (mem E) (length mid)) (with_run x.now a n) κ q b o b p
+      x.ghost_name Others put_run ((coded_list E.coded).code x.now) ((coded_list E.coded).code x.now) mid) $
       await ! tt $ pick ! (λ δ. split3 ! $
       use2 𝓛 (‵ (Slice κ (run_of x a n δ) (slice_val (b, p) (length mid) ∷ [])))
       (slice_of 𝓛 E (named 0) κ b p δ mid (omega arith, omega arith)) $
@@ -123,7 +126,8 @@ both-written xs i n j m apart u v =
     append_assoc (take i (take j xs)) (u ++ drop_list n (drop_list i (take j xs))) _
     ∙ ap₂ ◌++◌ (take-take i j xs (omega arith))
     (append_assoc u (drop_list n (drop_list i (take j xs))) _ ∙ ap (λ (l : Chunks). u ++ l)
-    (ap₂ (λ (g l : Chunks). g ++ (v ++ l)) (drop-drop n i (take j xs) ∙ sym (between_is xs (i + n) j)) (drop-drop m j xs)))
+    (ap₂ (λ (g l : Chunks). g ++ (v ++ l)) (drop-drop n i (take j xs) ∙ sym (between_is xs (i + n) j))
+    (drop-drop m j xs)))
 
 module _ {M : Type 1} {𝓤 : Ura M} (𝓛 : Logic 𝓤) (κ : Lft) (q : Share) (x : MutBor Chunks) (i n j m : ℕ)
     (apart : i + n ≤ j) (within : j + m ≤ length x.now) where
@@ -147,8 +151,8 @@ module _ {M : Type 1} {𝓤 : Ura M} (𝓛 : Logic 𝓤) (κ : Lft) (q : Share) 
   unfolding both_by
   written y z δ is is' =
       let parts = λ (w : Chunks × Chunks). with_run y.now i n w.0 ++ with_run z.now 0 m w.1 in
-      qed 𝓛 (‵ (follows_both A A A x.ghost_name y.ghost_name z.ghost_name ◌++◌) ∷ ‵ (LendsChunks y i n (run_of y i n δ.0)) ∷ ‵
-      (LendsChunks z 0 m (run_of z 0 m δ.1)) ∷ []) ∵
+      qed 𝓛 (‵ (follows_both A A A x.ghost_name y.ghost_name z.ghost_name ◌++◌) ∷ ‵
+      (LendsChunks y i n (run_of y i n δ.0)) ∷ ‵ (LendsChunks z 0 m (run_of z 0 m δ.1)) ∷ []) ∵
       each ! (λ (w : Chunks × Chunks). wand 𝓤 (sem 𝓛 (fsep (fres δ.0 (code w.0)) (fres δ.1 (code w.1))))
       (sem 𝓛 (fres x.ghost_name (code (with_two x.now i n j m w.0 w.1)))))
       (λ w. assume ! (‵ (fres δ.0 (code w.0)) ⊛ ‵ (fres δ.1 (code w.1))) $ split ! $
@@ -160,7 +164,8 @@ module _ {M : Type 1} {𝓤 : Ura M} (𝓛 : Logic 𝓤) (κ : Lft) (q : Share) 
       (followed₂ 𝓛 (mem A) (mem A) (mem A) ◌++◌ x.ghost_name y.ghost_name z.ghost_name (with_run y.now i n w.0)
       (with_run z.now 0 m w.1)) $
       rewrite ! 0 (λ (l : Chunks). ‵ (fres x.ghost_name (code l)))
-      (ap₂ (λ (c d : Chunks). with_run c i n w.0 ++ with_run d 0 m w.1) is is' ∙ both-written x.now i n j m apart w.0 w.1)
+      (ap₂ (λ (c d : Chunks). with_run c i n w.0 ++ with_run d 0 m w.1) is is'
+      ∙ both-written x.now i n j m apart w.0 w.1)
       refl $ done !)
 
   pub lends_two : Room E (length x.now) → (vs : List Val) → ent 𝓤 (sep 𝓤 (sem 𝓛 (Slice κ x vs)) (sem 𝓛 (flft κ q)))

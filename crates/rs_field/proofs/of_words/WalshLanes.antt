@@ -65,18 +65,30 @@ joined : (v : List ℕ) (r d k m n : ℕ) (even : Bool) → length v ≡ 16 → 
 joined v r d k m n true size fits h test e = grind (arith, common_steps, and_parts, ltb-true, summed, eqb-true)
 joined v r d k m n false size fits h test e = grind (arith, common_steps, and_parts, subtracted, eqb-true)
 
+abbrev lanes_from : ℕ → (ℕ → ℕ) → ℕ → List ℕ
+lanes_from zero f k = []
+lanes_from (suc n) f k = f k ∷ lanes_from n f (k + 1)
+
+-- The lanes of v that a layer with distance d swizzles into lanes 0 to 15.
+abbrev partners : ℕ → List ℕ
+partners d = lanes_from 16 (λ k. cond (k / d % 2 == 0) (k + d) (k - d)) 0
+
+-- The lanes of v and of its complement that the layer shuffles into lanes 0 to 15.
+abbrev signed : ℕ → List ℕ
+signed d = lanes_from 16 (λ k. cond (k / d % 2 == 0) k (16 + k)) 0
+
 -- A layer with distance d: at each lane, a lane of the vector is added to a lane of the vector or of its complement.
-pub layer_joined : (d : ℕ) (v new ms ns : List ℕ) → length v ≡ 16 → Each1 (Fits w16) v → length ms ≡ 16 → length ns ≡ 16
-    → passes_below 16 (λ k. joins d k (get_or ms k 0) (get_or ns k 0) (k / d % 2 == 0)) ≡ true
+pub layer_of : (d : ℕ) (v new : List ℕ) → length v ≡ 16 → Each1 (Fits w16) v
+    → passes_below 16 (λ k. joins d k (get_or (partners d) k 0) (get_or (signed d) k 0) (k / d % 2 == 0)) ≡ true
     → ((k : ℕ) → k < 16 → get_or new k 0 % 65535
-    ≡ (get_or (map (λ m. get_or (v ++ v) m 0) ms) k 0 + get_or
-    (map (λ n. get_or (v ++ map (λ x. 65535 - x) v) n 0) ns) k 0) % 65535)
+    ≡ (get_or (map (λ m. get_or (v ++ v) m 0) (partners d)) k 0 + get_or
+    (map (λ n. get_or (v ++ map (λ x. 65535 - x) v) n 0) (signed d)) k 0) % 65535)
     → IsLayer d v new
-layer_joined d v new ms ns size fits hm hn test e k h =
-    joined v (get_or new k 0) d k (get_or ms k 0) (get_or ns k 0) (k / d % 2 == 0) size fits h
-    (from_passes_below 16 (λ k. joins d k (get_or ms k 0) (get_or ns k 0) (k / d % 2 == 0)) test k h)
-    (e k h ∙ ap₂ (λ x y. (x + y) % 65535) (get_or-map (λ m. get_or (v ++ v) m 0) ms k 0 0 (omega arith))
-    (get_or-map (λ n. get_or (v ++ map (λ x. 65535 - x) v) n 0) ns k 0 0 (omega arith)))
+layer_of d v new size fits test e k h =
+    joined v (get_or new k 0) d k (get_or (partners d) k 0) (get_or (signed d) k 0) (k / d % 2 == 0) size fits h
+    (from_passes_below 16 (λ k. joins d k (get_or (partners d) k 0) (get_or (signed d) k 0) (k / d % 2 == 0)) test k h)
+    (e k h ∙ ap₂ (λ x y. (x + y) % 65535) (get_or-map (λ m. get_or (v ++ v) m 0) (partners d) k 0 0 h)
+    (get_or-map (λ n. get_or (v ++ map (λ x. 65535 - x) v) n 0) (signed d) k 0 0 h))
 
 -- ---- four layers
 

@@ -40,6 +40,12 @@ abbrev pub UnusedAreZeroBackward : Direction → UsedRows → ℕ → ℕ → Sh
 UnusedAreZeroBackward Direction.Forward used pos size rows = 0 ≤ size
 UnusedAreZeroBackward Direction.Backward used pos size rows = UnusedAreZero used pos size rows
 
+-- in each chunk of the rows of a block, the new words are the transform of the old words
+abbrev pub AreRowsTransformed : Direction → (ℕ → Bool) → Block → ShardsRefMut → ShardsRefMut → Type 0
+AreRowsTransformed direction used block old new = (k s : ℕ) → k < old.shard_len_64 → s < 32
+    → AreTransformed direction used block.size block.skew_delta
+    (λ q. word old k s (block.pos + q)) (λ q. word new k s (block.pos + q))
+
 -- in each part of a block after its first layers, the new words are the transform of the old words
 abbrev pub ArePartsTransformed : Direction → (ℕ → Bool) → Block → ShardsRefMut → ShardsRefMut → Type 0
 ArePartsTransformed direction used block old new =

@@ -52,8 +52,8 @@ abbrev pub LendsChunks : MutBor Chunks → ℕ → ℕ → MutBor Chunks → Fml
 LendsChunks chunks a n lent =
     Lends (Array (Array u8 64) 0) (Array (Array u8 64) 0) chunks lent (with_run chunks.now a n)
 
--- the n chunks from a on and the m chunks from b on are lent from a list of chunks: afterwards they hold what was written
--- to them, and all other chunks are as before
+-- the n chunks from a on and the m chunks from b on are lent from a list of chunks: afterwards they hold what was
+-- written to them, and all other chunks are as before
 abbrev pub LendsParts : MutBor Chunks → ℕ → ℕ → ℕ → ℕ → MutBor Chunks × MutBor Chunks → Fml
 LendsParts chunks a n b m lent =
     LendsBoth (Array (Array u8 64) 0) (Array (Array u8 64) 0) (Array (Array u8 64) 0) chunks lent

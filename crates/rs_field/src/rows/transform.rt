@@ -3,10 +3,10 @@
 //! The method is that of Lin, Chung and Han in the form of Leopard-RS. A transform is two layers of butterflies between
 //! the quarters of its rows and a transform of each quarter. For 2, 8 and 32 rows, it is one layer between the halves
 //! and a transform of each half. So the recursion goes depth first, and a block that fits the cache stays in the cache.
-ghost use Rattle.std.specs.Prelude.{ℕ, ◌+◌, ◌<◌, ◌≤◌};
-ghost use Rattle.rs_field.specs.rows.Directions.{AreTransformed, ArePartsTransformed};
+ghost use Rattle.std.specs.Prelude.{◌+◌, ◌<◌, ◌≤◌};
+ghost use Rattle.rs_field.specs.rows.Directions.{AreRowsTransformed, ArePartsTransformed};
 ghost use Rattle.rs_field.specs.rows.Directions.{UnusedAreZeroBackward, PartCounts};
-ghost use Rattle.rs_field.specs.rows.View.{word, Fits, SameExtent, SameRowsOutside};
+ghost use Rattle.rs_field.specs.rows.View.{Fits, SameExtent, SameRowsOutside};
 ghost use Rattle.rs_field.specs.rows.MarkedRows.{is_used, HasMarks};
 ghost use Rattle.rs_field.specs.words.StepBounds.{TransformCounts};
 ghost use Rattle.rs_field.specs.words.Inverse.{TransformsAreInverse};
@@ -43,9 +43,7 @@ pub(crate) fn transform<K: Kernel>(
     requires zeros { UnusedAreZeroBackward direction used block.pos block.size «data».old }
     ensures extent { SameExtent «data».old «data».new }
     ensures others { SameRowsOutside block.pos (block.pos + block.size) «data».old «data».new }
-    ensures values { (k s : ℕ) → k < «data».old.shard_len_64 → s < 32
-        → AreTransformed direction (is_used used.entry) block.size block.skew_delta
-        (λ q. word «data».old k s (block.pos + q)) (λ q. word «data».new k s (block.pos + q)) }
+    ensures values { AreRowsTransformed direction (is_used used.entry) block «data».old «data».new }
     ensures counts { TransformCounts block.size steps.old steps.new }
 {
     if used.are_none() {
@@ -79,9 +77,7 @@ fn transform_many<K: Kernel>(
     requires zeros { UnusedAreZeroBackward direction used block.pos block.size «data».old }
     ensures extent { SameExtent «data».old «data».new }
     ensures others { SameRowsOutside block.pos (block.pos + block.size) «data».old «data».new }
-    ensures values { (k s : ℕ) → k < «data».old.shard_len_64 → s < 32
-        → AreTransformed direction (is_used used.entry) block.size block.skew_delta
-        (λ q. word «data».old k s (block.pos + q)) (λ q. word «data».new k s (block.pos + q)) }
+    ensures values { AreRowsTransformed direction (is_used used.entry) block «data».old «data».new }
     ensures counts { TransformCounts block.size steps.old steps.new }
 {
     match direction {

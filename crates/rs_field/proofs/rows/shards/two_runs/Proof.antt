@@ -1,16 +1,13 @@
-use Rattle.rs_field.proofs.Walking.{refl, ℕ, ◌+◌, ◌*◌, ◌^◌, ◌<◌, ◌≤◌, arith, List, [], ◌∷◌}
-use Rattle.rs_field.proofs.Walking.{length, named, w64, Val, vstruct, vcons}
-use Rattle.rs_field.proofs.Walking.{vnil, ftrue, flft, Lft, fact, tables, proved, ‵, ◌⊛◌, raw, some, later, at_ret}
-use Rattle.rs_field.proofs.Walking.{◌$◌, ◌∵◌, !, qed, move, keep, drop, split, split3, join, fsplit, fjoin, use2}
-use Rattle.rs_field.proofs.Walking.{await, pick, suffices, frame, done, fpack, feq_i, whole, sub, agg}
+use Rattle.rs_field.proofs.Walking.{refl, ℕ, ◌+◌, ◌*◌, ◌^◌, ◌<◌, ◌≤◌, arith, List, [], ◌∷◌, length, named, w64, Val}
+use Rattle.rs_field.proofs.Walking.{vstruct, vcons, vnil, ftrue, flft, Lft, fact, tables, proved, ‵, ◌⊛◌, raw, some}
+use Rattle.rs_field.proofs.Walking.{later, at_ret, ◌$◌, ◌∵◌, !, qed, move, keep, drop, split, split3, join, fsplit}
+use Rattle.rs_field.proofs.Walking.{fjoin, use2, await, pick, suffices, frame, done, fpack, feq_i, whole, sub, agg}
 use Rattle.rs_field.proofs.Walking.{stop, fld, hop, from, addr, bin, of_opd, lit, first, blocks, exec, returns, enter}
-use Rattle.rs_field.proofs.Walking.{no_more, and_then, alloc_all, pass_all, free_all, look_at, look_in_at, get}
-use Rattle.rs_field.proofs.Walking.{sets, sets_last, env, usize, yes, no, uint_vals, uint_Tells, RattleType}
-use Rattle.rs_field.proofs.Walking.{owns, Valss, MutBor, plain, MutSlice}
-use Rattle.rs_field.proofs.Walking.{room, slice_val, mut_slice_vals, mut_slice_at, pure_l, pure_i, nothing, heard}
-use Rattle.rs_field.proofs.Walking.{says, Stays, stay_dropped}
-use Rattle.rs_field.proofs.Walking.{walk_of, ends_at, Goes-dropped, within}
-use Rattle.rs_field.proofs.Walking.{tuple_type, shape}
+use Rattle.rs_field.proofs.Walking.{no_more, and_then, alloc_all, pass_all, free_all, look_at, look_in_at, get, sets}
+use Rattle.rs_field.proofs.Walking.{sets_last, env, usize, yes, no, uint_vals, uint_Tells, RattleType, owns, Valss}
+use Rattle.rs_field.proofs.Walking.{MutBor, plain, MutSlice, room, slice_val, mut_slice_vals, mut_slice_at, pure_l}
+use Rattle.rs_field.proofs.Walking.{pure_i, nothing, heard, says, Stays, stay_dropped, walk_of, ends_at, Goes-dropped}
+use Rattle.rs_field.proofs.Walking.{within, tuple_type, shape}
 use denote.Slice.{mut_slice_Tells}
 use base.Fml.{GName}
 use denote.Triple.Walked.{Goes-spent_slice}

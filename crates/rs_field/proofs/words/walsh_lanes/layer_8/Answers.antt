@@ -1,12 +1,8 @@
-use Rattle.std.proofs.Common.{[], ◌∷◌, refl}
+use Rattle.std.proofs.Common.{refl}
 use Rattle.rs_field.proofs.of_words.Linear.{passes_below}
-use Rattle.rs_field.proofs.of_words.WalshLanes.{layer_joined}
+use Rattle.rs_field.proofs.of_words.WalshLanes.{layer_of}
 use Rattle.rs_field.proofs.words.walsh_lanes.layer_8.Goals as goal
 
 pub returns : goal.returns
 unfolding passes_below
-returns c =
-    layer_joined 8 c.args.v c.add_mod_lanes.result
-    (8 ∷ 9 ∷ 10 ∷ 11 ∷ 12 ∷ 13 ∷ 14 ∷ 15 ∷ 0 ∷ 1 ∷ 2 ∷ 3 ∷ 4 ∷ 5 ∷ 6 ∷ 7 ∷ [])
-    (0 ∷ 1 ∷ 2 ∷ 3 ∷ 4 ∷ 5 ∷ 6 ∷ 7 ∷ 24 ∷ 25 ∷ 26 ∷ 27 ∷ 28 ∷ 29 ∷ 30 ∷ 31 ∷ [])
-    c.fits-v.0 c.fits-v.1 refl refl refl c.add_mod_lanes.ensures
+returns c = layer_of 8 c.args.v c.add_mod_lanes.result c.fits-v.0 c.fits-v.1 refl c.add_mod_lanes.ensures

@@ -1,20 +1,15 @@
-use Rattle.rs_field.proofs.Walking.{◌≡◌, refl, ap, ◌∙◌, ◌+◌, ◌*◌, ◌^◌, ◌<◌, ◌≤◌, arith, [], ◌∷◌, length}
-use Rattle.rs_field.proofs.Walking.{take, drop_list, named, w64, ftrue}
-use Rattle.rs_field.proofs.Walking.{flft, fact, tables, proved, mul-le-mul_right, ‵, ◌⊛◌, raw, ◌$◌}
-use Rattle.rs_field.proofs.Walking.{◌∵◌, !, qed, move, keep, split, join, fjoin}
-use Rattle.rs_field.proofs.Walking.{use2, suffices, done, group, whole, sub, look_in, stop, fld}
-use Rattle.rs_field.proofs.Walking.{addr, load, bin, of_opd, returns, enter, no_more, and_then, alloc_all, pass_all}
-use Rattle.rs_field.proofs.Walking.{free_all, look_at, get, through, sets, lands_as, usize, yes, no}
-use Rattle.rs_field.proofs.Walking.{uint_vals, uint_Tells, RattleType, owns, MutRef}
-use Rattle.rs_field.proofs.Walking.{mut_vals, mut_Tells, plain, named_lft, Room, nothing, heard}
-use Rattle.rs_field.proofs.Walking.{framed, Stays, stay_dropped, walk_of}
-use Rattle.rs_field.proofs.Walking.{ends_at, Goes-dropped, Goes-spent_ref}
+use Rattle.rs_field.proofs.Walking.{◌≡◌, refl, ap, ◌∙◌, ◌+◌, ◌*◌, ◌^◌, ◌<◌, ◌≤◌, arith, [], ◌∷◌, length, take}
+use Rattle.rs_field.proofs.Walking.{drop_list, named, w64, ftrue, flft, fact, tables, proved, mul-le-mul_right, ‵}
+use Rattle.rs_field.proofs.Walking.{◌⊛◌, raw, ◌$◌, ◌∵◌, !, qed, move, keep, split, join, fjoin, use2, suffices, done}
+use Rattle.rs_field.proofs.Walking.{group, whole, sub, look_in, stop, fld, addr, load, bin, of_opd, returns, enter}
+use Rattle.rs_field.proofs.Walking.{no_more, and_then, alloc_all, pass_all, free_all, look_at, get, through, sets}
+use Rattle.rs_field.proofs.Walking.{lands_as, usize, yes, no, uint_vals, uint_Tells, RattleType, owns, MutRef}
+use Rattle.rs_field.proofs.Walking.{mut_vals, mut_Tells, plain, named_lft, Room, nothing, heard, framed, Stays}
+use Rattle.rs_field.proofs.Walking.{stay_dropped, walk_of, ends_at, Goes-dropped, Goes-spent_ref, ℕ}
 use Rattle.rs_field.specs.rows.Rows.{Chunks}
 use Rattle.rs_field.specs.rows.View.{row_at}
 use Rattle.rs_field.proofs.of_rows.LentChunks.{E, pair}
-use Rattle.rs_field.proofs.of_rows.Lenders.{opens_self, closes_self, calls_all, calls_two, had}
-use Rattle.rs_field.proofs.of_rows.Lenders.{lends_runs}
-use Rattle.rs_field.proofs.Walking.{ℕ}
+use Rattle.rs_field.proofs.of_rows.Lenders.{opens_self, closes_self, calls_all, calls_two, had, lends_runs}
 use Rattle.rs_field.proofs.rows.shards.ShardsRefMut.all.Met.{met as met₁}
 use Rattle.rs_field.proofs.rows.shards.two_runs.Met.{met as met₂}
 use Rattle.rs_field.specs.rows.Lending.{LendsTwoRuns}
@@ -39,7 +34,7 @@ dist2_mut_spec 𝓤 𝓛 𝓜 𝓡 wired =
     (λ κs qs bounds a _ are.
     let self = a.0 in let pos = a.1.0 in let dist = a.1.1.0 in
     let Row : RattleType = the_row (named_lft 2 1 tt κs) in
-    let h : ShardsRefMut = self.now in let b = self.ref_ptr.0 in let o = self.ref_ptr.1 in
+    let h : ShardsRefMut = self.now in
     let ch : Chunks = h.chunks.now in let n = h.shard_len_64 in
     let vs = mut_vals self in
     let y : W.Ghost = ((κs, qs, bounds, a, (vs, (uint_vals w64 pos, (uint_vals w64 dist, tt)))), tt) in
@@ -86,9 +81,11 @@ dist2_mut_spec 𝓤 𝓛 𝓜 𝓡 wired =
     lands_as ! refl refl ((pair 𝓛 κs.0).typed r (v ∷ []) shown).0 $
     returns ! (look_at ! 0 refl) $ free_all ! refl $
     suffices ! _ (ends_at 𝓛 f.ended stayed c y v r (tt, (tt, (tt, tt))) (tt, (tt, (tt, tt)))) $
-    move ! (4 ∷ 2 ∷ []) $ use2 𝓛 (‵ (LendsTwoRuns self i n j n r)) (lends_runs 𝓛 self x i n j n r ex) $ move ! (1 ∷ []) $
+    move ! (4 ∷ 2 ∷ []) $ use2 𝓛 (‵ (LendsTwoRuns self i n j n r)) (lends_runs 𝓛 self x i n j n r ex) $
+    move ! (1 ∷ []) $
     -- [the pair; what self follows; the tokens]
-    nothing ! $ nothing ! $ fjoin ! $ nothing ! $ fjoin ! $ nothing ! $ fjoin ! $ join ! $ move ! (2 ∷ 3 ∷ []) $ join ! $
-    join ! $ had ! (r.1.now ≡ row_at h (pos + dist)) (value.1 ∙ ap (λ (l : Chunks). take n (drop_list j l)) ex) $
+    nothing ! $ nothing ! $ fjoin ! $ nothing ! $ fjoin ! $ nothing ! $ fjoin ! $ join ! $
+    move ! (2 ∷ 3 ∷ []) $ join ! $ join ! $
+    had ! (r.1.now ≡ row_at h (pos + dist)) (value.1 ∙ ap (λ (l : Chunks). take n (drop_list j l)) ex) $
     had ! (r.0.now ≡ row_at h pos) (value.0 ∙ ap (λ (l : Chunks). take n (drop_list i l)) ex) $ join ! $
     move ! (1 ∷ 2 ∷ 0 ∷ []) $ group ! 3 $ done !))))))))

@@ -1,23 +1,18 @@
-use Rattle.rs_field.proofs.Walking.{◌≡◌, refl, ap, ◌∙◌, ℕ, ◌+◌, ◌*◌, ◌^◌, ◌<◌, ◌≤◌, arith, [], ◌∷◌, length}
-use Rattle.rs_field.proofs.Walking.{named, w64, ftrue}
-use Rattle.rs_field.proofs.Walking.{flft, fact, tables, proved, mul-le-mul_right, ‵, ◌⊛◌, raw, ◌$◌}
-use Rattle.rs_field.proofs.Walking.{◌∵◌, !, qed, move, keep, split, join, fjoin, use1}
-use Rattle.rs_field.proofs.Walking.{suffices, done, group, whole, sub, look_in, stop, fld}
-use Rattle.rs_field.proofs.Walking.{addr, load, bin, lit, of_opd, returns, enter, no_more, and_then, alloc_all}
-use Rattle.rs_field.proofs.Walking.{pass_all, free_all, look_at, get, through, sets, lands_as, usize, yes, no}
-use Rattle.rs_field.proofs.Walking.{uint_vals, uint_Tells, RattleType, owns}
-use Rattle.rs_field.proofs.Walking.{MutRef, mut_vals, mut_Tells, plain, named_lft, Room, nothing, heard}
-use Rattle.rs_field.proofs.Walking.{framed, Stays}
-use Rattle.rs_field.proofs.Walking.{stay_dropped, walk_of, ends_at, Goes-dropped, Goes-spent_ref}
+use Rattle.rs_field.proofs.Walking.{◌≡◌, refl, ap, ◌∙◌, ℕ, ◌+◌, ◌*◌, ◌^◌, ◌<◌, ◌≤◌, arith, [], ◌∷◌, length, named}
+use Rattle.rs_field.proofs.Walking.{w64, ftrue, flft, fact, tables, proved, mul-le-mul_right, ‵, ◌⊛◌, raw, ◌$◌, ◌∵◌}
+use Rattle.rs_field.proofs.Walking.{ !, qed, move, keep, split, join, fjoin, use1, suffices, done, group, whole, sub}
+use Rattle.rs_field.proofs.Walking.{look_in, stop, fld, addr, load, bin, lit, of_opd, returns, enter, no_more}
+use Rattle.rs_field.proofs.Walking.{and_then, alloc_all, pass_all, free_all, look_at, get, through, sets, lands_as}
+use Rattle.rs_field.proofs.Walking.{usize, yes, no, uint_vals, uint_Tells, RattleType, owns, MutRef, mut_vals}
+use Rattle.rs_field.proofs.Walking.{mut_Tells, plain, named_lft, Room, nothing, heard, framed, Stays, stay_dropped}
+use Rattle.rs_field.proofs.Walking.{walk_of, ends_at, Goes-dropped, Goes-spent_ref, agg, from, hop, look_in_at}
 use Rattle.rs_field.specs.rows.Rows.{Chunks}
 use Rattle.rs_field.proofs.of_rows.LentChunks.{E, taken}
-use Rattle.rs_field.proofs.of_rows.Lenders.{opens_self, closes_self, calls_all, calls_two, had, parts}
-use Rattle.rs_field.proofs.of_rows.Lenders.{fours_made, four_val}
+use Rattle.rs_field.proofs.of_rows.Lenders.{opens_self, closes_self, calls_all, calls_two, had, parts, fours_made}
+use Rattle.rs_field.proofs.of_rows.Lenders.{four_val}
 use types.ByLocal.{get_in}
 use Rattle.std.proofs.Common.{lit<}
-use Rattle.rs_field.proofs.Walking.{agg, from, hop, look_in_at}
 use Rattle.rs_field.specs.rows.View.{row_at}
-use Rattle.rs_field.proofs.Walking.{ℕ}
 use Rattle.rs_field.proofs.rows.shards.ShardsRefMut.all.Met.{met as met₁}
 use Rattle.rs_field.proofs.rows.shards.two_runs.Met.{met as met₂}
 use Rattle.rs_field.specs.rows.Lending.{LendsFourRuns}
@@ -43,7 +38,7 @@ dist4_mut_spec 𝓤 𝓛 𝓜 𝓡 wired =
     (λ κs qs bounds a _ are.
     let self = a.0 in let pos = a.1.0 in let dist = a.1.1.0 in
     let Row : RattleType = the_row (named_lft 2 1 tt κs) in
-    let h : ShardsRefMut = self.now in let b = self.ref_ptr.0 in let o = self.ref_ptr.1 in
+    let h : ShardsRefMut = self.now in
     let ch : Chunks = h.chunks.now in let n = h.shard_len_64 in
     let vs = mut_vals self in
     let y : W.Ghost = ((κs, qs, bounds, a, (vs, (uint_vals w64 pos, (uint_vals w64 dist, tt)))), tt) in
@@ -69,7 +64,7 @@ dist4_mut_spec 𝓤 𝓛 𝓜 𝓡 wired =
     let d : ℕ = dist * n in let s : ℕ = d + n in
     let one_row : 1 * n ≤ dist * n = mul-le-mul_right n apart in
     let ends_below : (pos + 3 * dist + 1) * n ≤ h.shard_count * n = mul-le-mul_right n (omega (arith, within)) in
-    let row : n ≤ d = omega arith in let row₀ : 0 + n ≤ d = omega arith in
+    let row₀ : 0 + n ≤ d = omega arith in
     let apart₂ : i + s ≤ k = omega arith in
     let last : k + s ≤ length ch = omega arith in
     let fi : i < 2 ^ 64 = omega arith in let fk : k < 2 ^ 64 = omega arith in
@@ -157,8 +152,8 @@ dist4_mut_spec 𝓤 𝓛 𝓜 𝓡 wired =
     returns ! (look_at ! 0 refl) $ free_all ! refl $
     suffices ! _ (ends_at 𝓛 f.ended stayed c y (four_val p q) (p.0, p.1, q.0, q.1) (tt, (tt, (tt, tt)))
     (tt, (tt, (tt, tt)))) $
-    nothing ! $ nothing ! $ fjoin ! $ nothing ! $ fjoin ! $ nothing ! $ fjoin ! $ join ! $ move ! (2 ∷ 3 ∷ []) $ join ! $
-    join ! $
+    nothing ! $ nothing ! $ fjoin ! $ nothing ! $ fjoin ! $ nothing ! $ fjoin ! $ join ! $
+    move ! (2 ∷ 3 ∷ []) $ join ! $ join ! $
     let rows₁ = two-rows x.now i n d ch r.0.now p.0.now p.1.now j ex (omega arith) value.0 value₀ in
     let rows₂ = two-rows x.now k n d ch r.1.now q.0.now q.1.now m ex (omega arith) value.1 value₁ in
     had ! (q.1.now ≡ row_at h (pos + 3 * dist)) rows₂.1 $ had ! (q.0.now ≡ row_at h (pos + 2 * dist)) rows₂.0 $ join ! $

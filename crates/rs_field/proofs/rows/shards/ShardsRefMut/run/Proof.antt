@@ -1,13 +1,11 @@
-use Rattle.rs_field.proofs.Walking.{◌≡◌, refl, ap, ◌+◌, ◌*◌, ◌^◌, ◌<◌, ◌≤◌, arith, [], ◌∷◌}
-use Rattle.rs_field.proofs.Walking.{length, take, drop_list, named, w64, ftrue, flft, fact}
-use Rattle.rs_field.proofs.Walking.{tables, proved, ‵, ◌⊛◌, raw, some, later, at_ret, ◌$◌, ◌∵◌, !, qed, move, keep}
-use Rattle.rs_field.proofs.Walking.{split, split3, join, fjoin, use2, await, pick, suffices, frame}
-use Rattle.rs_field.proofs.Walking.{done, rewrite, whole, sub, agg, stop, fld, hop, from, addr, bin, of_opd, lit}
-use Rattle.rs_field.proofs.Walking.{first, blocks, exec, returns, enter, no_more, and_then, alloc_all, pass_all}
-use Rattle.rs_field.proofs.Walking.{free_all, look_at, look_in_at, get, through, sets, sets_last, lands_as, env, usize}
-use Rattle.rs_field.proofs.Walking.{yes, no, uint_vals, uint_Tells, owns, MutRef, mut_vals, mut_Tells, plain}
-use Rattle.rs_field.proofs.Walking.{named_lft, Array, slice_val, mut_slice_vals}
-use Rattle.rs_field.proofs.Walking.{nothing, heard, framed, says}
+use Rattle.rs_field.proofs.Walking.{◌≡◌, refl, ap, ◌+◌, ◌*◌, ◌^◌, ◌<◌, ◌≤◌, arith, [], ◌∷◌, length, take, drop_list}
+use Rattle.rs_field.proofs.Walking.{named, w64, ftrue, flft, fact, tables, proved, ‵, ◌⊛◌, raw, some, later, at_ret}
+use Rattle.rs_field.proofs.Walking.{◌$◌, ◌∵◌, !, qed, move, keep, split, split3, join, fjoin, use2, await, pick}
+use Rattle.rs_field.proofs.Walking.{suffices, frame, done, rewrite, whole, sub, agg, stop, fld, hop, from, addr, bin}
+use Rattle.rs_field.proofs.Walking.{of_opd, lit, first, blocks, exec, returns, enter, no_more, and_then, alloc_all}
+use Rattle.rs_field.proofs.Walking.{pass_all, free_all, look_at, look_in_at, get, through, sets, sets_last, lands_as}
+use Rattle.rs_field.proofs.Walking.{env, usize, yes, no, uint_vals, uint_Tells, owns, MutRef, mut_vals, mut_Tells}
+use Rattle.rs_field.proofs.Walking.{plain, named_lft, Array, slice_val, mut_slice_vals, nothing, heard, framed, says}
 use Rattle.rs_field.proofs.Walking.{Stays, stay_dropped, walk_of, ends_at, Goes-dropped, Goes-spent_ref}
 use denote.Follow.{follows, follows_then}
 use Rattle.rs_field.proofs.of_rows.Runs.{run_of, run_lent, lends_run}
@@ -77,5 +75,6 @@ run_spec 𝓤 𝓛 𝓜 𝓡 wired =
     suffices ! _ (ends_at 𝓛 f.ended stayed c y (slice_val (run_of x m n δ).ref_ptr n) (run_of x m n δ)
     (tt, (tt, (tt, tt))) (tt, (tt, (tt, tt)))) $
     -- [the run; what self follows; the token of the loan; the other tokens]
-    nothing ! $ nothing ! $ fjoin ! $ nothing ! $ fjoin ! $ nothing ! $ fjoin ! $ join ! $ move ! (2 ∷ 3 ∷ []) $ join ! $
-    join ! $ frame ! $ says ! (ap (λ (k : Chunks). take n (drop_list m k)) ex) $ done !)))))
+    nothing ! $ nothing ! $ fjoin ! $ nothing ! $ fjoin ! $ nothing ! $ fjoin ! $ join ! $
+    move ! (2 ∷ 3 ∷ []) $ join ! $ join ! $ frame ! $
+    says ! (ap (λ (k : Chunks). take n (drop_list m k)) ex) $ done !)))))

@@ -1,13 +1,11 @@
-use Rattle.rs_field.proofs.Walking.{◌≡◌, refl, sym, ap, ◌∙◌, ℕ, ◌+◌, ◌*◌, ◌-◌, ◌^◌, ◌<◌, ◌≤◌, arith, [], ◌∷◌}
-use Rattle.rs_field.proofs.Walking.{length, take, drop_list, named, w64, id⊢}
-use Rattle.rs_field.proofs.Walking.{Lft, ftrue, flft, fact, tables, proved, ‵, ◌⊛◌, raw, some}
-use Rattle.rs_field.proofs.Walking.{later, ◌$◌, ◌∵◌, !, qed, move, keep, drop, split, join, fjoin}
-use Rattle.rs_field.proofs.Walking.{use1, use2, await, pick, suffices, done, rewrite, group, whole, sub, look_in}
-use Rattle.rs_field.proofs.Walking.{stop, fld, addr, load, bin, lit, of_opd, returns, enter, no_more, and_then}
-use Rattle.rs_field.proofs.Walking.{alloc_all, pass_all, free_all, look_at, get, through, sets, lands_as}
-use Rattle.rs_field.proofs.Walking.{usize, yes, no, Is, shows, uint_vals, uint_Tells}
-use Rattle.rs_field.proofs.Walking.{uint_Makes, RattleType, owns, Valss, MutRef, mut_vals, mut_Tells}
-use Rattle.rs_field.proofs.Walking.{plain, named_lft, Array, Room, nothing, heard, peeks, owned}
+use Rattle.rs_field.proofs.Walking.{◌≡◌, refl, sym, ap, ◌∙◌, ℕ, ◌+◌, ◌*◌, ◌-◌, ◌^◌, ◌<◌, ◌≤◌, arith, [], ◌∷◌, length}
+use Rattle.rs_field.proofs.Walking.{take, drop_list, named, w64, id⊢, Lft, ftrue, flft, fact, tables, proved, ‵, ◌⊛◌}
+use Rattle.rs_field.proofs.Walking.{raw, some, later, ◌$◌, ◌∵◌, !, qed, move, keep, drop, split, join, fjoin, use1}
+use Rattle.rs_field.proofs.Walking.{use2, await, pick, suffices, done, rewrite, group, whole, sub, look_in, stop, fld}
+use Rattle.rs_field.proofs.Walking.{addr, load, bin, lit, of_opd, returns, enter, no_more, and_then, alloc_all}
+use Rattle.rs_field.proofs.Walking.{pass_all, free_all, look_at, get, through, sets, lands_as, usize, yes, no, Is}
+use Rattle.rs_field.proofs.Walking.{shows, uint_vals, uint_Tells, uint_Makes, RattleType, owns, Valss, MutRef}
+use Rattle.rs_field.proofs.Walking.{mut_vals, mut_Tells, plain, named_lft, Array, Room, nothing, heard, peeks, owned}
 use Rattle.rs_field.proofs.Walking.{follows_both, row, tuple_type, calls_at, lasts, triple_of, framed, Stays}
 use Rattle.rs_field.proofs.Walking.{stay_dropped, walk_of, ends_at, Goes-dropped, Goes-spent_ref}
 use base.Fml.{GName, Fml}
@@ -15,9 +13,7 @@ use Rattle.std.proofs.Common.{lit<}
 use denote.Struct.Tuple.{tuple_laws}
 use Rattle.rs_field.specs.rows.Rows.{Chunks}
 use Rattle.rs_field.proofs.of_rows.LentChunks.{E, Bare, pair, taken}
-use Rattle.rs_field.proofs.of_rows.Lenders.{opens_self, closes_self, calls_all, calls_two, had}
-use Rattle.rs_field.proofs.of_rows.Lenders.{lends_runs}
-use Rattle.rs_field.proofs.Walking.{ℕ}
+use Rattle.rs_field.proofs.of_rows.Lenders.{opens_self, closes_self, calls_all, calls_two, had, lends_runs}
 use Rattle.rs_field.proofs.rows.shards.ShardsRefMut.all.Met.{met as met₁}
 use Rattle.rs_field.proofs.rows.shards.two_runs.Met.{met as met₂}
 use Rattle.rs_field.specs.rows.View.{HasRows, IsListOf}
@@ -55,7 +51,7 @@ split_at_mut_spec 𝓤 𝓛 𝓜 𝓡 wired =
     (λ κs qs bounds a _ are.
     let self = a.0 in let mid = a.1.0 in
     let Row : RattleType = the_row (named_lft 2 1 tt κs) in
-    let h : ShardsRefMut = self.now in let b = self.ref_ptr.0 in let o = self.ref_ptr.1 in
+    let h : ShardsRefMut = self.now in
     let ch : Chunks = h.chunks.now in let n = h.shard_len_64 in let rest = h.shard_count - mid in
     let vs = mut_vals self in
     let y : W.Ghost = ((κs, qs, bounds, a, (vs, (uint_vals w64 mid, tt))), tt) in
@@ -100,7 +96,8 @@ split_at_mut_spec 𝓤 𝓛 𝓜 𝓡 wired =
     (and_then ! (lit ! tt)
     (and_then ! (get ! refl) (and_then ! (get ! refl) (and_then ! (get ! refl) (no_more !)))))) (λ r v value shown.
     lands_as ! refl refl ((pair 𝓛 κs.0).typed r (v ∷ []) shown).0 $
-    move ! (4 ∷ 2 ∷ []) $ use2 𝓛 (‵ (LendsTwoRuns self 0 i i m r)) (lends_runs 𝓛 self x 0 i i m r ex) $ move ! (1 ∷ []) $
+    move ! (4 ∷ 2 ∷ []) $ use2 𝓛 (‵ (LendsTwoRuns self 0 i i m r)) (lends_runs 𝓛 self x 0 i i m r ex) $
+    move ! (1 ∷ []) $
     -- [the pair; what self follows; the token of the loan; the other tokens]
     let first_taken : length r.0.now ≡ i = ap length value.0 ∙ taken x.now 0 i (omega arith) in
     let second_taken : length r.1.now ≡ m = ap length value.1 ∙ taken x.now i m (omega arith) in
