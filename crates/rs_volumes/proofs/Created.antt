@@ -37,7 +37,7 @@ pub length-empty : (n : ℕ) → length (empty_blocks n) ≡ n
 length-empty zero = refl
 length-empty (suc n) = ap suc (length-empty n)
 
-pub shard_at-empty : (n i : ℕ) → shard_at (empty_blocks n) i ≡ []
+shard_at-empty : (n i : ℕ) → shard_at (empty_blocks n) i ≡ []
 shard_at-empty zero i = refl
 shard_at-empty (suc n) zero = refl
 shard_at-empty (suc n) (suc i) = shard_at-empty n i

@@ -22,7 +22,7 @@ pub full_next : (file block n : ℕ)
 unfolding full_places
 full_next file block n = rw add-one refl
 
-pub places-append : (index block : ℕ) (files : List SetFile) (file : SetFile)
+places-append : (index block : ℕ) (files : List SetFile) (file : SetFile)
     → set_places index block (files ++ file ∷ []) ≡ set_places index block files
     ++ file_places (index + length files) block file.size
 unfolding set_places
