@@ -1,5 +1,5 @@
 //! `create`: makes a volume with the recovery blocks of files.
-use crate::folder::{Cut, cut_files, piece_bytes};
+use crate::folder::{Cut, cut_files, piece_bytes, shape_of};
 use crate::names::{last_of, parent_of, path_in, text_of};
 use crate::output::{Part, exists};
 use crate::progress::Progress;
@@ -12,7 +12,8 @@ use anyhow::{Result, bail, ensure};
 use reed_solomon_simd::engine::tables::Tables;
 use reed_solomon_simd::engine::{DefaultEngine, EngineKind};
 use rs_volumes::checking::fits;
-use rs_volumes::creating::{Shape, create as create_blocks};
+use rs_volumes::coding_error::CodingError;
+use rs_volumes::creating::create as create_blocks;
 use rs_volumes::description::{Description, FileEntry};
 use rs_volumes::placement::places_of;
 use rs_volumes::write_description;
@@ -144,6 +145,50 @@ pub struct Volumes {
     pub counts: Vec<u64>,
 }
 
+// Makes the recovery blocks of files, and writes blocks into the sink. Returns the digests of all blocks. A set without
+// blocks has no digests.
+fn code_files<R: Runtime>(
+    rt: &R,
+    alloc: Global,
+    request: &Request,
+    description: &Description,
+    paths: &[String],
+    sink: &mut VolumeSink<'_, R>,
+) -> Result<Vec<u8>> {
+    let shape = shape_of(description);
+    if shape.original_count == 0 {
+        return Ok(Vec::new(alloc));
+    }
+    let origins = origins_of(alloc, description)?;
+    let total = (shape.original_count as u64).saturating_mul(description.block_bytes);
+    let progress = Progress::new(rt, request.progress, total);
+    let mut source = FileBlocks::new(rt, alloc, paths, origins.as_slice(), progress);
+    let tables = Tables::new(alloc)?;
+    let engine = DefaultEngine::new(&tables, EngineKind::Ssse3);
+    let piece = piece_bytes(&shape, request.memory);
+    let outcome = create_blocks(alloc, shape, piece, engine, &mut source, sink);
+    source.end();
+    named(paths, origins.as_slice(), outcome)
+}
+
+// Returns the digests. If a block could not be read, the message of the error names its file.
+fn named(
+    paths: &[String],
+    origins: &[Option<Origin>],
+    outcome: std::result::Result<Vec<u8>, CodingError>,
+) -> Result<Vec<u8>> {
+    let (index, error) = match outcome {
+        Err(CodingError::Read(index, error)) => (index, error),
+        other => return Ok(other?),
+    };
+    if let Some(Some(origin)) = origins.get(index) {
+        if let Some(path) = paths.get(origin.holder) {
+            bail!("{}: block {index} cannot be read: {error}", path.as_str());
+        }
+    }
+    bail!("block {index} cannot be read: {error}")
+}
+
 /// Makes the recovery blocks of files, and writes the volumes. The volumes do not get their final names.
 ///
 /// # Errors
@@ -166,11 +211,6 @@ pub fn write_volumes<R: Runtime + AllocGlobal>(
     volumes: &Volumes,
 ) -> Result<()> {
     let alloc = rt.alloc();
-    let shape = Shape {
-        original_count: cut.original_count as usize,
-        recovery_count: cut.recovery_count as usize,
-        block_bytes: cut.block_bytes as usize,
-    };
     let length = description_bytes(found.files.as_slice(), cut)?;
     let paths = paths_of(alloc, found.folder.as_str(), found.files.as_slice())?;
     let mut description = Description {
@@ -180,7 +220,6 @@ pub fn write_volumes<R: Runtime + AllocGlobal>(
         files: found.files,
         digests: Vec::new(alloc),
     };
-    let origins = origins_of(alloc, &description)?;
     let mut sink = VolumeSink::new(
         rt,
         alloc,
@@ -189,16 +228,15 @@ pub fn write_volumes<R: Runtime + AllocGlobal>(
         cut.block_bytes,
         length,
     )?;
-    if shape.original_count > 0 {
-        let total = (shape.original_count as u64).saturating_mul(cut.block_bytes);
-        let progress = Progress::new(rt, request.progress, total);
-        let mut source = FileBlocks::new(rt, alloc, paths.as_slice(), origins.as_slice(), progress);
-        let tables = Tables::new(alloc)?;
-        let engine = DefaultEngine::new(&tables, EngineKind::Ssse3);
-        let piece = piece_bytes(&shape, request.memory);
-        description.digests = create_blocks(alloc, shape, piece, engine, &mut source, &mut sink)?;
-        source.end();
-    }
+    let digests = code_files(
+        rt,
+        alloc,
+        request,
+        &description,
+        paths.as_slice(),
+        &mut sink,
+    )?;
+    description.digests = digests;
     check_unchanged(rt, paths.as_slice(), description.files.as_slice())?;
     describe(alloc, &description, length, volumes, &mut sink)
 }

@@ -5,7 +5,7 @@ use crate::settings::Recovery;
 use anyhow::{Result, bail};
 use rs_volumes::checking::{allows_block, allows_counts, block_count};
 use rs_volumes::creating::Shape;
-use rs_volumes::description::FileEntry;
+use rs_volumes::description::{Description, FileEntry};
 
 /// The largest number of blocks by default, if at most 1000 files are not empty.
 const BLOCKS: u64 = 2000;
@@ -160,6 +160,15 @@ fn recovery_count(blocks: u64, recovery: Recovery) -> u32
             let count = blocks * u64::from(percent) / 100;
             count.max(1).min(65536) as u32
         }
+    }
+}
+
+/// Returns the numbers of blocks of a set, and the size of a block.
+pub fn shape_of(description: &Description) -> Shape {
+    Shape {
+        original_count: description.original_count as usize,
+        recovery_count: description.recovery_count as usize,
+        block_bytes: description.block_bytes as usize,
     }
 }
 

@@ -26,6 +26,39 @@ fn targets<R: Runtime>(
     Ok(paths)
 }
 
+// Writes all files of a set below a folder, and gives them their permission bits, times and final names.
+fn write_files<R: Runtime>(
+    rt: &R,
+    alloc: Global,
+    request: &Request,
+    found: &Scan,
+    folder: &str,
+) -> Result<()> {
+    let paths = targets(rt, alloc, found, folder, request.force)?;
+    let parts = begin_parts(rt, alloc, found, paths.as_slice())?;
+    write_blocks(
+        rt,
+        alloc,
+        found,
+        parts.as_slice(),
+        request.memory,
+        request.progress,
+    )?;
+    for (file, part) in found
+        .description
+        .files
+        .as_slice()
+        .iter()
+        .zip(parts.as_slice())
+    {
+        if let Some(part) = part {
+            set_attributes(rt, part, file)?;
+            part.finish(rt, request.force)?;
+        }
+    }
+    Ok(())
+}
+
 /// Runs `join`: restores all files of a set from volumes. Returns the exit status.
 ///
 /// # Errors
@@ -53,28 +86,7 @@ pub fn join<R: Runtime + AllocGlobal>(rt: &R, request: &Request) -> Result<u8> {
         }
         return Ok(STATUS_LOST);
     }
-    let paths = targets(rt, alloc, &found, folder.as_str(), request.force)?;
-    let parts = begin_parts(rt, alloc, &found, paths.as_slice())?;
-    write_blocks(
-        rt,
-        alloc,
-        &found,
-        parts.as_slice(),
-        request.memory,
-        request.progress,
-    )?;
-    for (file, part) in found
-        .description
-        .files
-        .as_slice()
-        .iter()
-        .zip(parts.as_slice())
-    {
-        if let Some(part) = part {
-            set_attributes(rt, part, file)?;
-            part.finish(rt, request.force)?;
-        }
-    }
+    write_files(rt, alloc, request, &found, folder.as_str())?;
     if !request.quiet {
         let count = found.description.files.len();
         println!(rt; "{count} files were restored")?;

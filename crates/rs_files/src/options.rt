@@ -1,11 +1,15 @@
 //! Reads the command line.
 use crate::arguments::{bytes_of, recovery_of};
-use crate::settings::{Action, Recovery, Request, STATUS_USAGE, STATUS_WHOLE};
+use crate::settings::{Action, Recovery, Request, STATUS_FAILED, STATUS_USAGE, STATUS_WHOLE};
 use anyhow::Result;
+use clap::error::ErrorKind;
 use clap::{Arg, ArgAction, ArgMatches, Command};
 use std::alloc::Global;
 use std::env;
 use std::rt::Runtime;
+
+/// The help text of `--block`.
+const BLOCK_HELP: &str = "Cut the files into blocks of this size";
 
 /// A request, or the status with which the program ends at once.
 #[derive(Drop)]
@@ -70,49 +74,34 @@ fn command<'a>(
     )
 }
 
+// Returns the command `create`.
+fn creator<'a>(alloc: Global) -> Result<Command<'a>> {
+    let about = "Make a volume with recovery blocks beside the files";
+    let output = value(alloc, "output", "VOLUME", "Write this volume").short('o');
+    let help = "Make so many recovery blocks, as 10% or 300";
+    let recovery = value(alloc, "recovery", "COUNT", help).short('r');
+    let block = value(alloc, "block", "BYTES", BLOCK_HELP);
+    let create = command(alloc, "create", "FILE", about)?;
+    Ok(create.arg(output)?.arg(recovery)?.arg(block)?)
+}
+
+// Returns the command `split`.
+fn splitter<'a>(alloc: Global) -> Result<Command<'a>> {
+    let about = "Spread the files over volumes";
+    let help = "Write the volumes into this folder";
+    let output = value(alloc, "output", "FOLDER", help).short('o');
+    let volumes = value(alloc, "volumes", "COUNT", "Make so many volumes").short('n');
+    let help = "Allow that so many volumes are lost [default: 1]";
+    let lose = value(alloc, "lose", "COUNT", help);
+    let block = value(alloc, "block", "BYTES", BLOCK_HELP);
+    let split = command(alloc, "split", "FILE", about)?;
+    Ok(split.arg(output)?.arg(volumes)?.arg(lose)?.arg(block)?)
+}
+
 // Adds the commands that make volumes: `create` and `split`.
 fn makers<'a>(alloc: Global, top: Command<'a>) -> Result<Command<'a>> {
-    let create = command(
-        alloc,
-        "create",
-        "FILE",
-        "Make a volume with recovery blocks beside the files",
-    )?
-    .arg(value(alloc, "output", "VOLUME", "Write this volume").short('o'))?
-    .arg(value(
-        alloc,
-        "recovery",
-        "COUNT",
-        "Make so many recovery blocks, as 10% or 300",
-    )
-    .short('r'))?
-    .arg(value(
-        alloc,
-        "block",
-        "BYTES",
-        "Cut the files into blocks of this size",
-    ))?;
-    let split = command(alloc, "split", "FILE", "Spread the files over volumes")?
-        .arg(value(
-            alloc,
-            "output",
-            "FOLDER",
-            "Write the volumes into this folder",
-        )
-        .short('o'))?
-        .arg(value(alloc, "volumes", "COUNT", "Make so many volumes").short('n'))?
-        .arg(value(
-            alloc,
-            "lose",
-            "COUNT",
-            "Allow that so many volumes are lost [default: 1]",
-        ))?
-        .arg(value(
-            alloc,
-            "block",
-            "BYTES",
-            "Cut the files into blocks of this size",
-        ))?;
+    let create = creator(alloc)?;
+    let split = splitter(alloc)?;
     Ok(top.subcommand(create)?.subcommand(split)?)
 }
 
@@ -153,6 +142,16 @@ fn readers<'a>(alloc: Global, top: Command<'a>) -> Result<Command<'a>> {
     )
 }
 
+// Returns the exit status after an error of the command line. The help text and the version are no error, and a lack of
+// memory is no wrong command line.
+fn status_of(error: &clap::Error) -> u8 {
+    match error.kind() {
+        ErrorKind::OutOfMemory => STATUS_FAILED,
+        _ if error.use_stderr() => STATUS_USAGE,
+        _ => STATUS_WHOLE,
+    }
+}
+
 /// Reads the words of the command line. `terminal` says whether standard error is a terminal.
 ///
 /// # Errors
@@ -171,12 +170,7 @@ pub fn read_words<R: Runtime + AllocGlobal>(rt: &R, terminal: bool) -> Result<Pa
         Ok(matches) => matches,
         Err(error) => {
             error.print(rt)?;
-            let status = if error.use_stderr() {
-                STATUS_USAGE
-            } else {
-                STATUS_WHOLE
-            };
-            return Ok(Parsed::Stop(status));
+            return Ok(Parsed::Stop(status_of(&error)));
         }
     };
     match matches.subcommand() {

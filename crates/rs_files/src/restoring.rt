@@ -1,7 +1,7 @@
 //! Writes files that are restored from blocks.
 ghost use Rattle.rs_field.specs.code.Given.{nothing};
 
-use crate::folder::piece_bytes;
+use crate::folder::{piece_bytes, shape_of};
 use crate::output::{Part, write_at};
 use crate::progress::Progress;
 use crate::scanning::Scan;
@@ -9,7 +9,6 @@ use crate::source::FileBlocks;
 use anyhow::Result;
 use reed_solomon_simd::engine::tables::Tables;
 use reed_solomon_simd::engine::{DefaultEngine, EngineKind};
-use rs_volumes::creating::Shape;
 use rs_volumes::description::FileEntry;
 use rs_volumes::pieces::BlockSink;
 use rs_volumes::placement::Place;
@@ -167,21 +166,12 @@ pub fn write_blocks<R: Runtime>(
     shown: bool,
 ) -> Result<()> {
     let plan = plan_for(alloc, scan, parts)?;
-    let shape = Shape {
-        original_count: scan.description.original_count as usize,
-        recovery_count: scan.description.recovery_count as usize,
-        block_bytes: scan.description.block_bytes as usize,
-    };
+    let shape = shape_of(&scan.description);
     let blocks = (plan.originals.len() as u64).saturating_add(plan.recovery.len() as u64);
     let total = blocks.saturating_mul(scan.description.block_bytes);
     let progress = Progress::new(rt, shown, total);
-    let mut source = FileBlocks::new(
-        rt,
-        alloc,
-        scan.paths.as_slice(),
-        scan.origins.as_slice(),
-        progress,
-    );
+    let (paths, origins) = (scan.paths.as_slice(), scan.origins.as_slice());
+    let mut source = FileBlocks::new(rt, alloc, paths, origins, progress);
     let mut sink = FileSink {
         rt,
         parts,

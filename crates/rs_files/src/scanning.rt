@@ -1,13 +1,14 @@
 //! Looks for the blocks of a set, in its files and in volumes.
 use crate::progress::Progress;
 use crate::source::Origin;
-use crate::volume::{Volume, open_volume};
+use crate::volume::{Copies, Volume, open_volume};
 use crate::volume_sink::RECORD_HEAD_BYTES;
 use anyhow::{Result, bail};
 use rs_volumes::description::{Description, FileEntry};
 use rs_volumes::digest::is_digest;
 use rs_volumes::placement::{Place, places_of};
 use sha2::{Digest, Sha256};
+use std::alloc::Global;
 use std::fs;
 use std::fs::OpenFile;
 use std::io::{Read, Seek, SeekFrom};
@@ -41,6 +42,8 @@ pub struct Scan {
     pub states: Vec<FileState>,
     /// The paths of the files, and then of the volumes.
     pub paths: Vec<String>,
+    /// For each volume, the state of the two copies of its head and its description.
+    pub copies: Vec<Copies>,
 }
 
 /// The volumes of one set.
@@ -52,6 +55,8 @@ pub struct Volumes {
     pub paths: Vec<String>,
     /// For each of these volumes, the number of its records and the offset of the first record in bytes.
     pub records: Vec<(u64, u64)>,
+    /// For each of these volumes, the state of the two copies of its head and its description.
+    pub copies: Vec<Copies>,
 }
 
 /// Opens volumes. The first volume that can be read determines the set. For each volume that cannot be read, the
@@ -66,6 +71,7 @@ pub fn open_volumes<R: Runtime + AllocGlobal>(rt: &R, paths: &[String]) -> Resul
     let mut first: Option<Volume> = None;
     let mut found = Vec::new(alloc);
     let mut records = Vec::new(alloc);
+    let mut copies = Vec::new(alloc);
     for path in paths {
         match open_volume(rt, path.as_str()) {
             Err(error) => eprintln!(rt; "rs_files: {error:#}")?,
@@ -77,6 +83,7 @@ pub fn open_volumes<R: Runtime + AllocGlobal>(rt: &R, paths: &[String]) -> Resul
                 }
                 found.push(path.clone()?)?;
                 records.push((volume.record_count, volume.records_at))?;
+                copies.push(volume.copies)?;
                 if first.is_none() {
                     first = Some(volume);
                 }
@@ -89,6 +96,7 @@ pub fn open_volumes<R: Runtime + AllocGlobal>(rt: &R, paths: &[String]) -> Resul
             first,
             paths: found,
             records,
+            copies,
         }),
     }
 }
@@ -157,24 +165,29 @@ pub fn scan_set<R: Runtime + AllocGlobal>(
         first,
         paths,
         records,
+        copies,
     } = volumes;
     let Volume {
         description,
         digest: _,
         record_count: _,
         records_at: _,
+        copies: _,
     } = first;
-    scan_blocks(
+    let mut scan = scan_blocks(
         rt,
         description,
         paths.as_slice(),
         records.as_slice(),
         folder,
         shown,
-    )
+    )?;
+    scan.copies = copies;
+    Ok(scan)
 }
 
-// Looks for the blocks of a description in the volumes and, if `folder` is given, in the files below that folder.
+// Looks for the blocks of a description in the volumes and, if `folder` is given, in the files below that folder. The
+// result has no state of a volume.
 fn scan_blocks<R: Runtime + AllocGlobal>(
     rt: &R,
     description: Description,
@@ -190,21 +203,9 @@ fn scan_blocks<R: Runtime + AllocGlobal>(
     let files = description.files.as_slice();
     let mut paths = crate::creating::paths_of(alloc, folder.unwrap_or(""), files)?;
     let places = places_of(alloc, &description)?;
-    let blocks = blocks_of(&description);
-    let total = (blocks as u64).saturating_mul(description.block_bytes);
-    let mut scanner = Scanner {
-        origins: vec![in alloc; None; blocks]?,
-        states: Vec::new(alloc),
-        buffer: vec![in alloc; 0u8; CHUNK]?,
-        progress: Progress::new(rt, shown, total),
-    };
-    scanner.scan_files(
-        rt,
-        &description,
-        folder.is_some(),
-        paths.as_slice(),
-        places.as_slice(),
-    )?;
+    let mut scanner = Scanner::new(rt, alloc, &description, shown)?;
+    let has_folder = folder.is_some();
+    scanner.scan_files(rt, &description, has_folder, &paths, &places)?;
     scanner.scan_volumes(rt, &description, volumes, records, &mut paths)?;
     scanner.progress.end(rt);
     let Scanner {
@@ -219,6 +220,7 @@ fn scan_blocks<R: Runtime + AllocGlobal>(
         origins,
         states,
         paths,
+        copies: Vec::new(alloc),
     })
 }
 
@@ -235,6 +237,23 @@ struct Scanner {
 }
 
 impl Scanner {
+    // Begins a scan. No block has been found yet.
+    fn new<R: Runtime>(
+        rt: &R,
+        alloc: Global,
+        description: &Description,
+        shown: bool,
+    ) -> Result<Scanner> {
+        let blocks = blocks_of(description);
+        let total = (blocks as u64).saturating_mul(description.block_bytes);
+        Ok(Scanner {
+            origins: vec![in alloc; None; blocks]?,
+            states: Vec::new(alloc),
+            buffer: vec![in alloc; 0u8; CHUNK]?,
+            progress: Progress::new(rt, shown, total),
+        })
+    }
+
     // Compares the blocks of all files with their digests. If there is no folder, all files are missing.
     fn scan_files<R: Runtime>(
         &mut self,
@@ -408,6 +427,11 @@ impl Scan {
             recovery: recovery.iter().filter(|place| place.is_some()).count(),
             recovery_count: recovery.len(),
         }
+    }
+
+    /// Returns whether each volume has two equal copies of its head and its description.
+    pub fn has_whole_volumes(&self) -> bool {
+        self.copies.iter().all(|copies| *copies == Copies::Whole)
     }
 
     /// Returns whether all files are whole.

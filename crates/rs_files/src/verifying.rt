@@ -2,6 +2,7 @@
 use crate::names::{folder_to_open, parent_of, text_of};
 use crate::scanning::{Counts, FileState, Scan, open_volumes, scan_set};
 use crate::settings::{Request, STATUS_LOST, STATUS_MENDED, STATUS_WHOLE};
+use crate::volume::Copies;
 use anyhow::{Result, bail};
 use serde_json::{Value, json};
 use std::alloc::{AllocError, Global};
@@ -23,11 +24,14 @@ pub fn folder_of(request: &Request) -> Result<&str> {
 }
 
 /// Returns the exit status for a scan: `STATUS_LOST` if more blocks are lost than recovery blocks are left,
-/// `STATUS_WHOLE` if all files and all recovery blocks are whole, and `STATUS_MENDED` otherwise.
+/// `STATUS_WHOLE` if all files, all recovery blocks and all volumes are whole, and `STATUS_MENDED` otherwise.
 pub fn status_of(scan: &Scan, counts: Counts) -> u8 {
     if counts.lost > counts.recovery {
         STATUS_LOST
-    } else if scan.has_whole_files() && counts.recovery == counts.recovery_count {
+    } else if scan.has_whole_files()
+        && counts.recovery == counts.recovery_count
+        && scan.has_whole_volumes()
+    {
         STATUS_WHOLE
     } else {
         STATUS_MENDED
@@ -43,13 +47,8 @@ fn word_of(state: FileState) -> &'static str {
     }
 }
 
-/// Prints which files are damaged or missing, and whether they can be repaired. If all files are whole, the function
-/// prints whether all recovery blocks are whole, and what to do if some are not.
-///
-/// # Errors
-///
-/// Fails if the result cannot be printed.
-pub fn tell<R: Runtime>(rt: &R, scan: &Scan, counts: Counts) -> Result<()> {
+// Prints which files are damaged or missing.
+fn tell_files<R: Runtime>(rt: &R, scan: &Scan) -> Result<()> {
     for (file, state) in scan
         .description
         .files
@@ -62,30 +61,72 @@ pub fn tell<R: Runtime>(rt: &R, scan: &Scan, counts: Counts) -> Result<()> {
             println!(rt; "{word}: {}", text_of(file.name.as_slice()))?;
         }
     }
+    Ok(())
+}
+
+// Prints which volumes do not have two equal copies of their head and their description.
+fn tell_volumes<R: Runtime>(rt: &R, scan: &Scan) -> Result<()> {
+    let files = scan.description.files.len();
+    for (number, copies) in scan.copies.iter().enumerate() {
+        let path = match scan.paths.get(files.saturating_add(number)) {
+            Some(path) => path.as_str(),
+            None => "",
+        };
+        match *copies {
+            Copies::Whole => {}
+            Copies::FirstDamaged => {
+                println!(rt; "{path}: the volume is damaged, its second head was used")?;
+            }
+            Copies::SecondDamaged => {
+                println!(rt; "{path}: the volume is damaged at its end, its first head was used")?;
+            }
+        }
+    }
+    Ok(())
+}
+
+// Prints how many blocks are lost and how many recovery blocks are whole, and what can be done.
+fn tell_blocks<R: Runtime>(rt: &R, scan: &Scan, counts: Counts) -> Result<()> {
     let Counts {
         lost,
         recovery,
         recovery_count,
     } = counts;
-    let status = status_of(scan, counts);
-    if status == STATUS_WHOLE {
-        println!(rt; "all files and all {recovery_count} recovery blocks are whole")?;
-    } else if status == STATUS_LOST {
-        let lacking = lost.saturating_sub(recovery);
+    let damaged = recovery_count.saturating_sub(recovery);
+    if lost > recovery {
+        let lacking = lost - recovery;
         println!(rt;
             "{lost} blocks are lost and {recovery} recovery blocks are whole: {lacking} more blocks are needed"
         )?;
-    } else if scan.has_whole_files() {
-        let damaged = recovery_count.saturating_sub(recovery);
-        println!(rt;
-            "all files are whole, but {damaged} of {recovery_count} recovery blocks are damaged or missing: make the volumes again, with create --force or split --force"
-        )?;
-    } else {
+    } else if !scan.has_whole_files() {
         println!(rt;
             "{lost} blocks are lost and {recovery} of {recovery_count} recovery blocks are whole: the files can be repaired"
         )?;
+    } else if damaged > 0 {
+        println!(rt;
+            "all files are whole, but {damaged} of {recovery_count} recovery blocks are damaged or missing: make the volumes again, with create --force or split --force"
+        )?;
+    } else if !scan.has_whole_volumes() {
+        println!(rt;
+            "all files and all {recovery_count} recovery blocks are whole, but a volume is damaged: make the volumes again, with create --force or split --force"
+        )?;
+    } else {
+        println!(rt; "all files and all {recovery_count} recovery blocks are whole")?;
     }
     Ok(())
+}
+
+/// Prints which files are damaged or missing, which volumes are damaged, and whether the files can be repaired. If all
+/// files are whole, the function prints whether all recovery blocks and volumes are whole, and what to do if some are
+/// not.
+///
+/// # Errors
+///
+/// Fails if the result cannot be printed.
+pub fn tell<R: Runtime>(rt: &R, scan: &Scan, counts: Counts) -> Result<()> {
+    tell_files(rt, scan)?;
+    tell_volumes(rt, scan)?;
+    tell_blocks(rt, scan, counts)
 }
 
 // Returns the files with their sizes and states as JSON.
@@ -107,16 +148,34 @@ fn files_json(alloc: Global, scan: &Scan) -> std::result::Result<Vec<Value>, ser
     Ok(files)
 }
 
+// Returns the volumes with their states as JSON.
+fn volumes_json(alloc: Global, scan: &Scan) -> std::result::Result<Vec<Value>, serde_json::Error> {
+    let mut volumes = Vec::new(alloc);
+    let paths = scan.paths.iter().skip(scan.description.files.len());
+    for (path, copies) in paths.zip(scan.copies.as_slice()) {
+        let name = path.as_str();
+        let word = if *copies == Copies::Whole {
+            "whole"
+        } else {
+            "damaged"
+        };
+        let value = json!(in alloc; {"name": name, "state": word})?;
+        volumes.push(value).map_err(AllocError::from)?;
+    }
+    Ok(volumes)
+}
+
 // Prints the result of a scan as JSON.
 fn tell_json<R: Runtime + AllocGlobal>(rt: &R, scan: &Scan, counts: Counts) -> Result<()> {
     let alloc = rt.alloc();
     let files = Value::Array(files_json(alloc, scan)?);
+    let volumes = Value::Array(volumes_json(alloc, scan)?);
     let lost = counts.lost as u64;
     let found = counts.recovery as u64;
     let count = counts.recovery_count as u64;
     let status = u64::from(status_of(scan, counts));
     let value =
-        json!(in alloc; {"status": status, "lost_blocks": lost, "recovery_blocks": count, "whole_recovery_blocks": found, "files": files})?;
+        json!(in alloc; {"status": status, "lost_blocks": lost, "recovery_blocks": count, "whole_recovery_blocks": found, "files": files, "volumes": volumes})?;
     let text = value.to_string(alloc)?;
     println!(rt; "{text}")?;
     Ok(())

@@ -1,10 +1,12 @@
 //! Reads volumes.
+use crate::output::at_path;
 use crate::volume_sink::RECORD_HEAD_BYTES;
 use anyhow::{Result, bail};
 use rs_volumes::description::Description;
 use rs_volumes::digest::digest_of;
 use rs_volumes::head::{HEAD_BYTES, Head, read_head};
 use rs_volumes::read_description;
+use sha2::{Digest, Sha256};
 use std::alloc::Global;
 use std::fs;
 use std::fs::OpenFile;
@@ -13,6 +15,17 @@ use std::rt::{Files, Runtime};
 
 /// The largest description that is written or read, in bytes.
 pub const LARGEST_DESCRIPTION: u64 = 1 << 30;
+
+/// The state of the two copies of the head and the description of a volume.
+#[derive(Clone, Copy, Debug, PartialEq, Eq)]
+pub enum Copies {
+    /// Both copies are there, and they are equal.
+    Whole,
+    /// The first copy cannot be read, so the second copy was used.
+    FirstDamaged,
+    /// The first copy was used. The second copy cannot be read, or is not equal to the first one.
+    SecondDamaged,
+}
 
 /// The contents of a volume that was opened, without its blocks.
 #[derive(Drop)]
@@ -25,6 +38,8 @@ pub struct Volume {
     pub record_count: u64,
     /// The offset in bytes of the first record.
     pub records_at: u64,
+    /// The state of the two copies of the head and the description.
+    pub copies: Copies,
 }
 
 // Reads `count` bytes of a file from `offset` on.
@@ -49,13 +64,14 @@ fn head_at<F: Read + Seek>(file: &mut F, offset: u64) -> Result<Head> {
 }
 
 // Reads and checks the description that belongs to a head. The description begins at `offset`. `size` is the number of
-// bytes of the volume.
+// bytes of the volume. `copies` is the state of the two copies of the head and the description.
 fn described<F: Read + Seek>(
     file: &mut F,
     alloc: Global,
     head: &Head,
     offset: u64,
     size: u64,
+    copies: Copies,
 ) -> Result<Volume> {
     let length = head.description_bytes;
     if length > LARGEST_DESCRIPTION || length > size {
@@ -77,13 +93,54 @@ fn described<F: Read + Seek>(
         digest: head.digest,
         record_count: head.record_count.min(room),
         records_at,
+        copies,
     })
+}
+
+// Returns the SHA-256 of `count` bytes of a file from `offset` on.
+fn digest_at<F: Read + Seek>(file: &mut F, offset: u64, count: u64) -> std::io::Result<[u8; 32]> {
+    let mut hasher = Sha256::new();
+    let mut buffer = [0u8; 4096];
+    let mut left = count;
+    file.seek(SeekFrom::Start(offset))?;
+    for _ in 0..u64::MAX {
+        if left == 0 {
+            break;
+        }
+        let part = left.min(4096) as usize;
+        file.read_exact(&mut buffer[..part])?;
+        hasher.update(&buffer[..part]);
+        left -= part as u64;
+    }
+    Ok(hasher.finalize())
+}
+
+// Returns whether a volume ends in a description with the digest of a head, and then in this head. `size` is the number
+// of bytes of the volume.
+fn ends_in<F: Read + Seek>(file: &mut F, head: &Head, size: u64) -> Result<bool> {
+    let head_bytes = HEAD_BYTES as u64;
+    if size < head_bytes || head.description_bytes > size - head_bytes {
+        return Ok(false);
+    }
+    let last = head_at(file, size - head_bytes)?;
+    if last.description_bytes != head.description_bytes
+        || last.record_count != head.record_count
+        || last.digest != head.digest
+    {
+        return Ok(false);
+    }
+    let offset = size - head_bytes - head.description_bytes;
+    Ok(digest_at(file, offset, head.description_bytes)? == head.digest)
 }
 
 // Reads the head and the description at the beginning of a volume.
 fn front<F: Read + Seek>(file: &mut F, alloc: Global, size: u64) -> Result<Volume> {
     let head = head_at(file, 0)?;
-    described(file, alloc, &head, HEAD_BYTES as u64, size)
+    let copies = match ends_in(file, &head, size) {
+        Ok(true) => Copies::Whole,
+        _ => Copies::SecondDamaged,
+    };
+    described(file, alloc, &head, HEAD_BYTES as u64, size, copies)
 }
 
 // Reads the head and the description at the end of a volume.
@@ -97,7 +154,7 @@ fn back<F: Read + Seek>(file: &mut F, alloc: Global, size: u64) -> Result<Volume
         bail!("its description is too long");
     }
     let offset = size - head_bytes - head.description_bytes;
-    described(file, alloc, &head, offset, size)
+    described(file, alloc, &head, offset, size, Copies::FirstDamaged)
 }
 
 /// Opens a volume, and reads its description. If the beginning of the volume is damaged, the function reads the end.
@@ -108,13 +165,13 @@ fn back<F: Read + Seek>(file: &mut F, alloc: Global, size: u64) -> Result<Volume
 /// beginning and at its end. The message of the second error states the fault at the beginning.
 pub fn open_volume<R: Runtime + AllocGlobal>(rt: &R, path: &str) -> Result<Volume> {
     let alloc = rt.alloc();
-    let mut file = fs::open(rt, path)?;
+    let mut file = at_path(path, fs::open(rt, path))?;
     let size = file.metadata()?.len();
     match front(&mut file, alloc, size) {
         Ok(volume) => Ok(volume),
         Err(error) => match back(&mut file, alloc, size) {
             Ok(volume) => Ok(volume),
-            Err(_) => bail!("{path} is no volume that can be read: {error}"),
+            Err(_) => bail!("{path}: this is no volume that can be read: {error}"),
         },
     }
 }
