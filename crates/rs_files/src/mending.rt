@@ -4,7 +4,7 @@ use crate::output::{Part, at_path, exists};
 use crate::restoring::{begin_parts, set_attributes, write_blocks};
 use crate::scanning::{FileState, Scan, open_volumes, scan_set};
 use crate::settings::{Request, STATUS_LOST, STATUS_MENDED, STATUS_WHOLE};
-use crate::verifying::{folder_of, tell};
+use crate::verifying::{folder_of, tell, tell_folder};
 use anyhow::{Result, ensure};
 use std::alloc::Global;
 use std::fs;
@@ -127,6 +127,7 @@ pub fn repair<R: Runtime + AllocGlobal>(rt: &R, request: &Request) -> Result<u8>
     if counts.lost > counts.recovery || found.has_whole_files() {
         if !request.quiet {
             tell(rt, &found, counts)?;
+            tell_folder(rt, &found, folder)?;
         }
         return Ok(if counts.lost > counts.recovery {
             STATUS_LOST

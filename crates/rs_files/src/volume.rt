@@ -135,6 +135,9 @@ fn ends_in<F: Read + Seek>(file: &mut F, head: &Head, size: u64) -> Result<bool>
 
 // Reads the head and the description at the beginning of a volume.
 fn front<F: Read + Seek>(file: &mut F, alloc: Global, size: u64) -> Result<Volume> {
+    if size < HEAD_BYTES as u64 {
+        bail!("it is too short");
+    }
     let head = head_at(file, 0)?;
     let copies = match ends_in(file, &head, size) {
         Ok(true) => Copies::Whole,
