@@ -12,6 +12,7 @@ use anyhow::{Result, bail, ensure};
 use reed_solomon_simd::engine::tables::Tables;
 use reed_solomon_simd::engine::{DefaultEngine, EngineKind};
 use rs_volumes::checking::fits;
+use rs_volumes::coding_error::CodingError;
 use rs_volumes::creating::create as create_blocks;
 use rs_volumes::description::{Description, FileEntry};
 use rs_volumes::placement::places_of;
@@ -165,9 +166,27 @@ fn code_files<R: Runtime>(
     let tables = Tables::new(alloc)?;
     let engine = DefaultEngine::new(&tables, EngineKind::Ssse3);
     let piece = piece_bytes(&shape, request.memory);
-    let digests = create_blocks(alloc, shape, piece, engine, &mut source, sink)?;
+    let outcome = create_blocks(alloc, shape, piece, engine, &mut source, sink);
     source.end();
-    Ok(digests)
+    named(paths, origins.as_slice(), outcome)
+}
+
+// Returns the digests. If a block could not be read, the message of the error names its file.
+fn named(
+    paths: &[String],
+    origins: &[Option<Origin>],
+    outcome: std::result::Result<Vec<u8>, CodingError>,
+) -> Result<Vec<u8>> {
+    let (index, error) = match outcome {
+        Err(CodingError::Read(index, error)) => (index, error),
+        other => return Ok(other?),
+    };
+    if let Some(Some(origin)) = origins.get(index) {
+        if let Some(path) = paths.get(origin.holder) {
+            bail!("{}: block {index} cannot be read: {error}", path.as_str());
+        }
+    }
+    bail!("block {index} cannot be read: {error}")
 }
 
 /// Makes the recovery blocks of files, and writes the volumes. The volumes do not get their final names.

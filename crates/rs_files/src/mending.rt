@@ -1,10 +1,10 @@
 //! `repair`: restores damaged and missing files.
 use crate::names::{path_in, text_of};
-use crate::output::{Part, exists};
+use crate::output::{Part, at_path, exists};
 use crate::restoring::{begin_parts, set_attributes, write_blocks};
 use crate::scanning::{FileState, Scan, open_volumes, scan_set};
 use crate::settings::{Request, STATUS_LOST, STATUS_MENDED, STATUS_WHOLE};
-use crate::verifying::{folder_of, tell};
+use crate::verifying::{folder_of, tell, tell_folder};
 use anyhow::{Result, ensure};
 use std::alloc::Global;
 use std::fs;
@@ -30,10 +30,11 @@ fn targets(alloc: Global, found: &Scan, folder: &str) -> Result<Vec<Option<Strin
     Ok(paths)
 }
 
-// Renames a damaged file to `NAME.damaged`, if the file exists. Fails if `NAME.damaged` exists and `force` is not set.
-fn keep_damaged<R: Runtime>(rt: &R, alloc: Global, path: &str, force: bool) -> Result<()> {
+// Renames a damaged file to `NAME.damaged`, if the file exists. Returns the number of renamed files, 0 or 1. Fails if
+// `NAME.damaged` exists and `force` is not set.
+fn keep_damaged<R: Runtime>(rt: &R, alloc: Global, path: &str, force: bool) -> Result<usize> {
     if !exists(rt, path) {
-        return Ok(());
+        return Ok(0);
     }
     let kept = format!(in alloc; "{path}.damaged")?;
     ensure!(
@@ -41,12 +42,19 @@ fn keep_damaged<R: Runtime>(rt: &R, alloc: Global, path: &str, force: bool) -> R
         "{} exists: move it away, or use --force",
         kept.as_str()
     );
-    fs::rename(rt, path, kept.as_str())?;
-    Ok(())
+    at_path(path, fs::rename(rt, path, kept.as_str()))?;
+    Ok(1)
 }
 
-// Gives the restored files their permission bits, times and final names. Returns the number of restored files. If
-// `in_place` is set, a damaged file is kept as `NAME.damaged`.
+// The numbers of files that were restored, and of damaged files that were kept.
+#[derive(Clone, Copy)]
+struct Restored {
+    count: usize,
+    kept: usize,
+}
+
+// Gives the restored files their permission bits, times and final names. If `in_place` is set, a damaged file is kept
+// as `NAME.damaged`.
 fn finish<R: Runtime>(
     rt: &R,
     alloc: Global,
@@ -54,30 +62,31 @@ fn finish<R: Runtime>(
     parts: &[Option<Part>],
     in_place: bool,
     force: bool,
-) -> Result<usize> {
-    let mut count = 0usize;
+) -> Result<Restored> {
+    let mut restored = Restored { count: 0, kept: 0 };
     for (file, part) in found.description.files.as_slice().iter().zip(parts) {
         if let Some(part) = part {
             set_attributes(rt, part, file)?;
             if in_place {
-                keep_damaged(rt, alloc, part.path.as_str(), force)?;
+                let kept = keep_damaged(rt, alloc, part.path.as_str(), force)?;
+                restored.kept = restored.kept.saturating_add(kept);
             }
             part.finish(rt, force)?;
-            count = count.saturating_add(1);
+            restored.count = restored.count.saturating_add(1);
         }
     }
-    Ok(count)
+    Ok(restored)
 }
 
 // Restores the damaged and missing files of a set. The files are in `folder`, and the restored files are written into
-// this folder, or into the folder after `--to`. Returns the number of restored files.
+// this folder, or into the folder after `--to`.
 fn restore_files<R: Runtime>(
     rt: &R,
     alloc: Global,
     request: &Request,
     found: &Scan,
     folder: &str,
-) -> Result<usize> {
+) -> Result<Restored> {
     let target = match &request.to {
         Some(to) => to.as_str(),
         None => folder,
@@ -118,6 +127,7 @@ pub fn repair<R: Runtime + AllocGlobal>(rt: &R, request: &Request) -> Result<u8>
     if counts.lost > counts.recovery || found.has_whole_files() {
         if !request.quiet {
             tell(rt, &found, counts)?;
+            tell_folder(rt, &found, folder)?;
         }
         return Ok(if counts.lost > counts.recovery {
             STATUS_LOST
@@ -125,8 +135,12 @@ pub fn repair<R: Runtime + AllocGlobal>(rt: &R, request: &Request) -> Result<u8>
             STATUS_WHOLE
         });
     }
-    let count = restore_files(rt, alloc, request, &found, folder)?;
-    if !request.quiet {
+    let Restored { count, kept } = restore_files(rt, alloc, request, &found, folder)?;
+    if !request.quiet && kept > 0 {
+        println!(rt;
+            "{count} files were restored, and {kept} damaged files are kept as NAME.damaged"
+        )?;
+    } else if !request.quiet {
         println!(rt; "{count} files were restored")?;
     }
     Ok(STATUS_MENDED)

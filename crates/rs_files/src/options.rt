@@ -1,7 +1,8 @@
 //! Reads the command line.
 use crate::arguments::{bytes_of, recovery_of};
-use crate::settings::{Action, Recovery, Request, STATUS_USAGE, STATUS_WHOLE};
+use crate::settings::{Action, Recovery, Request, STATUS_FAILED, STATUS_USAGE, STATUS_WHOLE};
 use anyhow::Result;
+use clap::error::ErrorKind;
 use clap::{Arg, ArgAction, ArgMatches, Command};
 use std::alloc::Global;
 use std::env;
@@ -141,6 +142,16 @@ fn readers<'a>(alloc: Global, top: Command<'a>) -> Result<Command<'a>> {
     )
 }
 
+// Returns the exit status after an error of the command line. The help text and the version are no error, and a lack of
+// memory is no wrong command line.
+fn status_of(error: &clap::Error) -> u8 {
+    match error.kind() {
+        ErrorKind::OutOfMemory => STATUS_FAILED,
+        _ if error.use_stderr() => STATUS_USAGE,
+        _ => STATUS_WHOLE,
+    }
+}
+
 /// Reads the words of the command line. `terminal` says whether standard error is a terminal.
 ///
 /// # Errors
@@ -159,12 +170,7 @@ pub fn read_words<R: Runtime + AllocGlobal>(rt: &R, terminal: bool) -> Result<Pa
         Ok(matches) => matches,
         Err(error) => {
             error.print(rt)?;
-            let status = if error.use_stderr() {
-                STATUS_USAGE
-            } else {
-                STATUS_WHOLE
-            };
-            return Ok(Parsed::Stop(status));
+            return Ok(Parsed::Stop(status_of(&error)));
         }
     };
     match matches.subcommand() {

@@ -21,6 +21,18 @@ pub fn exists<R: Runtime>(rt: &R, path: &str) -> bool {
     fs::symlink_metadata(rt, path).is_ok()
 }
 
+/// Returns the value of a call of the system. If the call failed, the message of the error begins with the path.
+///
+/// # Errors
+///
+/// Fails if the call failed.
+pub fn at_path<T>(path: &str, outcome: std::io::Result<T>) -> Result<T> {
+    match outcome {
+        Ok(value) => Ok(value),
+        Err(error) => bail!("{path}: {error}"),
+    }
+}
+
 impl Part {
     /// Begins a file of `size` bytes, and makes its folder. If `NAME.part` exists, it is replaced.
     ///
@@ -31,18 +43,16 @@ impl Part {
     pub fn begin<R: Runtime>(rt: &R, alloc: Global, path: &str, size: u64) -> Result<Part> {
         let folder = parent_of(path);
         if !folder.is_empty() {
-            fs::create_dir_all(rt, folder)?;
+            at_path(folder, fs::create_dir_all(rt, folder))?;
         }
         let part = format!(in alloc; "{path}.part")?;
         if exists(rt, part.as_str()) {
-            fs::remove_file(rt, part.as_str())?;
+            at_path(part.as_str(), fs::remove_file(rt, part.as_str()))?;
         }
         let mut options = OpenOptions::new();
-        let file = options
-            .write(true)
-            .create_new(true)
-            .open(rt, part.as_str())?;
-        file.set_len(size)?;
+        let opened = options.write(true).create_new(true).open(rt, part.as_str());
+        let file = at_path(part.as_str(), opened)?;
+        at_path(part.as_str(), file.set_len(size))?;
         Ok(Part {
             path: String::from_str(alloc, path)?,
             part,
@@ -71,7 +81,8 @@ impl Part {
         if !overwrite && exists(rt, self.path.as_str()) {
             bail!("{} exists: use --force to overwrite it", self.path.as_str());
         }
-        fs::rename(rt, self.part.as_str(), self.path.as_str())?;
+        let path = self.path.as_str();
+        at_path(path, fs::rename(rt, self.part.as_str(), path))?;
         sync_folder(rt, parent_of(self.path.as_str()))
     }
 }

@@ -129,6 +129,21 @@ pub fn tell<R: Runtime>(rt: &R, scan: &Scan, counts: Counts) -> Result<()> {
     tell_blocks(rt, scan, counts)
 }
 
+/// Prints which folder was searched, if none of the files of the set was found there.
+///
+/// # Errors
+///
+/// Fails if the result cannot be printed.
+pub fn tell_folder<R: Runtime>(rt: &R, scan: &Scan, folder: &str) -> Result<()> {
+    let all_missing = scan.states.iter().all(|state| *state == FileState::Missing);
+    if !scan.states.is_empty() && all_missing {
+        println!(rt;
+            "no file was found in {folder}: if the files are in another folder, name it with --folder"
+        )?;
+    }
+    Ok(())
+}
+
 // Returns the files with their sizes and states as JSON.
 fn files_json(alloc: Global, scan: &Scan) -> std::result::Result<Vec<Value>, serde_json::Error> {
     let mut files = Vec::new(alloc);
@@ -201,6 +216,7 @@ pub fn verify<R: Runtime + AllocGlobal>(rt: &R, request: &Request) -> Result<u8>
         tell_json(rt, &found, counts)?;
     } else if !request.quiet {
         tell(rt, &found, counts)?;
+        tell_folder(rt, &found, folder)?;
     }
     Ok(status_of(&found, counts))
 }

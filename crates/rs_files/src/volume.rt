@@ -1,4 +1,5 @@
 //! Reads volumes.
+use crate::output::at_path;
 use crate::volume_sink::RECORD_HEAD_BYTES;
 use anyhow::{Result, bail};
 use rs_volumes::description::Description;
@@ -134,6 +135,9 @@ fn ends_in<F: Read + Seek>(file: &mut F, head: &Head, size: u64) -> Result<bool>
 
 // Reads the head and the description at the beginning of a volume.
 fn front<F: Read + Seek>(file: &mut F, alloc: Global, size: u64) -> Result<Volume> {
+    if size < HEAD_BYTES as u64 {
+        bail!("it is too short");
+    }
     let head = head_at(file, 0)?;
     let copies = match ends_in(file, &head, size) {
         Ok(true) => Copies::Whole,
@@ -164,13 +168,13 @@ fn back<F: Read + Seek>(file: &mut F, alloc: Global, size: u64) -> Result<Volume
 /// beginning and at its end. The message of the second error states the fault at the beginning.
 pub fn open_volume<R: Runtime + AllocGlobal>(rt: &R, path: &str) -> Result<Volume> {
     let alloc = rt.alloc();
-    let mut file = fs::open(rt, path)?;
+    let mut file = at_path(path, fs::open(rt, path))?;
     let size = file.metadata()?.len();
     match front(&mut file, alloc, size) {
         Ok(volume) => Ok(volume),
         Err(error) => match back(&mut file, alloc, size) {
             Ok(volume) => Ok(volume),
-            Err(_) => bail!("{path} is no volume that can be read: {error}"),
+            Err(_) => bail!("{path}: this is no volume that can be read: {error}"),
         },
     }
 }

@@ -1,5 +1,6 @@
 //! Finds the files of a set.
 use crate::names::{folder_to_open, last_of, parent_of, path_in, text_of, trimmed};
+use crate::output::at_path;
 use anyhow::{Result, bail};
 use rs_volumes::checking::is_name;
 use rs_volumes::description::FileEntry;
@@ -124,7 +125,8 @@ fn visit<R: Runtime + AllocGlobal>(
     waiting: &mut Vec<Waiting>,
     files: &mut Vec<FileEntry>,
 ) -> Result<()> {
-    let metadata = fs::metadata(rt, next.path.as_str())?;
+    let path = next.path.as_str();
+    let metadata = at_path(path, fs::metadata(rt, path))?;
     if metadata.is_dir() {
         return list(rt, next, waiting);
     }
@@ -158,7 +160,8 @@ fn list<R: Runtime + AllocGlobal>(
     waiting: &mut Vec<Waiting>,
 ) -> Result<()> {
     let alloc = rt.alloc();
-    for entry in fs::read_dir(rt, folder_to_open(folder.path.as_str()))? {
+    let path = folder_to_open(folder.path.as_str());
+    for entry in at_path(path, fs::read_dir(rt, path))? {
         let entry = entry?;
         if entry.file_type()?.is_symlink() {
             continue;

@@ -1,5 +1,5 @@
 //! Makes the recovery blocks of a set, and the digests of all its blocks, piece by piece.
-ghost use Rattle.std.specs.Prelude.{◌≡◌, ℕ, ◌+◌, ◌-◌, ◌<◌, ◌≤◌, ◌%◌, ◌++◌, ◌⊎◌, [], All, Some, IfOk, OnOk, length, map};
+ghost use Rattle.std.specs.Prelude.{◌≡◌, ℕ, ◌+◌, ◌-◌, ◌<◌, ◌≤◌, ◌%◌, ◌++◌, ◌⊎◌, All, Some, IfOk, OnOk, length, map};
 ghost use Rattle.std.specs.List.{between};
 ghost use Rattle.rs_field.specs.code.Column.{Shard, shard_at};
 ghost use Rattle.rs_volumes.specs.Creating.{IsCreated, MakesPiece};

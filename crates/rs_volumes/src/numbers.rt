@@ -1,5 +1,4 @@
 //! Reads numbers from the front of bytes.
-ghost use Rattle.std.specs.Prelude.{◌≡◌};
 ghost use Rattle.std.specs.Int.{w16, w32, w64};
 ghost use Rattle.rs_volumes.specs.Reading.{Reads, number_at, fixed_at};
 

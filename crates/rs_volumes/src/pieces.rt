@@ -9,7 +9,7 @@ use std::io;
 /// No contract can state which bytes a file returns. So in an implementation that reads files, the ghost member
 /// `blocks` is the map without a block.
 pub trait BlockSource {
-    ghost use Rattle.std.specs.Prelude.{◌≡◌, ◌-◌, ◌≤◌, ℕ, List, Some, IfOk, length};
+    ghost use Rattle.std.specs.Prelude.{◌≡◌, ◌-◌, ◌≤◌, ℕ, Some, IfOk, length};
     ghost use Rattle.std.specs.List.{between};
     ghost use Rattle.rs_field.specs.code.Column.{Shard};
     ghost use Rattle.rs_field.specs.code.Given.{Shards};

@@ -1,5 +1,5 @@
 //! Reads a description from its bytes.
-ghost use Rattle.std.specs.Prelude.{◌≡◌, ◌+◌, ◌<◌, ◌^◌, IfOk, Ok};
+ghost use Rattle.std.specs.Prelude.{◌≡◌, ◌<◌, ◌^◌, IfOk, Ok};
 ghost use Rattle.rs_volumes.specs.Description.{FileSet, file_of, files_of, set_of, spelling};
 ghost use Rattle.rs_volumes.specs.Reading.{Gives, name_at, file_at, files_at, opening_at, digests_in, description_in};
 ghost use Rattle.rs_volumes.specs.Sound.{IsSound, reading};
