@@ -9,12 +9,11 @@
 #include <stdbool.h>
 #include <string.h>
 
-/* A block of memory from the allocator, as in c/heap.c. */
+/* The allocator, as in c/heap.c. */
 struct tried {
     bool ok;
     void *at;
-};
-struct tried rattle_alloc(size_t size, size_t align);
+} rattle_alloc(size_t size, size_t align);
 void rattle_dealloc(void *at);
 
 /* The proved calls of one build. Each has the type of the call of the header. */
@@ -76,25 +75,25 @@ static unsigned level_of(struct processor told) {
     if ((told.ecx1 & ecx1_v3) != ecx1_v3 || (told.ebx7 & ebx7_v3) != ebx7_v3) return 2;
     return (told.extended_ecx & bit_ABM) && (told.states & registers) == registers ? 3 : 2;
 }
+#ifndef RS_LEVEL
+#define RS_LEVEL level_of(asked())
+#endif
 #else
 static const struct build builds[] = {BUILD(v1)};
 #define RS_LEVEL 1
 #endif
 
-/* The build that fits the processor. It is found at the first call. If several threads find it at once, all find the same one. A test
-   compiles this file with RS_LEVEL, the number of the build that it wants. */
+/* The build that fits the processor, or NULL before the first call. */
+static _Atomic(const struct build *) found;
+
+/* Finds the build that fits. If several threads do so at once, all find the same one. A test compiles this file with RS_LEVEL, the number of
+   the build that it wants. */
 static const struct build *fitting(void) {
-#ifdef RS_LEVEL
-    return &builds[RS_LEVEL - 1];
-#else
-    static _Atomic(const struct build *) found;
     const struct build *now = atomic_load_explicit(&found, memory_order_relaxed);
-    if (!now) {
-        now = &builds[level_of(asked()) - 1];
-        atomic_store_explicit(&found, now, memory_order_relaxed);
-    }
+    if (now) return now;
+    now = &builds[RS_LEVEL - 1];
+    atomic_store_explicit(&found, now, memory_order_relaxed);
     return now;
-#endif
 }
 
 /* The proved calls take no NULL. A pointer to nothing becomes a pointer to this object, of which no byte is read or written. */
@@ -104,59 +103,61 @@ static void *at(const void *pointer, size_t length) {
     return length ? (void *)pointer : nowhere;
 }
 
-/* An array of shards or rooms. Each entry has `size` bytes and ends with a pointer and a length, as struct rs_bytes. If an entry of the
-   caller's array has NULL as its pointer, `entries` becomes a copy of the array, which is also `copy`. */
+/* An array of shards or rooms. An entry has `size` bytes and ends with a pointer and a length, as struct rs_bytes. */
 struct array {
     const void *entries;
     size_t number, size;
     unsigned char *copy;
 };
 
-static bool is_null(const unsigned char *entry, size_t size) {
-    struct rs_bytes end;
-    memcpy(&end, entry + size - sizeof end, sizeof end);
-    return !end.bytes && !end.length;
+/* Whether the array is empty, or one of its pointers is NULL. Most calls have no such array, and make the proved call at once. */
+static inline bool has_nothing(const void *entries, size_t number, size_t size) {
+    const unsigned char *next = entries;
+    const uint8_t *bytes = NULL;
+    for (size_t i = 0; i < number; i++, next += size) {
+        memcpy(&bytes, next + size - sizeof(struct rs_bytes), sizeof bytes);
+        if (!bytes) break;
+    }
+    return !bytes;
 }
 
-static bool has_null(const struct array *array) {
-    const unsigned char *entry = array->entries;
-    for (size_t i = 0; i < array->number; i++, entry += array->size)
-        if (is_null(entry, array->size)) return true;
-    return false;
-}
-
+/* Copies an array, and replaces the pointers of all entries without bytes. Returns false if there is no memory. */
 static bool copied(struct array *array) {
-    struct tried block = rattle_alloc(array->number * array->size, 8);
+    const size_t length = array->number * array->size;
+    struct tried block = rattle_alloc(length, 8);
     if (!block.ok) return false;
-    array->entries = array->copy = memcpy(block.at, array->entries, array->number * array->size);
-    for (unsigned char *entry = array->copy; entry < array->copy + array->number * array->size; entry += array->size) {
-        const struct rs_bytes end = {nowhere, 0};
-        if (is_null(entry, array->size)) memcpy(entry + array->size - sizeof end, &end, sizeof end);
+    array->copy = memcpy(block.at, array->entries, length);
+    for (unsigned char *next = array->copy + array->size; next <= array->copy + length; next += array->size) {
+        struct rs_bytes end;
+        memcpy(&end, next - sizeof end, sizeof end);
+        end.bytes = at(end.bytes, end.length);
+        memcpy(next - sizeof end, &end, sizeof end);
     }
     return true;
 }
 
-/* Replaces what is NULL in the arrays. Returns false if there is no memory for a copy. */
-static bool shielded(struct array *arrays, size_t number) {
+/* A call over arrays, of which some may be empty or have NULL: an encode over two arrays, or a decode over three. */
+static uint32_t shielded(const struct rs_tables *tables, size_t original_count, size_t recovery_count, struct array *arrays, size_t number,
+                         struct rs_fault *fault) {
+    const struct build *build = fitting();
+    const void *entries[3];
+    struct rs_fault unread, *to = fault ? fault : &unread;
+    uint32_t answer = RS_OUT_OF_MEMORY;
     bool ok = true;
-    for (size_t i = 0; ok && i < number; i++) {
-        if (!arrays[i].number)
-            arrays[i].entries = nowhere;
-        else if (has_null(&arrays[i]))
-            ok = copied(&arrays[i]);
+    for (size_t i = 0; i < number; i++) {
+        if (ok && arrays[i].number && has_nothing(arrays[i].entries, arrays[i].number, arrays[i].size)) ok = copied(&arrays[i]);
+        entries[i] = arrays[i].copy ? arrays[i].copy : at(arrays[i].entries, arrays[i].number);
     }
-    return ok;
-}
-
-static void freed(const struct array *arrays, size_t number) {
+    if (!ok)
+        *to = (struct rs_fault){RS_OUT_OF_MEMORY, 0, 0, 0};
+    else if (number == 2)
+        answer = build->encode_shards(tables, original_count, recovery_count, entries[0], arrays[0].number, entries[1], arrays[1].number, to);
+    else
+        answer = build->decode_shards(tables, original_count, recovery_count, entries[0], arrays[0].number, entries[1], arrays[1].number,
+                                      entries[2], arrays[2].number, to);
     for (size_t i = 0; i < number; i++)
         if (arrays[i].copy) rattle_dealloc(arrays[i].copy);
-}
-
-static uint32_t out_of_memory(struct rs_fault *fault) {
-    const struct rs_fault none = {RS_OUT_OF_MEMORY, 0, 0, 0};
-    *fault = none;
-    return RS_OUT_OF_MEMORY;
+    return answer;
 }
 
 uint32_t rs_tables_make(struct rs_tables *tables) {
@@ -195,28 +196,28 @@ uint32_t rs_decode(const struct rs_tables *tables, size_t original_count, size_t
 
 uint32_t rs_encode_shards(const struct rs_tables *tables, size_t original_count, size_t recovery_count, const struct rs_bytes *originals,
                           size_t originals_number, const struct rs_room *recovery, size_t recovery_number, struct rs_fault *fault) {
-    struct array arrays[] = {{originals, originals_number, sizeof *originals, NULL}, {recovery, recovery_number, sizeof *recovery, NULL}};
-    struct rs_fault unread, *to = fault ? fault : &unread;
-    uint32_t number = shielded(arrays, 2) ? fitting()->encode_shards(tables, original_count, recovery_count, arrays[0].entries,
-                                                                     originals_number, arrays[1].entries, recovery_number, to)
-                                          : out_of_memory(to);
-    freed(arrays, 2);
-    return number;
+    const struct build *build = atomic_load_explicit(&found, memory_order_relaxed);
+    if (!build || !fault || has_nothing(originals, originals_number, sizeof *originals) ||
+        has_nothing(recovery, recovery_number, sizeof *recovery)) {
+        struct array arrays[] = {{originals, originals_number, sizeof *originals, NULL}, {recovery, recovery_number, sizeof *recovery, NULL}};
+        return shielded(tables, original_count, recovery_count, arrays, 2, fault);
+    }
+    return build->encode_shards(tables, original_count, recovery_count, originals, originals_number, recovery, recovery_number, fault);
 }
 
 uint32_t rs_decode_shards(const struct rs_tables *tables, size_t original_count, size_t recovery_count, const struct rs_shard *originals,
                           size_t originals_number, const struct rs_shard *recovery, size_t recovery_number,
                           const struct rs_room *restored, size_t restored_number, struct rs_fault *fault) {
-    struct array arrays[] = {{originals, originals_number, sizeof *originals, NULL},
-                             {recovery, recovery_number, sizeof *recovery, NULL},
-                             {restored, restored_number, sizeof *restored, NULL}};
-    struct rs_fault unread, *to = fault ? fault : &unread;
-    uint32_t number = shielded(arrays, 3)
-                          ? fitting()->decode_shards(tables, original_count, recovery_count, arrays[0].entries, originals_number,
-                                                     arrays[1].entries, recovery_number, arrays[2].entries, restored_number, to)
-                          : out_of_memory(to);
-    freed(arrays, 3);
-    return number;
+    const struct build *build = atomic_load_explicit(&found, memory_order_relaxed);
+    if (!build || !fault || has_nothing(originals, originals_number, sizeof *originals) ||
+        has_nothing(recovery, recovery_number, sizeof *recovery) || has_nothing(restored, restored_number, sizeof *restored)) {
+        struct array arrays[] = {{originals, originals_number, sizeof *originals, NULL},
+                                 {recovery, recovery_number, sizeof *recovery, NULL},
+                                 {restored, restored_number, sizeof *restored, NULL}};
+        return shielded(tables, original_count, recovery_count, arrays, 3, fault);
+    }
+    return build->decode_shards(tables, original_count, recovery_count, originals, originals_number, recovery, recovery_number, restored,
+                                restored_number, fault);
 }
 
 size_t rs_fault_text(const struct rs_fault *fault, char *text, size_t text_length) {

@@ -174,6 +174,18 @@ static void over_arrays(void) {
         wrong("rs_decode_shards passes something else");
     if (rs_encode_shards(tables, 3, 2, NULL, 0, NULL, 0, NULL) != ANSWER || got.lengths[0] || got.lengths[1]) wrong("empty arrays");
     if (rs_decode_shards(tables, 3, 2, NULL, 0, NULL, 0, NULL, 0, NULL) != ANSWER || got.lengths[2]) wrong("empty arrays of a decode");
+    if (rs_encode_shards(tables, 3, 2, o, 2, q, 2, NULL) != ANSWER || got.first != o || got.second != q ||
+        rs_decode_shards(tables, 3, 2, own, 2, other, 2, q, 2, NULL) != ANSWER || got.first != own || got.second != other || got.third != q)
+        wrong("arrays without a fault");
+    if (rs_encode_shards(tables, 3, 2, o, 2, NULL, 0, &fault) != ANSWER || got.first != o || got.lengths[1] ||
+        rs_decode_shards(tables, 3, 2, own, 2, NULL, 0, q, 2, &fault) != ANSWER || got.first != own || got.third != q ||
+        rs_decode_shards(tables, 3, 2, own, 2, other, 2, NULL, 0, &fault) != ANSWER || got.first != own || got.second != other)
+        wrong("an empty array beside others");
+    atomic_store(&found, NULL);
+    if (rs_encode_shards(tables, 3, 2, o, 2, q, 2, &fault) != ANSWER || got.first != o || got.second != q || !found) wrong("a first call");
+    atomic_store(&found, NULL);
+    if (rs_decode_shards(tables, 3, 2, own, 2, other, 2, q, 2, &fault) != ANSWER || got.first != own || got.third != q || !found)
+        wrong("a first call that decodes");
     o[1].bytes = NULL, q[0].bytes = NULL, q[0].length = 0;
     if (rs_encode_shards(tables, 3, 2, o, 2, q, 2, &fault) != ANSWER || got.first == o || got.second == q) wrong("NULL in arrays");
     if (got.entries[0][0].bytes != &byte || got.entries[0][0].length != 1 || got.entries[0][1].length || got.entries[1][0].length ||
@@ -186,7 +198,9 @@ static void over_arrays(void) {
     if (blocks) wrong("a copy is kept");
     /* Nothing replaces NULL with a length that isn't 0: the caller has broken the rules. */
     q[0].length = o[1].length = 3;
-    if (rs_encode_shards(tables, 3, 2, o, 2, q, 2, &fault) != ANSWER || got.first != o || got.second != q) wrong("NULL with a length");
+    if (rs_encode_shards(tables, 3, 2, o, 2, q, 2, &fault) != ANSWER || got.entries[0][1].bytes || got.entries[1][0].bytes ||
+        got.entries[0][1].length != 3)
+        wrong("NULL with a length");
     q[0].length = o[1].length = 0;
     refuses = true;
     if (rs_encode_shards(tables, 3, 2, o, 2, q, 2, &fault) != RS_OUT_OF_MEMORY || fault.number != RS_OUT_OF_MEMORY || fault.first ||
