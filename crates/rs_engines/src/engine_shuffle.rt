@@ -10,7 +10,7 @@ use crate::butterflies::{Backward, Forward};
 use crate::byte_vector::ByteVector;
 use crate::factors::ThreeFactors;
 use crate::shuffle_rows::{mul_chunks, one_layer, two_layers};
-use crate::shuffle_tables::{Products, ShuffleTables};
+use crate::shuffle_tables::ShuffleTables;
 use rs_field::engine::GfElement;
 use rs_field::engine::kernel::{Kernel, ThreeLogarithms};
 use rs_field::engine::lent_tables::LentTables;
@@ -18,22 +18,20 @@ use rs_field::engine::tables::{Multiply128lutT, Tables};
 use std::marker::PhantomData;
 use std::simd::prelude::*;
 
-/// An engine that looks up products by shuffles of byte vectors. It borrows the tables `T` and allocates nothing. The tables
-/// give the products with one factor as a `P`.
+/// An engine that looks up products by shuffles of byte vectors. It reads the tables `T` and allocates nothing.
 ///
 /// The engine runs on any machine, and is fast if the processor shuffles bytes with one instruction.
 #[derive(Clone, Copy)]
-pub struct ByShuffles<V: ByteVector, T: ShuffleTables<P>, P: Products> {
+pub struct ByShuffles<V: ByteVector, T: ShuffleTables> {
     tables: T,
     vectors: PhantomData<V>,
-    products: PhantomData<P>,
 }
 
 /// The engine with vectors of 16 bytes, the width of SSSE3. It is the fastest engine in the default build, x86-64-v2.
-pub type Ssse3<'t> = ByShuffles<u8x16, &'t Tables, &'t Multiply128lutT>;
+pub type Ssse3<'t> = ByShuffles<u8x16, &'t Tables>;
 
 /// The engine with vectors of 32 bytes, the width of AVX2. It is the fastest engine in a build for AVX2, `--cpu=x86-64-v3`.
-pub type Avx2<'t> = ByShuffles<u8x32, &'t Tables, &'t Multiply128lutT>;
+pub type Avx2<'t> = ByShuffles<u8x32, &'t Tables>;
 
 /// The width of the vectors of an engine.
 pub trait Lanes {
@@ -41,7 +39,7 @@ pub trait Lanes {
     ghost lanes: { ℕ };
 }
 
-impl<V: ByteVector, T: ShuffleTables<P>, P: Products> Lanes for ByShuffles<V, T, P> {
+impl<V: ByteVector, T: ShuffleTables> Lanes for ByShuffles<V, T> {
     ghost lanes = { V.LANES };
 }
 
@@ -78,15 +76,14 @@ impl<'t> Avx2<'t> {
     }
 }
 
-impl<V: ByteVector, T: ShuffleTables<P>, P: Products> ByShuffles<V, T, P> {
+impl<V: ByteVector, T: ShuffleTables> ByShuffles<V, T> {
     /// Makes the engine over these tables.
-    pub fn over(tables: T) -> ByShuffles<V, T, P>
+    pub fn over(tables: T) -> ByShuffles<V, T>
         ensures { result.tables ≡ tables }
     {
         ByShuffles {
             tables,
             vectors: PhantomData,
-            products: PhantomData,
         }
     }
 }
@@ -113,7 +110,7 @@ fn three_factors<'t>(
     }
 }
 
-impl<V: ByteVector, T: ShuffleTables<P>, P: Products> Kernel for ByShuffles<V, T, P> {
+impl<V: ByteVector, T: ShuffleTables> Kernel for ByShuffles<V, T> {
     fn tables(&self) -> LentTables<'_> {
         self.tables.transform_tables()
     }

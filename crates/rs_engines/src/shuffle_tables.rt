@@ -2,58 +2,52 @@
 ghost use Rattle.std.specs.Prelude.{◌≡◌};
 ghost use Rattle.rs_field.specs.words.Field.{power};
 ghost use Rattle.rs_field.specs.words.Products.{IsNibbleBytes};
-ghost use Rattle.rs_field.specs.declared.words.table_types.Multiply128lutT.{Multiply128lutT};
+ghost use Rattle.rs_engines.specs.Factors.{products_of};
 
 use rs_field::engine::GfElement;
 use rs_field::engine::lent_tables::LentTables;
 use rs_field::engine::tables::{Multiply128lutT, Tables, get_mul128};
 
 /// The products with one factor, or a reference to them.
-pub trait Products: Drop {
-    // The products.
-    ghost held: { Self → Multiply128lutT };
+#[derive(Drop)]
+pub enum Products<'t> {
+    /// A reference to products in a table.
+    Lent(&'t Multiply128lutT),
+    /// Products that are not in a table in this form.
+    Held(Multiply128lutT),
+}
 
+impl Products<'_> {
     /// Lends the products.
-    fn lend(&self) -> &Multiply128lutT
-        ensures { result.now ≡ held self.now };
-}
-
-impl Products for Multiply128lutT {
-    ghost held = { λ products. products };
-
     #[inline(always)]
-    fn lend(&self) -> &Multiply128lutT {
-        self
+    pub fn lend(&self) -> &Multiply128lutT
+        ensures { result.now ≡ products_of self.now }
+    {
+        match self {
+            Products::Lent(products) => products,
+            Products::Held(products) => products,
+        }
     }
 }
 
-impl Products for &Multiply128lutT {
-    ghost held = { λ products. products.now };
-
-    #[inline(always)]
-    fn lend(&self) -> &Multiply128lutT {
-        self
-    }
-}
-
-/// Tables that an engine by shuffles reads. `P` holds or borrows the products with one factor.
-pub trait ShuffleTables<P: Products>: Copy + Drop {
+/// Tables that an engine by shuffles reads.
+pub trait ShuffleTables: Copy + Drop {
     /// Returns the tables that transforms and locators read.
     fn transform_tables(&self) -> LentTables<'_>;
 
     /// Returns the products with the generator to the power `log_m`.
-    fn products(self, log_m: GfElement) -> P
-        ensures { IsNibbleBytes (power log_m) (P.held result) };
+    fn products(&self, log_m: GfElement) -> Products<'_>
+        ensures { IsNibbleBytes (power log_m) (products_of result) };
 }
 
-impl<'t> ShuffleTables<&'t Multiply128lutT> for &'t Tables {
+impl ShuffleTables for &Tables {
     #[inline(always)]
     fn transform_tables(&self) -> LentTables<'_> {
         self.lent()
     }
 
     #[inline(always)]
-    fn products(self, log_m: GfElement) -> &'t Multiply128lutT {
-        &get_mul128(self)[log_m as usize]
+    fn products(&self, log_m: GfElement) -> Products<'_> {
+        Products::Lent(&get_mul128(self)[log_m as usize])
     }
 }
