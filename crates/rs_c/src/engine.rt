@@ -1,16 +1,13 @@
 //! The engine by shuffles, over tables in memory of the caller.
 ghost use Rattle.std.specs.Prelude.{MatchOption};
-ghost use Rattle.rs_field.specs.words.Field.{power};
-ghost use Rattle.rs_field.specs.words.Products.{IsNibbleBytes};
 ghost use Rattle.rs_c.specs.Tables.{AreStamped, AreTables};
 
 use crate::lanes::Lanes;
 use crate::tables::{RsTables, STAMP, whole};
 use rs_engines::engine_shuffle::ByShuffles;
-use rs_engines::shuffle_tables::ShuffleTables;
+use rs_engines::shuffle_tables::{Products, ShuffleTables};
 use rs_field::engine::GfElement;
 use rs_field::engine::lent_tables::LentTables;
-use rs_field::engine::tables::Multiply128lutT;
 
 /// The engine by shuffles, over tables that a program in C lends.
 pub type TableEngine<'t> = ByShuffles<Lanes, MadeTables<'t>>;
@@ -43,7 +40,7 @@ impl ShuffleTables for MadeTables<'_> {
     }
 
     #[inline(always)]
-    fn products(self, log_m: GfElement) -> Multiply128lutT {
-        whole(&self.tables.products[log_m as usize])
+    fn products(&self, log_m: GfElement) -> Products<'_> {
+        Products::Held(whole(&self.tables.products[log_m as usize]))
     }
 }

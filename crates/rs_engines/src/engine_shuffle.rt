@@ -18,7 +18,7 @@ use rs_field::engine::tables::{Multiply128lutT, Tables};
 use std::marker::PhantomData;
 use std::simd::prelude::*;
 
-/// An engine that looks up products by shuffles of byte vectors. It borrows the tables `T` and allocates nothing.
+/// An engine that looks up products by shuffles of byte vectors. It reads the tables `T` and allocates nothing.
 ///
 /// The engine runs on any machine, and is fast if the processor shuffles bytes with one instruction.
 #[derive(Clone, Copy)]
@@ -117,12 +117,12 @@ impl<V: ByteVector, T: ShuffleTables> Kernel for ByShuffles<V, T> {
 
     fn fft_butterfly(&self, x: &mut [[u8; 64]], y: &mut [[u8; 64]], log_m: GfElement) {
         let products = self.tables.products(log_m);
-        one_layer::<V, Forward>(x, y, factor_of(&products, log_m));
+        one_layer::<V, Forward>(x, y, factor_of(products.lend(), log_m));
     }
 
     fn ifft_butterfly(&self, x: &mut [[u8; 64]], y: &mut [[u8; 64]], log_m: GfElement) {
         let products = self.tables.products(log_m);
-        one_layer::<V, Backward>(x, y, factor_of(&products, log_m));
+        one_layer::<V, Backward>(x, y, factor_of(products.lend(), log_m));
     }
 
     fn fft_two_layers(
@@ -136,7 +136,7 @@ impl<V: ByteVector, T: ShuffleTables> Kernel for ByShuffles<V, T> {
         let p02 = self.tables.products(logs.log_m02);
         let p01 = self.tables.products(logs.log_m01);
         let p23 = self.tables.products(logs.log_m23);
-        let factors = three_factors(&p02, &p01, &p23, logs);
+        let factors = three_factors(p02.lend(), p01.lend(), p23.lend(), logs);
         two_layers::<V, Forward>(x0, x1, x2, x3, factors);
     }
 
@@ -151,17 +151,17 @@ impl<V: ByteVector, T: ShuffleTables> Kernel for ByShuffles<V, T> {
         let p02 = self.tables.products(logs.log_m02);
         let p01 = self.tables.products(logs.log_m01);
         let p23 = self.tables.products(logs.log_m23);
-        let factors = three_factors(&p02, &p01, &p23, logs);
+        let factors = three_factors(p02.lend(), p01.lend(), p23.lend(), logs);
         two_layers::<V, Backward>(x0, x1, x2, x3, factors);
     }
 
     fn mul_row(&self, x: &mut [[u8; 64]], log_m: GfElement) {
         let products = self.tables.products(log_m);
-        mul_chunks::<V>(x, &products);
+        mul_chunks::<V>(x, products.lend());
     }
 
     fn mul_add_row(&self, x: &mut [[u8; 64]], y: &[[u8; 64]], log_m: GfElement) {
         let products = self.tables.products(log_m);
-        add_row::<V>(x, y, factor_of(&products, log_m));
+        add_row::<V>(x, y, factor_of(products.lend(), log_m));
     }
 }
