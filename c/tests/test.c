@@ -1,4 +1,4 @@
-/* The library from C. Words: `rows FILE..` reads cases of rs_cases; `refusals`; `rounds SEED COUNT`; `pieces SEED COUNT`; `threads`. */
+/* The library from C. Words: `rows FILE..` reads cases of rs_cases; `refusals`; `rounds SEED COUNT`; `pieces SEED COUNT`; `mixes SEED COUNT`; `threads`. */
 #define _DEFAULT_SOURCE
 #include "reed_solomon_simd.h"
 
@@ -456,6 +456,58 @@ static void nulls(void) {
         wrong("a round without a fault");
 }
 
+/* Arrays of up to five entries, each of which has no byte or four bytes, at any index. An entry without bytes has NULL if `with_null`. */
+struct mixed {
+    struct rs_shard shards[2][5];
+    struct rs_bytes bytes[5];
+    struct rs_room rooms[5];
+    size_t counts[3];
+    uint8_t written[20];
+};
+
+static void mix(struct mixed *m, uint64_t seed, int with_null) {
+    static uint8_t some[4] = {1, 2, 3, 4};
+    memset(m->written, '#', sizeof m->written);
+    for (int i = 0; i < 3; i++) m->counts[i] = drawn(&seed) % 6;
+    for (size_t i = 0; i < 5; i++) {
+        size_t lengths[3];
+        for (int n = 0; n < 3; n++) lengths[n] = drawn(&seed) % 3 ? 4 : 0;
+        for (int n = 0; n < 2; n++) {
+            struct rs_shard shard = {drawn(&seed) % 4, with_null && !lengths[n] ? NULL : some, lengths[n]};
+            m->shards[n][i] = shard;
+        }
+        m->bytes[i].bytes = m->shards[0][i].bytes, m->bytes[i].length = lengths[0];
+        m->rooms[i].bytes = with_null && !lengths[2] ? NULL : m->written + 4 * i, m->rooms[i].length = lengths[2];
+    }
+}
+
+/* NULL changes no answer: both calls of each pair return the same and write the same. */
+static void mixes(uint64_t seed, unsigned count) {
+    unsigned succeeded = 0;
+    for (unsigned n = 0; n < count; n++) {
+        size_t k = 1 + drawn(&seed) % 4, r = 1 + drawn(&seed) % 4;
+        uint64_t drawing = drawn(&seed);
+        for (int decodes = 0; decodes < 2; decodes++) {
+            struct mixed m[2];
+            struct rs_fault fault[2];
+            uint32_t answer[2];
+            for (int i = 0; i < 2; i++) {
+                size_t *c = m[i].counts;
+                mix(&m[i], drawing, i);
+                answer[i] = decodes ? rs_decode_shards(tables, k, r, i && !c[0] ? NULL : m[i].shards[0], c[0], i && !c[1] ? NULL : m[i].shards[1],
+                                                       c[1], i && !c[2] ? NULL : m[i].rooms, c[2], &fault[i])
+                                    : rs_encode_shards(tables, k, r, i && !c[0] ? NULL : m[i].bytes, c[0], i && !c[2] ? NULL : m[i].rooms, c[2],
+                                                       &fault[i]);
+            }
+            if (answer[0] != answer[1] || !told(&fault[1], fault[0].number, fault[0].first, fault[0].second, fault[0].third))
+                wrong("NULL changes an answer");
+            if (memcmp(m[0].written, m[1].written, sizeof m[0].written)) wrong("NULL changes what is written");
+            succeeded += !answer[0];
+        }
+    }
+    printf("test: %u calls with NULL as without, %u succeed\n", 2 * count, succeeded);
+}
+
 /* Arrays of rooms in memory that can't be written. */
 static void const_rooms(void) {
     struct rs_room *rooms = mmap(NULL, 4096, PROT_READ | PROT_WRITE, MAP_PRIVATE | MAP_ANONYMOUS, -1, 0);
@@ -705,6 +757,8 @@ int main(int count, char **words) {
         refusals();
     else if (count == 4 && !strcmp(words[1], "rounds"))
         rounds(strtoull(words[2], NULL, 10), (unsigned)strtoul(words[3], NULL, 10));
+    else if (count == 4 && !strcmp(words[1], "mixes"))
+        mixes(strtoull(words[2], NULL, 10), (unsigned)strtoul(words[3], NULL, 10));
     else if (count == 4 && !strcmp(words[1], "pieces"))
         pieces(strtoull(words[2], NULL, 10), (unsigned)strtoul(words[3], NULL, 10));
     else if (count == 3 && !strcmp(words[1], "strips"))
