@@ -136,7 +136,7 @@ pub fn cut_files(files: &[FileEntry], block: Option<u64>, recovery: Recovery) ->
     let recovery_count = recovery_count(blocks, recovery);
     if !allows_counts(original_count, recovery_count) {
         bail!(
-            "{original_count} blocks with {recovery_count} recovery blocks are not supported: use larger blocks, with --block"
+            "{original_count} blocks with {recovery_count} recovery blocks are not supported: write another number of recovery blocks with -r, or larger blocks with --block"
         );
     }
     Ok(Cut {

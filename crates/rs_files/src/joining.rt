@@ -1,7 +1,7 @@
 //! `join`: restores all files of a set from volumes.
 use crate::creating::check_free;
 use crate::names::{path_in, text_of};
-use crate::restoring::{begin_parts, set_attributes, write_blocks};
+use crate::restoring::{begin_parts, complete, write_blocks};
 use crate::scanning::{Scan, open_volumes, scan_set};
 use crate::settings::{Request, STATUS_LOST, STATUS_MENDED, STATUS_WHOLE};
 use crate::verifying::tell;
@@ -52,8 +52,8 @@ fn write_files<R: Runtime>(
         .zip(parts.as_slice())
     {
         if let Some(part) = part {
-            set_attributes(rt, part, file)?;
-            part.finish(rt, request.force)?;
+            complete(rt, part, file)?;
+            part.take_name(rt, request.force)?;
         }
     }
     Ok(())
@@ -69,7 +69,7 @@ fn write_files<R: Runtime>(
 /// - no volume can be read, or volumes belong to different sets,
 /// - a file exists and `--force` is not given,
 /// - a file cannot be begun, or its blocks cannot be read, restored or written,
-/// - a file cannot get its permission bits, its time or its final name.
+/// - a file cannot get its permission bits, its time or its final name, or cannot be synced.
 ///
 /// Every step fails if memory cannot be allocated.
 pub fn join<R: Runtime + AllocGlobal>(rt: &R, request: &Request) -> Result<u8> {

@@ -1,11 +1,11 @@
 //! `repair`: restores damaged and missing files.
 use crate::names::{path_in, text_of};
-use crate::output::{Part, at_path, exists};
-use crate::restoring::{begin_parts, set_attributes, write_blocks};
+use crate::output::{Part, at_path, exists, free_path};
+use crate::restoring::{begin_parts, complete, write_blocks};
 use crate::scanning::{FileState, Scan, open_volumes, scan_set};
 use crate::settings::{Request, STATUS_LOST, STATUS_MENDED, STATUS_WHOLE};
 use crate::verifying::{folder_of, tell, tell_folder};
-use anyhow::{Result, ensure};
+use anyhow::Result;
 use std::alloc::Global;
 use std::fs;
 use std::rt::Runtime;
@@ -30,19 +30,19 @@ fn targets(alloc: Global, found: &Scan, folder: &str) -> Result<Vec<Option<Strin
     Ok(paths)
 }
 
-// Renames a damaged file to `NAME.damaged`, if the file exists. Returns the number of renamed files, 0 or 1. Fails if
-// `NAME.damaged` exists and `force` is not set.
-fn keep_damaged<R: Runtime>(rt: &R, alloc: Global, path: &str, force: bool) -> Result<usize> {
+// Gives a damaged file a second name, `NAME.damaged` or `NAME.damaged2` and so on, if the file exists. Returns the number
+// of files that are kept, 0 or 1.
+//
+// The file keeps its own name too, until the restored file takes it. So the program can be killed at any moment, and the
+// next run finds the file. A file system without hard links gets the file renamed.
+fn keep_damaged<R: Runtime>(rt: &R, alloc: Global, path: &str) -> Result<usize> {
     if !exists(rt, path) {
         return Ok(0);
     }
-    let kept = format!(in alloc; "{path}.damaged")?;
-    ensure!(
-        force || !exists(rt, kept.as_str()),
-        "{} exists: move it away, or use --force",
-        kept.as_str()
-    );
-    at_path(path, fs::rename(rt, path, kept.as_str()))?;
+    let kept = free_path(rt, alloc, path, "damaged")?;
+    if fs::hard_link(rt, path, kept.as_str()).is_err() {
+        at_path(path, fs::rename(rt, path, kept.as_str()))?;
+    }
     Ok(1)
 }
 
@@ -66,12 +66,12 @@ fn finish<R: Runtime>(
     let mut restored = Restored { count: 0, kept: 0 };
     for (file, part) in found.description.files.as_slice().iter().zip(parts) {
         if let Some(part) = part {
-            set_attributes(rt, part, file)?;
+            complete(rt, part, file)?;
             if in_place {
-                let kept = keep_damaged(rt, alloc, part.path.as_str(), force)?;
+                let kept = keep_damaged(rt, alloc, part.path.as_str())?;
                 restored.kept = restored.kept.saturating_add(kept);
             }
-            part.finish(rt, force)?;
+            part.take_name(rt, force || in_place)?;
             restored.count = restored.count.saturating_add(1);
         }
     }
@@ -114,8 +114,8 @@ fn restore_files<R: Runtime>(
 /// - no volume is named,
 /// - no volume can be read, or volumes belong to different sets,
 /// - a file cannot be begun, or its blocks cannot be read, restored or written,
-/// - for each restored file, its permission bits or its time cannot be set, the damaged file cannot be kept, or the
-///   restored file cannot get its final name.
+/// - for each restored file, its permission bits or its time cannot be set, it cannot be synced, the damaged file cannot
+///   be kept, or the restored file cannot get its final name.
 ///
 /// Every step fails if memory cannot be allocated.
 pub fn repair<R: Runtime + AllocGlobal>(rt: &R, request: &Request) -> Result<u8> {

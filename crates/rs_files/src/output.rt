@@ -5,9 +5,10 @@ use std::alloc::Global;
 use std::fs;
 use std::fs::{OpenFile, OpenOptions};
 use std::io::{Seek, SeekFrom, Write};
+use std::os::unix::fs::MetadataExt;
 use std::rt::{Files, Runtime};
 
-/// A file that is being written under the name `NAME.part`.
+/// A file that is being written under another name: `NAME.part`, or `NAME.part2` and so on if that exists.
 #[derive(Drop)]
 pub struct Part {
     /// The path of the finished file.
@@ -19,6 +20,39 @@ pub struct Part {
 /// Returns whether something exists at a path.
 pub fn exists<R: Runtime>(rt: &R, path: &str) -> bool {
     fs::symlink_metadata(rt, path).is_ok()
+}
+
+/// Returns the first of the paths `PATH.SUFFIX`, `PATH.SUFFIX2`, `PATH.SUFFIX3` and so on at which nothing exists.
+///
+/// # Errors
+///
+/// Fails if memory cannot be allocated, or if something exists at each of these paths.
+pub fn free_path<R: Runtime>(rt: &R, alloc: Global, path: &str, suffix: &str) -> Result<String> {
+    let mut free = format!(in alloc; "{path}.{suffix}")?;
+    for number in 2..u32::MAX {
+        if !exists(rt, free.as_str()) {
+            return Ok(free);
+        }
+        free = format!(in alloc; "{path}.{suffix}{number}")?;
+    }
+    bail!("{free} exists")
+}
+
+/// What tells a file apart from all other files: its device, and its number on this device.
+#[derive(Clone, Copy, Debug, PartialEq, Eq)]
+pub struct Identity {
+    device: u64,
+    number: u64,
+}
+
+/// Returns the identity of a file. A symbolic link has the identity of the file to which it leads. Returns `None` if there is
+/// no file, or if it cannot be asked.
+pub fn identity_of<R: Runtime>(rt: &R, path: &str) -> Option<Identity> {
+    let metadata = fs::metadata(rt, path).ok()?;
+    Some(Identity {
+        device: metadata.dev(),
+        number: metadata.ino(),
+    })
 }
 
 /// Returns the value of a call of the system. If the call failed, the message of the error begins with the path.
@@ -34,21 +68,18 @@ pub fn at_path<T>(path: &str, outcome: std::io::Result<T>) -> Result<T> {
 }
 
 impl Part {
-    /// Begins a file of `size` bytes, and makes its folder. If `NAME.part` exists, it is replaced.
+    /// Begins a file of `size` bytes, and makes its folder. No file is replaced: a file `NAME.part` can belong to somebody
+    /// else, or to the set.
     ///
     /// # Errors
     ///
-    /// Fails if the folder or the file cannot be made, if an old `NAME.part` cannot be removed, or if memory cannot be
-    /// allocated.
+    /// Fails if the folder or the file cannot be made, or if memory cannot be allocated.
     pub fn begin<R: Runtime>(rt: &R, alloc: Global, path: &str, size: u64) -> Result<Part> {
         let folder = parent_of(path);
         if !folder.is_empty() {
             at_path(folder, fs::create_dir_all(rt, folder))?;
         }
-        let part = format!(in alloc; "{path}.part")?;
-        if exists(rt, part.as_str()) {
-            at_path(part.as_str(), fs::remove_file(rt, part.as_str()))?;
-        }
+        let part = free_path(rt, alloc, path, "part")?;
         let mut options = OpenOptions::new();
         let opened = options.write(true).create_new(true).open(rt, part.as_str());
         let file = at_path(part.as_str(), opened)?;
@@ -59,7 +90,7 @@ impl Part {
         })
     }
 
-    /// Opens the file `NAME.part` to write into it.
+    /// Opens the file to write into it.
     ///
     /// # Errors
     ///
@@ -73,11 +104,21 @@ impl Part {
     ///
     /// # Errors
     ///
-    /// In this order, fails if the file cannot be opened or synced, if a file with the final name exists and
-    /// `overwrite` is not set, or if the file cannot be renamed or its folder cannot be synced.
+    /// In this order, fails if the file cannot be opened or synced, or for a reason of [`Part::take_name`].
     pub fn finish<R: Runtime>(&self, rt: &R, overwrite: bool) -> Result<()> {
-        let file = self.open(rt)?;
-        file.sync_all()?;
+        let part = self.part.as_str();
+        let file = at_path(part, self.open(rt))?;
+        at_path(part, file.sync_all())?;
+        self.take_name(rt, overwrite)
+    }
+
+    /// Gives the file its final name. A file with this name is only replaced if `overwrite` is set.
+    ///
+    /// # Errors
+    ///
+    /// In this order, fails if a file with the final name exists and `overwrite` is not set, or if the file cannot be
+    /// renamed or its folder cannot be synced.
+    pub fn take_name<R: Runtime>(&self, rt: &R, overwrite: bool) -> Result<()> {
         if !overwrite && exists(rt, self.path.as_str()) {
             bail!("{} exists: use --force to overwrite it", self.path.as_str());
         }
@@ -93,9 +134,9 @@ impl Part {
 ///
 /// Fails if the folder cannot be opened or synced.
 pub fn sync_folder<R: Runtime>(rt: &R, folder: &str) -> Result<()> {
-    let opened = fs::open(rt, folder_to_open(folder))?;
-    opened.sync_all()?;
-    Ok(())
+    let folder = folder_to_open(folder);
+    let opened = at_path(folder, fs::open(rt, folder))?;
+    at_path(folder, opened.sync_all())
 }
 
 /// Writes bytes into a file, from byte `offset` of the file on.

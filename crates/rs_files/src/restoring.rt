@@ -2,7 +2,7 @@
 ghost use Rattle.rs_field.specs.code.Given.{nothing};
 
 use crate::folder::{piece_bytes, shape_of};
-use crate::output::{Part, write_at};
+use crate::output::{Part, at_path, write_at};
 use crate::progress::Progress;
 use crate::scanning::Scan;
 use crate::source::FileBlocks;
@@ -21,7 +21,7 @@ use std::os::unix::fs::PermissionsExt;
 use std::rt::{Files, Runtime};
 use std::time::{Duration, UNIX_EPOCH};
 
-/// A file `NAME.part` that is open to be written.
+/// A part that is open to be written.
 #[derive(Drop)]
 struct Opened<F: Drop> {
     /// The index of the file in the description.
@@ -196,19 +196,24 @@ pub fn write_blocks<R: Runtime>(
     Ok(())
 }
 
-/// Gives a restored file its permission bits and the time of its last change. A time before 1970 is not set.
+/// Gives a restored file its permission bits and the time of its last change, and syncs it. A time before 1970 is not
+/// set. The file is opened only once, because its permission bits can forbid to open it again.
 ///
 /// # Errors
 ///
-/// In this order, fails if the file cannot be opened, or if its permission bits or its time cannot be set.
-pub fn set_attributes<R: Runtime>(rt: &R, part: &Part, file: &FileEntry) -> Result<()> {
-    let handle = part.open(rt)?;
-    handle.set_permissions(Permissions::from_mode(file.mode & 0o7777))?;
+/// In this order, fails if the file cannot be opened, if its permission bits or its time cannot be set, or if it cannot be
+/// synced.
+pub fn complete<R: Runtime>(rt: &R, part: &Part, file: &FileEntry) -> Result<()> {
+    let path = part.part.as_str();
+    let handle = at_path(path, part.open(rt))?;
+    let permissions = Permissions::from_mode(file.mode & 0o7777);
+    at_path(path, handle.set_permissions(permissions))?;
     let seconds = i64::from_le_bytes(file.modified.to_le_bytes());
     if let Ok(seconds) = u64::try_from(seconds) {
         if let Some(time) = UNIX_EPOCH.checked_add(Duration::from_secs(seconds)) {
-            handle.set_times(FileTimes::new().set_modified(time))?;
+            let times = FileTimes::new().set_modified(time);
+            at_path(path, handle.set_times(times))?;
         }
     }
-    Ok(())
+    at_path(path, handle.sync_all())
 }

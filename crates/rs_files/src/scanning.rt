@@ -311,15 +311,17 @@ impl Scanner {
         path: &str,
         places: &[Place],
     ) -> FileState {
+        // A pipe is not opened: a program that opens it waits until another one writes into it.
+        match fs::metadata(rt, path) {
+            Ok(metadata) if metadata.is_file() => (),
+            _ => return FileState::Missing,
+        }
         let Ok(mut file) = fs::open(rt, path) else {
             return FileState::Missing;
         };
         let Ok(metadata) = file.metadata() else {
             return FileState::Missing;
         };
-        if !metadata.is_file() {
-            return FileState::Missing;
-        }
         let mut whole = metadata.len() == entry.size;
         for (index, place) in places.iter().enumerate() {
             if place.file == holder

@@ -46,7 +46,7 @@ fn cut_for(files: &[rs_volumes::description::FileEntry], request: &Request) -> R
     }
 }
 
-// Begins the files `NAME.part` of all volumes in a folder. `length` is the number of bytes of the description.
+// Begins all volumes in a folder. `length` is the number of bytes of the description.
 fn begin<R: Runtime>(
     rt: &R,
     alloc: Global,
@@ -94,7 +94,7 @@ pub fn split<R: Runtime + AllocGlobal>(rt: &R, request: &Request) -> Result<u8> 
     let Some(folder) = &request.output else {
         bail!("say where the volumes go, as -o FOLDER");
     };
-    let found = find(rt, request.paths.as_slice(), "")?;
+    let found = find(rt, request.paths.as_slice(), None)?;
     let cut = cut_for(found.files.as_slice(), request)?;
     let length = description_bytes(found.files.as_slice(), cut)?;
     let volumes = begin(rt, alloc, request, folder.as_str(), cut, length)?;

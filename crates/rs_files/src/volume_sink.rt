@@ -27,7 +27,7 @@ pub struct VolumeSink<'a, R: Runtime> {
 }
 
 impl<'a, R: Runtime> VolumeSink<'a, R> {
-    /// Opens the files `NAME.part` of all volumes.
+    /// Opens the parts of all volumes.
     ///
     /// # Errors
     ///

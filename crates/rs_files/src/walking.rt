@@ -1,6 +1,6 @@
 //! Finds the files of a set.
 use crate::names::{folder_to_open, last_of, parent_of, path_in, text_of, trimmed};
-use crate::output::at_path;
+use crate::output::{Identity, at_path, identity_of};
 use anyhow::{Result, bail};
 use rs_volumes::checking::is_name;
 use rs_volumes::description::FileEntry;
@@ -46,14 +46,18 @@ fn folder_of(path: &str) -> &str {
 
 /// Finds all regular files at the paths and below them, in order of their names.
 ///
-/// A file whose name in the set is `skipped` or `skipped.part` is left out. If `skipped` is empty, no file is left out.
+/// The file with the identity `written` is the old volume, which the new volume replaces. Below a path, it is left out.
 ///
 /// # Errors
 ///
 /// Fails if there is no path. Then, for each path in turn, fails if the path is not in the folder of the first path, if
-/// a file or folder cannot be read, or if the name of a file is not allowed. At the end, fails if a file is given
-/// twice. Every step fails if memory cannot be allocated.
-pub fn find<R: Runtime + AllocGlobal>(rt: &R, paths: &[String], skipped: &str) -> Result<Found> {
+/// the path is the old volume, if a file or folder cannot be read, or if the name of a file is not allowed.
+/// At the end, fails if a file is given twice. Every step fails if memory cannot be allocated.
+pub fn find<R: Runtime + AllocGlobal>(
+    rt: &R,
+    paths: &[String],
+    written: Option<Identity>,
+) -> Result<Found> {
     let alloc = rt.alloc();
     let Some(first) = paths.first() else {
         bail!("no file is given");
@@ -65,7 +69,10 @@ pub fn find<R: Runtime + AllocGlobal>(rt: &R, paths: &[String], skipped: &str) -
         if folder_of(path) != folder {
             bail!("the files must be in one folder: give that folder, or the files in it");
         }
-        walk(rt, path, name_in_set(path), skipped, &mut files)?;
+        if is_written(rt, path, written) {
+            bail!("{path} is the volume itself: name another volume with -o, or another file");
+        }
+        walk(rt, path, name_in_set(path), written, &mut files)?;
     }
     sort_files(&mut files)?;
     check_once(files.as_slice())?;
@@ -99,7 +106,7 @@ fn walk<R: Runtime + AllocGlobal>(
     rt: &R,
     path: &str,
     name: &str,
-    skipped: &str,
+    written: Option<Identity>,
     files: &mut Vec<FileEntry>,
 ) -> Result<()> {
     let alloc = rt.alloc();
@@ -111,7 +118,7 @@ fn walk<R: Runtime + AllocGlobal>(
     for _ in 0..u64::MAX {
         match waiting.pop() {
             None => return Ok(()),
-            Some(next) => visit(rt, &next, skipped, &mut waiting, files)?,
+            Some(next) => visit(rt, &next, written, &mut waiting, files)?,
         }
     }
     Ok(())
@@ -121,7 +128,7 @@ fn walk<R: Runtime + AllocGlobal>(
 fn visit<R: Runtime + AllocGlobal>(
     rt: &R,
     next: &Waiting,
-    skipped: &str,
+    written: Option<Identity>,
     waiting: &mut Vec<Waiting>,
     files: &mut Vec<FileEntry>,
 ) -> Result<()> {
@@ -130,7 +137,7 @@ fn visit<R: Runtime + AllocGlobal>(
     if metadata.is_dir() {
         return list(rt, next, waiting);
     }
-    if !metadata.is_file() || is_skipped(next.name.as_str(), skipped) {
+    if !metadata.is_file() || is_written(rt, path, written) {
         return Ok(());
     }
     if !is_name(next.name.as_str().as_bytes()) {
@@ -145,12 +152,9 @@ fn visit<R: Runtime + AllocGlobal>(
     Ok(())
 }
 
-// Returns whether a file is the volume that is being written, or has the name of this volume with `.part` at its end.
-fn is_skipped(name: &str, skipped: &str) -> bool {
-    if skipped.is_empty() {
-        return false;
-    }
-    name == skipped || name.strip_suffix(".part") == Some(skipped)
+// Returns whether a path leads to the file with the identity `written`.
+fn is_written<R: Runtime>(rt: &R, path: &str, written: Option<Identity>) -> bool {
+    written.is_some() && identity_of(rt, path) == written
 }
 
 // Appends the entries of a folder to `waiting`, except for symbolic links.
@@ -162,8 +166,8 @@ fn list<R: Runtime + AllocGlobal>(
     let alloc = rt.alloc();
     let path = folder_to_open(folder.path.as_str());
     for entry in at_path(path, fs::read_dir(rt, path))? {
-        let entry = entry?;
-        if entry.file_type()?.is_symlink() {
+        let entry = at_path(path, entry)?;
+        if at_path(path, entry.file_type())?.is_symlink() {
             continue;
         }
         let name = entry.file_name();
