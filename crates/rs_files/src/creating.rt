@@ -1,7 +1,7 @@
 //! `create`: makes a volume with the recovery blocks of files.
 use crate::folder::{Cut, cut_files, piece_bytes, shape_of};
 use crate::names::{last_of, parent_of, path_in, text_of};
-use crate::output::{Part, exists, identity_of};
+use crate::output::{Part, exists, identities};
 use crate::progress::Progress;
 use crate::settings::{Request, STATUS_WHOLE};
 use crate::source::{FileBlocks, Origin};
@@ -276,7 +276,8 @@ fn written(alloc: Global, description: &Description) -> Result<Vec<u8>> {
 ///
 /// - the name of the volume is not known,
 /// - the volume exists and `--force` is not given,
-/// - the files cannot be found, are not in one folder, one of them is given twice, or one of them is the volume,
+/// - the files cannot be found, are not in one folder, one of them is given twice, or one of them is the
+///   volume,
 /// - the files cannot be cut into blocks as the request asks,
 /// - the description is larger than 1 GiB,
 /// - the volume cannot be begun, written or finished, or a file cannot be read or has changed.
@@ -286,8 +287,9 @@ pub fn create<R: Runtime + AllocGlobal>(rt: &R, request: &Request) -> Result<u8>
     let alloc = rt.alloc();
     let output = output_of(alloc, request)?;
     check_free(rt, output.as_str(), request.force)?;
-    let written = identity_of(rt, output.as_str());
-    let found = find(rt, request.paths.as_slice(), written)?;
+    let outputs = vec![in alloc; output.clone()?]?;
+    let written = identities(rt, alloc, outputs.as_slice())?;
+    let found = find(rt, request.paths.as_slice(), written.as_slice())?;
     let cut = cut_files(
         found.files.as_slice(),
         request.block_bytes,

@@ -76,12 +76,21 @@ pub fn default_block(files: &[FileEntry]) -> Result<u64> {
         );
     }
     let wanted = blocks_wanted(files);
+    match smallest_block(files, wanted) {
+        Some(bytes) => Ok(bytes),
+        None => bail!(
+            "the files are too large for {wanted} blocks, the largest number by default: use --block 1024G, or make several sets of fewer files"
+        ),
+    }
+}
+
+// Returns the smallest multiple of 4096 bytes for which the files have at most `wanted` blocks. Returns `None` if blocks
+// of 2^40 bytes are too small.
+fn smallest_block(files: &[FileEntry], wanted: u64) -> Option<u64> {
     let mut low = 0u64;
     let mut high = 1u64 << 28;
     if !has_at_most(files, high, wanted) {
-        bail!(
-            "the files are too large for {wanted} blocks, the largest number by default: use --block 1024G, or make several sets of fewer files"
-        );
+        return None;
     }
     for _ in 0..64 {
         let gap = high.saturating_sub(low);
@@ -95,7 +104,7 @@ pub fn default_block(files: &[FileEntry]) -> Result<u64> {
             low = middle;
         }
     }
-    Ok(high.saturating_mul(4096))
+    Some(high.saturating_mul(4096))
 }
 
 // Returns whether the files have at most `wanted` blocks, if a block has `pages` * 4096 bytes.
@@ -128,9 +137,7 @@ pub fn cut_files(files: &[FileEntry], block: Option<u64>, recovery: Recovery) ->
         bail!("a block must have an even number of bytes, from 2 to 2^40");
     }
     let Some(blocks) = blocks_of(files, block_bytes) else {
-        bail!(
-            "blocks of {block_bytes} bytes are too small for these files: leave --block out, write a larger number, or make several sets of fewer files"
-        );
+        return too_small(files, block_bytes);
     };
     let original_count = blocks as u32;
     let recovery_count = recovery_count(blocks, recovery);
@@ -144,6 +151,18 @@ pub fn cut_files(files: &[FileEntry], block: Option<u64>, recovery: Recovery) ->
         original_count,
         recovery_count,
     })
+}
+
+// Fails, and says which block size would do.
+fn too_small(files: &[FileEntry], block_bytes: u64) -> Result<Cut> {
+    match smallest_block(files, 65536) {
+        Some(needed) => bail!(
+            "blocks of {block_bytes} bytes are too small for these files: use --block {needed} or a larger number"
+        ),
+        None => bail!(
+            "blocks of {block_bytes} bytes are too small for these files: make several sets of fewer files"
+        ),
+    }
 }
 
 // Returns the number of recovery blocks that a request asks for. A percentage gives at least 1 and at most 65536

@@ -45,14 +45,29 @@ pub struct Identity {
     number: u64,
 }
 
-/// Returns the identity of a file. A symbolic link has the identity of the file to which it leads. Returns `None` if there is
-/// no file, or if it cannot be asked.
+/// Returns the identity of a file. A symbolic link has the identity of the file to which it leads. Returns `None` if
+/// there is no file, or if the system does not tell.
 pub fn identity_of<R: Runtime>(rt: &R, path: &str) -> Option<Identity> {
     let metadata = fs::metadata(rt, path).ok()?;
     Some(Identity {
         device: metadata.dev(),
         number: metadata.ino(),
     })
+}
+
+/// Returns the identities of the files at those of the paths at which there is a file.
+///
+/// # Errors
+///
+/// Fails if memory cannot be allocated.
+pub fn identities<R: Runtime>(rt: &R, alloc: Global, paths: &[String]) -> Result<Vec<Identity>> {
+    let mut found = Vec::new(alloc);
+    for path in paths {
+        if let Some(own) = identity_of(rt, path.as_str()) {
+            found.push(own)?;
+        }
+    }
+    Ok(found)
 }
 
 /// Returns the value of a call of the system. If the call failed, the message of the error begins with the path.
@@ -68,8 +83,8 @@ pub fn at_path<T>(path: &str, outcome: std::io::Result<T>) -> Result<T> {
 }
 
 impl Part {
-    /// Begins a file of `size` bytes, and makes its folder. No file is replaced: a file `NAME.part` can belong to somebody
-    /// else, or to the set.
+    /// Begins a file of `size` bytes, and makes its folder. No file is replaced: a file `NAME.part` can belong to
+    /// somebody else, or to the set.
     ///
     /// # Errors
     ///

@@ -11,7 +11,7 @@ use sha2::{Digest, Sha256};
 use std::alloc::Global;
 use std::fs;
 use std::fs::OpenFile;
-use std::io::{Read, Seek, SeekFrom};
+use std::io::{ErrorKind, Read, Seek, SeekFrom};
 use std::rt::{Files, Runtime};
 
 /// How many bytes are read at a time.
@@ -44,6 +44,8 @@ pub struct Scan {
     pub paths: Vec<String>,
     /// For each volume, the state of the two copies of its head and its description.
     pub copies: Vec<Copies>,
+    /// The paths of the volumes that cannot be read.
+    pub unreadable: Vec<String>,
 }
 
 /// The volumes of one set.
@@ -57,6 +59,8 @@ pub struct Volumes {
     pub records: Vec<(u64, u64)>,
     /// For each of these volumes, the state of the two copies of its head and its description.
     pub copies: Vec<Copies>,
+    /// The paths of the volumes that cannot be read.
+    pub unreadable: Vec<String>,
 }
 
 /// Opens volumes. The first volume that can be read determines the set. For each volume that cannot be read, the
@@ -72,9 +76,13 @@ pub fn open_volumes<R: Runtime + AllocGlobal>(rt: &R, paths: &[String]) -> Resul
     let mut found = Vec::new(alloc);
     let mut records = Vec::new(alloc);
     let mut copies = Vec::new(alloc);
+    let mut unreadable = Vec::new(alloc);
     for path in paths {
         match open_volume(rt, path.as_str()) {
-            Err(error) => eprintln!(rt; "rs_files: {error:#}")?,
+            Err(error) => {
+                eprintln!(rt; "rs_files: {error:#}")?;
+                unreadable.push(path.clone()?)?;
+            }
             Ok(volume) => {
                 if let Some(known) = &first {
                     if known.digest != volume.digest {
@@ -97,6 +105,7 @@ pub fn open_volumes<R: Runtime + AllocGlobal>(rt: &R, paths: &[String]) -> Resul
             paths: found,
             records,
             copies,
+            unreadable,
         }),
     }
 }
@@ -166,6 +175,7 @@ pub fn scan_set<R: Runtime + AllocGlobal>(
         paths,
         records,
         copies,
+        unreadable,
     } = volumes;
     let Volume {
         description,
@@ -183,6 +193,7 @@ pub fn scan_set<R: Runtime + AllocGlobal>(
         shown,
     )?;
     scan.copies = copies;
+    scan.unreadable = unreadable;
     Ok(scan)
 }
 
@@ -221,7 +232,16 @@ fn scan_blocks<R: Runtime + AllocGlobal>(
         states,
         paths,
         copies: Vec::new(alloc),
+        unreadable: Vec::new(alloc),
     })
+}
+
+// Returns that a file is missing. If it is there but cannot be opened, the function prints why.
+fn missing<R: Runtime>(rt: &R, path: &str, error: std::io::Error) -> FileState {
+    if error.kind() != ErrorKind::NotFound {
+        let _ = eprintln!(rt; "rs_files: {path}: {error}");
+    }
+    FileState::Missing
 }
 
 // The state of a scan.
@@ -314,10 +334,12 @@ impl Scanner {
         // A pipe is not opened: a program that opens it waits until another one writes into it.
         match fs::metadata(rt, path) {
             Ok(metadata) if metadata.is_file() => (),
-            _ => return FileState::Missing,
+            Ok(_) => return FileState::Missing,
+            Err(error) => return missing(rt, path, error),
         }
-        let Ok(mut file) = fs::open(rt, path) else {
-            return FileState::Missing;
+        let mut file = match fs::open(rt, path) {
+            Ok(file) => file,
+            Err(error) => return missing(rt, path, error),
         };
         let Ok(metadata) = file.metadata() else {
             return FileState::Missing;
@@ -431,9 +453,9 @@ impl Scan {
         }
     }
 
-    /// Returns whether each volume has two equal copies of its head and its description.
+    /// Returns whether each volume can be read and has two equal copies of its head and its description.
     pub fn has_whole_volumes(&self) -> bool {
-        self.copies.iter().all(|copies| *copies == Copies::Whole)
+        self.unreadable.is_empty() && self.copies.iter().all(|copies| *copies == Copies::Whole)
     }
 
     /// Returns whether all files are whole.

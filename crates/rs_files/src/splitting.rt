@@ -2,7 +2,7 @@
 use crate::creating::{Volumes, check_free, description_bytes, volume_bytes, write_volumes};
 use crate::folder::{Cut, cut_files};
 use crate::names::path_in;
-use crate::output::Part;
+use crate::output::{Part, identities};
 use crate::settings::{Recovery, Request, STATUS_WHOLE};
 use crate::walking::find;
 use anyhow::{Result, bail};
@@ -46,24 +46,32 @@ fn cut_for(files: &[rs_volumes::description::FileEntry], request: &Request) -> R
     }
 }
 
-// Begins all volumes in a folder. `length` is the number of bytes of the description.
+// Returns the paths of all volumes in a folder.
+fn outputs(alloc: Global, request: &Request, folder: &str) -> Result<Vec<String>> {
+    let mut paths = Vec::new(alloc);
+    for number in 0..request.volumes {
+        let shown = u64::from(number) + 1;
+        let name = format!(in alloc; "volume{shown:04}.rsv")?;
+        paths.push(path_in(alloc, folder, name.as_str())?)?;
+    }
+    Ok(paths)
+}
+
+// Begins all volumes. `length` is the number of bytes of the description.
 fn begin<R: Runtime>(
     rt: &R,
     alloc: Global,
     request: &Request,
-    folder: &str,
+    paths: &[String],
     cut: Cut,
     length: u64,
 ) -> Result<Volumes> {
     let blocks = u64::from(cut.original_count) + u64::from(cut.recovery_count);
     let mut parts = Vec::new(alloc);
     let mut counts = Vec::new(alloc);
-    for number in 0..request.volumes {
-        let shown = u64::from(number) + 1;
-        let name = format!(in alloc; "volume{shown:04}.rsv")?;
-        let path = path_in(alloc, folder, name.as_str())?;
+    for (number, path) in paths.iter().enumerate() {
         check_free(rt, path.as_str(), request.force)?;
-        let records = share_of(blocks, u64::from(request.volumes), u64::from(number));
+        let records = share_of(blocks, u64::from(request.volumes), number as u64);
         let size = volume_bytes(length, records, cut.block_bytes);
         parts.push(Part::begin(rt, alloc, path.as_str(), size)?)?;
         counts.push(records)?;
@@ -82,7 +90,8 @@ fn begin<R: Runtime>(
 /// In this order, fails if:
 ///
 /// - `-o` is not given,
-/// - the files cannot be found, are not in one folder, or one of them is given twice,
+/// - the files cannot be found, are not in one folder, one of them is given twice, or one of them is a volume that is
+///   written,
 /// - the files cannot be cut into blocks as the request asks, or too many volumes may be lost,
 /// - the description is larger than 1 GiB,
 /// - a volume exists and `--force` is not given, or a volume cannot be begun,
@@ -94,10 +103,12 @@ pub fn split<R: Runtime + AllocGlobal>(rt: &R, request: &Request) -> Result<u8> 
     let Some(folder) = &request.output else {
         bail!("say where the volumes go, as -o FOLDER");
     };
-    let found = find(rt, request.paths.as_slice(), None)?;
+    let paths = outputs(alloc, request, folder.as_str())?;
+    let written = identities(rt, alloc, paths.as_slice())?;
+    let found = find(rt, request.paths.as_slice(), written.as_slice())?;
     let cut = cut_for(found.files.as_slice(), request)?;
     let length = description_bytes(found.files.as_slice(), cut)?;
-    let volumes = begin(rt, alloc, request, folder.as_str(), cut, length)?;
+    let volumes = begin(rt, alloc, request, paths.as_slice(), cut, length)?;
     let count = found.files.len();
     write_volumes(rt, request, found, cut, &volumes)?;
     for part in &volumes.parts {

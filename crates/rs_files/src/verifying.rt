@@ -108,7 +108,7 @@ fn tell_blocks<R: Runtime>(rt: &R, scan: &Scan, counts: Counts) -> Result<()> {
         )?;
     } else if !scan.has_whole_volumes() {
         println!(rt;
-            "all files and all {recovery_count} recovery blocks are whole, but a volume is damaged: make the volumes again, with create --force or split --force"
+            "all files and all {recovery_count} recovery blocks are whole, but a volume is damaged or cannot be read: make the volumes again, with create --force or split --force"
         )?;
     } else {
         println!(rt; "all files and all {recovery_count} recovery blocks are whole")?;
@@ -163,6 +163,20 @@ fn files_json(alloc: Global, scan: &Scan) -> std::result::Result<Vec<Value>, ser
     Ok(files)
 }
 
+// Appends the volumes that cannot be read, as JSON.
+fn add_unreadable(
+    alloc: Global,
+    scan: &Scan,
+    volumes: &mut Vec<Value>,
+) -> std::result::Result<(), serde_json::Error> {
+    for path in &scan.unreadable {
+        let name = path.as_str();
+        let value = json!(in alloc; {"name": name, "state": "unreadable"})?;
+        volumes.push(value).map_err(AllocError::from)?;
+    }
+    Ok(())
+}
+
 // Returns the volumes with their states as JSON.
 fn volumes_json(alloc: Global, scan: &Scan) -> std::result::Result<Vec<Value>, serde_json::Error> {
     let mut volumes = Vec::new(alloc);
@@ -177,6 +191,7 @@ fn volumes_json(alloc: Global, scan: &Scan) -> std::result::Result<Vec<Value>, s
         let value = json!(in alloc; {"name": name, "state": word})?;
         volumes.push(value).map_err(AllocError::from)?;
     }
+    add_unreadable(alloc, scan, &mut volumes)?;
     Ok(volumes)
 }
 

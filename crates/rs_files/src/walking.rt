@@ -46,17 +46,17 @@ fn folder_of(path: &str) -> &str {
 
 /// Finds all regular files at the paths and below them, in order of their names.
 ///
-/// The file with the identity `written` is the old volume, which the new volume replaces. Below a path, it is left out.
+/// The files with the identities `written` are old volumes, which new volumes replace. Below a path, they are left out.
 ///
 /// # Errors
 ///
 /// Fails if there is no path. Then, for each path in turn, fails if the path is not in the folder of the first path, if
-/// the path is the old volume, if a file or folder cannot be read, or if the name of a file is not allowed.
+/// the path is an old volume, if a file or folder cannot be read, or if the name of a file is not allowed.
 /// At the end, fails if a file is given twice. Every step fails if memory cannot be allocated.
 pub fn find<R: Runtime + AllocGlobal>(
     rt: &R,
     paths: &[String],
-    written: Option<Identity>,
+    written: &[Identity],
 ) -> Result<Found> {
     let alloc = rt.alloc();
     let Some(first) = paths.first() else {
@@ -70,7 +70,9 @@ pub fn find<R: Runtime + AllocGlobal>(
             bail!("the files must be in one folder: give that folder, or the files in it");
         }
         if is_written(rt, path, written) {
-            bail!("{path} is the volume itself: name another volume with -o, or another file");
+            bail!(
+                "{path} is a volume that is written: name another place with -o, or another file"
+            );
         }
         walk(rt, path, name_in_set(path), written, &mut files)?;
     }
@@ -106,7 +108,7 @@ fn walk<R: Runtime + AllocGlobal>(
     rt: &R,
     path: &str,
     name: &str,
-    written: Option<Identity>,
+    written: &[Identity],
     files: &mut Vec<FileEntry>,
 ) -> Result<()> {
     let alloc = rt.alloc();
@@ -128,7 +130,7 @@ fn walk<R: Runtime + AllocGlobal>(
 fn visit<R: Runtime + AllocGlobal>(
     rt: &R,
     next: &Waiting,
-    written: Option<Identity>,
+    written: &[Identity],
     waiting: &mut Vec<Waiting>,
     files: &mut Vec<FileEntry>,
 ) -> Result<()> {
@@ -152,9 +154,15 @@ fn visit<R: Runtime + AllocGlobal>(
     Ok(())
 }
 
-// Returns whether a path leads to the file with the identity `written`.
-fn is_written<R: Runtime>(rt: &R, path: &str, written: Option<Identity>) -> bool {
-    written.is_some() && identity_of(rt, path) == written
+// Returns whether a path leads to one of the files with the identities `written`.
+fn is_written<R: Runtime>(rt: &R, path: &str, written: &[Identity]) -> bool {
+    if written.is_empty() {
+        return false;
+    }
+    match identity_of(rt, path) {
+        Some(own) => written.iter().any(|other| *other == own),
+        None => false,
+    }
 }
 
 // Appends the entries of a folder to `waiting`, except for symbolic links.
