@@ -31,6 +31,7 @@ pub mod Signs
 pub mod Halving
 pub mod Convolution
 pub mod LogWalsh
+pub mod Logarithms
 pub mod Restored
 pub mod Division
 pub mod ZerosPast

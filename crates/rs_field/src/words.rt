@@ -3,6 +3,7 @@
 mod fwht;
 pub mod lent_tables;
 pub mod locating;
+pub(crate) mod logarithms;
 mod mul128;
 mod mul16;
 mod powers;

@@ -29,7 +29,7 @@ use Rattle.rs_field.proofs.of_code.Agreement.{consistent_exactly, restored_colum
 use Rattle.rs_rate.specs.declared.values.configuration.Configuration.{Configuration}
 use Rattle.rs_rate.specs.Configured.{configuration_at, rate_configuration}
 use Rattle.rs_rate.specs.DecoderView.{state_over}
-use Rattle.rs_rate.specs.Decoding.{located_word}
+use Rattle.rs_rate.specs.Decoding.{RestoresWords, SumsWords, located_word}
 use Rattle.rs_rate.specs.Marks.{erasure, shards_by_row, restored_by_row, originals_in, recovery_in, HoldGiven}
 use Rattle.rs_rate.specs.ObjectLaws.{all-up_to}
 use Rattle.rs_rate.specs.SetUp.{IsSetUp}
@@ -103,23 +103,26 @@ module _ (rate : Rate) (k r size surplus : ℕ) (marks new : List Bool) (locator
   module _ (agrees : Bool)
       (d : IsDecoded (rate_configuration rate k r size) marks new locator surplus before after agrees) where
     -- Some message agrees exactly if the last rows are zero.
-    agrees_exactly : IsConsistent (state_before rate (rate_configuration rate k r size) marks before)
-        ↔ (agrees ≡ true)
-    agrees_exactly =
-        let checked = d.restores.restored.found.checked in
+    agrees_exactly : RestoresWords (rate_configuration rate k r size) marks locator surplus
+        (word_in before (row_len size)) d.restores.words agrees
+        → IsConsistent (state_before rate (rate_configuration rate k r size) marks before) ↔ (agrees ≡ true)
+    agrees_exactly restored =
+        let checked = restored.found.checked in
         let exact = consistent_exactly (configuration rate k r size)
         (originals_in (rate_configuration rate k r size) (shards_by_row marks before size))
         (recovery_in (rate_configuration rate k r size) (shards_by_row marks before size))
         (erasure (frame_of rate k r) marks) (words_given marks before size)
         (λ j. located_word marks locator (word_in before (row_len size) (j / 32) (j % 32)))
-        (λ j. d.restores.restored.coefficients (j / 32) (j % 32))
-        (are_columns rate k r size surplus marks new locator before after agrees d) surplus
+        (λ j. restored.coefficients (j / 32) (j % 32))
+        (are_columns rate k r size surplus marks new locator before after agrees d restored) surplus
         (given_count rate k r size surplus marks new locator before after agrees d) in (
           λ some. checked.0 (λ i j past below inside. exact.0 some j i inside past below),
           λ yes. exact.1 (λ j i inside past below. checked.1 yes i j past below inside),
         )
 
-  module _ (d : IsDecoded (rate_configuration rate k r size) marks new locator surplus before after true) where
+  module _ (d : IsDecoded (rate_configuration rate k r size) marks new locator surplus before after true)
+      (restored : RestoresWords (rate_configuration rate k r size) marks locator surplus
+      (word_in before (row_len size)) d.restores.words true) where
     -- The restored row of a missing original holds the shard of a message that agrees.
     restored_shard : (message : List Shard) (i : ℕ)
         → IsAgreeing (state_before rate (rate_configuration rate k r size) marks before) message → i < k
@@ -131,7 +134,7 @@ module _ (rate : Rate) (k r size surplus : ℕ) (marks new : List Bool) (locator
         (a.shards.each i [] (subst (λ (n : ℕ). i < n) (sym a.shards.length_is) inside)) d.configured.even
         (λ j hj. d.restores.shards refl i j inside hj none
         ∙ in_column j hj
-        (d.restores.restored.revealed refl (j / 32) (j % 32) (omega (arith, hj)) (omega arith) i inside none))
+        (restored.revealed refl (j / 32) (j % 32) (omega (arith, hj)) (omega arith) i inside none))
       where
         below : original_row (frame_of rate k r) i < row_count (frame_of rate k r)
         below = let most = d.configured.own_rows in omega (arith, most, inside)
@@ -144,7 +147,7 @@ module _ (rate : Rate) (k r size surplus : ℕ) (marks new : List Bool) (locator
 
         in_column : (j : ℕ) → j < size / 2
             → (added : ℕ → ℕ) × IsDerivativeAdded (row_count (frame_of rate k r))
-            (d.restores.restored.coefficients (j / 32) (j % 32)) added
+            (restored.coefficients (j / 32) (j % 32)) added
             × (d.restores.words (j / 32) (j % 32) (original_row (frame_of rate k r) i)
             ≡ product (forward (row_count (frame_of rate k r)) 0 added (original_row (frame_of rate k r) i))
             (power (65535 - slice_index locator (original_row (frame_of rate k r) i))))
@@ -157,43 +160,106 @@ module _ (rate : Rate) (k r size surplus : ℕ) (marks new : List Bool) (locator
             (recovery_in (rate_configuration rate k r size) (shards_by_row marks before size))
             (erasure (frame_of rate k r) marks) (words_given marks before size)
             (λ n. located_word marks locator (word_in before (row_len size) (n / 32) (n % 32)))
-            (λ n. d.restores.restored.coefficients (n / 32) (n % 32))
-            (are_columns rate k r size surplus marks new locator before after true d) message added i j
+            (λ n. restored.coefficients (n / 32) (n % 32))
+            (are_columns rate k r size surplus marks new locator before after true d restored) message added i j
             (slice_index locator (original_row (frame_of rate k r) i)) (omega (arith, count)) a inside hj step entry
             (omega (arith, word))
             (located_at rate k r size surplus marks new locator before after true d
             (original_row (frame_of rate k r) i) below)
 
-  -- The result of a decode, by whether the last rows are zero.
-  by_answer : (agrees : Bool)
-      → IsDecoded (rate_configuration rate k r size) marks new locator surplus before after agrees
+  -- The result of a decode by a polynomial, by whether its last coefficients are zero.
+  by_polynomial : (agrees : Bool)
+      (d : IsDecoded (rate_configuration rate k r size) marks new locator surplus before after agrees)
+      → RestoresWords (rate_configuration rate k r size) marks locator surplus
+      (word_in before (row_len size)) d.restores.words agrees
       → AnswersOver rate (rate_configuration rate k r size) marks new before after agrees
-  by_answer true d =
+  by_polynomial true d restored =
       let c = rate_configuration rate k r size in
       let s = state_before rate c marks before in
       let count = given_count rate k r size surplus marks new locator before after true d in
-      let (message, agreeing) = (agrees_exactly true d).1 refl in
+      let (message, agreeing) = (agrees_exactly true d restored).1 refl in
       record {
         message = message;
         agrees = agreeing;
         only = λ other also. one_message (configuration rate k r size) s.originals s.recovery other message
             supported d.configured.even (omega (arith, count)) also agreeing;
         missing = restores_missing rate (rate_configuration rate k r size) marks new before after message d.marked
-            (λ i inside none. restored_shard d message i agreeing inside none);
+            (λ i inside none. restored_shard d restored message i agreeing inside none);
       }
-  by_answer false d = λ own other given.
+  by_polynomial false d restored = λ own other given.
       let count = given_count rate k r size surplus marks new locator before after false d in
       let some : 0 < surplus = elim (cases_eq surplus 0) [
         | inl none ↦ absurd (true≢false
-            (sym (d.restores.restored.found.checked.0
+            (sym (restored.found.checked.0
             (λ i j past below inside. absurd (let no : ⊥ = omega (arith, none, past, below) in no)))))
         | inr some ↦ omega arith
       ] in
       record {
         refusal = ap₂ InconsistentShards given.originals_counted given.recovery_counted;
         surplus = omega (arith, count, some);
-        none = λ consistent. true≢false (sym ((agrees_exactly false d).0 consistent));
+        none = λ consistent. true≢false (sym ((agrees_exactly false d restored).0 consistent));
       }
+
+  module _ (d : IsDecoded (rate_configuration rate k r size) marks new locator surplus before after true)
+      (exact : surplus ≡ 0)
+      (sums : SumsWords (rate_configuration rate k r size) marks locator (word_in before (row_len size))
+      d.restores.words) where
+    -- The row of a missing original holds the shard of a message that agrees.
+    summed_shard : (message : List Shard) (i : ℕ)
+        → IsAgreeing (state_before rate (rate_configuration rate k r size) marks before) message → i < k
+        → is_marked marks (original_row (frame_of rate k r) i) ≡ false
+        → shard_in_order after size (original_row (frame_of rate k r) i) ≡ shard_at message i
+    summed_shard message i a inside none =
+        let frame = frame_of rate k r in
+        let count = given_count rate k r size surplus marks new locator before after true d in
+        shard_from_columns size (shard_in_order after size (original_row (frame_of rate k r) i)) (shard_at message i)
+        (d.sized i inside)
+        (a.shards.each i [] (subst (λ (n : ℕ). i < n) (sym a.shards.length_is) inside)) d.configured.even
+        (λ j hj. d.restores.shards refl i j inside hj none
+        ∙ sums (j / 32) (j % 32) i (omega (arith, hj)) (omega arith) inside none
+        ∙ direct_sum-same (row_count frame) (is_marked marks) (λ x. slice_index locator x)
+        (word_in before (row_len size) (j / 32) (j % 32)) (words_given marks before size j) (original_row frame i)
+        (λ x hx is. sym (words_given-at marks before size j x true is
+        ∙ column-put before size x j d.configured.even hj))
+        ∙ direct_original (configuration rate k r size)
+        (originals_in (rate_configuration rate k r size) (shards_by_row marks before size))
+        (recovery_in (rate_configuration rate k r size) (shards_by_row marks before size))
+        (erasure frame marks) (λ x. slice_index locator x) (is_marked marks) (words_given marks before size)
+        message i j (are_direct rate k r size surplus marks new locator before after true d) (omega (arith, count))
+        a hj inside
+        (given-marked marks before size frame.originals_from k i inside ∙ none))
+
+    -- The result of a decode by direct sums: as many shards as originals are given, so some message agrees with them.
+    by_sums : AnswersOver rate (rate_configuration rate k r size) marks new before after true
+    by_sums =
+        let c = rate_configuration rate k r size in
+        let s = state_before rate c marks before in
+        let frame = frame_of rate k r in
+        let count = given_count rate k r size surplus marks new locator before after true d in
+        let (message, agreeing) = any_consistent (configuration rate k r size) s.originals s.recovery supported
+        d.configured.even (given_sized marks before size d.given.sized frame.originals_from k)
+        (given_sized marks before size d.given.sized frame.recovery_from r) (omega (arith, count, exact)) in
+        record {
+          message = message;
+          agrees = agreeing;
+          only = λ other also. one_message (configuration rate k r size) s.originals s.recovery other message
+              supported d.configured.even (omega (arith, count)) also agreeing;
+          missing = restores_missing rate c marks new before after message d.marked
+              (λ i inside none. summed_shard message i agreeing inside none);
+        }
+
+  -- The result of a decode, by the way in which the missing words were found.
+  by_answer : (agrees : Bool)
+      → IsDecoded (rate_configuration rate k r size) marks new locator surplus before after agrees
+      → AnswersOver rate (rate_configuration rate k r size) marks new before after agrees
+  by_answer true d = elim d.restores.found [
+    | inl restored ↦ by_polynomial true d restored
+    | inr summed ↦ by_sums d summed.0 summed.2
+  ]
+  by_answer false d = elim d.restores.found [
+    | inl restored ↦ by_polynomial false d restored
+    | inr summed ↦ absurd (true≢false (sym summed.1))
+  ]
 
 -- The result of a decode follows from what it did to the rows.
 pub decode_answers : (rate : Rate) (c : Configuration) (marks new : List Bool) (locator : List ℕ) (surplus : ℕ)

@@ -3,7 +3,7 @@
 use Rattle.std.proofs.Common.{◌≡◌, ℕ, ◌+◌, ◌/◌, ◌%◌, ◌<◌, ◌≤◌, ◌⊎◌, List, Bool, true, false, cond, sym, ap, ap₂, ◌∙◌}
 use Rattle.std.proofs.Common.{arith, inl, inr, refl, subst}
 use Rattle.std.specs.Prelude.{slice_index, Some, None, is_some, not, unwrap_or}
-use Rattle.std.proofs.lemmas.Bool.{cases_lt}
+use Rattle.std.proofs.lemmas.Bool.{cases_lt, cases_Bool}
 use Rattle.std.proofs.lemmas.Option.{none-some}
 use Rattle.rs_field.specs.words.Field.{product, power}
 use Rattle.rs_field.specs.words.Locator.{log_sum}
@@ -18,11 +18,13 @@ use Rattle.rs_field.specs.rows.MarkedRows.{is_marked}
 use Rattle.rs_field.proofs.of_code.Columns.{column_lt}
 use Rattle.rs_field.proofs.of_words.ExactCheck.{AreLocated, are_located}
 use Rattle.rs_field.proofs.of_words.LocatorProduct.{same_residue}
-use Rattle.rs_field.proofs.of_code.AgreeingMessages.{AreSized}
+use Rattle.rs_field.proofs.of_code.AgreeingMessages.{AreSized, HasWords}
+use Rattle.rs_field.proofs.of_code.ErasedCount.{AreErasures}
+use Rattle.rs_field.proofs.of_code.DirectColumn.{AreDirectColumns}
 use Rattle.rs_field.proofs.of_code.Agreement.{AreColumns}
 use Rattle.rs_rate.specs.declared.values.configuration.Configuration.{Configuration}
 use Rattle.rs_rate.specs.Configured.{IsConfigured, rate_configuration}
-use Rattle.rs_rate.specs.Decoding.{IsLocatorOf, RestoresShards, located_word}
+use Rattle.rs_rate.specs.Decoding.{IsLocatorOf, RestoresWords, RestoresShards, located_word}
 use Rattle.rs_rate.specs.Marks.{erasure, shards_by_row, part, originals_in, recovery_in, HoldGiven}
 use Rattle.rs_rate.specs.ShardRows.{word_in, shard_laid_out, shard_in_order}
 use Rattle.rs_rate.proofs.ShardRowsLemmas.{column-put}
@@ -161,34 +163,52 @@ module _ (rate : Rate) (k r size surplus : ℕ) (marks new : List Bool) (locator
       unmarked x (d.given.placed x (inr (omega arith))
       (elim f.order [ inl low ↦ inl (omega (arith, low.1)) | inr high ↦ inr (omega (arith, high.0, high.1)) ]))
 
+  -- The given words are words of the given shards.
+  rows_have : (j : ℕ) → HasWords (frame_of rate k r)
+      (originals_in (rate_configuration rate k r size) (shards_by_row marks before size))
+      (recovery_in (rate_configuration rate k r size) (shards_by_row marks before size)) j
+      (words_given marks before size j)
+  rows_have j = record {
+    own = given_words marks before size (frame_of rate k r).originals_from k j;
+    coded = given_words marks before size (frame_of rate k r).recovery_from r j;
+  }
+
+  -- The marks determine which rows are erased.
+  rows_erased : AreErasures (frame_of rate k r) k r
+      (originals_in (rate_configuration rate k r size) (shards_by_row marks before size))
+      (recovery_in (rate_configuration rate k r size) (shards_by_row marks before size))
+      (erasure (frame_of rate k r) marks)
+  rows_erased =
+      let frame = frame_of rate k r in
+      are_erased frame marks k r (places-known (rate_configuration rate k r size) d.configured)
+      (originals_in (rate_configuration rate k r size) (shards_by_row marks before size))
+      (recovery_in (rate_configuration rate k r size) (shards_by_row marks before size))
+      (λ p not_own not_coded. unmarked p (d.given.placed p not_own not_coded))
+      (given-marked marks before size frame.originals_from k)
+      (given-marked marks before size frame.recovery_from r)
+
   -- The columns of the rows that were decoded, with the coefficients of the polynomial through the located words.
-  pub are_columns : AreColumns (configuration rate k r size)
+  pub are_columns : (restored : RestoresWords (rate_configuration rate k r size) marks locator surplus
+      (word_in before (row_len size)) d.restores.words agrees)
+      → AreColumns (configuration rate k r size)
       (originals_in (rate_configuration rate k r size) (shards_by_row marks before size))
       (recovery_in (rate_configuration rate k r size) (shards_by_row marks before size))
       (erasure (frame_of rate k r) marks) (words_given marks before size)
       (λ j. located_word marks locator (word_in before (row_len size) (j / 32) (j % 32)))
-      (λ j. d.restores.restored.coefficients (j / 32) (j % 32))
-  are_columns =
+      (λ j. restored.coefficients (j / 32) (j % 32))
+  are_columns restored =
       let frame = frame_of rate k r in
-      let found = d.restores.restored.found in
+      let found = restored.found in
       let places = places-known (rate_configuration rate k r size) d.configured in
       record {
         even = d.configured.even;
         own_sized = given_sized marks before size d.given.sized frame.originals_from k;
         coded_sized = given_sized marks before size d.given.sized frame.recovery_from r;
-        has = λ j inside. record {
-          own = given_words marks before size frame.originals_from k j;
-          coded = given_words marks before size frame.recovery_from r j;
-        };
+        has = λ j inside. rows_have j;
         each = λ j inside.
             record {
               is_frame = places;
-              erasures = are_erased frame marks k r places
-                  (originals_in (rate_configuration rate k r size) (shards_by_row marks before size))
-                  (recovery_in (rate_configuration rate k r size) (shards_by_row marks before size))
-                  (λ p not_own not_coded. unmarked p (d.given.placed p not_own not_coded))
-                  (given-marked marks before size frame.originals_from k)
-                  (given-marked marks before size frame.recovery_from r);
+              erasures = rows_erased;
               are_words = λ x hx. given_lt marks before size d.given.sized j x;
               known = λ x above below. words_given-at marks before size j x false (zero_row x above below);
               are_located = located_words marks before size (row_count frame) j locator (erasure frame marks)
@@ -197,6 +217,34 @@ module _ (rate : Rate) (k r size surplus : ℕ) (marks new : List Bool) (locator
               back = λ x hx. sym (found.of_located (j / 32) (j % 32) (omega (arith, inside)) (omega arith) x hx);
             };
       }
+
+  -- The columns of the rows, from which missing words are summed.
+  pub are_direct : AreDirectColumns (configuration rate k r size)
+      (originals_in (rate_configuration rate k r size) (shards_by_row marks before size))
+      (recovery_in (rate_configuration rate k r size) (shards_by_row marks before size))
+      (erasure (frame_of rate k r) marks) (λ x. slice_index locator x) (is_marked marks)
+      (words_given marks before size)
+  are_direct = record {
+    has = λ j inside. rows_have j;
+    each = λ j inside.
+        record {
+          is_frame = places-known (rate_configuration rate k r size) d.configured;
+          erasures = rows_erased;
+          known = λ x above below. words_given-at marks before size j x false (zero_row x above below);
+          are_received = record {
+            added = λ x hx none. elim (cases_Bool (is_marked marks x)) [
+              | inl is ↦ inl is
+              | inr not ↦ inr (words_given-at marks before size j x false not)
+            ];
+            erased = λ x hx one. elim (cases_Bool (is_marked marks x)) [
+              | inl is ↦ let none = erased-given (frame_of rate k r) marks x is in absurd (omega (arith, one, none))
+              | inr not ↦ not
+            ];
+          };
+          logarithms = d.is_locator.values;
+          most = λ x hx. omega (arith, d.is_locator.are_words x);
+        };
+  }
 
   -- The number of given shards.
   pub given_count : count_below k (originals_in (rate_configuration rate k r size) (shards_by_row marks before size))

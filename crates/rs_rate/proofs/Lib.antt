@@ -4,6 +4,8 @@ pub mod StateLemmas
 pub mod LowCoding
 pub mod RestoringRows
 pub mod RowMaps
+pub mod HowMany
+pub mod DirectRows
 pub mod AddedShards
 pub mod ResultLemmas
 pub mod Erased

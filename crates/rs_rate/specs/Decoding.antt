@@ -1,8 +1,9 @@
 -- The relation of the words in a decoder's rows to the words of the missing originals.
-use Rattle.std.specs.Prelude.{◌≡◌, ℕ, ◌+◌, ◌-◌, ◌*◌, ◌/◌, ◌%◌, ◌<◌, ◌≤◌, ◌↔◌, if◌then◌else◌, Bool, true, false, List}
+use Rattle.std.specs.Prelude.{◌≡◌, ℕ, ◌+◌, ◌-◌, ◌*◌, ◌/◌, ◌%◌, ◌<◌, ◌≤◌, ◌↔◌, ◌⊎◌, not, if◌then◌else◌, Bool, true, false, List}
 use Rattle.std.specs.Prelude.{slice_index}
 use Rattle.rs_field.specs.words.StepBounds.{transform_steps}
 use Rattle.rs_field.specs.words.Derivative.{IsDerivativeAdded}
+use Rattle.rs_field.specs.words.DirectSum.{direct_sum}
 use Rattle.rs_field.specs.words.Field.{product, power}
 use Rattle.rs_field.specs.code.Column.{column}
 use Rattle.rs_field.specs.rows.Layout.{row_len}
@@ -18,7 +19,7 @@ use Rattle.rs_rate.specs.declared.values.configuration.Configuration.{Configurat
 use Rattle.rs_rate.specs.declared.rows.marks.Marks.{Marks}
 use Rattle.rs_rate.specs.declared.rows.marks.MarkedShards.TheVariants.{Given}
 use Rattle.rs_rate.specs.declared.values.configuration.Tally.{Tally}
-use Rattle.rs_rate.specs.Marks.{given_marks, mark_count, erasure}
+use Rattle.rs_rate.specs.Marks.{given_marks, mark_count, how_many, erasure}
 use Rattle.rs_rate.specs.Configured.{IsConfigured, rows_to_decode}
 use Rattle.rs_rate.specs.ShardRows.{word_in, shard_in_order}
 
@@ -33,12 +34,17 @@ pub record AreRowsOf (c : Configuration) (rows : ShardsRefMut) : Type 0 where
   pub count : rows.shard_count ≡ rows_to_decode c
   pub len : rows.shard_len_64 ≡ row_len c.shard_bytes
 
--- the conditions of a decode: the configuration is valid, each row has a mark of given shards, all originals are given
--- if none is missing, and there are at most as many surplus shards as rows
+-- the conditions of a decode: the configuration is valid, each row has a mark of given shards, the tally counts these
+-- marks, all originals are given if none is missing, and there are at most as many surplus shards as rows
 pub record CanBeRestored (tally : Tally) (marks : Marks) : Type 0 where
   pub configured : IsConfigured tally.configuration
   pub marked : mark_count marks ≡ rows_to_decode tally.configuration
   pub shards : marks.shards ≡ Given
+  pub given : how_many (rows_to_decode tally.configuration) (is_marked (given_marks marks))
+      ≡ tally.configuration.original_count + tally.surplus
+  pub missing : how_many tally.configuration.original_count
+      (λ i. not (is_marked (given_marks marks) (original_row tally.configuration.frame i)))
+      ≡ tally.missing
   pub none_missing : tally.missing ≡ 0 → (i : ℕ) → i < tally.configuration.original_count
       → is_marked (given_marks marks) (original_row tally.configuration.frame i) ≡ true
   pub few_surplus : tally.surplus ≤ rows_to_decode tally.configuration
@@ -49,6 +55,10 @@ abbrev pub restore_steps : Configuration → ℕ → ℕ
 restore_steps c surplus =
     let w = rows_to_decode c in
     w + (transform_steps w + (surplus + (2 * transform_steps w + c.original_count)))
+
+-- the row steps of direct sums: for each missing original, one to clear its row and one for each original
+abbrev pub sum_steps : Configuration → ℕ → ℕ
+sum_steps c missing = missing * (1 + c.original_count)
 
 -- the located word of row p: if its shard is given, the word times the generator to the power of the locator at p, else
 -- zero
@@ -83,11 +93,25 @@ pub record RestoresWords (c : Configuration) (marks : List Bool) (locator : List
   pub revealed : agrees ≡ true → (k s : ℕ) → k < row_len c.shard_bytes → s < 32
       → AreRevealed c marks locator (coefficients k s) (new k s)
 
--- the words in the chunks of the rows are restored, and the rows of the missing originals hold shards with these words
+-- each missing original has in its row the direct sums over the rows of the given shards
+abbrev pub SumsWords : Configuration → List Bool → List ℕ → (ℕ → ℕ → ℕ → ℕ) → (ℕ → ℕ → ℕ → ℕ) → Type 0
+SumsWords c marks locator old new =
+    (k s i : ℕ) → k < row_len c.shard_bytes → s < 32 → i < c.original_count → let p = original_row c.frame i in
+    is_marked marks p ≡ false
+    → new k s p ≡ direct_sum (rows_to_decode c) (is_marked marks) (λ x. slice_index locator x) (old k s) p
+
+-- the missing words are restored from a polynomial, or they are direct sums, if there are no surplus shards
+abbrev pub FindsWords : Configuration → List Bool → List ℕ → ℕ → (ℕ → ℕ → ℕ → ℕ) → (ℕ → ℕ → ℕ → ℕ) → Bool → Type 0
+FindsWords c marks locator surplus old new agrees =
+    RestoresWords c marks locator surplus old new agrees
+    ⊎ ((surplus ≡ 0) × (agrees ≡ true) × SumsWords c marks locator old new)
+
+-- the words of the missing originals are found in the chunks of the rows, and the rows of the missing originals hold
+-- shards with these words
 pub record RestoresShards (c : Configuration) (marks : List Bool) (locator : List ℕ) (surplus : ℕ) (old new : Chunks)
     (agrees : Bool) : Type 0 where
   pub words : ℕ → ℕ → ℕ → ℕ
-  pub restored : RestoresWords c marks locator surplus
+  pub found : FindsWords c marks locator surplus
       (word_in old (row_len c.shard_bytes)) words agrees
   pub shards : agrees ≡ true → (i j : ℕ) → i < c.original_count
       → j < c.shard_bytes / 2 → is_marked marks (original_row c.frame i) ≡ false

@@ -1,5 +1,5 @@
 -- The marks of a decoder's rows, and the shards in marked rows.
-use Rattle.std.specs.Prelude.{◌≡◌, ℕ, ◌+◌, ◌<◌, ◌≤◌, ◌⊎◌, nat_lt, nat_le, ◌&&◌, ◌||◌, if◌then◌else◌, Bool, false, not}
+use Rattle.std.specs.Prelude.{◌≡◌, ℕ, zero, suc, ◌+◌, ◌<◌, ◌≤◌, ◌⊎◌, nat_lt, nat_le, ◌&&◌, ◌||◌, if◌then◌else◌, Bool, false, not}
 use Rattle.std.specs.Prelude.{List, [], Some, None, vec_len}
 use Rattle.std.specs.Vec.{vec_capacity}
 use Rattle.rs_field.specs.code.Column.{IsShard}
@@ -56,6 +56,11 @@ pub record WantsMissing (c : Configuration) (old new : Marks) : Type 0 where
       → is_marked (restored_marks new) p ≡ false
   pub length : mark_count new ≡ mark_count old
   pub room : mark_room new ≡ mark_room old
+
+-- how many of the numbers below n have a property
+unfoldable pub how_many : ℕ → (ℕ → Bool) → ℕ
+how_many zero has = 0
+how_many (suc n) has = how_many n has + (if has n then 1 else 0)
 
 -- the shards of marked rows, by their rows
 abbrev pub marked_shards : List Bool → (ℕ → Shard) → Shards

@@ -1,5 +1,6 @@
 //! The passes over rows that encode and decode. Above the floor of rows.
 pub mod decoding;
+pub mod direct;
 pub mod encoding;
 pub mod high_encoding;
 pub mod low_encoding;

@@ -94,16 +94,35 @@ without_root y n (c ∷ cs) hy hn size words root =
 -- ---- the terms
 
 -- A received point adds its word times its factor.
-direct_term-received : (received : ℕ → Bool) (locator words : ℕ → ℕ) (y x : ℕ) → received x ≡ true
+pub direct_term-received : (received : ℕ → Bool) (locator words : ℕ → ℕ) (y x : ℕ) → received x ≡ true
     → direct_term received locator words y x ≡ product (words x) (power (direct_factor locator x y))
 direct_term-received received locator words y x is =
     ap (λ (t : Bool). cond t (product (words x) (power (direct_factor locator x y))) 0) is
 
 -- A point that is not received adds 0.
-direct_term-other : (received : ℕ → Bool) (locator words : ℕ → ℕ) (y x : ℕ) → received x ≡ false
+pub direct_term-other : (received : ℕ → Bool) (locator words : ℕ → ℕ) (y x : ℕ) → received x ≡ false
     → direct_term received locator words y x ≡ 0
 direct_term-other received locator words y x is =
     ap (λ (t : Bool). cond t (product (words x) (power (direct_factor locator x y))) 0) is
+
+-- A term depends only on the word of its point, if the point is received.
+pub direct_term-same : (received : ℕ → Bool) (locator f g : ℕ → ℕ) (y x : ℕ) → (received x ≡ true → f x ≡ g x)
+    → direct_term received locator f y x ≡ direct_term received locator g y x
+direct_term-same received locator f g y x same = elim (cases_Bool (received x)) [
+  | inl is ↦ direct_term-received received locator f y x is
+      ∙ ap (λ w. product w (power (direct_factor locator x y))) (same is)
+      ∙ sym (direct_term-received received locator g y x is)
+  | inr not ↦ direct_term-other received locator f y x not ∙ sym (direct_term-other received locator g y x not)
+]
+
+-- The sum depends only on the words of the received points.
+pub direct_sum-same : (n : ℕ) (received : ℕ → Bool) (locator f g : ℕ → ℕ) (y : ℕ)
+    → ((x : ℕ) → x < n → received x ≡ true → f x ≡ g x)
+    → direct_sum n received locator f y ≡ direct_sum n received locator g y
+unfolding direct_sum
+direct_sum-same n received locator f g y same =
+    sum_below-same n (λ x. direct_term received locator f y x) (λ x. direct_term received locator g y x)
+    (λ x hx. direct_term-same received locator f g y x (same x hx))
 
 -- The powers of 65535 minus a logarithm undo the power of the logarithm.
 undone : (a d b : ℕ) → d ≤ 65535 → b ≤ 65535

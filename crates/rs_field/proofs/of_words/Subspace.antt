@@ -54,7 +54,7 @@ subspace_from_zero e x =
     ∙ sym (subspace_is e x)
 
 -- The product x * (x + 1) is x shifted right by one bit.
-times_next : (u : ℕ) → u < 2 ^ 16 → product u (bit_xor u 1) ≡ u / 2
+pub times_next : (u : ℕ) → u < 2 ^ 16 → product u (bit_xor u 1) ≡ u / 2
 times_next u hu =
     product_xor_right u u 1 ∙ ap (bit_xor (product u u)) (product_one u hu) ∙ square_and_self u hu
 

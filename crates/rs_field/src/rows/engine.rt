@@ -1,7 +1,7 @@
 //! The trait of an engine.
 ghost use Rattle.std.specs.Prelude.{◌≡◌, ℕ, ◌+◌, ◌%◌, ◌^◌, ◌<◌, ◌≤◌, true, length, slice_index};
 ghost use Rattle.std.specs.Prelude.{bit_xor};
-ghost use Rattle.rs_field.specs.words.Field.{product, power};
+ghost use Rattle.rs_field.specs.words.Field.{product, power, log};
 ghost use Rattle.rs_field.specs.words.Tables.{times_factor};
 ghost use Rattle.rs_field.specs.rows.MarkedRows.{is_marked, OthersAreZero};
 ghost use Rattle.rs_field.specs.words.Transform.{forward};
@@ -21,7 +21,7 @@ use crate::words::{GF_MODULUS, GF_ORDER, GfElement, Steps};
 /// codes"), in the form of Leopard-RS. They lead from coefficients in the basis of subspace polynomials to values on a coset,
 /// for each symbol by itself. Every call succeeds and allocates nothing.
 ///
-/// A type that provides `fft`, `ifft`, `mul` and `eval_poly` is an engine. The other four calls have default bodies.
+/// A type that provides `fft`, `ifft`, `mul` and `eval_poly` is an engine. The other five calls have default bodies.
 pub trait Engine: Drop {
     /// Transforms the `size` rows from `pos` on forward, at `skew_delta`.
     ///
@@ -193,5 +193,18 @@ pub trait Engine: Drop {
         padded[..count].copy_from_slice(erasures);
         self.eval_poly(steps, &mut padded, count);
         erasures.copy_from_slice(&padded[..count]);
+    }
+
+    /// Sets each entry of `logs` to the logarithm of its index, except for entry 0, and returns true. Or returns false if
+    /// the engine has no logarithms. There are at most 65536 entries.
+    ///
+    /// A decoder needs logarithms for direct sums. If an engine has none, its decoders always use transforms. The default
+    /// body returns false.
+    fn logarithms(&self, logs: &mut [GfElement]) -> bool
+        requires few { length logs.old ≤ 65536 }
+        ensures values { result ≡ true
+            → (z : ℕ) → 0 < z → z < length logs.old → slice_index logs.new z ≡ log z }
+    {
+        false
     }
 }

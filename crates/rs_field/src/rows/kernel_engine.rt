@@ -11,6 +11,7 @@ use super::kernel::Kernel;
 use super::layers::Direction::{Backward, Forward};
 use super::marked_rows::UsedRows;
 use super::transform::transform;
+use crate::words::logarithms::put_logarithms;
 use crate::words::{GfElement, Steps, locating};
 
 impl<K: Kernel> Engine for K {
@@ -93,5 +94,10 @@ impl<K: Kernel> Engine for K {
     {
         let log_walsh = self.tables().log_walsh_below(erasures.len());
         locating::locate(steps, erasures, log_walsh);
+    }
+
+    fn logarithms(&self, logs: &mut [GfElement]) -> bool {
+        put_logarithms(logs, self.tables().skew);
+        true
     }
 }

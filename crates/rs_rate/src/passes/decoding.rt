@@ -11,11 +11,13 @@ ghost use Rattle.rs_rate.specs.DecoderRoom.{memory_room};
 ghost use Rattle.rs_field.specs.code.Frame.{original_row, row_count};
 ghost use Rattle.rs_rate.specs.Configured.{configuration_at, IsConfigured, rows_to_decode};
 ghost use Rattle.rs_rate.specs.DecoderView.{decoder_state, restored_by_rows, restored_from};
-ghost use Rattle.rs_rate.specs.Decoding.{CanBeRestored, IsLocatorOf, RestoresShards};
+ghost use Rattle.rs_rate.specs.Decoding.{AreRowsOf, CanBeRestored, IsLocatorOf, restore_steps, FindsWords, RestoresShards};
+ghost use Rattle.rs_field.specs.rows.View.{word, SameExtent};
 ghost use Rattle.rs_rate.specs.Marks.{erasure, given_marks, restored_marks, mark_count, WantsMissing};
 ghost use Rattle.rs_rate.specs.SetUp.{IsSetUp};
 ghost use Rattle.rs_rate.specs.ShardRows.{chunk_count, shard_laid_out, shard_in_order};
 
+use crate::passes::direct::sum_rows;
 use crate::passes::restoring::restore_rows;
 use crate::rows::decoder_work::{DecoderMemory, DecoderRows};
 use crate::rows::marks::Marks;
@@ -160,6 +162,7 @@ fn restore_chunks<E: Engine>(
         (rows_to_decode tally.configuration) tally.configuration.shard_bytes ≤ length chunks.old }
     requires facts { CanBeRestored tally marks.old }
     requires located { length locator.now ≡ rows_to_decode tally.configuration }
+    requires words { (x : ℕ) → slice_index locator.now x < 65536 }
     ensures marks { WantsMissing tally.configuration marks.old marks.new }
     ensures shards { RestoresShards tally.configuration
         (given_marks marks.old) locator.now tally.surplus chunks.old chunks.new result }
@@ -169,11 +172,39 @@ fn restore_chunks<E: Engine>(
     let configuration = tally.configuration;
     let len = row_len(configuration.shard_bytes);
     let mut rows = ShardsRefMut::new(configuration.frame.row_count(), len, chunks);
-    let agrees = restore_rows(engine, steps, &mut rows, marks, locator, tally);
+    let agrees = find_words(engine, steps, &mut rows, marks, locator, tally);
     if agrees {
         move_restored_tails(steps, chunks, marks, configuration);
     }
     agrees
+}
+
+// Restores the words of the missing originals if some message agrees with all given shards, and returns whether one does.
+// Few missing originals are direct sums, others are values of a polynomial. Afterwards the marks are those of restored
+// originals.
+fn find_words<E: Engine>(
+    engine: &E,
+    steps: &mut Steps,
+    rows: &mut ShardsRefMut<'_>,
+    marks: &mut Marks,
+    locator: &[GfElement],
+    tally: Tally,
+) -> bool
+    requires rows { AreRowsOf tally.configuration rows.old }
+    requires facts { CanBeRestored tally marks.old }
+    requires located { length locator.now ≡ rows_to_decode tally.configuration }
+    requires words { (x : ℕ) → slice_index locator.now x < 65536 }
+    ensures extent { SameExtent rows.old rows.new }
+    ensures marks { WantsMissing tally.configuration marks.old marks.new }
+    ensures words { FindsWords tally.configuration (given_marks marks.old) locator.now tally.surplus
+        (word rows.old) (word rows.new) result }
+    ensures counts { CountsUpTo (restore_steps tally.configuration tally.surplus) 0 0 steps.old steps.new }
+{
+    if sum_rows(engine, steps, rows, marks, locator, tally) {
+        marks.want_missing(tally.configuration);
+        return true;
+    }
+    restore_rows(engine, steps, rows, marks, locator, tally)
 }
 
 // Moves the tails of the restored originals, and counts one row step for each of them.

@@ -1,4 +1,5 @@
-use Rattle.std.proofs.Common.{arith, sym, ◌∙◌}
+use Rattle.std.proofs.Common.{ℕ, Bool, arith, sym, ◌∙◌}
+use Rattle.std.specs.Prelude.{is_some}
 use Rattle.rs_field.proofs.of_code.Entries.{all_some}
 use Rattle.rs_rate.specs.Configured.{rate_of}
 use Rattle.rs_rate.specs.Entering.{given_rows}
@@ -6,7 +7,13 @@ use Rattle.rs_rate.specs.Marks.{given_marks, originals_in}
 use Rattle.rs_rate.specs.ShardRows.{shard_laid_out}
 use Rattle.rs_rate.proofs.DecodedColumns.{given-marked}
 use Rattle.rs_rate.proofs.FrameLemmas.{supported-in_field}
-use Rattle.rs_rate.proofs.RowMaps.{given_if_some, hold-most}
+use Rattle.rs_field.specs.code.Column.{Shard}
+use Rattle.rs_field.specs.code.Frame.{original_row}
+use Rattle.rs_field.specs.rows.MarkedRows.{is_marked}
+use Rattle.rs_rate.specs.Configured.{rows_to_decode}
+use Rattle.rs_rate.proofs.ConfiguredLemmas.{places-known}
+use Rattle.rs_rate.proofs.HowMany.{how_many-same, how_many-not, many_originals, many_rows}
+use Rattle.rs_rate.proofs.RowMaps.{given_if_some, hold-most, some-marked}
 use Rattle.rs_rate.proofs.rows.decoder_work.DecoderRows.tally.Goals as goal
 
 pub overflow_add-given : goal.overflow_add-given
@@ -35,12 +42,23 @@ returns-clause-facts c =
     let own = w.configuration in
     let rows = given_rows w.memory own.shard_bytes in
     let most = hold-most own w.originals_given w.recovery_given rows w.given in
+    let held : ℕ → Shard = shard_laid_out w.memory.chunks.items own.shard_bytes in
+    let frame = places-known own w.configured in
     let some = (supported-in_field (rate_of own) own.original_count own.recovery_count w.configured.supported).0 in
     record {
       configured = w.configured;
       marked = w.laid_out.marked;
       shards = given_if_some own w.originals_given w.recovery_given w.memory.marks
           (shard_laid_out w.memory.chunks.items own.shard_bytes) (omega (arith, some, c.requires)) w.given;
+      given = how_many-same (rows_to_decode own) (is_marked (given_marks w.memory.marks)) (λ p. is_some (rows p))
+          (λ p hp. sym (some-marked (given_marks w.memory.marks) held p))
+          ∙ many_rows own frame w.originals_given w.recovery_given rows w.given ∙ omega (arith, most.0, c.requires);
+      missing =
+          let has : ℕ → Bool = λ i. is_marked (given_marks w.memory.marks) (original_row own.frame i) in
+          let some = how_many-same own.original_count has (λ i. is_some (rows (original_row own.frame i)))
+          (λ i hi. sym (some-marked (given_marks w.memory.marks) held (original_row own.frame i)))
+          ∙ many_originals own frame w.originals_given w.recovery_given rows w.given in
+          omega (arith, how_many-not own.original_count has, some);
       none_missing = λ none i inside.
           sym (given-marked (given_marks w.memory.marks) w.memory.chunks.items own.shard_bytes own.frame.originals_from
           own.original_count i inside)
