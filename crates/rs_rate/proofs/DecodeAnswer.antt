@@ -36,8 +36,12 @@ use Rattle.rs_rate.specs.SetUp.{IsSetUp}
 use Rattle.rs_rate.specs.ShardRows.{word_in, shard_laid_out, shard_in_order}
 use Rattle.rs_rate.proofs.RowMaps.{marked-at, part-in, part-out}
 use Rattle.rs_rate.proofs.DecodedColumns.{IsDecoded, are_columns, given_count, given_some, given-marked, located_at, row_some}
-use Rattle.rs_rate.proofs.DecodedColumns.{words_given}
+use Rattle.rs_rate.proofs.DecodedColumns.{words_given, words_given-at, are_direct, given_sized}
 use Rattle.rs_rate.proofs.Erased.{erased-row}
+use Rattle.rs_rate.proofs.ShardRowsLemmas.{column-put}
+use Rattle.rs_field.proofs.of_words.DirectSum.{direct_sum-same}
+use Rattle.rs_field.proofs.of_code.AnyShards.{any_consistent}
+use Rattle.rs_field.proofs.of_code.DirectColumn.{direct_original}
 use Rattle.rs_rate.proofs.ConfiguredLemmas.{places-known}
 use Rattle.rs_rate.proofs.StateLemmas.{valid-supported}
 

@@ -54,7 +54,7 @@ unfoldable pub words_given : List Bool → Chunks → ℕ → ℕ → ℕ → �
 words_given marks chunks size j x = cond (is_marked marks x) (column j (shard_laid_out chunks size x)) 0
 
 module _ (marks : List Bool) (chunks : Chunks) (size : ℕ) where
-  words_given-at : (j x : ℕ) (given : Bool) → is_marked marks x ≡ given
+  pub words_given-at : (j x : ℕ) (given : Bool) → is_marked marks x ≡ given
       → words_given marks chunks size j x ≡ cond given (column j (shard_laid_out chunks size x)) 0
   unfolding words_given
   words_given-at j x given is = ap (λ b. cond b (column j (shard_laid_out chunks size x)) 0) is
@@ -93,7 +93,7 @@ module _ (marks : List Bool) (chunks : Chunks) (size : ℕ) where
       ∙ some-marked marks (shard_laid_out chunks size) (from + i)
 
   module _ (sized : (p : ℕ) (shard : Shard) → shards_by_row marks chunks size p ≡ Some shard → IsShard size shard) where
-    given_sized : (from n : ℕ) → AreSized n size (part (shards_by_row marks chunks size) from n)
+    pub given_sized : (from n : ℕ) → AreSized n size (part (shards_by_row marks chunks size) from n)
     given_sized from n = record {
       each = λ i shard is.
           let s = given_some from n i shard is in (s.0, sized (from + i) shard s.1);

@@ -1,8 +1,8 @@
 -- What the passes of direct sums do to the rows of a decoder.
 use Rattle.std.proofs.Common.{◌≡◌, ◌≢◌, ℕ, suc, ◌+◌, ◌*◌, ◌<◌, ◌≤◌, ◌⊎◌, Bool, true, false, cond, List, sym, ap, ap₂, ◌∙◌}
-use Rattle.std.proofs.Common.{arith, inl, inr, subst, bit_xor, true≢false, refl}
+use Rattle.std.proofs.Common.{arith, inl, inr, subst, bit_xor, true≢false, refl, add-one}
 use Rattle.std.specs.Prelude.{not, if◌then◌else◌}
-use Rattle.std.specs.Int.Bits.{xor_assoc}
+use Rattle.std.specs.Int.Bits.{xor_assoc, xor_zero_r}
 use Rattle.std.proofs.lemmas.Bool.{cases_lt, cases_eq}
 use Rattle.rs_field.specs.code.Frame.{original_row}
 use Rattle.rs_field.specs.declared.code.frame.Frame.{Frame}
@@ -15,8 +15,8 @@ use Rattle.rs_field.specs.words.StepBounds.{CountsUpTo}
 use Rattle.rs_field.specs.words.Transform.{sum_below}
 use Rattle.rs_field.proofs.of_rows.Recursion.{fits_kept}
 use Rattle.rs_field.proofs.of_rows.RowOffsets.{outside_cell, outside_both, extent_then}
-use Rattle.rs_field.proofs.of_words.Combination.{sum_below-suc}
-use Rattle.rs_field.proofs.of_words.Counting.{counts_then}
+use Rattle.rs_field.proofs.of_words.Combination.{sum_below-zero, sum_below-suc}
+use Rattle.rs_field.proofs.of_words.Counting.{counts_none, counts_then}
 use Rattle.rs_field.proofs.of_words.DirectSum.{direct_term-same, direct_sum-same}
 use Rattle.rs_rate.specs.Marks.{how_many}
 use Rattle.rs_rate.proofs.HowMany.{how_many-suc}
@@ -40,33 +40,47 @@ module _ (received : ℕ → Bool) (locator : ℕ → ℕ) (y : ℕ) where
         ≡ bit_xor (word old k s y) (sum_below n (λ x. direct_term received locator (word old k s) y x))
     pub counts : CountsUpTo (how_many n received) 0 0 before after
 
+  -- Before the first row, nothing was added.
+  pub none_added : (rows : ShardsRefMut) (steps : Steps) → Fits rows → RowsAdded 0 rows rows steps steps
+  none_added rows steps fits = record {
+    fits = fits;
+    extent = record { name = refl; count = refl; len_64 = refl; length = refl };
+    others = λ k _. refl;
+    added = λ k s hk hs.
+        sym (xor_zero_r (word rows k s y))
+        ∙ ap (bit_xor (word rows k s y)) (sym (sum_below-zero 0 (λ x. direct_term received locator (word rows k s) y x)
+        (λ i h. absurd (let no : ⊥ = omega arith in no))));
+    counts = counts_none (how_many 0 received) 0 0 steps;
+  }
+
   -- One more row was added.
   pub one_more_added : (x : ℕ) (old mid new : ShardsRefMut) (a b c : Steps) → received y ≡ false
-      → RowsAdded x old mid a b → RowAdded x mid new b c → RowsAdded (suc x) old new a c
-  one_more_added x old mid new a b c missing before step = record {
-    fits = fits_kept mid new step.extent before.fits;
-    extent = extent_then old mid new before.extent step.extent;
-    others = outside_both y (y + 1) y (y + 1) y (y + 1) old mid new before.extent before.others step.others (omega arith)
-        (omega arith) (omega arith) (omega arith);
-    added = λ k s hk hs.
-        step.added k s (omega (arith, hk, before.extent.len_64)) hs
-        ∙ ap₂ bit_xor (before.added k s hk hs)
-        (direct_term-same received locator (word mid k s) (word old k s) y x
-        (λ is. ap (λ z. symbol z s)
-        (outside_cell y (y + 1) old mid before.extent before.others x k hk
-        (elim (cases_lt x y) [
-          | inl below ↦ inl below
-          | inr past ↦ elim (cases_eq x y) [
-            | inl same ↦ absurd (true≢false (sym is ∙ ap received same ∙ missing))
-            | inr apart ↦ inr (omega (arith, past, apart))
-          ]
-        ]))))
-        ∙ xor_assoc (word old k s y) (sum_below x (λ z. direct_term received locator (word old k s) y z))
-        (direct_term received locator (word old k s) y x)
-        ∙ ap (bit_xor (word old k s y)) (sym (sum_below-suc x (λ z. direct_term received locator (word old k s) y z)));
-    counts = subst (λ (n : ℕ). CountsUpTo n 0 0 a c) (sym (how_many-suc x received))
-        (counts_then (how_many x received) (cond (received x) 1 0) a b c before.counts step.counts);
-  }
+      → RowsAdded x old mid a b → RowAdded x mid new b c → RowsAdded (x + 1) old new a c
+  one_more_added x old mid new a b c missing before step =
+      subst (λ (n : ℕ). RowsAdded n old new a c) (sym (add-one x)) (record {
+        fits = fits_kept mid new step.extent before.fits;
+        extent = extent_then old mid new before.extent step.extent;
+        others = outside_both y (y + 1) y (y + 1) y (y + 1) old mid new before.extent before.others step.others (omega arith)
+            (omega arith) (omega arith) (omega arith);
+        added = λ k s hk hs.
+            step.added k s (omega (arith, hk, before.extent.len_64)) hs
+            ∙ ap₂ bit_xor (before.added k s hk hs)
+            (direct_term-same received locator (word mid k s) (word old k s) y x
+            (λ is. ap (λ z. symbol z s)
+            (outside_cell y (y + 1) old mid before.extent before.others x k hk
+            (elim (cases_lt x y) [
+              | inl below ↦ inl below
+              | inr past ↦ elim (cases_eq x y) [
+                | inl same ↦ absurd (true≢false (sym is ∙ ap received same ∙ missing))
+                | inr apart ↦ inr (omega (arith, past, apart))
+              ]
+            ]))))
+            ∙ xor_assoc (word old k s y) (sum_below x (λ z. direct_term received locator (word old k s) y z))
+            (direct_term received locator (word old k s) y x)
+            ∙ ap (bit_xor (word old k s y)) (sym (sum_below-suc x (λ z. direct_term received locator (word old k s) y z)));
+        counts = subst (λ (n : ℕ). CountsUpTo n 0 0 a c) (sym (how_many-suc x received))
+            (counts_then (how_many x received) (cond (received x) 1 0) a b c before.counts step.counts);
+          })
 
 module _ (given : ℕ → Bool) (locator : ℕ → ℕ) (w : ℕ) where
   -- Row y was set to its direct sum, if it is missing; no other row was changed.
@@ -96,40 +110,41 @@ module _ (given : ℕ → Bool) (locator : ℕ → ℕ) (w : ℕ) where
   -- One more row was summed.
   pub one_more_summed : (frame : Frame) (n : ℕ) (old mid new : ShardsRefMut) (a b c : Steps)
       → RowsSummed frame n old mid a b → RowSummed (original_row frame n) mid new b c
-      → RowsSummed frame (suc n) old new a c
-  one_more_summed frame n old mid new a b c before step = record {
-    fits = fits_kept mid new step.extent before.fits;
-    extent = extent_then old mid new before.extent step.extent;
-    summed = λ k s i hk hs hi none. elim (cases_eq i n) [
-      | inl last ↦
-          subst (λ (j : ℕ). given (original_row frame j) ≡ false
-          → word new k s (original_row frame j)
-          ≡ direct_sum w given locator (word old k s) (original_row frame j)) (sym last)
-          (λ missing. step.summed missing k s (omega (arith, hk, before.extent.len_64)) hs
-          ∙ direct_sum-same w given locator (word mid k s) (word old k s) (original_row frame n)
-          (λ x hx is. ap (λ z. symbol z s) (before.left k x hk (inl is)))) none
-      | inr less ↦
-          ap (λ z. symbol z s) (kept k (original_row frame i) hk (inl (omega arith)))
-          ∙ before.summed k s i hk hs (omega arith) none
-    ];
-    left = λ k q hk which. elim which [
-      | inl is ↦ elim (cases_eq q (original_row frame n)) [
-        | inl same ↦ ap (λ (r : ShardsRefMut). cell r k q) (step.kept (ap given (sym same) ∙ is))
-            ∙ before.left k q hk (inl is)
-        | inr apart ↦ kept k q hk (elim (cases_lt q (original_row frame n)) [
-          | inl below ↦ inl below
-          | inr past ↦ inr (omega (arith, past, apart))
-        ]) ∙ before.left k q hk (inl is)
-      ]
-      | inr past ↦ kept k q hk (inr (omega arith)) ∙ before.left k q hk (inr (omega arith))
-    ];
-    counts = subst (λ (m : ℕ). CountsUpTo m 0 0 a c)
-        (sym (ap (λ m. m * (1 + how_many w given)) (how_many-suc n (λ i. not (given (original_row frame i))))
-        ∙ more_counted (not (given (original_row frame n))) (how_many n (λ i. not (given (original_row frame i))))
-        (1 + how_many w given)))
-        (counts_then (how_many n (λ i. not (given (original_row frame i))) * (1 + how_many w given))
-        (cond (not (given (original_row frame n))) (1 + how_many w given) 0) a b c before.counts step.counts);
-  }
+      → RowsSummed frame (n + 1) old new a c
+  one_more_summed frame n old mid new a b c before step =
+      subst (λ (m : ℕ). RowsSummed frame m old new a c) (sym (add-one n)) (record {
+        fits = fits_kept mid new step.extent before.fits;
+        extent = extent_then old mid new before.extent step.extent;
+        summed = λ k s i hk hs hi none. elim (cases_eq i n) [
+          | inl last ↦
+              subst (λ (j : ℕ). given (original_row frame j) ≡ false
+              → word new k s (original_row frame j)
+              ≡ direct_sum w given locator (word old k s) (original_row frame j)) (sym last)
+              (λ missing. step.summed missing k s (omega (arith, hk, before.extent.len_64)) hs
+              ∙ direct_sum-same w given locator (word mid k s) (word old k s) (original_row frame n)
+              (λ x hx is. ap (λ z. symbol z s) (before.left k x hk (inl is)))) none
+          | inr less ↦
+              ap (λ z. symbol z s) (kept k (original_row frame i) hk (inl (omega arith)))
+              ∙ before.summed k s i hk hs (omega arith) none
+        ];
+        left = λ k q hk which. elim which [
+          | inl is ↦ elim (cases_eq q (original_row frame n)) [
+            | inl same ↦ ap (λ (r : ShardsRefMut). cell r k q) (step.kept (ap given (sym same) ∙ is))
+                ∙ before.left k q hk (inl is)
+            | inr apart ↦ kept k q hk (elim (cases_lt q (original_row frame n)) [
+              | inl below ↦ inl below
+              | inr past ↦ inr (omega (arith, past, apart))
+            ]) ∙ before.left k q hk (inl is)
+          ]
+          | inr past ↦ kept k q hk (inr (omega arith)) ∙ before.left k q hk (inr (omega arith))
+        ];
+        counts = subst (λ (m : ℕ). CountsUpTo m 0 0 a c)
+            (sym (ap (λ m. m * (1 + how_many w given)) (how_many-suc n (λ i. not (given (original_row frame i))))
+            ∙ more_counted (not (given (original_row frame n))) (how_many n (λ i. not (given (original_row frame i))))
+            (1 + how_many w given)))
+            (counts_then (how_many n (λ i. not (given (original_row frame i))) * (1 + how_many w given))
+            (cond (not (given (original_row frame n))) (1 + how_many w given) 0) a b c before.counts step.counts);
+      })
     where
       kept : (k q : ℕ) → k < old.shard_len_64 → (q < original_row frame n) ⊎ (original_row frame n + 1 ≤ q)
           → cell new k q ≡ cell mid k q

@@ -42,6 +42,10 @@ how_many-not (suc n) has =
     one_of_two true = refl
     one_of_two false = refl
 
+-- At most all numbers have the property.
+pub how_many-most : (n : ℕ) (has : ℕ → Bool) → how_many n has ≤ n
+how_many-most n has = omega (arith, how_many-not n has)
+
 -- The number of entries that have a shard.
 count_below-many : (n : ℕ) (given : Shards) → how_many n (λ i. is_some (given i)) ≡ count_below n given
 count_below-many zero given = how_many-zero (λ i. is_some (given i)) ∙ sym (count_below-zero given)

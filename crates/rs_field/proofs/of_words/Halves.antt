@@ -97,6 +97,20 @@ log2-power e he =
     first_below-is 64 (λ d. nat_le (2 ^ e) (2 ^ d)) e he (grind arith)
     (λ j h. let small : 2 ^ j < 2 ^ e = pow_below j e h in grind arith)
 
+-- Half of a power of two, times two and its exponent, is the power times its exponent.
+twice : (half e : ℕ) → half ≡ 2 ^ e → half / 2 * 2 * e ≡ half * e
+twice half zero is = omega arith
+twice half (suc e) is = let p = pow-suc 2 e in
+    ap (λ n. n * suc e) (let even : half / 2 * 2 ≡ half = omega arith in even)
+
+-- Twice the row steps of a transform are the number of rows times its exponent.
+pub steps_twice : (size e : ℕ) → e < 64 → size ≡ 2 ^ e → 2 * transform_steps size ≡ size * e
+unfolding transform_steps
+steps_twice size e he is =
+    let steps : size / 2 * log2 size ≡ size / 2 * e = ap (λ n. size / 2 * n) (ap log2 is ∙ log2-power e he) in
+    let whole = twice size e is in
+    omega arith
+
 -- The row steps of the butterflies between the halves and of both halves are the row steps of the whole.
 pub steps_half : (size e half : ℕ) → e < 16 → size ≡ 2 ^ suc e → half ≡ 2 ^ e
     → half + 2 * transform_steps half ≡ transform_steps size
@@ -106,11 +120,6 @@ steps_half size e half he is h =
     cc (sum half (half / 2) e (size / 2) (log2 size) (log2 half) (omega arith)
     (ap log2 is ∙ log2-power (suc e) (omega arith)) low (twice half e h))
   where
-    twice : (half e : ℕ) → half ≡ 2 ^ e → half / 2 * 2 * e ≡ half * e
-    twice half zero is = omega arith
-    twice half (suc e) is = let p = pow-suc 2 e in
-        ap (λ n. n * suc e) (let even : half / 2 * 2 ≡ half = omega arith in even)
-
     sum : (half quarter e n a b : ℕ) → n ≡ half → a ≡ suc e → b ≡ e → quarter * 2 * e ≡ half * e
         → half + 2 * (quarter * b) ≡ n * a
     sum half quarter e n a b i j k t =

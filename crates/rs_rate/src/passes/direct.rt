@@ -25,6 +25,7 @@ use rs_field::engine::{Engine, GF_MODULUS, GfElement, ShardsRefMut, Steps};
 const MOST_ROWS: usize = 2048;
 
 /// The logarithms that the factors of direct sums are made of.
+#[derive(Drop)]
 struct Logarithms<'a> {
     /// The locator of the erased rows, at each row.
     locator: &'a [GfElement],

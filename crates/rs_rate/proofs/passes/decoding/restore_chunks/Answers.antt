@@ -4,7 +4,7 @@ use Rattle.rs_field.specs.code.Column.{column}
 use Rattle.rs_field.specs.rows.Layout.{row_len}
 use Rattle.rs_rate.specs.Marks.{given_marks}
 use Rattle.rs_rate.specs.ShardRows.{word_in}
-use Rattle.rs_rate.proofs.RestoredRows.{restores_read}
+use Rattle.rs_rate.proofs.RestoredRows.{found_read}
 use Rattle.rs_rate.proofs.ShardRowsLemmas.{column-put}
 use Rattle.rs_rate.proofs.passes.decoding.restore_chunks.Goals as goal
 
@@ -13,15 +13,15 @@ returns-then-agrees-clause-shards g c =
     let s = c.args.tally.configuration in
     let n : ℕ = row_len s.shard_bytes in
     let mid = c.chunks-1.given.0 in
-    let missing = c.restore_rows-agrees.ensures.marks in
+    let missing = c.find_words-agrees.ensures.marks in
     let len : c.new-rows.result.shard_len_64 ≡ n = c.new-rows.ensures.len_64 ∙ c.row_len-len.ensures in
     record {
       words = word_in mid n;
-      restored = restores_read s
+      found = found_read s
           (given_marks c.args.marks.now) c.args.locator.now c.args.tally.surplus n c.args.chunks.now mid
-          c.new-rows.result c.restore_rows-agrees.new.rows c.restore_rows-agrees.result
-          len (c.restore_rows-agrees.ensures.extent.len_64 ∙ len) c.new-rows.ensures.chunks
-          (search rules) c.restore_rows-agrees.ensures.words;
+          c.new-rows.result c.find_words-agrees.new.rows c.find_words-agrees.result
+          len (c.find_words-agrees.ensures.extent.len_64 ∙ len) c.new-rows.ensures.chunks
+          (search rules) c.find_words-agrees.ensures.words;
       shards = λ _ i j inside hj none.
           ap (column j) (c.move_restored_tails.ensures.moved i inside (missing.missing i inside ∙ ap not none))
           ∙ column-put mid s.shard_bytes
@@ -36,10 +36,10 @@ returns-else-agrees-clause-shards g c =
     let len : c.new-rows.result.shard_len_64 ≡ n = c.new-rows.ensures.len_64 ∙ c.row_len-len.ensures in
     record {
       words = word_in mid n;
-      restored = restores_read s
+      found = found_read s
           (given_marks c.args.marks.now) c.args.locator.now c.args.tally.surplus n c.args.chunks.now mid
-          c.new-rows.result c.restore_rows-agrees.new.rows c.restore_rows-agrees.result
-          len (c.restore_rows-agrees.ensures.extent.len_64 ∙ len) c.new-rows.ensures.chunks
-          (search rules) c.restore_rows-agrees.ensures.words;
+          c.new-rows.result c.find_words-agrees.new.rows c.find_words-agrees.result
+          len (c.find_words-agrees.ensures.extent.len_64 ∙ len) c.new-rows.ensures.chunks
+          (search rules) c.find_words-agrees.ensures.words;
       shards = λ agreed. absurd (true≢false (sym agreed ∙ c.if-agrees.false));
     }
