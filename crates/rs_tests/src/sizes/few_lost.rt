@@ -1,0 +1,81 @@
+//! Messages of which few originals are lost. A decode finds few originals by direct sums and more by transforms. Both ways
+//! give back the same bytes, with each engine.
+use super::losses::drawn;
+use reed_solomon_simd::engine::tables::Tables;
+use reed_solomon_simd::engine::{DefaultEngine, EngineKind};
+use reed_solomon_simd::{Error, decode_slice, encode_slice};
+use std::alloc::Global;
+use std::test::Fail;
+
+// Counts, and how many originals are lost at most. Sums end and transforms begin between 2 and 3 lost originals for 10:4,
+// between 3 and 4 for 32:32, and between 6 and 7 for 100:30.
+const COUNTS: [(usize, usize, usize); 6] = [
+    (1, 1, 1),
+    (3, 5, 3),
+    (4, 4, 2),
+    (10, 4, 4),
+    (32, 32, 5),
+    (100, 30, 8),
+];
+
+// The bytes of a shard: two chunks and a tail.
+const SHARD_BYTES: usize = 138;
+
+// Decodes without `lost` originals from `first` on, with as many of the last recovery shards. Returns whether exactly these
+// originals come back.
+fn comes_back(
+    alloc: Global,
+    originals: &[Vec<u8>],
+    recovery: &[Vec<u8>],
+    first: usize,
+    lost: usize,
+    engine: DefaultEngine<'_>,
+) -> Result<bool, Error> {
+    let end = first.saturating_add(lost);
+    let mut own: Vec<(usize, &[u8])> = Vec::new(alloc);
+    for (index, shard) in originals.iter().enumerate() {
+        if index < first || index >= end {
+            own.push((index, shard.as_slice()))?;
+        }
+    }
+    let mut further: Vec<(usize, &[u8])> = Vec::new(alloc);
+    for (index, shard) in recovery.iter().enumerate() {
+        if index.saturating_add(lost) >= recovery.len() {
+            further.push((index, shard.as_slice()))?;
+        }
+    }
+    let (k, r) = (originals.len(), recovery.len());
+    let restored = decode_slice(alloc, k, r, &own, &further, engine)?;
+    let mut agrees = restored.len() == lost;
+    for index in first..end {
+        let back = restored.get(&index).map(|shard| shard.as_slice());
+        agrees = agrees && back == originals.get(index).map(|shard| shard.as_slice());
+    }
+    Ok(agrees)
+}
+
+#[test]
+fn few_lost_originals_come_back_with_each_engine(rt: HostRuntime) -> Result<(), Fail> {
+    let alloc = rt.alloc();
+    let tables = Tables::new(alloc)?;
+    for kind in [
+        EngineKind::Naive,
+        EngineKind::NoSimd,
+        EngineKind::Ssse3,
+        EngineKind::Avx2,
+    ] {
+        let engine = DefaultEngine::new(&tables, kind);
+        for (k, r, most) in COUNTS {
+            let originals = drawn(alloc, k, SHARD_BYTES)?;
+            let recovery = encode_slice(alloc, k, r, &originals, engine)?;
+            for lost in 1..most.saturating_add(1) {
+                let last = k.saturating_sub(lost);
+                for first in [0, last / 2, last] {
+                    let back = comes_back(alloc, &originals, &recovery, first, lost, engine)?;
+                    assert!(rt; back, "{k}:{r}, {lost} lost from {first} on");
+                }
+            }
+        }
+    }
+    Ok(())
+}
