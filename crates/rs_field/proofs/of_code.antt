@@ -32,3 +32,4 @@ pub mod Left
 pub mod DirectColumn
 pub mod AnyShards
 pub mod BaseShards
+pub mod OneChange

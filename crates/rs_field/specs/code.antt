@@ -15,5 +15,6 @@ pub mod Pieces
 pub mod CodeLaws
 pub mod CountLaws
 pub mod DirectLaws
+pub mod OneChange
 pub mod PieceStates
 pub mod RoundTrip

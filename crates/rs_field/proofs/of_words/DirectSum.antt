@@ -2,7 +2,7 @@
 use Rattle.std.proofs.Common.{◌≡◌, ℕ, zero, suc, ◌+◌, ◌-◌, ◌%◌, ◌^◌, ◌<◌, ◌≤◌, ◌≢◌, ◌⊎◌, Bool, true, false, cond}
 use Rattle.std.proofs.Common.{List, [], ◌∷◌, length, bit_xor, refl, sym, ap, ap₂, ◌∙◌, arith, inl, inr, pow_mono}
 use Rattle.std.proofs.Common.{subst}
-use Rattle.std.specs.Int.Bits.{xor_comm, xor_assoc, xor_self, xor_zero_r, xor_lt}
+use Rattle.std.specs.Int.Bits.{xor_comm, xor_assoc, xor_self, xor_zero_l, xor_zero_r, xor_lt}
 use Rattle.std.proofs.lemmas.Bool.{cases_eq, cases_Bool}
 use Rattle.std.proofs.lemmas.Nat.{pow_pos}
 use Rattle.std.proofs.lemmas.Grind.{common_steps}
@@ -11,7 +11,7 @@ use Rattle.rs_field.specs.words.Polynomial.{value, derivative_value}
 use Rattle.rs_field.specs.words.Transform.{sum_below}
 use Rattle.rs_field.specs.words.Locator.{log_sum, IsLocatorBelow}
 use Rattle.rs_field.specs.words.DirectSum.{direct_factor, direct_term, direct_sum}
-use Rattle.rs_field.proofs.of_words.Product.{product_lt, product_zero, zero_product, product_one}
+use Rattle.rs_field.proofs.of_words.Product.{product_lt, product_zero, zero_product, product_one, product_xor_left}
 use Rattle.rs_field.proofs.of_words.Total.{product-comm, product-assoc}
 use Rattle.rs_field.proofs.of_words.Inverse.{product_cancel}
 use Rattle.rs_field.proofs.of_words.Power.{power_lt, power_pos, power-add, power-mod, power-log, power_turn, log_lt}
@@ -51,6 +51,33 @@ sum_below-one_more (suc n) y f g hy none same =
           ∙ xor_assoc (sum_below n g) (f y) (g n) ∙ ap (bit_xor (sum_below n g)) (xor_comm (f y) (g n))
           ∙ sym (xor_assoc (sum_below n g) (g n) (f y)) ∙ ap (λ w. bit_xor w (f y)) (sym (sum_below-suc n g))
     ]
+
+-- If two functions differ at one number only, their sums differ by the sum of their values there.
+sum_below-changed : (n z : ℕ) (f g : ℕ → ℕ) → z < n → ((x : ℕ) → x < n → x ≢ z → f x ≡ g x)
+    → sum_below n f ≡ bit_xor (sum_below n g) (bit_xor (g z) (f z))
+sum_below-changed zero z f g hz same = absurd (let no : ⊥ = omega arith in no)
+sum_below-changed (suc n) z f g hz same =
+    elim (cases_eq z n) [
+      | inl last ↦
+          sum_below-suc n f
+          ∙ ap₂ bit_xor
+          (sum_below-same n f g (λ x hx. same x (omega arith) (λ (e : x ≡ z). let no : ⊥ = omega arith in no)))
+          (ap f (sym last) ∙ sym (xor_undone (g z) (f z)))
+          ∙ sym (xor_assoc (sum_below n g) (g z) (bit_xor (g z) (f z)))
+          ∙ ap (λ w. bit_xor w (bit_xor (g z) (f z)))
+          (ap (λ v. bit_xor (sum_below n g) (g v)) last ∙ sym (sum_below-suc n g))
+      | inr other ↦
+          sum_below-suc n f
+          ∙ ap₂ bit_xor (sum_below-changed n z f g (omega arith) (λ x hx. same x (omega arith)))
+          (same n (omega arith) (λ (e : n ≡ z). other (sym e)))
+          ∙ xor_assoc (sum_below n g) (bit_xor (g z) (f z)) (g n)
+          ∙ ap (bit_xor (sum_below n g)) (xor_comm (bit_xor (g z) (f z)) (g n))
+          ∙ sym (xor_assoc (sum_below n g) (g n) (bit_xor (g z) (f z)))
+          ∙ ap (λ w. bit_xor w (bit_xor (g z) (f z))) (sym (sum_below-suc n g))
+    ]
+  where
+    xor_undone : (a b : ℕ) → bit_xor a (bit_xor a b) ≡ b
+    xor_undone a b = sym (xor_assoc a a b) ∙ ap (λ w. bit_xor w b) (xor_self a) ∙ xor_zero_l b
 
 -- ---- a polynomial divided by one of its factors
 
@@ -123,6 +150,20 @@ unfolding direct_sum
 direct_sum-same n received locator f g y same =
     sum_below-same n (λ x. direct_term received locator f y x) (λ x. direct_term received locator g y x)
     (λ x hx. direct_term-same received locator f g y x (same x hx))
+
+-- If the word of one received point changes, the sum changes by this change times the factor of the point.
+pub direct_sum-changed : (n : ℕ) (received : ℕ → Bool) (locator f g : ℕ → ℕ) (y z : ℕ) → z < n → received z ≡ true
+    → ((x : ℕ) → x ≢ z → f x ≡ g x)
+    → direct_sum n received locator f y
+    ≡ bit_xor (direct_sum n received locator g y)
+    (product (bit_xor (g z) (f z)) (power (direct_factor locator z y)))
+unfolding direct_sum
+direct_sum-changed n received locator f g y z hz is same =
+    sum_below-changed n z (λ x. direct_term received locator f y x) (λ x. direct_term received locator g y x) hz
+    (λ x hx apart. direct_term-same received locator f g y x (λ _. same x apart))
+    ∙ ap (bit_xor (sum_below n (λ x. direct_term received locator g y x)))
+    (ap₂ bit_xor (direct_term-received received locator g y z is) (direct_term-received received locator f y z is)
+    ∙ sym (product_xor_left (g z) (f z) (power (direct_factor locator z y))))
 
 -- The powers of 65535 minus a logarithm undo the power of the logarithm.
 undone : (a d b : ℕ) → d ≤ 65535 → b ≤ 65535
