@@ -1,5 +1,5 @@
 -- What the passes of direct sums do to the rows of a decoder.
-use Rattle.std.proofs.Common.{◌≡◌, ◌≢◌, ℕ, suc, ◌+◌, ◌*◌, ◌<◌, ◌≤◌, ◌⊎◌, Bool, true, false, cond, List, sym, ap, ap₂, ◌∙◌}
+use Rattle.std.proofs.Common.{◌≡◌, ℕ, ◌+◌, ◌*◌, ◌<◌, ◌≤◌, ◌⊎◌, Bool, true, false, cond, sym, ap, ap₂, ◌∙◌}
 use Rattle.std.proofs.Common.{arith, inl, inr, subst, bit_xor, true≢false, refl, add-one}
 use Rattle.std.specs.Prelude.{not, if◌then◌else◌}
 use Rattle.std.specs.Int.Bits.{xor_assoc, xor_zero_r}
@@ -80,7 +80,7 @@ module _ (received : ℕ → Bool) (locator : ℕ → ℕ) (y : ℕ) where
             ∙ ap (bit_xor (word old k s y)) (sym (sum_below-suc x (λ z. direct_term received locator (word old k s) y z)));
         counts = subst (λ (n : ℕ). CountsUpTo n 0 0 a c) (sym (how_many-suc x received))
             (counts_then (how_many x received) (cond (received x) 1 0) a b c before.counts step.counts);
-          })
+      })
 
 module _ (given : ℕ → Bool) (locator : ℕ → ℕ) (w : ℕ) where
   -- Row y was set to its direct sum, if it is missing; no other row was changed.

@@ -1,8 +1,7 @@
 -- How many numbers have a property, and how many rows of a decoder hold given shards.
 use Rattle.std.proofs.Common.{◌≡◌, ℕ, zero, suc, ◌+◌, ◌-◌, ◌<◌, ◌≤◌, ◌⊎◌, Bool, true, false, cond, refl, sym, ap, ap₂, ◌∙◌}
 use Rattle.std.proofs.Common.{arith, inl, inr, add-zero, add-suc}
-use Rattle.std.specs.Prelude.{Option, is_some, not}
-use Rattle.rs_field.specs.code.Column.{Shard}
+use Rattle.std.specs.Prelude.{is_some, not}
 use Rattle.rs_field.specs.code.Frame.{original_row, recovery_row, row_count}
 use Rattle.rs_field.specs.code.Given.{Shards, count_below}
 use Rattle.rs_field.proofs.of_code.Frame.{IsFrame}
@@ -104,7 +103,7 @@ module _ (c : Configuration) (f : IsFrame c.frame c.original_count c.recovery_co
       let own_end = original_row c.frame c.original_count in
       let coded_end = recovery_row c.frame c.recovery_count in
       let none : (p : ℕ) → (p < from) ⊎ (own_end ≤ p) → (p < c.frame.recovery_from) ⊎ (coded_end ≤ p)
-          → is_some (rows p) ≡ false = λ p not_own not_coded. ap is_some (given.placed p not_own not_coded) in
+      → is_some (rows p) ≡ false = λ p not_own not_coded. ap is_some (given.placed p not_own not_coded) in
       let own = how_many-add from c.original_count has in
       let coded = how_many-add c.frame.recovery_from c.recovery_count has in
       let own_fit = f.originals in let coded_fit = f.recovery in let zeros = f.zeros in let follow = f.follow in

@@ -5,6 +5,7 @@ pub mod LowCoding
 pub mod RestoringRows
 pub mod RowMaps
 pub mod HowMany
+pub mod ChangeLemmas
 pub mod DirectRows
 pub mod AddedShards
 pub mod ResultLemmas

@@ -1,4 +1,5 @@
 //! The passes over rows that encode and decode. Above the floor of rows.
+pub mod changes;
 pub mod decoding;
 pub mod direct;
 pub mod encoding;

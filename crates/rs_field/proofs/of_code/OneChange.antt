@@ -1,9 +1,9 @@
 -- If one original of a message changes, each word of a recovery shard changes by the change of the original's word times
 -- a factor.
 use Rattle.std.proofs.Common.{◌≡◌, ◌≢◌, ℕ, zero, suc, ◌+◌, ◌-◌, ◌/◌, ◌<◌, ◌≤◌, ◌⊎◌, Bool, true, false, cond, List, refl}
-use Rattle.std.proofs.Common.{sym, ap, ap₂, ◌∙◌, arith, inl, inr, subst, true≢false, bit_xor}
+use Rattle.std.proofs.Common.{sym, ap, ap₂, ◌∙◌, arith, inl, inr, bit_xor}
 use Rattle.std.specs.Prelude.{Option, Some, None, is_some, nat_lt}
-use Rattle.std.proofs.lemmas.Bool.{cases_lt, cases_eq, cases_Bool, lt-ltb, le-ltb}
+use Rattle.std.proofs.lemmas.Bool.{cases_lt, cases_Bool, lt-ltb, le-ltb}
 use Rattle.std.proofs.lemmas.Option.{none-some}
 use Rattle.rs_field.specs.words.Field.{product, power}
 use Rattle.rs_field.specs.words.Locator.{IsLocatorBelow}
@@ -54,9 +54,9 @@ all_of-some : (k i : ℕ) (shards : List Shard) (shard : Shard) → all_of k sha
     → (i < k) × (shard_at shards i ≡ shard)
 all_of-some k i shards shard is = elim (cases_lt i k) [
   | inl inside ↦ (
-      inside,
-      (let same : ◌≡◌ {A = Option Shard} (Some (shard_at shards i)) (Some shard) = sym (all_of-in k i shards inside) ∙ is in cc same),
-    )
+    inside,
+    (let same : ◌≡◌ {A = Option Shard} (Some (shard_at shards i)) (Some shard) = sym (all_of-in k i shards inside) ∙ is in cc same),
+  )
   | inr past ↦ absurd (none-some shard (sym (all_of-past k i shards past) ∙ is))
 ]
 

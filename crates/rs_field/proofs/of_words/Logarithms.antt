@@ -1,7 +1,7 @@
 -- Logarithms from the table of the factors of butterflies: those of even words are in the table, and those of odd words
 -- are differences.
-use Rattle.std.proofs.Common.{◌≡◌, ℕ, ◌+◌, ◌-◌, ◌*◌, ◌/◌, ◌%◌, ◌^◌, ◌<◌, ◌≤◌, List, get_or, bit_xor, sym, ap, ◌∙◌}
-use Rattle.std.proofs.Common.{arith, ne_eqb, zero, suc, refl}
+use Rattle.std.proofs.Common.{◌≡◌, ℕ, ◌+◌, ◌-◌, ◌*◌, ◌/◌, ◌%◌, ◌^◌, ◌<◌, List, get_or, bit_xor, sym, ap, ◌∙◌}
+use Rattle.std.proofs.Common.{arith, ne_eqb}
 use Rattle.std.specs.Int.Bits.{xor_shifted}
 use Rattle.std.proofs.Math.Nat.{mod-lt}
 use Rattle.rs_field.specs.words.Field.{product, power, log}
@@ -11,9 +11,9 @@ use Rattle.rs_field.proofs.of_words.Halves.{mark_word}
 use Rattle.rs_field.proofs.of_words.Inverse.{product_cancel}
 use Rattle.rs_field.proofs.of_words.Power.{power_lt, power-add, power-mod, power-log, power_turn, power_injective}
 use Rattle.rs_field.proofs.of_words.Power.{log_lt, power_zero}
-use Rattle.rs_field.proofs.of_words.Product.{product_lt, product_one}
+use Rattle.rs_field.proofs.of_words.Product.{product_one}
 use Rattle.rs_field.proofs.of_words.Subspace.{subspace_shift, times_next}
-use Rattle.rs_field.proofs.of_words.Total.{product-comm, product-assoc}
+use Rattle.rs_field.proofs.of_words.Total.{product-comm}
 
 -- The entry of an even place is the logarithm of the place.
 pub even_log : (skew : List ℕ) (z : ℕ) → IsSkew skew → 0 < z → z < 65536 → z % 2 ≡ 0 → get_or skew z 0 ≡ log z

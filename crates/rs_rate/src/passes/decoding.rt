@@ -102,27 +102,33 @@ fn restore<E: Engine>(
         return true;
     }
     let entries = memory.entries.as_mut_slice();
-    make_locator(engine, steps, entries, memory.marks.given(), configuration);
+    make_locator(
+        engine,
+        steps,
+        entries,
+        memory.marks.given(),
+        configuration.frame,
+    );
     let chunks = memory.chunks.as_mut_slice();
     let locator = memory.entries.as_slice();
     restore_chunks(engine, steps, chunks, &mut memory.marks, locator, tally)
 }
 
 // Computes the locator of the erased rows, at all rows.
-fn make_locator<E: Engine>(
+pub(crate) fn make_locator<E: Engine>(
     engine: &E,
     steps: &mut Steps,
     entries: &mut [GfElement],
     given: &[bool],
-    configuration: Configuration,
+    frame: Frame,
 )
-    requires configured { IsConfigured configuration }
-    requires entries { length entries.old ≡ rows_to_decode configuration }
-    requires marked { rows_to_decode configuration ≤ length given.now }
-    ensures locator { IsLocatorOf configuration.frame given.now entries.new }
+    requires few { frame.exponent ≤ 16 }
+    requires entries { length entries.old ≡ row_count frame }
+    requires marked { row_count frame ≤ length given.now }
+    ensures locator { IsLocatorOf frame given.now entries.new }
     ensures counts { LocatorCounts steps.old steps.new }
 {
-    mark_erased(entries, given, configuration.frame);
+    mark_erased(entries, given, frame);
     engine.locate(steps, entries);
     are_words(entries);
 }

@@ -4,7 +4,7 @@
 //! The factors come from Lagrange's formula for the polynomial of a column times the locator of the erased rows. The points
 //! of the rows are all words below a power of two, so the formula needs no weights. At an erased row, the derivative of this
 //! product is the missing word times the derivative of the locator.
-ghost use Rattle.std.specs.Prelude.{◌≡◌, ◌≢◌, ℕ, ◌+◌, ◌*◌, ◌^◌, ◌<◌, ◌≤◌, not, true, false, length};
+ghost use Rattle.std.specs.Prelude.{◌≡◌, ◌≢◌, ℕ, ◌+◌, ◌*◌, ◌%◌, ◌^◌, ◌<◌, ◌≤◌, not, true, false, length};
 ghost use Rattle.std.specs.Prelude.{slice_index, bit_xor, if◌then◌else◌};
 ghost use Rattle.rs_field.specs.code.Frame.{original_row};
 ghost use Rattle.rs_field.specs.rows.MarkedRows.{is_marked};
@@ -26,18 +26,19 @@ const MOST_ROWS: usize = 2048;
 
 /// The logarithms that the factors of direct sums are made of.
 #[derive(Drop)]
-struct Logarithms<'a> {
+pub(crate) struct Logarithms<'a> {
     /// The locator of the erased rows, at each row.
-    locator: &'a [GfElement],
-    /// The logarithm of each word except for the word 0.
-    logs: &'a [GfElement],
+    pub(crate) locator: &'a [GfElement],
+    /// The logarithm of each word except for the word 0, modulo 65535.
+    pub(crate) logs: &'a [GfElement],
     pub ghost located: { (x : ℕ) → slice_index locator.now x < 65536 },
-    pub ghost known: { (z : ℕ) → 0 < z → z < length logs.now → slice_index logs.now z ≡ log z },
+    pub ghost known: { (z : ℕ) → 0 < z → z < length logs.now
+        → slice_index logs.now z % 65535 ≡ log z },
 }
 
 impl Logarithms<'_> {
     // Returns the logarithm of the factor that the word of row x has in the word of row y.
-    fn factor(&self, x: usize, y: usize) -> GfElement
+    pub(crate) fn factor(&self, x: usize, y: usize) -> GfElement
         requires apart { x ≢ y }
         requires first { x < length self.now.locator.now }
         requires second { y < length self.now.locator.now }
@@ -51,21 +52,21 @@ impl Logarithms<'_> {
     }
 }
 
-// Returns whether the missing originals are found by direct sums: they then take less than two thirds of a transform's row
-// steps, and no surplus shard must be checked.
+// Returns whether the missing originals are found by direct sums: the products of these sums take fewer row steps than one
+// transform, and no surplus shard must be checked.
 fn are_sums_cheaper(tally: Tally) -> bool
     requires configured { IsConfigured tally.configuration }
     requires few { tally.missing ≤ 65536 }
     ensures exact { result ≡ true → tally.surplus ≡ 0 }
     ensures rows { result ≡ true → rows_to_decode tally.configuration ≤ 2048 }
     ensures cheaper { result ≡ true
-        → 3 * (tally.missing * tally.configuration.original_count)
+        → 2 * (tally.missing * tally.configuration.original_count)
         < rows_to_decode tally.configuration * tally.configuration.frame.exponent }
 {
     let frame = tally.configuration.frame;
     let row_count = frame.row_count();
     let sums = tally.missing * tally.configuration.original_count;
-    tally.surplus == 0 && row_count <= MOST_ROWS && 3 * sums < row_count * frame.exponent
+    tally.surplus == 0 && row_count <= MOST_ROWS && 2 * sums < row_count * frame.exponent
 }
 
 // Sets the rows of the missing originals to direct sums over the given rows, and returns true. Returns false if transforms
@@ -90,7 +91,7 @@ pub(crate) fn sum_rows<E: Engine>(
     ensures counts { CountsUpTo (if result then sum_steps tally.configuration tally.missing else 0) 0 0
         steps.old steps.new }
     ensures cheaper { result ≡ true
-        → 3 * (tally.missing * tally.configuration.original_count)
+        → 2 * (tally.missing * tally.configuration.original_count)
         < rows_to_decode tally.configuration * tally.configuration.frame.exponent }
 {
     if !are_sums_cheaper(tally) {
@@ -102,7 +103,14 @@ pub(crate) fn sum_rows<E: Engine>(
         return false;
     }
     let logarithms = Logarithms { locator, logs };
-    sum_missing(engine, steps, rows, marks.given(), &logarithms, tally.configuration);
+    sum_missing(
+        engine,
+        steps,
+        rows,
+        marks.given(),
+        &logarithms,
+        tally.configuration,
+    );
     true
 }
 

@@ -7,15 +7,15 @@ use reed_solomon_simd::{Error, decode_slice, encode_slice};
 use std::alloc::Global;
 use std::test::Fail;
 
-// Counts, and how many originals are lost at most. Sums end and transforms begin between 2 and 3 lost originals for 10:4,
-// between 3 and 4 for 32:32, and between 6 and 7 for 100:30.
+// Counts, and how many originals are lost at most. Sums end and transforms begin between 2 and 3 lost originals for 4:4,
+// between 3 and 4 for 10:4, between 5 and 6 for 32:32, and between 10 and 11 for 100:30.
 const COUNTS: [(usize, usize, usize); 6] = [
     (1, 1, 1),
     (3, 5, 3),
-    (4, 4, 2),
+    (4, 4, 3),
     (10, 4, 4),
-    (32, 32, 5),
-    (100, 30, 8),
+    (32, 32, 7),
+    (100, 30, 12),
 ];
 
 // The bytes of a shard: two chunks and a tail.

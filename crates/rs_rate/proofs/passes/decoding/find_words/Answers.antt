@@ -12,7 +12,7 @@ use Rattle.rs_rate.proofs.HowMany.{how_many-most}
 use Rattle.rs_rate.proofs.passes.decoding.find_words.Goals as goal
 
 -- Direct sums that are cheaper than transforms take no more row steps than these.
-sums_within : (w e k missing surplus : ℕ) → e < 64 → w ≡ 2 ^ e → missing ≤ k → k ≤ w → 3 * (missing * k) < w * e
+sums_within : (w e k missing surplus : ℕ) → e < 64 → w ≡ 2 ^ e → missing ≤ k → k ≤ w → 2 * (missing * k) < w * e
     → missing * (1 + k) ≤ w + (transform_steps w + (surplus + (2 * transform_steps w + k)))
 sums_within w e k missing surplus few power most fit cheaper =
     let twice = steps_twice w e few power in

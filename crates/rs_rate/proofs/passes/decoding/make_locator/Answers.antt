@@ -1,23 +1,23 @@
 use Rattle.std.proofs.Common.{◌≡◌, ℕ, length, ◌∙◌, subst, arith}
 use Rattle.std.specs.Prelude.{slice_index}
 use Rattle.rs_field.specs.words.Locator.{IsLocatorBelow}
-use Rattle.rs_rate.specs.Configured.{rows_to_decode}
+use Rattle.rs_field.specs.code.Frame.{row_count}
 use Rattle.rs_rate.specs.Marks.{erasure}
 use Rattle.rs_rate.proofs.RestoredRows.{locator_same}
 use Rattle.rs_rate.proofs.passes.decoding.make_locator.Goals as goal
 
 pub locate-requires-clause-power : goal.locate-requires-clause-power
 locate-requires-clause-power g c =
-    (c.args.configuration.frame.exponent, c.mark_erased.ensures.length ∙ c.requires.entries)
+    (c.args.frame.exponent, c.mark_erased.ensures.length ∙ c.requires.entries)
 
 pub returns-clause-locator : goal.returns-clause-locator
 returns-clause-locator g c =
-    let frame = c.args.configuration.frame in
-    let size : length c.mark_erased.new.entries ≡ rows_to_decode c.args.configuration =
+    let frame = c.args.frame in
+    let size : length c.mark_erased.new.entries ≡ row_count c.args.frame =
     c.mark_erased.ensures.length ∙ c.requires.entries in
     record {
       are_words = c.are_words.ensures;
-      values = locator_same (rows_to_decode c.args.configuration) (erasure frame c.args.given.now)
+      values = locator_same (row_count c.args.frame) (erasure frame c.args.given.now)
           (λ y. slice_index c.mark_erased.new.entries y) (λ x. slice_index c.locate.new.erasures x)
           (λ y inside. c.mark_erased.ensures.rows y (omega (arith, inside, c.requires.entries)))
           (subst (λ (n : ℕ). IsLocatorBelow n (λ y. slice_index c.mark_erased.new.entries y)

@@ -1,4 +1,4 @@
-use Rattle.std.proofs.Common.{◌≡◌, ℕ, ◌^◌, ◌<◌, bit_xor, subst, sym, ◌∙◌, arith}
+use Rattle.std.proofs.Common.{ℕ, ◌<◌, bit_xor, subst, sym, ◌∙◌, arith}
 use Rattle.std.specs.Int.Bits.{xor_lt}
 use Rattle.rs_rate.proofs.passes.direct.add_if_given.Goals as goal
 
