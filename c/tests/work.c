@@ -217,6 +217,13 @@ static void faults(void) {
     if (rs_decode_shards_with_work(tables, 3, 2, nothing, 3, NULL, 0, NULL, 0, work, enough, &fault) ||
         rs_decode_shards_with_work(tables, 3, 2, nothing, 3, NULL, 0, NULL, 0, NULL, 0, NULL) != RS_OUT_OF_MEMORY)
         wrong("NULL in an array");
+    from[1].bytes = NULL, from[1].length = 0;
+    if (rs_encode_shards_with_work(tables, 3, 2, from, 3, to, 2, work + 1, enough, &fault) != RS_DIFFERENT_SHARD_SIZE || fault.third != 1 ||
+        rs_decode_shards_with_work(tables, 3, 2, nothing, 3, other, 2, NULL, 0, work + 1, enough, &fault) != RS_DIFFERENT_SHARD_SIZE ||
+        rs_decode_shards_with_work(tables, 1, 1, nothing + 1, 1, other, 1, NULL, 0, work + 1, rs_work_bytes(1, 1, 4, 0), &fault) !=
+            RS_DIFFERENT_SHARD_SIZE)
+        wrong("NULL in arrays of a call that fails");
+    from[1].bytes = bytes, from[1].length = 4;
     if (rs_decode_shards_with_work(tables, 3, 2, &own, 1, other, 2, to, 1, work, rs_work_bytes(3, 2, 4, 2), &fault) != RS_WRONG_NUMBER_OF_ROOMS ||
         rs_decode_shards_with_work(tables, 3, 2, &own, 1, other, 2, to, 1, work, enough, &fault) != RS_OUT_OF_MEMORY)
         wrong("rooms that don't fit");
