@@ -23,13 +23,17 @@ c/out/libreed_solomon_simd.a: $(wildcard $(TARGET)/*.s) $(wildcard c/*.c) includ
 check: all
 	$(TEST) -o c/out/test c/tests/test.c c/out/libreed_solomon_simd.a -lpthread $(LDFLAGS)
 	$(TEST) -o c/out/memory c/tests/memory.c c/out/libreed_solomon_simd.a $(LDFLAGS)
+	$(TEST) -o c/out/work c/tests/work.c c/out/libreed_solomon_simd.a -lpthread $(LDFLAGS)
 	$(CC) -std=c11 -Iinclude $(CFLAGS) -o c/out/layer c/tests/layer.c $(LDFLAGS)
+	$(CC) -std=c11 -Iinclude $(CFLAGS) -o c/out/lent c/tests/lent.c $(LDFLAGS)
 	$(RUN) c/out/layer
+	$(RUN) c/out/lent
 	$(RUN) c/out/test rows tests/data/encoding.txt tests/data/decoding.txt
 	$(RUN) c/out/test refusals
 	$(RUN) c/out/test rounds 1 500
 	$(RUN) c/out/test threads
 	$(RUN) c/out/memory
+	$(RUN) c/out/work few
 
 install: all
 	c/install $(PREFIX)

@@ -9,12 +9,12 @@
 #include <stdbool.h>
 #include <string.h>
 
-/* The allocator, as in c/heap.c. */
+/* The memory of calls, in c/work.c. */
 struct tried {
     bool ok;
     void *at;
-} rattle_alloc(size_t size, size_t align);
-void rattle_dealloc(void *at);
+} rs_alloc(size_t size, size_t align);
+void rs_dealloc(void *at);
 
 /* The proved calls of one build. Each has the type of the call of the header. */
 struct build {
@@ -124,7 +124,7 @@ static inline bool has_nothing(const void *entries, size_t number, size_t size) 
 /* Copies an array, and replaces the pointers of all entries without bytes. Returns false if there is no memory. */
 static bool copied(struct array *array) {
     const size_t length = array->number * array->size;
-    struct tried block = rattle_alloc(length, 8);
+    struct tried block = rs_alloc(length, 8);
     if (!block.ok) return false;
     array->copy = memcpy(block.at, array->entries, length);
     for (unsigned char *next = array->copy + array->size; next <= array->copy + length; next += array->size) {
@@ -156,7 +156,7 @@ static uint32_t shielded(const struct rs_tables *tables, size_t original_count, 
         answer = build->decode_shards(tables, original_count, recovery_count, entries[0], arrays[0].number, entries[1], arrays[1].number,
                                       entries[2], arrays[2].number, to);
     for (size_t i = 0; i < number; i++)
-        if (arrays[i].copy) rattle_dealloc(arrays[i].copy);
+        if (arrays[i].copy) rs_dealloc(arrays[i].copy);
     return answer;
 }
 

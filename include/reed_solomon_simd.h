@@ -19,6 +19,9 @@
  * takes no memory. If an entry of an array of shards or rooms has NULL as its pointer, the call makes a copy of this array, and fails with
  * RS_OUT_OF_MEMORY before all other checks if it cannot allocate the copy.
  *
+ * Calls allocate their memory by malloc, or by an allocator of the program. A program that must not allocate uses the calls whose names
+ * end in _with_work: they take all their memory from work memory, which the caller passes.
+ *
  * The caller must keep these rules. Nothing checks them:
  *   - Pointers: each pointer points to as many bytes or entries as the length that belongs to it says, and is aligned for its type. If
  *     this length is 0, the pointer may be NULL, or any other pointer. This holds for the pointers in arrays of shards too, and for those
@@ -30,7 +33,7 @@
  *   - Memory that a call reads is initialised: the shards that a call gets (in rs_decode, those that the marks say are there), the
  *     marks of rs_decode, arrays, the fault that rs_fault_text gets, and tables.
  *     Memory that a call only writes need not be initialised: the tables of rs_tables_make, recovery shards of an encode, the places
- *     of lost shards in rs_decode, the memory that rooms point to, texts, and *fault.
+ *     of lost shards in rs_decode, the memory that rooms point to, texts, work memory, and *fault.
  *   - Nobody but rs_tables_make writes to tables that rs_tables_make has filled. The last thing that rs_tables_make writes is a stamp.
  *     Other memory that is passed as tables must not hold this stamp by chance. Memory full of zeros doesn't hold it.
  *   - A program that links its own allocator instead of c/heap.c must provide all three functions of c/heap.c: rattle_alloc,
@@ -62,7 +65,9 @@ enum rs_status {
     RS_OUT_OF_MEMORY = 1,
     RS_UNSUPPORTED_SHARD_COUNT = 2,      /* first: original_count, second: recovery_count */
     RS_INVALID_SHARD_SIZE = 3,           /* the size is zero or odd; first: the size */
-    RS_DIFFERENT_SHARD_SIZE = 4,         /* first: the size that all shards must have, second: the size of the first one that differs */
+    RS_DIFFERENT_SHARD_SIZE = 4,         /* first: the size that all shards must have, second: the size of the first one that differs,
+                                            third: its place in the array originals, counted from 0. If it is a recovery shard of a
+                                            decode: the number of entries of originals, plus its place in the array recovery */
     RS_TOO_FEW_ORIGINAL_SHARDS = 5,      /* first: original_count, second: how many originals the caller gave */
     RS_TOO_MANY_ORIGINAL_SHARDS = 6,     /* first: original_count */
     RS_NOT_ENOUGH_SHARDS = 7,            /* first: original_count, second: how many originals were received, third: how many recovery
@@ -75,7 +80,8 @@ enum rs_status {
                                             were received, second: how many recovery shards were received */
     RS_WRONG_LENGTH = 13,                /* a buffer doesn't have count * size bytes, or a room (the place for one shard) isn't as long
                                             as its shard; first: the length that it must have, or SIZE_MAX if that is larger than
-                                            SIZE_MAX, second: the length that it has */
+                                            SIZE_MAX, second: the length that it has, third: which buffer it is (0 for originals, 1 for
+                                            recovery, 2 for marks), or the place of the room in its array, counted from 0 */
     RS_WRONG_NUMBER_OF_ROOMS = 14,       /* first: how many shards the call has to write, second: how many rooms there are */
     RS_TABLES_NOT_MADE = 15              /* the tables don't carry the stamp that rs_tables_make writes last */
 };
@@ -228,6 +234,60 @@ uint32_t rs_decode_shards(const struct rs_tables *tables, size_t original_count,
                           const struct rs_shard *originals, size_t originals_number,
                           const struct rs_shard *recovery, size_t recovery_number,
                           const struct rs_room *restored, size_t restored_number, struct rs_fault *fault);
+
+/* Five calls take all their memory from work memory: work_length bytes from the address work on, which the caller passes. Each of them does
+ * what the call does that has the same name without _with_work, and requests no memory from malloc or from the program's allocator. If
+ * the work memory is too small, the call fails with RS_OUT_OF_MEMORY, just as the other call does if it cannot allocate.
+ *
+ * Work memory may begin at any byte, and may hold anything. The call writes to it, and leaves unspecified bytes in it. After the call has
+ * returned, the caller may use the memory again, for example for the next call. Calls that run at the same time must not share it. */
+
+/* Returns how many bytes of work memory are enough for each of the four calls below that encode or decode, with these counts and with
+ * shards of shard_bytes bytes. Pass 0 as restored, unless a decode can get more than original_count shards. Such a decode also takes memory
+ * for the originals that it restores: then restored is the largest number of originals that such a decode restores.
+ *
+ * Returns 0 if the counts are not supported, if the size is 0 or odd, if restored is larger than original_count, or if the shards are so long
+ * that the number could be larger than SIZE_MAX.
+ *
+ * With this much work memory, a call fails with RS_OUT_OF_MEMORY only in these cases:
+ *   - The rows for the whole shards would take more than SIZE_MAX bytes.
+ *   - A decode gets more than original_count shards, and restores more than `restored` originals.
+ *   - The rooms of rs_decode_shards_with_work do not fit. Then it can fail with RS_OUT_OF_MEMORY instead of RS_WRONG_NUMBER_OF_ROOMS and
+ *     RS_WRONG_LENGTH.
+ *   - An array has more entries than the counts allow, and one of its pointers is NULL. */
+size_t rs_work_bytes(size_t original_count, size_t recovery_count, size_t shard_bytes, size_t restored);
+
+/* Returns how many bytes of work memory are enough for rs_tables_make_with_work: 17 MB. */
+size_t rs_tables_work_bytes(void);
+
+/* rs_tables_make with work memory. */
+uint32_t rs_tables_make_with_work(struct rs_tables *tables, void *work, size_t work_length);
+
+/* rs_encode with work memory. */
+uint32_t rs_encode_with_work(const struct rs_tables *tables, size_t original_count, size_t recovery_count, size_t shard_bytes,
+                             const uint8_t *originals, size_t originals_length,
+                             uint8_t *recovery, size_t recovery_length,
+                             void *work, size_t work_length, struct rs_fault *fault);
+
+/* rs_decode with work memory. */
+uint32_t rs_decode_with_work(const struct rs_tables *tables, size_t original_count, size_t recovery_count, size_t shard_bytes,
+                             uint8_t *originals, size_t originals_length,
+                             const uint8_t *recovery, size_t recovery_length,
+                             const uint8_t *marks, size_t marks_length,
+                             void *work, size_t work_length, struct rs_fault *fault);
+
+/* rs_encode_shards with work memory. */
+uint32_t rs_encode_shards_with_work(const struct rs_tables *tables, size_t original_count, size_t recovery_count,
+                                    const struct rs_bytes *originals, size_t originals_number,
+                                    const struct rs_room *recovery, size_t recovery_number,
+                                    void *work, size_t work_length, struct rs_fault *fault);
+
+/* rs_decode_shards with work memory. */
+uint32_t rs_decode_shards_with_work(const struct rs_tables *tables, size_t original_count, size_t recovery_count,
+                                    const struct rs_shard *originals, size_t originals_number,
+                                    const struct rs_shard *recovery, size_t recovery_number,
+                                    const struct rs_room *restored, size_t restored_number,
+                                    void *work, size_t work_length, struct rs_fault *fault);
 
 /* Writes the text of a fault in ASCII and a NUL after it, as snprintf does, and returns the length of the whole text without the NUL. If
  * the text and its NUL have more than text_length bytes, the call writes the first text_length - 1 bytes of the text and then the NUL. If

@@ -25,7 +25,7 @@ enum { ANSWER = 77 };
 static long blocks;
 static bool refuses;
 
-struct tried rattle_alloc(size_t size, size_t align) {
+struct tried rs_alloc(size_t size, size_t align) {
     struct tried tried = {!refuses, nowhere};
     if (align != 8) wrong("another alignment");
     if (refuses) return tried;
@@ -34,7 +34,7 @@ struct tried rattle_alloc(size_t size, size_t align) {
     return tried;
 }
 
-void rattle_dealloc(void *at) {
+void rs_dealloc(void *at) {
     blocks--;
     free(at);
 }

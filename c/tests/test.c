@@ -298,13 +298,14 @@ static void encodes_refused_anywhere(void) {
     refused_anywhere(0, 3, 2, NO_SHARD, NO_SHARD, two, RS_TOO_FEW_ORIGINAL_SHARDS, 3, 0, 0);
     refused_anywhere(0, 3, 2, SHARDS({0, 0}, {1, 4}), NO_SHARD, two, RS_INVALID_SHARD_SIZE, 0, 0, 0);
     refused_anywhere(0, 3, 2, SHARDS({0, 3}, {1, 4}), NO_SHARD, NO_ROOM, RS_INVALID_SHARD_SIZE, 3, 0, 0);
-    refused_anywhere(0, 3, 2, SHARDS({0, 4}, {1, 4}, {2, 6}, {3, 4}), NO_SHARD, two, RS_DIFFERENT_SHARD_SIZE, 4, 6, 0);
+    refused_anywhere(0, 3, 2, SHARDS({0, 4}, {1, 4}, {2, 6}, {3, 4}), NO_SHARD, two, RS_DIFFERENT_SHARD_SIZE, 4, 6, 2);
+    refused_anywhere(0, 3, 2, SHARDS({0, 4}, {1, 2}, {2, 6}), NO_SHARD, two, RS_DIFFERENT_SHARD_SIZE, 4, 2, 1);
     refused_anywhere(0, 3, 2, SHARDS({0, 4}, {1, 4}, {2, 4}, {3, 6}), NO_SHARD, two, RS_TOO_MANY_ORIGINAL_SHARDS, 3, 0, 0);
     refused_anywhere(0, 3, 2, SHARDS({0, 4}, {1, 4}), NO_SHARD, NO_ROOM, RS_TOO_FEW_ORIGINAL_SHARDS, 3, 2, 0);
     refused_anywhere(0, 3, 2, three, NO_SHARD, NO_ROOM, RS_WRONG_NUMBER_OF_ROOMS, 2, 0, 0);
     refused_anywhere(0, 3, 2, three, NO_SHARD, ROOMS(4), RS_WRONG_NUMBER_OF_ROOMS, 2, 1, 0);
     refused_anywhere(0, 3, 2, three, NO_SHARD, ROOMS(6, 4, 4), RS_WRONG_NUMBER_OF_ROOMS, 2, 3, 0);
-    refused_anywhere(0, 3, 2, three, NO_SHARD, ROOMS(4, 6), RS_WRONG_LENGTH, 4, 6, 0);
+    refused_anywhere(0, 3, 2, three, NO_SHARD, ROOMS(4, 6), RS_WRONG_LENGTH, 4, 6, 1);
     refused_anywhere(0, 3, 2, three, NO_SHARD, ROOMS(2, 6), RS_WRONG_LENGTH, 4, 2, 0);
 }
 
@@ -317,15 +318,19 @@ static void decodes_refused_anywhere(void) {
     refused_anywhere(1, 3, 2, SHARDS({SIZE_MAX, 4}), one, NO_ROOM, RS_INVALID_ORIGINAL_SHARD_INDEX, 3, SIZE_MAX, 0);
     refused_anywhere(1, 3, 2, SHARDS({1, 4}, {1, 2}), SHARDS({9, 4}), NO_ROOM, RS_DUPLICATE_ORIGINAL_SHARD_INDEX, 1, 0, 0);
     refused_anywhere(1, 3, 2, SHARDS({1, 2}), SHARDS({9, 4}), NO_ROOM, RS_DIFFERENT_SHARD_SIZE, 4, 2, 0);
+    refused_anywhere(1, 3, 2, SHARDS({2, 4}, {0, 6}, {1, 2}), SHARDS({0, 4}, {1, 6}), NO_ROOM, RS_DIFFERENT_SHARD_SIZE, 4, 6, 1);
     refused_anywhere(1, 3, 2, one, SHARDS({2, 4}), NO_ROOM, RS_INVALID_RECOVERY_SHARD_INDEX, 2, 2, 0);
     refused_anywhere(1, 3, 2, one, SHARDS({0, 4}, {0, 6}), NO_ROOM, RS_DUPLICATE_RECOVERY_SHARD_INDEX, 0, 0, 0);
-    refused_anywhere(1, 3, 2, one, SHARDS({0, 4}, {1, 6}), NO_ROOM, RS_DIFFERENT_SHARD_SIZE, 4, 6, 0);
+    refused_anywhere(1, 3, 2, one, SHARDS({0, 4}, {1, 6}), NO_ROOM, RS_DIFFERENT_SHARD_SIZE, 4, 6, 2);
+    refused_anywhere(1, 3, 2, NO_SHARD, SHARDS({0, 4}, {1, 6}), NO_ROOM, RS_DIFFERENT_SHARD_SIZE, 4, 6, 1);
+    refused_anywhere(1, 3, 4, three, SHARDS({3, 4}, {1, 4}, {0, 2}, {2, 6}), NO_ROOM, RS_DIFFERENT_SHARD_SIZE, 4, 2, 5);
     refused_anywhere(1, 3, 2, one, SHARDS({0, 4}), NO_ROOM, RS_NOT_ENOUGH_SHARDS, 3, 1, 1);
     refused_anywhere(1, 3, 2, three, one, ROOMS(4), RS_INCONSISTENT_SHARDS, 3, 1, 0);
     refused_anywhere(1, 3, 2, SHARDS({1, 4}, {2, 4}), one, NO_ROOM, RS_WRONG_NUMBER_OF_ROOMS, 1, 0, 0);
     refused_anywhere(1, 3, 2, SHARDS({1, 4}, {2, 4}), one, ROOMS(6, 4), RS_WRONG_NUMBER_OF_ROOMS, 1, 2, 0);
     refused_anywhere(1, 3, 2, SHARDS({1, 4}, {2, 4}), one, ROOMS(6), RS_WRONG_LENGTH, 4, 6, 0);
-    refused_anywhere(1, 3, 2, SHARDS({1, 4}), SHARDS({1, 4}, {0, 4}), ROOMS(4, 2), RS_WRONG_LENGTH, 4, 2, 0);
+    refused_anywhere(1, 3, 2, SHARDS({1, 4}), SHARDS({1, 4}, {0, 4}), ROOMS(4, 2), RS_WRONG_LENGTH, 4, 2, 1);
+    refused_anywhere(1, 3, 3, NO_SHARD, SHARDS({1, 4}, {0, 4}, {2, 4}), ROOMS(4, 4, 6), RS_WRONG_LENGTH, 4, 6, 2);
     refused_anywhere(1, 3, 2, NO_SHARD, NO_SHARD, NO_ROOM, RS_NOT_ENOUGH_SHARDS, 3, 0, 0);
     refused_anywhere(1, 3, 2, SHARDS({2, 1}, {0, 0}), NO_SHARD, ROOMS(4), RS_NOT_ENOUGH_SHARDS, 3, 2, 0);
     refused_anywhere(1, 3, 2, SHARDS({2, 4}, {3, 4}, {2, 4}), NO_SHARD, NO_ROOM, RS_INVALID_ORIGINAL_SHARD_INDEX, 3, 3, 0);
@@ -336,9 +341,9 @@ static void decodes_refused_anywhere(void) {
 
 /* The texts are those of the Rust crate, whole or as much as fits. */
 static void texts(void) {
-    static const struct rs_fault faults[] = {{0, 0, 0, 0},  {1, 0, 0, 0},  {2, 70000, 7, 0}, {3, 5, 0, 0},  {4, 64, 66, 0},
+    static const struct rs_fault faults[] = {{0, 0, 0, 0},  {1, 0, 0, 0},  {2, 70000, 7, 0}, {3, 5, 0, 0},  {4, 64, 66, 9},
                                              {5, 3, 1, 0},  {6, 3, 0, 0},  {7, 9, 4, 2},     {8, 3, 8, 0},  {9, 2, 6, 0},
-                                             {10, 1, 0, 0}, {11, 4, 0, 0}, {12, 3, 2, 0},    {13, 12, 11, 0}, {14, 2, 3, 0},
+                                             {10, 1, 0, 0}, {11, 4, 0, 0}, {12, 3, 2, 0},    {13, 12, 11, 2}, {14, 2, 3, 0},
                                              {15, 1, 1, 1}, {16, 1, 1, 1},  {UINT32_MAX, 1, 1, 1},
                                              {7, SIZE_MAX, SIZE_MAX, SIZE_MAX}, {8, 0, 10, 0}};
     static const char *const wanted[] = {
@@ -434,18 +439,19 @@ static void nulls(void) {
         rs_encode(tables, 3, 2, 4, bytes, 12, NULL, 0, NULL) != RS_WRONG_LENGTH ||
         rs_encode(tables, 3, 2, 0, NULL, 0, NULL, 0, NULL) != RS_INVALID_SHARD_SIZE)
         wrong("an encode with NULL");
-    if (rs_decode(tables, 3, 2, 4, bytes, 12, bytes, 8, NULL, 0, &fault) != RS_WRONG_LENGTH || !told(&fault, RS_WRONG_LENGTH, 5, 0, 0) ||
+    if (rs_decode(tables, 3, 2, 4, bytes, 12, bytes, 8, NULL, 0, &fault) != RS_WRONG_LENGTH || !told(&fault, RS_WRONG_LENGTH, 5, 0, 2) ||
         rs_decode(tables, 3, 2, 0, NULL, 0, NULL, 0, marks, 5, NULL) != RS_OK)
         wrong("a decode with NULL");
     if (rs_encode_shards(tables, 3, 2, NULL, 0, NULL, 0, &fault) != RS_TOO_FEW_ORIGINAL_SHARDS ||
         rs_encode_shards(tables, 3, 2, &empty, 1, NULL, 0, NULL) != RS_INVALID_SHARD_SIZE ||
-        rs_encode_shards(tables, 3, 2, from, 3, to, 2, &fault) != RS_DIFFERENT_SHARD_SIZE || !told(&fault, RS_DIFFERENT_SHARD_SIZE, 4, 0, 0) ||
-        rs_encode_shards(tables, 1, 2, from, 1, to, 2, &fault) != RS_WRONG_LENGTH || !told(&fault, RS_WRONG_LENGTH, 4, 0, 0))
+        rs_encode_shards(tables, 3, 2, from, 3, to, 2, &fault) != RS_DIFFERENT_SHARD_SIZE || !told(&fault, RS_DIFFERENT_SHARD_SIZE, 4, 0, 1) ||
+        rs_encode_shards(tables, 1, 2, from, 1, to, 2, &fault) != RS_WRONG_LENGTH || !told(&fault, RS_WRONG_LENGTH, 4, 0, 1))
         wrong("an encode over arrays with NULL");
     if (rs_decode_shards(tables, 3, 2, NULL, 0, NULL, 0, NULL, 0, &fault) != RS_NOT_ENOUGH_SHARDS ||
         rs_decode_shards(tables, 3, 2, own, 3, NULL, 0, NULL, 0, NULL) != RS_OK ||
         rs_decode_shards(tables, 3, 2, own, 3, other + 1, 1, NULL, 0, NULL) != RS_INVALID_SHARD_SIZE ||
         rs_decode_shards(tables, 3, 2, own + 2, 1, other, 2, to + 1, 2, &fault) != RS_DIFFERENT_SHARD_SIZE ||
+        !told(&fault, RS_DIFFERENT_SHARD_SIZE, 4, 0, 2) ||
         rs_decode_shards(tables, 1, 1, NULL, 0, other, 1, to + 1, 1, &fault) != RS_WRONG_LENGTH || !told(&fault, RS_WRONG_LENGTH, 4, 0, 0))
         wrong("a decode over arrays with NULL");
     if (own[0].bytes || own[1].bytes || other[1].bytes || from[1].bytes || to[1].bytes) wrong("an array with NULL has changed");
@@ -574,7 +580,7 @@ static void refusals(void) {
         refused(&other, decodes, 12, 0, 3, RS_UNSUPPORTED_SHARD_COUNT, 3, 0, 0);
         refused(&m, decodes, 11, 8, 5, RS_WRONG_LENGTH, 12, 11, 0);
         refused(&m, decodes, 0, 8, 5, RS_WRONG_LENGTH, 12, 0, 0);
-        refused(&m, decodes, 12, 7, 5, RS_WRONG_LENGTH, 8, 7, 0);
+        refused(&m, decodes, 12, 7, 5, RS_WRONG_LENGTH, 8, 7, 1);
         refused(&m, decodes, 11, 7, 4, RS_WRONG_LENGTH, 12, 11, 0);
         other = m;
         other.size = 5;
@@ -588,7 +594,8 @@ static void refusals(void) {
         refused(&other, decodes, 9, 6, 5, RS_INVALID_SHARD_SIZE, 3, 0, 0);
         m.marks[3] = 0;
     }
-    refused(&m, 1, 12, 8, 4, RS_WRONG_LENGTH, 5, 4, 0);
+    refused(&m, 1, 12, 8, 4, RS_WRONG_LENGTH, 5, 4, 2);
+    refused(&m, 1, 12, 7, 4, RS_WRONG_LENGTH, 8, 7, 1);
     refused(&m, 1, 12, 8, 5, RS_NOT_ENOUGH_SHARDS, 3, 0, 0);
     m.marks[1] = 1;
     refused(&m, 1, 12, 8, 5, RS_NOT_ENOUGH_SHARDS, 3, 1, 0);

@@ -80,8 +80,9 @@ class Wrapper(unittest.TestCase):
         for call, name, values in (
             (lambda: rs.encode([b"odd"], 1), "RS_INVALID_SHARD_SIZE", (3, 0, 0)),
             (lambda: rs.encode([], 1), "RS_UNSUPPORTED_SHARD_COUNT", (0, 1, 0)),
-            (lambda: rs.encode([b"abcd", b"ab"], 1), "RS_DIFFERENT_SHARD_SIZE", (4, 2, 0)),
+            (lambda: rs.encode([b"abcd", b"ab"], 1), "RS_DIFFERENT_SHARD_SIZE", (4, 2, 1)),
             (lambda: rs.encode([b"abcd"], 1, into=[bytearray(2)]), "RS_WRONG_LENGTH", (4, 2, 0)),
+            (lambda: rs.encode([b"abcd"], 2, into=[bytearray(4), bytearray(6)]), "RS_WRONG_LENGTH", (4, 6, 1)),
             (lambda: rs.encode([b"abcd"], 2, into=[bytearray(4)]), "RS_WRONG_NUMBER_OF_ROOMS", (2, 1, 0)),
             (lambda: rs.encode([b"ab"], 1 << 40), "RS_UNSUPPORTED_SHARD_COUNT", (1, 1 << 40, 0)),
             (lambda: rs.decode(3, 2, {}, {}), "RS_NOT_ENOUGH_SHARDS", (3, 0, 0)),

@@ -51,8 +51,8 @@ with-nothing i size (suc n) bytes sized =
 
 -- If the counts and lengths are right, the result of the decode over buffers is the result of one call.
 pub decodes : (k r size : ℕ) (marks recovery old new : List ℕ) (answer : Result (Unit {0}) Fault)
-    (decoded : Result Shards Error) → supports default_rate k r ≡ true → Ok tt ≡ length_outcome k size (length old)
-    → Ok tt ≡ length_outcome r size (length recovery) → Ok tt ≡ length_outcome (k + r) 1 (length marks)
+    (decoded : Result Shards Error) → supports default_rate k r ≡ true → Ok tt ≡ length_outcome 0 k size (length old)
+    → Ok tt ≡ length_outcome 1 r size (length recovery) → Ok tt ≡ length_outcome 2 (k + r) 1 (length marks)
     → OneDecodeAnswers k r (marked_shards 0 size (take k marks) old)
     (marked_shards 0 size (drop k marks) recovery) decoded
     → Writes decoded (λ restored. with_restored restored 0 size k old) old new answer

@@ -16,8 +16,8 @@ use Rattle.rs_c.specs.Buffers.{length_outcome, shards_in_buffer, concatenation}
 use Rattle.rs_c.specs.Answers.{EncodesBuffer, Writes, encode_lengths}
 
 -- If the check of a length finds no fault, the length is right.
-pub fits-length : (count size got : ℕ) → Ok tt ≡ length_outcome count size got → got ≡ count * size
-fits-length count size got is = elim (cases_eq (count * size) got) [
+pub fits-length : (place count size got : ℕ) → Ok tt ≡ length_outcome place count size got → got ≡ count * size
+fits-length place count size got is = elim (cases_eq (count * size) got) [
   | inl same ↦ sym same
   | inr other ↦ let refused = rw (ne_eqb (count * size) got other) at is in absurd (let no : ⊥ = cc in no)
 ]
@@ -25,7 +25,7 @@ fits-length count size got is = elim (cases_eq (count * size) got) [
 -- If the counts are supported and the checks of both lengths find no fault, the checks before the library is called
 -- succeed.
 pub lengths-ok : (k r size originals recovery : ℕ) → supports default_rate k r ≡ true
-    → Ok tt ≡ length_outcome k size originals → Ok tt ≡ length_outcome r size recovery
+    → Ok tt ≡ length_outcome 0 k size originals → Ok tt ≡ length_outcome 1 r size recovery
     → encode_lengths k r size originals recovery ≡ Ok tt
 lengths-ok k r size originals recovery supported own other = rw (supported, ← own, ← other) refl
 
@@ -41,8 +41,8 @@ gathered-size (suc n) r size bytes s some whole is =
 -- If the counts and lengths are right, the result of the encode over buffers is the result of one call.
 pub encodes : (k r size : ℕ) (originals old new : List ℕ) (answer : Result (Unit {0}) Fault)
     (coded : Result (List Shard) Error) → supports default_rate k r ≡ true
-    → Ok tt ≡ length_outcome k size (length originals)
-    → Ok tt ≡ length_outcome r size (length old) → OneEncodeAnswers k r (shards_in_buffer k size originals) coded
+    → Ok tt ≡ length_outcome 0 k size (length originals)
+    → Ok tt ≡ length_outcome 1 r size (length old) → OneEncodeAnswers k r (shards_in_buffer k size originals) coded
     → Writes coded concatenation old new answer → EncodesBuffer k r size originals old new answer
 encodes k r size originals old new answer coded supported own other answers writes =
     rw (lengths-ok k r size (length originals) (length old) supported own other) (coded, answers, writes)

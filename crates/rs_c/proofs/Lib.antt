@@ -1,7 +1,7 @@
 mod DecodeLemmas
 mod EncodeLemmas
 mod MarkedLemmas
-mod RoomLemmas
+mod PlaceLemmas
 mod TextLemmas
 mod AloneLemmas
 mod RoomFaults

@@ -18,10 +18,10 @@ Writes outcome bytes old new answer =
     MatchResult outcome (λ x. (answer ≡ Ok tt) × (new ≡ bytes x)) (λ e. (answer ≡ Err (Refused e)) × (new ≡ old))
 
 -- the result of the checks of an encode over buffers that come before the library is called: first the counts, then the
--- length of the originals, then the length of the recovery shards
+-- length of the originals (buffer 0), then the length of the recovery shards (buffer 1)
 abbrev pub encode_lengths : ℕ → ℕ → ℕ → ℕ → ℕ → Result (Unit {0}) Fault
 encode_lengths k r size originals recovery =
-    result_and_then (λ _. result_and_then (λ _. length_outcome r size recovery) (length_outcome k size originals))
+    result_and_then (λ _. result_and_then (λ _. length_outcome 1 r size recovery) (length_outcome 0 k size originals))
     (as_fault (counts_outcome k r))
 
 -- the result of `rs_encode` and the bytes that it writes. If the counts and lengths are right, this is the result of
@@ -34,10 +34,10 @@ EncodesBuffer k r size originals old new answer =
     (λ fault. (answer ≡ Err fault) × (new ≡ old))
 
 -- the result of the checks of a decode over buffers that come before the library is called: first the counts, then the
--- lengths of the originals, of the recovery shards and of the marks
+-- lengths of the originals, of the recovery shards and of the marks (buffer 2)
 abbrev pub decode_lengths : ℕ → ℕ → ℕ → ℕ → ℕ → ℕ → Result (Unit {0}) Fault
 decode_lengths k r size originals recovery marks =
-    result_and_then (λ _. length_outcome (k + r) 1 marks) (encode_lengths k r size originals recovery)
+    result_and_then (λ _. length_outcome 2 (k + r) 1 marks) (encode_lengths k r size originals recovery)
 
 -- the result of `rs_decode` and the bytes that it writes. If the counts and lengths are right, this is the result of
 -- one-call `decode` for the marked shards, with each restored original in its place

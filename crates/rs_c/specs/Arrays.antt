@@ -1,5 +1,5 @@
 -- Shards anywhere in memory, and rooms for the shards that a call writes.
-use Rattle.std.specs.Prelude.{◌≡◌, ℕ, ◌==◌, List, [], ◌∷◌, length, map, if◌then◌else◌, Result, Ok, Err, MatchResult}
+use Rattle.std.specs.Prelude.{◌≡◌, ℕ, ◌==◌, List, [], ◌∷◌, ◌++◌, length, map, if◌then◌else◌, Result, Ok, Err, MatchResult}
 use Rattle.std.specs.Borrow.{Bor, MutBor}
 use Rattle.rs_field.specs.declared.code.error.Error.{Error}
 use Rattle.rs_field.specs.code.Column.{Shard}
@@ -7,7 +7,8 @@ use Rattle.rs_field.specs.code.Outcome.{result_and_then}
 use Rattle.rs_field.specs.code.Given.{Shards, Lists}
 use Rattle.rs_field.specs.code.OneCall.{Items, OneEncodeAnswers, OneDecodeAnswers}
 use Rattle.rs_c.specs.declared.fault.Fault.{Fault}
-use Rattle.rs_c.specs.declared.fault.Fault.TheVariants.{Refused, WrongLength, WrongNumberOfRooms}
+use Rattle.rs_c.specs.declared.fault.Fault.TheVariants.{WrongLength, WrongNumberOfRooms}
+use Rattle.rs_c.specs.Places.{place_of_other, placed_refusal}
 use Rattle.rs_c.specs.declared.layouts.RsShard.{RsShard}
 
 -- the shards to which the references of an array point
@@ -30,17 +31,18 @@ KeepsRooms old new = map (λ room. room.ref_ptr) new ≡ map (λ room. room.ref_
 abbrev pub as_many : ℕ → ℕ → Result (Unit {0}) Fault
 as_many wanted got = if wanted == got then Ok tt else Err (WrongNumberOfRooms wanted got)
 
--- the result of checking that each room is as long as its shard: a success, or a fault with both lengths for the first
--- room that is not
-abbrev pub lengths_fit : List Shard → List (List ℕ) → Result (Unit {0}) Fault
-lengths_fit [] rooms = Ok tt
-lengths_fit (shard ∷ shards) [] = Ok tt
-lengths_fit (shard ∷ shards) (room ∷ rooms) =
-    if length room == length shard then lengths_fit shards rooms else Err (WrongLength (length shard) (length room))
+-- the result of checking that each room is as long as its shard: a success, or a fault for the first room that is not,
+-- with both lengths, and with the place of the first of all rooms that does not have the length of the shard
+abbrev pub lengths_fit : List (List ℕ) → List Shard → List (List ℕ) → Result (Unit {0}) Fault
+lengths_fit all [] rooms = Ok tt
+lengths_fit all (shard ∷ shards) [] = Ok tt
+lengths_fit all (shard ∷ shards) (room ∷ rooms) =
+    if length room == length shard then lengths_fit all shards rooms
+    else Err (WrongLength (length shard) (length room) (place_of_other (length shard) all))
 
 -- the result of checking that rooms fit shards: first their number, and then the length of each
 abbrev pub rooms_fit : List Shard → List (List ℕ) → Result (Unit {0}) Fault
-rooms_fit shards rooms = result_and_then (λ _. lengths_fit shards rooms) (as_many (length shards) (length rooms))
+rooms_fit shards rooms = result_and_then (λ _. lengths_fit rooms shards rooms) (as_many (length shards) (length rooms))
 
 -- a call succeeds and its rooms hold these shards, or the rooms do not fit the shards, the call fails and the rooms are
 -- unchanged
@@ -49,17 +51,24 @@ Fills shards old new answer =
     MatchResult (rooms_fit shards old) (λ _. (answer ≡ Ok tt) × (new ≡ shards))
     (λ fault. (answer ≡ Err fault) × (new ≡ old))
 
--- the result of an encode over arrays: the result of one-call `encode` for these originals, written into the rooms
+-- the result of an encode over arrays: the result of one-call `encode` for these originals, written into the rooms. The
+-- fault of an original of another size says its place
 abbrev pub EncodesArrays : ℕ → ℕ → List Shard → List (List ℕ) → List (List ℕ) → Result (Unit {0}) Fault → Type 0
 EncodesArrays k r originals old new answer =
     (coded : Result (List Shard) Error) × OneEncodeAnswers k r originals coded
-    × MatchResult coded (λ shards. Fills shards old new answer) (λ e. (answer ≡ Err (Refused e)) × (new ≡ old))
+    × MatchResult coded (λ shards. Fills shards old new answer)
+    (λ e. (answer ≡ Err (placed_refusal originals e)) × (new ≡ old))
+
+-- the shards of items with indexes
+abbrev pub shards_in : Items → List Shard
+shards_in items = map (λ item. item.1) items
 
 -- the result of a decode over arrays: the result of one-call `decode` for these shards. The restored originals are
--- written into the rooms, in order of index
+-- written into the rooms, in order of index. The fault of a shard of another size says its place: the places of recovery
+-- shards come after those of the originals
 abbrev pub DecodesArrays : ℕ → ℕ → Items → Items → List (List ℕ) → List (List ℕ) → Result (Unit {0}) Fault → Type 0
 DecodesArrays k r originals recovery old new answer =
     (decoded : Result Shards Error) × OneDecodeAnswers k r originals recovery decoded
     × MatchResult decoded
-    (λ restored. (items : Items) × Lists restored items × Fills (map (λ item. item.1) items) old new answer)
-    (λ e. (answer ≡ Err (Refused e)) × (new ≡ old))
+    (λ restored. (items : Items) × Lists restored items × Fills (shards_in items) old new answer)
+    (λ e. (answer ≡ Err (placed_refusal (shards_in originals ++ shards_in recovery) e)) × (new ≡ old))

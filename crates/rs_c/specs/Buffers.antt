@@ -9,12 +9,13 @@ use Rattle.rs_field.specs.code.OneCall.{Items, default_of}
 use Rattle.rs_c.specs.declared.fault.Fault.{Fault}
 use Rattle.rs_c.specs.declared.fault.Fault.TheVariants.{WrongLength}
 
--- the result of checking that a buffer has count * size bytes: a success, or a fault with the wanted length and the
--- length of the buffer. If the wanted length is 2^64 or more, the fault holds 2^64 - 1 instead
-abbrev pub length_outcome : ℕ → ℕ → ℕ → Result (Unit {0}) Fault
-length_outcome count size got =
+-- the result of checking that a buffer has count * size bytes: a success, or a fault with the wanted length, the length
+-- of the buffer, and the number that says which buffer it is. If the wanted length is 2^64 or more, the fault holds
+-- 2^64 - 1 instead
+abbrev pub length_outcome : ℕ → ℕ → ℕ → ℕ → Result (Unit {0}) Fault
+length_outcome place count size got =
     if count * size == got then Ok tt
-    else Err (WrongLength (if nat_lt (count * size) (2 ^ 64) then count * size else 2 ^ 64 - 1) got)
+    else Err (WrongLength (if nat_lt (count * size) (2 ^ 64) then count * size else 2 ^ 64 - 1) got place)
 
 -- the first n shards of this size in a buffer
 abbrev pub shards_in_buffer : ℕ → ℕ → List ℕ → List Shard

@@ -2,13 +2,16 @@
 use Rattle.std.specs.Prelude.{ℕ, List, ◌++◌, codes}
 use Rattle.std.specs.Fmt.{decimal}
 use Rattle.rs_field.specs.code.Texts.{text_of as refusal_text}
+use Rattle.rs_field.specs.declared.code.error.Error.TheVariants.{DifferentShardSize}
 use Rattle.rs_c.specs.declared.fault.Fault.{Fault}
 use Rattle.rs_c.specs.declared.fault.Fault.TheVariants.{Refused, WrongLength, WrongNumberOfRooms, TablesNotMade}
+use Rattle.rs_c.specs.declared.fault.Fault.TheVariants.{DifferentShardSize as different_size}
 
--- the text of a fault
+-- the text of a fault. It does not say the place of a shard, a buffer or a room
 abbrev pub text_of : Fault → List ℕ
 text_of (Refused error) = refusal_text error
-text_of (WrongLength wanted got) =
+text_of (different_size shard_bytes got place) = refusal_text (DifferentShardSize shard_bytes got)
+text_of (WrongLength wanted got place) =
     codes "wrong length: expected " ++ decimal wanted ++ codes " bytes, got " ++ decimal got ++ codes " bytes"
 text_of (WrongNumberOfRooms wanted got) =
     codes "wrong number of rooms: expected " ++ decimal wanted ++ codes ", got " ++ decimal got

@@ -10,6 +10,7 @@ use Rattle.rs_field.specs.declared.code.error.Error.TheVariants.{DuplicateOrigin
 use Rattle.rs_field.specs.declared.code.error.Error.TheVariants.{DuplicateRecoveryShardIndex, InconsistentShards}
 use Rattle.rs_c.specs.declared.fault.Fault.{Fault}
 use Rattle.rs_c.specs.declared.fault.Fault.TheVariants.{Refused, WrongLength, WrongNumberOfRooms, TablesNotMade}
+use Rattle.rs_c.specs.declared.fault.Fault.TheVariants.{DifferentShardSize as different_size}
 use Rattle.rs_c.specs.declared.fault.RsFault.{RsFault}
 
 -- a fault with this number and these three values
@@ -38,7 +39,8 @@ numbers_of (InconsistentShards original_received_count recovery_received_count) 
 abbrev pub fault_of : Result (Unit {0}) Fault → RsFault
 fault_of (Ok _) = numbers 0 0 0 0
 fault_of (Err (Refused error)) = numbers_of error
-fault_of (Err (WrongLength wanted got)) = numbers 13 wanted got 0
+fault_of (Err (different_size shard_bytes got place)) = numbers 4 shard_bytes got place
+fault_of (Err (WrongLength wanted got place)) = numbers 13 wanted got place
 fault_of (Err (WrongNumberOfRooms wanted got)) = numbers 14 wanted got 0
 fault_of (Err TablesNotMade) = numbers 15 0 0 0
 

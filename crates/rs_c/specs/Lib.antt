@@ -1,4 +1,4 @@
-pub mod RoomFaults
+pub mod Places
 pub mod Tables
 pub mod Faults
 pub mod Buffers

@@ -38,7 +38,7 @@ refusal_with fault =
 -- the fault that has these numbers, if there is one
 abbrev pub fault_with : RsFault → Option Fault
 fault_with fault =
-    if fault.number == 13 then Some (WrongLength fault.first fault.second)
+    if fault.number == 13 then Some (WrongLength fault.first fault.second fault.third)
     else if fault.number == 14 then Some (WrongNumberOfRooms fault.first fault.second)
     else if fault.number == 15 then Some TablesNotMade
     else option_map Refused (refusal_with fault)

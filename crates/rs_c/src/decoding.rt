@@ -1,11 +1,13 @@
 //! The two calls that decode: one for shards in buffers, and one for shards anywhere in memory.
-ghost use Rattle.std.specs.Prelude.{◌≡◌, ◌⊎◌, ◌*◌, All, Ok, Err, MatchResult, OnErr, drop, length, map};
+ghost use Rattle.std.specs.Prelude.{◌≡◌, ◌≢◌, ◌⊎◌, ◌*◌, All, Ok, Err, MatchResult, OnErr, drop, length, map};
 ghost use Rattle.rs_field.specs.code.Configuration.{start_outcome};
 ghost use Rattle.rs_field.specs.code.Counts.{default_rate};
 ghost use Rattle.rs_field.specs.code.Decoder.{IsDecoder, NoneAgrees, enough_given};
 ghost use Rattle.rs_field.specs.code.OneCall.{default_of};
 ghost use Rattle.rs_field.specs.code.PieceStates.{HoldRestored};
 ghost use Rattle.rs_field.specs.code.Frame.{decoder_rows};
+ghost use Rattle.reed_solomon_simd.specs.Into.{DecodesInto};
+ghost use Rattle.reed_solomon_simd.specs.Rooms.{loans_of};
 ghost use Rattle.rs_c.specs.Buffers.{lost_indexes, marked_map, marked_state, shard_place};
 ghost use Rattle.rs_c.specs.MarkedState.{state_in, rooms_in, besides_rooms};
 ghost use Rattle.rs_c.specs.Answers.{DecodesBuffer, marked_number, WantsNoMemory, all_or_refused};
@@ -17,10 +19,12 @@ use crate::engine::TableEngine;
 use crate::fault::Fault;
 use crate::layouts::RsShard;
 use crate::marked_buffers::{MarkedBuffers, indexes_of_lost};
-use crate::rooms::check_number;
+use crate::places::placed_fault;
+use reed_solomon_simd::RoomError;
 use reed_solomon_simd::received_shards::surplus_of;
 use reed_solomon_simd::receiving::received_shards;
 use reed_solomon_simd::restoring::{restore_in_place, restore_into};
+use reed_solomon_simd::rooms::check_rooms;
 use rs_field::bytes::are_bytes;
 use rs_field::error::Error;
 use rs_rate::rate::DefaultRateCounts;
@@ -57,9 +61,9 @@ pub fn decode_buffer(
     ensures memory { WantsNoMemory (marked_number (drop original_count marks.now)) result }
 {
     let counts = DefaultRateCounts::new(original_count, recovery_count)?;
-    check_length(original_count, shard_bytes, originals.len())?;
-    check_length(recovery_count, shard_bytes, recovery.len())?;
-    check_length(original_count + recovery_count, 1, marks.len())?;
+    check_length(0, original_count, shard_bytes, originals.len())?;
+    check_length(1, recovery_count, shard_bytes, recovery.len())?;
+    check_length(2, original_count + recovery_count, 1, marks.len())?;
     let (original_marks, recovery_marks) = marks.split_at(original_count);
     if count_marked(recovery_marks) == 0 {
         return Ok(check_all_marked(original_marks)?);
@@ -157,13 +161,8 @@ fn restore_buffers(
 ///
 /// # Errors
 ///
-/// - [`Fault::Refused`] with [`Error::UnsupportedShardCount`] if the counts are not supported.
-/// - If there is no recovery shard: the errors of [`check_alone`] as [`Fault::Refused`], and then
-///   [`Fault::WrongNumberOfRooms`] if there is a room.
-/// - Otherwise: the errors of [`received_shards`] as [`Fault::Refused`], and then the errors of [`restore_into`] as
-///   faults.
-///
-/// After an error the rooms are unchanged.
+/// The errors of `restore_arrays`, as faults and in the same order. The fault of a shard or a room of another size says its
+/// place. After an error the rooms are unchanged.
 pub fn decode_arrays(
     alloc: Global,
     engine: TableEngine<'_>,
@@ -179,18 +178,52 @@ pub fn decode_arrays(
     ensures kept { KeepsRooms restored.old restored.new }
     ensures memory { WantsNoMemory (length recovery.now) result }
 {
+    let answer = restore_arrays(
+        alloc,
+        engine,
+        original_count,
+        recovery_count,
+        originals,
+        recovery,
+        restored,
+    );
+    if let Err(error) = answer {
+        return Err(placed_fault(error, originals, recovery, restored));
+    }
+    Ok(())
+}
+
+// Restores the originals that are not among the given shards, and writes them into rooms. Fails, in this order, with
+// `UnsupportedShardCount`; if there is no recovery shard, with the errors of `check_alone`; otherwise with the errors of
+// `received_shards` and then of `restore_into`. If no original is missing, it then fails with `WrongNumberOfRooms` if there
+// is a room.
+fn restore_arrays(
+    alloc: Global,
+    engine: TableEngine<'_>,
+    original_count: usize,
+    recovery_count: usize,
+    originals: &[RsShard<'_>],
+    recovery: &[RsShard<'_>],
+    restored: &mut [&mut [u8]],
+) -> Result<(), RoomError>
+    ensures answer { DecodesInto original_count recovery_count
+        (items_of originals.now) (items_of recovery.now)
+        (bytes_in restored.old) (bytes_in restored.new) result }
+    ensures kept { loans_of restored.new ≡ loans_of restored.old }
+    ensures memory { length recovery.now ≡ 0
+        → result ≢ Err (RoomError.Refused Error.OutOfMemory) }
+{
     let counts = DefaultRateCounts::new(original_count, recovery_count)?;
     if recovery.is_empty() {
         check_alone(original_count, originals)?;
-        return check_number(0, restored.len());
+        return check_rooms(0, 0, restored);
     }
     let own = originals.iter().map(|shard| (shard.index, shard.bytes));
     let other = recovery.iter().map(|shard| (shard.index, shard.bytes));
     let Some(received) = received_shards(alloc, counts, own, other)? else {
-        return check_number(0, restored.len());
+        return check_rooms(0, 0, restored);
     };
-    restore_into(alloc, &received, engine, restored)?;
-    Ok(())
+    restore_into(alloc, &received, engine, restored)
 }
 
 // Returns how many marks are not 0.

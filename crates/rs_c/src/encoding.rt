@@ -13,6 +13,7 @@ use crate::buffers::check_length;
 use crate::engine::TableEngine;
 use crate::fault::Fault;
 use crate::layouts::BufferShards;
+use crate::places::placed_fault;
 use reed_solomon_simd::lent_originals::LentOriginals;
 use reed_solomon_simd::{Error, encode_into};
 use rs_rate::rate::DefaultRateCounts;
@@ -42,8 +43,8 @@ pub fn encode_buffer(
         originals.now recovery.old recovery.new result }
 {
     let counts = DefaultRateCounts::new(original_count, recovery_count)?;
-    check_length(original_count, shard_bytes, originals.len())?;
-    check_length(recovery_count, shard_bytes, recovery.len())?;
+    check_length(0, original_count, shard_bytes, originals.len())?;
+    check_length(1, recovery_count, shard_bytes, recovery.len())?;
     let shards = BufferShards::new(original_count, shard_bytes, originals);
     let gathered = LentOriginals::gather(alloc, counts, shards)?;
     gathered.check_all_given()?;
@@ -63,7 +64,8 @@ pub fn encode_buffer(
 /// # Errors
 ///
 /// The errors of [`encode_into`], as faults and in the same order: the counts, the originals, the number of rooms, the
-/// length of a room, and the memory for the work area. After an error the rooms are unchanged.
+/// length of a room, and the memory for the work area. The fault of an original or a room of another size says its place.
+/// After an error the rooms are unchanged.
 pub fn encode_arrays(
     alloc: Global,
     engine: TableEngine<'_>,
@@ -76,14 +78,17 @@ pub fn encode_arrays(
         (shards_of originals.now) (bytes_in recovery.old) (bytes_in recovery.new) result }
     ensures kept { KeepsRooms recovery.old recovery.new }
 {
-    encode_into(
+    let answer = encode_into(
         alloc,
         original_count,
         recovery_count,
         originals,
         recovery,
         engine,
-    )?;
+    );
+    if let Err(error) = answer {
+        return Err(placed_fault(error, originals, &[], recovery));
+    }
     Ok(())
 }
 

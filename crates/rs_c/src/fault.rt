@@ -1,5 +1,4 @@
 //! The reasons why a call from C fails, and their numbers.
-use reed_solomon_simd::RoomError;
 use rs_field::error::Error;
 
 /// The reason why a call failed.
@@ -8,6 +7,16 @@ pub enum Fault {
     /// The library refused the counts or the shards, or could not allocate memory. The value is the error of the
     /// library.
     Refused(Error),
+    /// A shard of an array has another size than the first one.
+    DifferentShardSize {
+        /// The size that all shards must have, in bytes.
+        shard_bytes: usize,
+        /// The size of the shard, in bytes.
+        got: usize,
+        /// The place of the shard in the array of originals, counted from 0. If it is a recovery shard, this is the number
+        /// of entries of that array, plus the place in the array of recovery shards.
+        place: usize,
+    },
     /// A buffer does not have the length that the counts and the size require, or a room does not have the size of its
     /// shard.
     WrongLength {
@@ -15,6 +24,9 @@ pub enum Fault {
         wanted: usize,
         /// The length of the buffer or of the room, in bytes.
         got: usize,
+        /// The buffer: 0 for originals, 1 for recovery shards, 2 for marks. For a room, this is its place in the array of
+        /// rooms, counted from 0.
+        place: usize,
     },
     /// The number of rooms is not the number of shards to write.
     WrongNumberOfRooms {
@@ -36,24 +48,6 @@ impl From<Error> for Fault {
 
     fn from(error: Error) -> Fault {
         Fault::Refused(error)
-    }
-}
-
-/// Converts an error of a call that writes into memory of the caller into a fault.
-impl From<RoomError> for Fault {
-    ghost use Rattle.std.specs.Prelude.{◌≡◌};
-    ghost use Rattle.rs_c.specs.RoomFaults.{fault_of_room};
-
-    ghost from_gives = { λ error result. result ≡ fault_of_room error };
-
-    fn from(error: RoomError) -> Fault {
-        match error {
-            RoomError::Refused(refusal) => Fault::Refused(refusal),
-            RoomError::WrongNumberOfRooms { wanted, got } => {
-                Fault::WrongNumberOfRooms { wanted, got }
-            }
-            RoomError::WrongLength { wanted, got } => Fault::WrongLength { wanted, got },
-        }
     }
 }
 
@@ -94,7 +88,14 @@ impl RsFault {
         match answer {
             Ok(()) => RsFault::new(0, 0, 0, 0),
             Err(Fault::Refused(error)) => RsFault::of_refusal(error),
-            Err(Fault::WrongLength { wanted, got }) => RsFault::new(13, wanted, got, 0),
+            Err(
+                Fault::DifferentShardSize {
+                    shard_bytes,
+                    got,
+                    place,
+                },
+            ) => RsFault::new(4, shard_bytes, got, place),
+            Err(Fault::WrongLength { wanted, got, place }) => RsFault::new(13, wanted, got, place),
             Err(Fault::WrongNumberOfRooms { wanted, got }) => RsFault::new(14, wanted, got, 0),
             Err(Fault::TablesNotMade) => RsFault::new(15, 0, 0, 0),
         }

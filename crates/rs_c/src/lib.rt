@@ -11,7 +11,7 @@ mod fault;
 mod lanes;
 mod layouts;
 mod marked_buffers;
-mod rooms;
+mod places;
 mod tables;
 #[cfg(test)]
 mod tests;

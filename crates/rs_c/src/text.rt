@@ -17,6 +17,7 @@ fn read(fault: RsFault) -> Option<Fault>
         13 => Some(Fault::WrongLength {
             wanted: first,
             got: second,
+            place: fault.third,
         }),
         14 => Some(Fault::WrongNumberOfRooms {
             wanted: first,
@@ -183,7 +184,12 @@ fn write_fault(fault: Fault, room: &mut [u8]) -> usize
 {
     match fault {
         Fault::Refused(error) => write_refusal(error, room),
-        Fault::WrongLength { wanted, got } => write_two(
+        Fault::DifferentShardSize {
+            shard_bytes,
+            got,
+            ..
+        } => write_refusal(Error::DifferentShardSize { shard_bytes, got }, room),
+        Fault::WrongLength { wanted, got, .. } => write_two(
             room,
             ("wrong length: expected ", wanted),
             (" bytes, got ", got),

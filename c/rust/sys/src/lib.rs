@@ -1,7 +1,7 @@
 //! The calls of `reed_solomon_simd.h` as they are in C. The header says what each call does and what the caller must ensure.
 #![no_std]
 #![allow(non_camel_case_types)]
-use core::ffi::c_char;
+use core::ffi::{c_char, c_void};
 
 pub const RS_VERSION: u32 = 65539;
 pub const RS_OK: u32 = 0;
@@ -80,6 +80,28 @@ extern "C" {
     pub fn rs_decode_shards(
         tables: *const rs_tables, original_count: usize, recovery_count: usize, originals: *const rs_shard, originals_number: usize,
         recovery: *const rs_shard, recovery_number: usize, restored: *const rs_room, restored_number: usize, fault: *mut rs_fault,
+    ) -> u32;
+    pub fn rs_work_bytes(original_count: usize, recovery_count: usize, shard_bytes: usize, restored: usize) -> usize;
+    pub fn rs_tables_work_bytes() -> usize;
+    pub fn rs_tables_make_with_work(tables: *mut rs_tables, work: *mut c_void, work_length: usize) -> u32;
+    pub fn rs_encode_with_work(
+        tables: *const rs_tables, original_count: usize, recovery_count: usize, shard_bytes: usize,
+        originals: *const u8, originals_length: usize, recovery: *mut u8, recovery_length: usize,
+        work: *mut c_void, work_length: usize, fault: *mut rs_fault,
+    ) -> u32;
+    pub fn rs_decode_with_work(
+        tables: *const rs_tables, original_count: usize, recovery_count: usize, shard_bytes: usize,
+        originals: *mut u8, originals_length: usize, recovery: *const u8, recovery_length: usize,
+        marks: *const u8, marks_length: usize, work: *mut c_void, work_length: usize, fault: *mut rs_fault,
+    ) -> u32;
+    pub fn rs_encode_shards_with_work(
+        tables: *const rs_tables, original_count: usize, recovery_count: usize, originals: *const rs_bytes, originals_number: usize,
+        recovery: *const rs_room, recovery_number: usize, work: *mut c_void, work_length: usize, fault: *mut rs_fault,
+    ) -> u32;
+    pub fn rs_decode_shards_with_work(
+        tables: *const rs_tables, original_count: usize, recovery_count: usize, originals: *const rs_shard, originals_number: usize,
+        recovery: *const rs_shard, recovery_number: usize, restored: *const rs_room, restored_number: usize,
+        work: *mut c_void, work_length: usize, fault: *mut rs_fault,
     ) -> u32;
     pub fn rs_fault_text(fault: *const rs_fault, text: *mut c_char, text_length: usize) -> usize;
     pub fn rs_status_name(number: u32) -> *const c_char;

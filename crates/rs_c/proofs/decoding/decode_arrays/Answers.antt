@@ -1,140 +1,43 @@
-use Rattle.std.proofs.Common.{rules, ◌≡◌, [], length, Ok, Err, inl, sym, ap, subst, ◌∙◌, refl, arith}
-use Rattle.std.proofs.lemmas.Iterator.{YieldsList-from_slice, YieldsList-from_map_by}
-use Rattle.std.proofs.lemmas.List.{nil_from_length}
-use Rattle.rs_field.specs.code.Given.{nothing}
-use Rattle.rs_field.specs.code.OneCall.{OneDecodeAnswers}
-use Rattle.rs_field.proofs.of_code.SupportedCounts.{default_fits}
-use Rattle.reed_solomon_simd.specs.ReceivedState.{received_state}
-use Rattle.reed_solomon_simd.proofs.RestoringLemmas.{decodes-restored}
-use Rattle.rs_c.proofs.RoomFaults.{decodes-told, keeps-rooms}
-use Rattle.reed_solomon_simd.proofs.Giving.{always-both}
-use Rattle.reed_solomon_simd.proofs.OneCall.{decoding-uncounted, decoding-none, decoding-refused, decoding-nothing}
-use Rattle.reed_solomon_simd.proofs.OneCall.{lists-none}
-use Rattle.rs_field.specs.declared.code.error.Error.TheVariants.{OutOfMemory}
-use Rattle.rs_c.specs.declared.fault.Fault.TheVariants.{Refused}
-use Rattle.rs_c.specs.Arrays.{items_of, bytes_in, as_many}
-use Rattle.rs_c.proofs.RoomLemmas.{bytes-count, fills-none}
+use Rattle.std.proofs.Common.{◌≡◌, ◌++◌, List, Ok, Err, sym, ap, ap₂, ◌∙◌}
+use Rattle.rs_field.specs.code.Column.{Shard}
+use Rattle.rs_field.specs.code.OneCall.{Items}
+use Rattle.rs_c.specs.Arrays.{items_of, shards_in, bytes_in}
+use Rattle.rs_c.specs.Places.{placed}
+use Rattle.rs_c.proofs.PlaceLemmas.{bytes_of, bytes-shards}
+use Rattle.rs_c.proofs.RoomFaults.{decodes-told, decodes-kept, keeps-rooms, told}
 use Rattle.rs_c.proofs.decoding.decode_arrays.Goals as goal
 
-pub returns-in_err-counts-clause-answer : goal.returns-in_err-counts-clause-answer
-returns-in_err-counts-clause-answer c =
+pub returns-in-Err-clause-answer : goal.returns-in-Err-clause-answer
+returns-in-Err-clause-answer c =
     let k = c.args.original_count in let r = c.args.recovery_count in
-    let own = items_of c.args.originals.now in let other = items_of c.args.recovery.now in
-    let e = c.in_err-counts.field-0.0 in (
-      Err e,
-      decoding-refused k r own other e (decoding-uncounted k r own other e c.in_err-counts.ensures),
-      (search rules, refl),
-    )
+    let own : Items = items_of c.args.originals.now in let other : Items = items_of c.args.recovery.now in
+    let old : List Shard = bytes_in c.args.restored.now in
+    let new : List Shard = bytes_in c.restore_arrays-answer.new.restored in
+    let answers = c.restore_arrays-answer.ensures.answer in
+    let same : bytes_in c.restore_arrays-answer.new.restored ≡ bytes_in c.args.restored.now =
+    decodes-kept k r own other old new c.in-Err.error c.restore_arrays-answer.result c.in-Err.is answers in
+    let is : c.placed_fault.result
+    ≡ placed (bytes_of c.args.originals.now ++ bytes_of c.args.recovery.now)
+    (bytes_in c.restore_arrays-answer.new.restored) c.in-Err.error =
+    c.placed_fault.ensures in
+    let given : bytes_of c.args.originals.now ++ bytes_of c.args.recovery.now
+    ≡ shards_in (items_of c.args.originals.now) ++ shards_in (items_of c.args.recovery.now) =
+    ap₂ (λ (l m : List Shard). l ++ m) (sym (bytes-shards c.args.originals.now)) (sym (bytes-shards c.args.recovery.now))
+    in
+    decodes-told k r own other old new c.restore_arrays-answer.result (Err c.placed_fault.result)
+    (ap Err (is ∙ ap₂ (λ (l rooms : List Shard). placed l rooms c.in-Err.error) given same)
+    ∙ sym (ap (told (shards_in own ++ shards_in other) old) c.in-Err.is)) answers
 
-pub check_alone-requires : goal.check_alone-requires
-check_alone-requires c =
-    let fits = default_fits c.in_ok-counts.counts.original_count c.in_ok-counts.counts.recovery_count
-    c.in_ok-counts.counts.supported in
-    omega (arith, fits, c.in_ok-counts.ensures.0, c.in_ok-counts.ensures.1)
-
-pub returns-in_err-check_alone-clause-answer : goal.returns-in_err-check_alone-clause-answer
-returns-in_err-check_alone-clause-answer c =
-    let k = c.args.original_count in let r = c.args.recovery_count in
-    let own = items_of c.args.originals.now in
-    let none : length c.args.recovery.now ≡ 0 = search rules in
-    let e = c.in_err-check_alone.field-0.0 in
-    let led = decoding-none k r own (Err e)
-    (rw (c.in_ok-counts.ensures.0, c.in_ok-counts.ensures.1) at c.in_ok-counts.counts.supported)
-    (inl c.in_err-check_alone.ensures.answer) in (
-      Err e,
-      subst (λ l. OneDecodeAnswers k r own (items_of l) (Err e)) (sym (nil_from_length c.args.recovery.now none))
-          (decoding-refused k r own [] e led),
-      (search rules, refl),
-    )
-
-pub returns-in_err-check_alone-clause-memory : goal.returns-in_err-check_alone-clause-memory
-returns-in_err-check_alone-clause-memory c none lacks =
-    let e = c.in_err-check_alone.field-0.0 in
-    let refused : c.from_residual-in_err-check_alone.result ≡ Err (Refused e) = search rules in
-    let same : e ≡ OutOfMemory = cc in c.in_err-check_alone.ensures.memory (ap Err same)
-
-pub returns-then-is_empty-clause-answer : goal.returns-then-is_empty-clause-answer
-returns-then-is_empty-clause-answer c =
-    let k = c.args.original_count in let r = c.args.recovery_count in
-    let own = items_of c.args.originals.now in
-    let none : length c.args.recovery.now ≡ 0 = search rules in
-    let led = decoding-none k r own (Ok tt)
-    (rw (c.in_ok-counts.ensures.0, c.in_ok-counts.ensures.1) at c.in_ok-counts.counts.supported)
-    (inl c.in_ok-check_alone.ensures.answer) in (
-      Ok nothing,
-      subst (λ l. OneDecodeAnswers k r own (items_of l) (Ok nothing)) (sym (nil_from_length c.args.recovery.now none))
-          (decoding-nothing k r own [] led),
-      (
-        [],
-        lists-none,
-        fills-none (bytes_in c.args.restored.now) _
-            (c.check_number.ensures ∙ ap (as_many 0) (sym (bytes-count c.args.restored.now))),
-      ),
-    )
-
-pub returns-in_err-received-clause-answer : goal.returns-in_err-received-clause-answer
-returns-in_err-received-clause-answer c =
-    let own = YieldsList-from_map_by _ (λ item. (item.0, item.1.now)) (λ shard. (shard.index, shard.bytes.now))
-    (YieldsList-from_slice c.args.originals.now cc) c.map-own.ensures.closure (λ x r q k. search rules) in
-    let other = YieldsList-from_map_by _ (λ item. (item.0, item.1.now)) (λ shard. (shard.index, shard.bytes.now))
-    (YieldsList-from_slice c.args.recovery.now cc) c.map-other.ensures.closure (λ x r q k. search rules) in
-    let led = always-both (λ item. (item.0, item.1.now)) (λ item. (item.0, item.1.now)) _
-    (rw (c.in_ok-counts.ensures.0, c.in_ok-counts.ensures.1) at c.in_err-received.ensures)
-    (items_of c.args.originals.now) (items_of c.args.recovery.now) own.runs other.runs in
-    let e = c.in_err-received.field-0.0 in
-    (Err e, decoding-refused c.args.original_count c.args.recovery_count _ _ e led, (search rules, refl))
-
-pub returns-in_default-clause-answer : goal.returns-in_default-clause-answer
-returns-in_default-clause-answer c =
-    let own = YieldsList-from_map_by _ (λ item. (item.0, item.1.now)) (λ shard. (shard.index, shard.bytes.now))
-    (YieldsList-from_slice c.args.originals.now cc) c.map-own.ensures.closure (λ x r q k. search rules) in
-    let other = YieldsList-from_map_by _ (λ item. (item.0, item.1.now)) (λ shard. (shard.index, shard.bytes.now))
-    (YieldsList-from_slice c.args.recovery.now cc) c.map-other.ensures.closure (λ x r q k. search rules) in
-    let led = always-both (λ item. (item.0, item.1.now)) (λ item. (item.0, item.1.now)) _
-    (rw (c.in_ok-counts.ensures.0, c.in_ok-counts.ensures.1, c.in_default.is) at c.in_ok-received.ensures)
-    (items_of c.args.originals.now) (items_of c.args.recovery.now) own.runs other.runs in (
-      Ok nothing,
-      decoding-nothing c.args.original_count c.args.recovery_count _ _ led,
-      (
-        [],
-        lists-none,
-        fills-none (bytes_in c.args.restored.now) _
-            (c.check_number-in_default.ensures ∙ ap (as_many 0) (sym (bytes-count c.args.restored.now))),
-      ),
-    )
-
-pub returns-in_err-restore_into-clause-answer : goal.returns-in_err-restore_into-clause-answer
-returns-in_err-restore_into-clause-answer c =
-    let own = YieldsList-from_map_by _ (λ item. (item.0, item.1.now)) (λ shard. (shard.index, shard.bytes.now))
-    (YieldsList-from_slice c.args.originals.now cc) c.map-own.ensures.closure (λ x r q k. search rules) in
-    let other = YieldsList-from_map_by _ (λ item. (item.0, item.1.now)) (λ shard. (shard.index, shard.bytes.now))
-    (YieldsList-from_slice c.args.recovery.now cc) c.map-other.ensures.closure (λ x r q k. search rules) in
-    let led = always-both (λ item. (item.0, item.1.now)) (λ item. (item.0, item.1.now)) _
-    (rw (c.in_ok-counts.ensures.0, c.in_ok-counts.ensures.1, c.in-Some.is) at c.in_ok-received.ensures)
-    (items_of c.args.originals.now) (items_of c.args.recovery.now) own.runs other.runs in
-    decodes-told c.args.original_count c.args.recovery_count (items_of c.args.originals.now)
-    (items_of c.args.recovery.now) (bytes_in c.args.restored.now) _ _ _ (search rules)
-    (decodes-restored c.args.original_count c.args.recovery_count (items_of c.args.originals.now)
-    (items_of c.args.recovery.now) (received_state c.in-Some.received) (bytes_in c.args.restored.now) _ _ led
-    c.in_err-restore_into.ensures.answer)
-
-pub returns-in_err-restore_into-clause-kept : goal.returns-in_err-restore_into-clause-kept
-returns-in_err-restore_into-clause-kept c = keeps-rooms c.args.restored.now _ c.in_err-restore_into.ensures.kept
+pub returns-in-Err-clause-kept : goal.returns-in-Err-clause-kept
+returns-in-Err-clause-kept c = keeps-rooms c.args.restored.now _ c.restore_arrays-answer.ensures.kept
 
 pub returns-clause-answer : goal.returns-clause-answer
 returns-clause-answer c =
-    let own = YieldsList-from_map_by _ (λ item. (item.0, item.1.now)) (λ shard. (shard.index, shard.bytes.now))
-    (YieldsList-from_slice c.args.originals.now cc) c.map-own.ensures.closure (λ x r q k. search rules) in
-    let other = YieldsList-from_map_by _ (λ item. (item.0, item.1.now)) (λ shard. (shard.index, shard.bytes.now))
-    (YieldsList-from_slice c.args.recovery.now cc) c.map-other.ensures.closure (λ x r q k. search rules) in
-    let led = always-both (λ item. (item.0, item.1.now)) (λ item. (item.0, item.1.now)) _
-    (rw (c.in_ok-counts.ensures.0, c.in_ok-counts.ensures.1, c.in-Some.is) at c.in_ok-received.ensures)
-    (items_of c.args.originals.now) (items_of c.args.recovery.now) own.runs other.runs in
-    decodes-told c.args.original_count c.args.recovery_count (items_of c.args.originals.now)
-    (items_of c.args.recovery.now) (bytes_in c.args.restored.now) _ (Ok tt) (Ok tt) refl
-    (decodes-restored c.args.original_count c.args.recovery_count (items_of c.args.originals.now)
-    (items_of c.args.recovery.now) (received_state c.in-Some.received) (bytes_in c.args.restored.now) _ (Ok tt) led
-    c.in_ok-restore_into.ensures.answer)
+    let own : Items = items_of c.args.originals.now in let other : Items = items_of c.args.recovery.now in
+    let old : List Shard = bytes_in c.args.restored.now in
+    decodes-told c.args.original_count c.args.recovery_count own other old
+    (bytes_in c.restore_arrays-answer.new.restored) c.restore_arrays-answer.result (Ok tt)
+    (sym (ap (told (shards_in own ++ shards_in other) old) c.in_default.is)) c.restore_arrays-answer.ensures.answer
 
 pub returns-clause-kept : goal.returns-clause-kept
-returns-clause-kept c = keeps-rooms c.args.restored.now _ c.in_ok-restore_into.ensures.kept
+returns-clause-kept c = keeps-rooms c.args.restored.now _ c.restore_arrays-answer.ensures.kept

@@ -27,7 +27,7 @@ returns-in_err-check_all_marked-clause-answer c =
     let front : c.split_at.result.0.now ≡ take k marks = search rules in
     let back : c.split_at.result.1.now ≡ drop k marks = search rules in
     let e = c.in_err-check_all_marked.field-0.0 in
-    let many : length marks ≡ (k + r) * 1 = fits-length (k + r) 1 (length marks) c.in_ok-check_length-3.ensures in
+    let many : length marks ≡ (k + r) * 1 = fits-length 2 (k + r) 1 (length marks) c.in_ok-check_length-3.ensures in
     let led = decodes-unmarked k r size (take k marks) (drop k marks) old recovery (Err e)
     (rw (c.in_ok-counts.ensures.0, c.in_ok-counts.ensures.1) at c.in_ok-counts.counts.supported)
     (length-take-le k marks (omega (arith, many)))
@@ -46,7 +46,7 @@ returns-then-count_marked-eq0-clause-answer c =
     let marks = c.args.marks.now in let old = c.args.originals.now in let recovery = c.args.recovery.now in
     let front : c.split_at.result.0.now ≡ take k marks = search rules in
     let back : c.split_at.result.1.now ≡ drop k marks = search rules in
-    let many : length marks ≡ (k + r) * 1 = fits-length (k + r) 1 (length marks) c.in_ok-check_length-3.ensures in
+    let many : length marks ≡ (k + r) * 1 = fits-length 2 (k + r) 1 (length marks) c.in_ok-check_length-3.ensures in
     let led = decodes-unmarked k r size (take k marks) (drop k marks) old recovery (Ok tt)
     (rw (c.in_ok-counts.ensures.0, c.in_ok-counts.ensures.1) at c.in_ok-counts.counts.supported)
     (length-take-le k marks (omega (arith, many)))
@@ -57,7 +57,7 @@ returns-then-count_marked-eq0-clause-answer c =
     (rw (c.in_ok-counts.ensures.0, c.in_ok-counts.ensures.1) at c.in_ok-counts.counts.supported)
     c.in_ok-check_length.ensures c.in_ok-check_length-2.ensures c.in_ok-check_length-3.ensures
     (decoding-nothing k r (marked_shards 0 size (take k marks) old) (marked_shards 0 size (drop k marks) recovery) led)
-    (search rules, sym (with-nothing 0 size k old (fits-length k size (length old) c.in_ok-check_length.ensures)))
+    (search rules, sym (with-nothing 0 size k old (fits-length 0 k size (length old) c.in_ok-check_length.ensures)))
 
 pub returns-in_err-check_decoder_rows-clause-answer : goal.returns-in_err-check_decoder_rows-clause-answer
 returns-in_err-check_decoder_rows-clause-answer c =
@@ -66,13 +66,13 @@ returns-in_err-check_decoder_rows-clause-answer c =
     let own = c.split_at.result.0.now in let other = c.split_at.result.1.now in
     let front : c.split_at.result.0.now ≡ take k marks = search rules in
     let back : c.split_at.result.1.now ≡ drop k marks = search rules in
-    let many : length marks ≡ (k + r) * 1 = fits-length (k + r) 1 (length marks) c.in_ok-check_length-3.ensures in
+    let many : length marks ≡ (k + r) * 1 = fits-length 2 (k + r) 1 (length marks) c.in_ok-check_length-3.ensures in
     let own_number : length c.split_at.result.0.now ≡ c.args.original_count =
     ap length front ∙ length-take-le k marks (omega (arith, many)) in
     let other_number : length c.split_at.result.1.now ≡ c.args.recovery_count =
     ap length back ∙ length-drop k marks ∙ omega (arith, many) in
-    let own_whole = fits-length k size (length old) c.in_ok-check_length.ensures in
-    let other_whole = fits-length r size (length recovery) c.in_ok-check_length-2.ensures in
+    let own_whole = fits-length 0 k size (length old) c.in_ok-check_length.ensures in
+    let other_whole = fits-length 1 r size (length recovery) c.in_ok-check_length-2.ensures in
     let counted = c.count_marked.ensures ∙ sym (count-present other) in
     let some : 0 < present c.split_at.result.1.now = omega (arith, counted, c.if-count_marked-eq0.false) in
     let supported = rw (c.in_ok-counts.ensures.0, c.in_ok-counts.ensures.1) at c.in_ok-counts.counts.supported in
@@ -92,13 +92,13 @@ restore_marked-requires-clause-own_marks c =
     let own = c.split_at.result.0.now in let other = c.split_at.result.1.now in
     let front : c.split_at.result.0.now ≡ take k marks = search rules in
     let back : c.split_at.result.1.now ≡ drop k marks = search rules in
-    let many : length marks ≡ (k + r) * 1 = fits-length (k + r) 1 (length marks) c.in_ok-check_length-3.ensures in
+    let many : length marks ≡ (k + r) * 1 = fits-length 2 (k + r) 1 (length marks) c.in_ok-check_length-3.ensures in
     let own_number : length c.split_at.result.0.now ≡ c.args.original_count =
     ap length front ∙ length-take-le k marks (omega (arith, many)) in
     let other_number : length c.split_at.result.1.now ≡ c.args.recovery_count =
     ap length back ∙ length-drop k marks ∙ omega (arith, many) in
-    let own_whole = fits-length k size (length old) c.in_ok-check_length.ensures in
-    let other_whole = fits-length r size (length recovery) c.in_ok-check_length-2.ensures in
+    let own_whole = fits-length 0 k size (length old) c.in_ok-check_length.ensures in
+    let other_whole = fits-length 1 r size (length recovery) c.in_ok-check_length-2.ensures in
     let counted = c.count_marked.ensures ∙ sym (count-present other) in
     let some : 0 < present c.split_at.result.1.now = omega (arith, counted, c.if-count_marked-eq0.false) in
     let supported = rw (c.in_ok-counts.ensures.0, c.in_ok-counts.ensures.1) at c.in_ok-counts.counts.supported in
@@ -111,13 +111,13 @@ restore_marked-requires-clause-other_marks c =
     let own = c.split_at.result.0.now in let other = c.split_at.result.1.now in
     let front : c.split_at.result.0.now ≡ take k marks = search rules in
     let back : c.split_at.result.1.now ≡ drop k marks = search rules in
-    let many : length marks ≡ (k + r) * 1 = fits-length (k + r) 1 (length marks) c.in_ok-check_length-3.ensures in
+    let many : length marks ≡ (k + r) * 1 = fits-length 2 (k + r) 1 (length marks) c.in_ok-check_length-3.ensures in
     let own_number : length c.split_at.result.0.now ≡ c.args.original_count =
     ap length front ∙ length-take-le k marks (omega (arith, many)) in
     let other_number : length c.split_at.result.1.now ≡ c.args.recovery_count =
     ap length back ∙ length-drop k marks ∙ omega (arith, many) in
-    let own_whole = fits-length k size (length old) c.in_ok-check_length.ensures in
-    let other_whole = fits-length r size (length recovery) c.in_ok-check_length-2.ensures in
+    let own_whole = fits-length 0 k size (length old) c.in_ok-check_length.ensures in
+    let other_whole = fits-length 1 r size (length recovery) c.in_ok-check_length-2.ensures in
     let counted = c.count_marked.ensures ∙ sym (count-present other) in
     let some : 0 < present c.split_at.result.1.now = omega (arith, counted, c.if-count_marked-eq0.false) in
     let supported = rw (c.in_ok-counts.ensures.0, c.in_ok-counts.ensures.1) at c.in_ok-counts.counts.supported in
@@ -130,13 +130,13 @@ restore_marked-requires-clause-own_whole c =
     let own = c.split_at.result.0.now in let other = c.split_at.result.1.now in
     let front : c.split_at.result.0.now ≡ take k marks = search rules in
     let back : c.split_at.result.1.now ≡ drop k marks = search rules in
-    let many : length marks ≡ (k + r) * 1 = fits-length (k + r) 1 (length marks) c.in_ok-check_length-3.ensures in
+    let many : length marks ≡ (k + r) * 1 = fits-length 2 (k + r) 1 (length marks) c.in_ok-check_length-3.ensures in
     let own_number : length c.split_at.result.0.now ≡ c.args.original_count =
     ap length front ∙ length-take-le k marks (omega (arith, many)) in
     let other_number : length c.split_at.result.1.now ≡ c.args.recovery_count =
     ap length back ∙ length-drop k marks ∙ omega (arith, many) in
-    let own_whole = fits-length k size (length old) c.in_ok-check_length.ensures in
-    let other_whole = fits-length r size (length recovery) c.in_ok-check_length-2.ensures in
+    let own_whole = fits-length 0 k size (length old) c.in_ok-check_length.ensures in
+    let other_whole = fits-length 1 r size (length recovery) c.in_ok-check_length-2.ensures in
     let counted = c.count_marked.ensures ∙ sym (count-present other) in
     let some : 0 < present c.split_at.result.1.now = omega (arith, counted, c.if-count_marked-eq0.false) in
     let supported = rw (c.in_ok-counts.ensures.0, c.in_ok-counts.ensures.1) at c.in_ok-counts.counts.supported in
@@ -149,13 +149,13 @@ restore_marked-requires-clause-other_whole c =
     let own = c.split_at.result.0.now in let other = c.split_at.result.1.now in
     let front : c.split_at.result.0.now ≡ take k marks = search rules in
     let back : c.split_at.result.1.now ≡ drop k marks = search rules in
-    let many : length marks ≡ (k + r) * 1 = fits-length (k + r) 1 (length marks) c.in_ok-check_length-3.ensures in
+    let many : length marks ≡ (k + r) * 1 = fits-length 2 (k + r) 1 (length marks) c.in_ok-check_length-3.ensures in
     let own_number : length c.split_at.result.0.now ≡ c.args.original_count =
     ap length front ∙ length-take-le k marks (omega (arith, many)) in
     let other_number : length c.split_at.result.1.now ≡ c.args.recovery_count =
     ap length back ∙ length-drop k marks ∙ omega (arith, many) in
-    let own_whole = fits-length k size (length old) c.in_ok-check_length.ensures in
-    let other_whole = fits-length r size (length recovery) c.in_ok-check_length-2.ensures in
+    let own_whole = fits-length 0 k size (length old) c.in_ok-check_length.ensures in
+    let other_whole = fits-length 1 r size (length recovery) c.in_ok-check_length-2.ensures in
     let counted = c.count_marked.ensures ∙ sym (count-present other) in
     let some : 0 < present c.split_at.result.1.now = omega (arith, counted, c.if-count_marked-eq0.false) in
     let supported = rw (c.in_ok-counts.ensures.0, c.in_ok-counts.ensures.1) at c.in_ok-counts.counts.supported in
@@ -168,13 +168,13 @@ returns-in_err-restore_marked-clause-answer c =
     let own = c.split_at.result.0.now in let other = c.split_at.result.1.now in
     let front : c.split_at.result.0.now ≡ take k marks = search rules in
     let back : c.split_at.result.1.now ≡ drop k marks = search rules in
-    let many : length marks ≡ (k + r) * 1 = fits-length (k + r) 1 (length marks) c.in_ok-check_length-3.ensures in
+    let many : length marks ≡ (k + r) * 1 = fits-length 2 (k + r) 1 (length marks) c.in_ok-check_length-3.ensures in
     let own_number : length c.split_at.result.0.now ≡ c.args.original_count =
     ap length front ∙ length-take-le k marks (omega (arith, many)) in
     let other_number : length c.split_at.result.1.now ≡ c.args.recovery_count =
     ap length back ∙ length-drop k marks ∙ omega (arith, many) in
-    let own_whole = fits-length k size (length old) c.in_ok-check_length.ensures in
-    let other_whole = fits-length r size (length recovery) c.in_ok-check_length-2.ensures in
+    let own_whole = fits-length 0 k size (length old) c.in_ok-check_length.ensures in
+    let other_whole = fits-length 1 r size (length recovery) c.in_ok-check_length-2.ensures in
     let counted = c.count_marked.ensures ∙ sym (count-present other) in
     let some : 0 < present c.split_at.result.1.now = omega (arith, counted, c.if-count_marked-eq0.false) in
     let supported = rw (c.in_ok-counts.ensures.0, c.in_ok-counts.ensures.1) at c.in_ok-counts.counts.supported in
@@ -195,13 +195,13 @@ returns-clause-answer c =
     let own = c.split_at.result.0.now in let other = c.split_at.result.1.now in
     let front : c.split_at.result.0.now ≡ take k marks = search rules in
     let back : c.split_at.result.1.now ≡ drop k marks = search rules in
-    let many : length marks ≡ (k + r) * 1 = fits-length (k + r) 1 (length marks) c.in_ok-check_length-3.ensures in
+    let many : length marks ≡ (k + r) * 1 = fits-length 2 (k + r) 1 (length marks) c.in_ok-check_length-3.ensures in
     let own_number : length c.split_at.result.0.now ≡ c.args.original_count =
     ap length front ∙ length-take-le k marks (omega (arith, many)) in
     let other_number : length c.split_at.result.1.now ≡ c.args.recovery_count =
     ap length back ∙ length-drop k marks ∙ omega (arith, many) in
-    let own_whole = fits-length k size (length old) c.in_ok-check_length.ensures in
-    let other_whole = fits-length r size (length recovery) c.in_ok-check_length-2.ensures in
+    let own_whole = fits-length 0 k size (length old) c.in_ok-check_length.ensures in
+    let other_whole = fits-length 1 r size (length recovery) c.in_ok-check_length-2.ensures in
     let counted = c.count_marked.ensures ∙ sym (count-present other) in
     let some : 0 < present c.split_at.result.1.now = omega (arith, counted, c.if-count_marked-eq0.false) in
     let supported = rw (c.in_ok-counts.ensures.0, c.in_ok-counts.ensures.1) at c.in_ok-counts.counts.supported in

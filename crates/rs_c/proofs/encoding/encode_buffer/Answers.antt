@@ -56,11 +56,11 @@ write_recovery-requires-clause-size c =
     in
     ap (λ (d : Configuration). d.shard_bytes)
     (gathered-size k r c.args.shard_bytes c.args.originals.now (lent_state c.in_ok-gathered.gathered) some
-    (fits-length k c.args.shard_bytes (length c.args.originals.now) c.in_ok-check_length.ensures) led)
+    (fits-length 0 k c.args.shard_bytes (length c.args.originals.now) c.in_ok-check_length.ensures) led)
 
 pub write_recovery-requires-clause-whole : goal.write_recovery-requires-clause-whole
 write_recovery-requires-clause-whole c =
-    fits-length c.args.recovery_count c.args.shard_bytes (length c.args.recovery.now) c.in_ok-check_length-2.ensures
+    fits-length 1 c.args.recovery_count c.args.shard_bytes (length c.args.recovery.now) c.in_ok-check_length-2.ensures
 
 pub returns-in_err-write_recovery : goal.returns-in_err-write_recovery
 returns-in_err-write_recovery c =
@@ -72,7 +72,7 @@ returns-in_err-write_recovery c =
     (lends-left (λ shard. shard.now) _ shards c.new-shards.ensures) in
     let lacks : c.in_err-write_recovery.field-0.0 ≡ OutOfMemory =
     (let refused = c.in_err-write_recovery.ensures.refused in cc) in
-    let whole = fits-length c.args.recovery_count c.args.shard_bytes
+    let whole = fits-length 1 c.args.recovery_count c.args.shard_bytes
     (length c.args.recovery.now) c.in_ok-check_length-2.ensures in
     let same : c.write_recovery.new.recovery ≡ c.args.recovery.now =
     cut-same r c.args.shard_bytes c.write_recovery.new.recovery c.args.recovery.now
@@ -92,7 +92,7 @@ returns c =
     (rw (c.in_ok-counts.ensures.0, c.in_ok-counts.ensures.1) at c.in_ok-gathered.ensures.gathered) shards
     (lends-left (λ shard. shard.now) _ shards c.new-shards.ensures) in
     let made = shards_in_buffer r c.args.shard_bytes c.write_recovery.new.recovery in
-    let whole = fits-length c.args.recovery_count c.args.shard_bytes
+    let whole = fits-length 1 c.args.recovery_count c.args.shard_bytes
     (length c.args.recovery.now) c.in_ok-check_length-2.ensures in
     encodes k r c.args.shard_bytes c.args.originals.now c.args.recovery.now _ _ (Ok made)
     (rw (c.in_ok-counts.ensures.0, c.in_ok-counts.ensures.1) at c.in_ok-counts.counts.supported)

@@ -1,0 +1,204 @@
+/* c/work.c by itself, over calls that only record what they get and request memory: each branch of it. This file includes c/work.c, so that it
+   also sees functions which the library doesn't export. c/tests/work.c tests the calls of the library. */
+#include "../work.c"
+
+#include <stdio.h>
+#include <stdlib.h>
+
+static void wrong(const char *what) {
+    printf("lent: %s\n", what);
+    exit(1);
+}
+
+/* The allocator of the host: how often each of its functions was called, and a block that it gives. */
+static struct {
+    int allocs, reallocs, deallocs;
+} host;
+static uint64_t of_host[2];
+
+struct tried rattle_alloc(size_t size, size_t align) {
+    host.allocs++;
+    return (struct tried){size == 100 && align == 8, of_host};
+}
+
+struct tried rattle_realloc(void *old, size_t kept, size_t size, size_t align) {
+    host.reallocs++;
+    return (struct tried){old == of_host && kept == 50 && size == 200 && align == 8, of_host + 1};
+}
+
+void rattle_dealloc(void *at) {
+    host.deallocs += at == of_host;
+}
+
+enum { ANSWER = 77 };
+
+/* What the next call does with its memory. */
+static void (*does)(void);
+static int calls;
+
+static uint32_t answered(bool right) {
+    if (!right) wrong("a call gets other arguments");
+    calls++;
+    does();
+    return ANSWER;
+}
+
+static const struct rs_tables *tables;
+static uint8_t o[12], q[8], m[5];
+static struct rs_fault fault;
+
+uint32_t rs_tables_make(struct rs_tables *t) {
+    return answered(t == tables);
+}
+
+uint32_t rs_encode(const struct rs_tables *t, size_t k, size_t r, size_t size, const uint8_t *own, size_t ol, uint8_t *to, size_t tl,
+                   struct rs_fault *f) {
+    return answered(t == tables && k == 3 && r == 2 && size == 4 && own == o && ol == 12 && to == q && tl == 8 && f == &fault);
+}
+
+uint32_t rs_decode(const struct rs_tables *t, size_t k, size_t r, size_t size, uint8_t *own, size_t ol, const uint8_t *other, size_t tl,
+                   const uint8_t *marks, size_t ml, struct rs_fault *f) {
+    return answered(t == tables && k == 3 && r == 2 && size == 4 && own == o && ol == 12 && other == q && tl == 8 && marks == m && ml == 5 &&
+                    f == &fault);
+}
+
+static const struct rs_bytes from[3];
+static const struct rs_room to[2];
+static const struct rs_shard own[1], other[2];
+
+uint32_t rs_encode_shards(const struct rs_tables *t, size_t k, size_t r, const struct rs_bytes *a, size_t an, const struct rs_room *b,
+                          size_t bn, struct rs_fault *f) {
+    return answered(t == tables && k == 3 && r == 2 && a == from && an == 3 && b == to && bn == 2 && f == &fault);
+}
+
+uint32_t rs_decode_shards(const struct rs_tables *t, size_t k, size_t r, const struct rs_shard *a, size_t an, const struct rs_shard *b,
+                          size_t bn, const struct rs_room *c, size_t cn, struct rs_fault *f) {
+    return answered(t == tables && k == 3 && r == 2 && a == own && an == 1 && b == other && bn == 2 && c == to && cn == 2 && f == &fault);
+}
+
+uint32_t rs_supports(size_t k, size_t r) {
+    return k && r && k + r <= 65536;
+}
+
+/* Without work memory, requests go to the host's allocator, with the same arguments and answers. */
+static void without(void) {
+    struct tried block = rs_alloc(100, 8), again = rs_realloc(of_host, 50, 200, 8);
+    if (!block.ok || block.at != of_host || !again.ok || again.at != of_host + 1) wrong("a request reaches the host otherwise");
+    block = rs_alloc(101, 8), again = rs_realloc(of_host, 50, 201, 8);
+    if (block.ok || !block.at || again.ok || !again.at) wrong("a refusal of the host comes otherwise");
+    rs_dealloc(of_host);
+    if (host.allocs != 2 || host.reallocs != 2 || host.deallocs != 1) wrong("the host gets other requests");
+}
+
+/* The memory that a call is lent: `bytes` bytes from `start` on, between guards. */
+static unsigned char memory[1024];
+static size_t start, bytes;
+
+/* Takes all blocks of one size, and returns how many there were. Each is inside the memory and begins at a multiple of 64. */
+static size_t taken(size_t size) {
+    size_t number = 0;
+    unsigned char *end = memory + start;
+    for (;; number++) {
+        struct tried block = rs_alloc(size, 16);
+        unsigned char *at = block.at;
+        if (!at) wrong("NULL as a block");
+        if (!block.ok) break;
+        if ((uintptr_t)at % 64 || at < end || at + size > memory + start + bytes) wrong("a block lies elsewhere");
+        end = at + (size ? size : 1);
+        memset(at, 7, size);
+        rs_dealloc(at);
+    }
+    return number;
+}
+
+static size_t wanted_size, got_number;
+
+static void takes_all(void) {
+    got_number = taken(wanted_size);
+}
+
+/* A block of another size has the first bytes of the old one. */
+static void takes_again(void) {
+    struct tried block = rs_alloc(65, 1), longer, shorter, none;
+    for (int i = 0; i < 65; i++) ((unsigned char *)block.at)[i] = (unsigned char)(i + 1);
+    longer = rs_realloc(block.at, 65, 130, 1);
+    shorter = rs_realloc(block.at, 65, 3, 1);
+    none = rs_realloc(block.at, 65, 1024, 1);
+    if (!block.ok || !longer.ok || !shorter.ok || none.ok || !none.at) wrong("blocks of another size");
+    if (memcmp(longer.at, block.at, 65) || memcmp(shorter.at, block.at, 3) || ((unsigned char *)block.at)[64] != 65)
+        wrong("a block of another size has other bytes");
+}
+
+/* At each place and of each length, a call gets as many blocks as fit, and nothing outside is written. */
+static void lengths(void) {
+    static const size_t sizes[] = {0, 1, 63, 64, 65, 128, 200};
+    does = takes_all;
+    for (start = 300; start < 300 + 64; start++)
+        for (bytes = 0; bytes < 400; bytes++)
+            for (size_t i = 0; i < sizeof sizes / sizeof *sizes; i++) {
+                size_t before = (64 - ((uintptr_t)memory + start) % 64) % 64, each = sizes[i] ? (sizes[i] + 63) / 64 * 64 : 64;
+                wanted_size = sizes[i];
+                memset(memory, '#', sizeof memory);
+                if (rs_tables_make_with_work((struct rs_tables *)tables, memory + start, bytes) != ANSWER) wrong("another answer");
+                if (got_number != (bytes > before ? (bytes - before) / each : 0)) wrong("another number of blocks");
+                for (size_t n = 0; n < sizeof memory; n++)
+                    if (memory[n] != '#' && (n < start || n >= start + bytes)) wrong("a byte outside the work memory is written");
+            }
+    if (rs_tables_make_with_work((struct rs_tables *)tables, NULL, 0) != ANSWER || got_number) wrong("no work memory");
+}
+
+/* Each call with work memory passes its arguments, and its memory comes from there. */
+static void each_call(void) {
+    start = 300, bytes = 640, calls = 0;
+    does = takes_again;
+    host.allocs = host.reallocs = host.deallocs = 0;
+    if (rs_tables_make_with_work((struct rs_tables *)tables, memory + start, bytes) != ANSWER ||
+        rs_encode_with_work(tables, 3, 2, 4, o, 12, q, 8, memory + start, bytes, &fault) != ANSWER ||
+        rs_decode_with_work(tables, 3, 2, 4, o, 12, q, 8, m, 5, memory + start, bytes, &fault) != ANSWER ||
+        rs_encode_shards_with_work(tables, 3, 2, from, 3, to, 2, memory + start, bytes, &fault) != ANSWER ||
+        rs_decode_shards_with_work(tables, 3, 2, own, 1, other, 2, to, 2, memory + start, bytes, &fault) != ANSWER)
+        wrong("another answer");
+    if (calls != 5) wrong("another number of calls");
+    if (host.allocs || host.reallocs || host.deallocs) wrong("a call with work memory reaches the host's allocator");
+}
+
+/* A block of `number` items of `size` bytes. */
+static size_t block_of(size_t number, size_t size) {
+    return (number * size + 63) / 64 * 64;
+}
+
+/* The numbers of rs_work_bytes, for the numbers of rows that docs/CALLING.md describes. */
+static void numbers(void) {
+    const size_t most = SIZE_MAX;
+    static const size_t none[][4] = {{0, 1, 2, 0}, {1, 0, 2, 0}, {65536, 1, 2, 0}, {3, 2, 0, 0}, {3, 2, 5, 0}, {3, 2, 4, 4}};
+    /* k, r, rows of an encode, rows of a decode */
+    static const size_t rows[][4] = {{1, 1, 1, 2}, {3, 2, 4, 8}, {2, 3, 4, 8}, {5, 4, 8, 16}, {4, 3, 4, 8}, {100, 30, 128, 256}, {30, 100, 128, 256}};
+    static const size_t sizes[] = {2, 64, 66, 2048, 2050, 4096, 4098, 100000};
+    for (size_t i = 0; i < sizeof none / sizeof *none; i++)
+        if (rs_work_bytes(none[i][0], none[i][1], none[i][2], none[i][3])) wrong("a number where there is none");
+    if (rs_work_bytes(3, 2, most - 1, 0) || rs_work_bytes(3, 2, most / 2 + 1, 0) || rs_work_bytes(3, 2, most / 4 + 1, 1) ||
+        !rs_work_bytes(3, 2, most / 2 - 1, 0) || rs_work_bytes(3, 2, most / 8 - 1, 3) < most / 8 * 3)
+        wrong("the longest shards");
+    for (size_t i = 0; i < sizeof rows / sizeof *rows; i++)
+        for (size_t n = 0; n < sizeof sizes / sizeof *sizes; n++)
+            for (size_t restored = 0; restored < 2; restored++) {
+                size_t k = rows[i][0], r = rows[i][1], size = sizes[n];
+                size_t encode = block_of(k, 16) + rows[i][2] * block_of(1, size < 4096 ? size : 4096);
+                size_t decode = block_of(k, 24) + block_of(r, 24) + block_of(rows[i][3], 1) + block_of(rows[i][3], 2) +
+                                rows[i][3] * block_of(1, size < 2048 ? size : 2048) + restored * (64 + block_of(1, size));
+                if (rs_work_bytes(k, r, size, restored) != 63 + (encode < decode ? decode : encode)) wrong("another number");
+            }
+    if (rs_tables_work_bytes() != 17432639) wrong("the memory for tables");
+}
+
+int main(void) {
+    static const uint64_t any[1];
+    tables = (const struct rs_tables *)any;
+    without();
+    lengths();
+    each_call();
+    without();
+    numbers();
+    puts("lent: each branch of c/work.c");
+    return 0;
+}
