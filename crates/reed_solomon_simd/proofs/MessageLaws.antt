@@ -1,6 +1,6 @@
 -- The originals that are left of a message, and the originals that were restored, are completed to all its originals.
-use Rattle.std.proofs.Common.{◌≡◌, ℕ, zero, suc, ◌+◌, ◌<◌, ◌≤◌, ◌&&◌, ◌||◌, not, nat_eq, Bool, true, false, cond, List, []}
-use Rattle.std.proofs.Common.{◌∷◌, length, get_or, Some, None, Result, Ok, Err, refl, sym, ap, subst, ◌∙◌, inl, inr}
+use Rattle.std.proofs.Common.{◌≡◌, ℕ, zero, suc, ◌+◌, ◌<◌, ◌≤◌, ◌&&◌, ◌||◌, not, nat_eq, Bool, true, false, cond, List}
+use Rattle.std.proofs.Common.{[], ◌∷◌, length, get_or, Some, None, Result, Ok, Err, refl, sym, ap, subst, ◌∙◌, inl, inr}
 use Rattle.std.proofs.Common.{arith}
 use Rattle.std.specs.Prelude.{is_some, nat_lt, MatchResult, IsOkAnd}
 use Rattle.std.specs.List.{AllByRecursion, IsDistinct, list_any}
@@ -16,7 +16,8 @@ use Rattle.rs_field.specs.code.Given.{Shards, with_entry, count_below, AreAmong}
 use Rattle.rs_field.specs.code.OneCall.{Items, one_by_one}
 use Rattle.rs_field.specs.code.Outcome.{result_and_then}
 use Rattle.rs_field.specs.code.RoundTrip.{AreLeft, lost_of}
-use Rattle.rs_field.proofs.of_code.Entries.{entered_all, AreFree, indexes, free-next, among-entered_all, some-entered_all}
+use Rattle.rs_field.proofs.of_code.Entries.{entered_all, AreFree, indexes, free-next, among-entered_all}
+use Rattle.rs_field.proofs.of_code.Entries.{some-entered_all}
 use Rattle.rs_field.proofs.of_code.Given.{count_below-zero, count_below-suc}
 use Rattle.reed_solomon_simd.specs.Messages.{enter_outcome, whole_outcome, complete_outcome, AreInOrder, Completes}
 use Rattle.reed_solomon_simd.proofs.CompletingLemmas.{enter-free}

@@ -1,14 +1,14 @@
--- Messages: the least size of their shards, shards that are cut from a message, and the bytes of shards laid end to end.
+-- Messages: the least size of their shards, shards that are cut from a message, and shards that are laid end to end.
 use Rattle.std.proofs.Common.{◌≡◌, ℕ, ◌+◌, ◌-◌, ◌*◌, ◌%◌, ◌<◌, ◌≤◌, ◌⊎◌, min, Bool, true, false}
-use Rattle.std.proofs.Common.{List, [], ◌∷◌, ◌++◌, length, take, replicate, All, refl, sym, ap, ap₂, subst, ◌∙◌, inl, inr}
-use Rattle.std.proofs.Common.{arith, append_assoc, append-nil}
+use Rattle.std.proofs.Common.{List, [], ◌∷◌, ◌++◌, length, take, replicate, All, refl, sym, ap, ap₂, subst, ◌∙◌, inl}
+use Rattle.std.proofs.Common.{inr, arith, append_assoc, append-nil}
 use Rattle.std.specs.Prelude.{Result, Ok, Err, IsOk, ◌==◌}
 use Rattle.std.specs.Int.{div_ceil}
 use Rattle.std.proofs.Math.Nat.{mul-le-mul_left, mul_comm, lt_of_mul-lt-mul_left}
 use Rattle.std.proofs.lemmas.Bool.{cases_lt, cases_eq, eqb-true, ne_eqb, eq-eqb, le-ltb, lt-ltb}
 use Rattle.std.proofs.lemmas.Grind.{div_ceil_times, common_steps}
-use Rattle.std.proofs.lemmas.List.{length-append, length-replicate, replicate-append-replicate, nil_from_length, take_at}
-use Rattle.std.proofs.lemmas.List.{take_all, take_min, length-take, take-append-le}
+use Rattle.std.proofs.lemmas.List.{length-append, length-replicate, replicate-append-replicate, nil_from_length}
+use Rattle.std.proofs.lemmas.List.{take_at, take_all, take_min, length-take, take-append-le}
 use Rattle.std.proofs.Math.Seq.{take-append-add}
 use Rattle.std.proofs.lemmas.List.Concat.{flat_map-append}
 use Rattle.std.proofs.lemmas.List.Elements.{All-head, All-tail, All-nil, All-cons, All-push}
@@ -29,7 +29,7 @@ quotient-holds total k some =
     omega (arith, bounds.0, mul_comm k (div_ceil total k))
 
 -- No smaller size holds the bytes.
-pub quotient-least : (total k size : ℕ) → 0 < k → total ≤ k * size → div_ceil total k ≤ size
+quotient-least : (total k size : ℕ) → 0 < k → total ≤ k * size → div_ceil total k ≤ size
 quotient-least total k size some holds =
     let bounds = div_ceil_times total k some in
     let below : k * div_ceil total k < k * (size + 1) =
@@ -49,12 +49,12 @@ longer-holds total k some = record {
 
 -- ---- shards laid end to end
 
-pub joined-push : (shards : List Shard) (shard : Shard) → joined (shards ++ shard ∷ []) ≡ joined shards ++ shard
+joined-push : (shards : List Shard) (shard : Shard) → joined (shards ++ shard ∷ []) ≡ joined shards ++ shard
 joined-push shards shard =
     flat_map-append (λ x. x) shards (shard ∷ []) ∙ ap (λ ys. joined shards ++ ys) (append-nil shard)
 
 -- Shards of one size have as many bytes as their number times their size.
-pub joined-long : (size : ℕ) (shards : List Shard) → All (λ shard. length shard ≡ size) shards
+joined-long : (size : ℕ) (shards : List Shard) → All (λ shard. length shard ≡ size) shards
     → length (joined shards) ≡ length shards * size
 joined-long size [] sized = omega arith
 joined-long size (shard ∷ shards) sized =
@@ -72,14 +72,6 @@ pub record AreCut (message : List ℕ) (size : ℕ) (shards : List Shard) (rest 
   pub zeros : ℕ
   pub whole : joined shards ++ rest ≡ message ++ replicate zeros 0
   pub last : 0 < zeros → rest ≡ []
-
-pub cut-none : (message : List ℕ) (size : ℕ) → AreCut message size [] message
-cut-none message size = record {
-  sized = All-nil (λ shard. length shard ≡ size);
-  zeros = 0;
-  whole = sym (append-nil message);
-  last = λ some. absurd (omega arith);
-}
 
 module _ (message : List ℕ) (size : ℕ) (shards : List Shard) (rest piece left : List ℕ) (shard : Shard)
     (are : AreCut message size shards rest) (parts : rest ≡ piece ++ left)

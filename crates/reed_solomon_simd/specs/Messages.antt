@@ -1,15 +1,15 @@
 -- Messages of any length: the shards that hold their bytes, and the bytes and originals that come back.
 use Rattle.std.specs.Prelude.{◌≡◌, ℕ, ◌-◌, ◌*◌, ◌%◌, ◌<◌, ◌≤◌, ◌==◌, ◌||◌, ◌⊎◌, List, [], ◌∷◌, ◌++◌, length, take}
-use Rattle.std.specs.Prelude.{replicate, All, Some, None, is_some, IsSome, Result, Ok, Err, MatchResult, IsOkAnd, nat_le}
-use Rattle.std.specs.Prelude.{nat_lt, if◌then◌else◌}
+use Rattle.std.specs.Prelude.{replicate, All, Some, None, is_some, IsSome, Result, Ok, Err, MatchResult, IsOkAnd}
+use Rattle.std.specs.Prelude.{nat_le, nat_lt, if◌then◌else◌}
 use Rattle.std.specs.Int.{div_ceil}
 use Rattle.std.specs.List.{flat_map}
 use Rattle.std.specs.Result.{result_map_both}
 use Rattle.std.specs.declared.vec.Vec.{Vec}
 use Rattle.rs_field.specs.declared.code.error.Error.{Error}
 use Rattle.rs_field.specs.declared.code.error.Error.TheVariants.{DifferentShardSize, DuplicateOriginalShardIndex}
-use Rattle.rs_field.specs.declared.code.error.Error.TheVariants.{InvalidOriginalShardIndex, InvalidShardSize, OutOfMemory}
-use Rattle.rs_field.specs.declared.code.error.Error.TheVariants.{TooFewOriginalShards}
+use Rattle.rs_field.specs.declared.code.error.Error.TheVariants.{InvalidOriginalShardIndex, InvalidShardSize}
+use Rattle.rs_field.specs.declared.code.error.Error.TheVariants.{OutOfMemory, TooFewOriginalShards}
 use Rattle.rs_field.specs.code.Column.{Shard, shard_at}
 use Rattle.rs_field.specs.code.Given.{Shards, with_entry, count_below}
 use Rattle.rs_field.specs.code.OneCall.{Items, one_by_one}

@@ -14,10 +14,10 @@ use std::convert::AsSlice;
 
 /// Puts received and restored originals together, and returns all originals in order of their index.
 ///
-/// `received` has the received originals with their indexes, and each of them is a vector, an array or a slice of bytes.
+/// `received` has the received originals with their indexes. Each of them is a vector, an array or a slice of bytes.
 /// `restored` is the map that [`decode`](crate::decode) or [`decode_slice`](crate::decode_slice) returned for them: it
 /// has exactly the originals that are not in `received`. The call copies the received originals and moves the restored
-/// ones. It does not look at their sizes, but [`join`](crate::join) does.
+/// ones. It does not check their sizes, but [`join`](crate::join) does.
 ///
 /// # Errors
 ///
@@ -28,8 +28,8 @@ use std::convert::AsSlice;
 ///   of originals in both.
 /// - [`Error::OutOfMemory`] if memory cannot be allocated.
 ///
-/// The order is proved, with one exception: if the check of the indexes in `restored` finds no error, the contract allows
-/// [`Error::OutOfMemory`] instead of any other result.
+/// The order is proved, with one exception: if the check of the indexes in `restored` finds no error, the contract
+/// allows [`Error::OutOfMemory`] instead of any other result.
 ///
 /// # Examples
 ///
@@ -72,7 +72,8 @@ fn check_below(original_count: usize, restored: &BTreeMap<usize, Vec<u8>>) -> Re
     Ok(())
 }
 
-// Enters copies of received originals into a map, in order. Fails with the error of the first one that cannot be entered.
+// Enters copies of received originals into a map, in order. Fails with the error of the first original that cannot be
+// entered.
 fn enter_all<O: AsSlice<u8>>(
     alloc: Global,
     original_count: usize,

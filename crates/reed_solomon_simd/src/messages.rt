@@ -40,7 +40,7 @@ pub fn shard_bytes(total: usize, original_count: usize) -> Option<usize>
     Some((size + size % 2).max(2))
 }
 
-/// Splits a message into `original_count` shards. Their size is that of [`shard_bytes`]. The shards hold the bytes of the
+/// Splits a message into `original_count` shards, whose size [`shard_bytes`] returns. The shards hold the bytes of the
 /// message in order, and zeros after its last byte.
 ///
 /// Store the length of the message beside the shards: [`join`] needs it to leave out the zeros.
@@ -104,8 +104,8 @@ fn padded(alloc: Global, bytes: &[u8], size: usize) -> Result<Vec<u8>, AllocErro
 /// - [`Error::TooFewOriginalShards`] with 0 received shards if there is no shard.
 /// - [`Error::InvalidShardSize`] if the size of the first shard is zero or odd.
 /// - [`Error::DifferentShardSize`] for the first shard that has another size.
-/// - [`Error::TooFewOriginalShards`] if the shards hold fewer than `total` bytes. `original_count` is then the number of
-///   shards of this size that hold `total` bytes.
+/// - [`Error::TooFewOriginalShards`] if the shards hold fewer than `total` bytes. `original_count` is then the least
+///   number of shards of this size that hold `total` bytes.
 /// - [`Error::OutOfMemory`] if the message cannot be allocated.
 ///
 /// # Examples

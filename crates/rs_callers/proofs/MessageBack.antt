@@ -1,6 +1,6 @@
 -- The last steps of a round trip of a message: its originals are completed and joined.
-use Rattle.std.proofs.Common.{◌≡◌, ℕ, ◌<◌, ◌%◌, Bool, true, false, cond, List, [], map, length, Ok, Err, Result, Vec, Bor, refl, sym, ap}
-use Rattle.std.proofs.Common.{subst, ◌∙◌, inl, inr, arith}
+use Rattle.std.proofs.Common.{◌≡◌, ℕ, ◌<◌, ◌%◌, Bool, true, false, cond, List, [], map, length, Ok, Err, Result, Vec, Bor}
+use Rattle.std.proofs.Common.{refl, sym, ap, subst, ◌∙◌, inl, inr, arith}
 use Rattle.std.specs.Prelude.{All, IfOk, IfErr, MatchResult, ◌==◌}
 use Rattle.std.proofs.lemmas.Bool.{cases_eq, ne_eqb}
 use Rattle.std.proofs.lemmas.List.{get_or-map, length-map}
@@ -64,9 +64,9 @@ message-valid k r message originals are counted =
     counted-valid k r are.size counted are.least.holds.some are.least.holds.even
 
 -- The originals of a message that are left, and the lost ones, are completed to all originals, or memory could not be
--- allocated. All are vectors: the originals, as they were lent twice, and the kept ones, as they were collected and lent.
-pub vectors-completed : {Y : Type 0} (k : ℕ) (message : List ℕ) (originals first second : List (Vec ℕ Y)) (lost : List ℕ)
-    (collected kept : List (ℕ × Bor (List ℕ))) (restored : Shards) (result : Result (List Shard) Error)
+-- allocated. The originals are vectors, which were lent twice, and the kept ones were collected and then lent.
+pub vectors-completed : {Y : Type 0} (k : ℕ) (message : List ℕ) (originals first second : List (Vec ℕ Y))
+    (lost : List ℕ) (collected kept : List (ℕ × Bor (List ℕ))) (restored : Shards) (result : Result (List Shard) Error)
     → AreShardsOf k message (map (λ v. v.items) originals) → first ≡ originals → second ≡ originals → kept ≡ collected
     → map (λ item. (item.0, item.1.now)) collected ≡ left_of (map (λ v. v.items) second) lost
     → ((i : ℕ) → restored i ≡ lost_at (map (λ v. v.items) first) lost i)
@@ -74,9 +74,10 @@ pub vectors-completed : {Y : Type 0} (k : ℕ) (message : List ℕ) (originals f
     → MatchResult result (λ all. all ≡ map (λ v. v.items) originals) (λ e. e ≡ OutOfMemory)
 vectors-completed k message originals first second lost collected kept restored result are lent again same left gone
     answer =
-    let shards = map (λ v. v.items) originals in
     let items : map (λ item. (item.0, item.1.now)) kept ≡ kept_of (map (λ v. v.items) originals) (is_lost lost) =
-    ap (map (λ item. (item.0, item.1.now))) same ∙ left ∙ ap (λ vectors. left_of (map (λ v. v.items) vectors) lost) again
+    ap (map (λ item. (item.0, item.1.now))) same
+    ∙ left
+    ∙ ap (λ vectors. left_of (map (λ v. v.items) vectors) lost) again
     in
     completes_all (map (λ v. v.items) originals) (kept_of (map (λ v. v.items) originals) (is_lost lost)) restored
     (kept-left (map (λ v. v.items) originals) (is_lost lost))

@@ -26,8 +26,8 @@ returns-in_err-restored-clause-enough c counted many =
     (map (λ vector. vector.items) c.in_ok-originals.originals.items) are counted) in
     let sized = vectors-sized are.size c.in_ok-originals.originals.items c.deref.result.now c.deref.ensures.value
     are.sized in
-    let enough = subst (λ n. n ≤ left_below n c.args.lost.now + left_below c.args.recovery_count c.args.recovery_lost.now)
-    (sym long) many in
+    let enough = subst (λ n. n
+    ≤ left_below n c.args.lost.now + left_below c.args.recovery_count c.args.recovery_lost.now) (sym long) many in
     let lacks : c.in_err-restored.field-0.0 ≡ OutOfMemory =
     c.in_err-restored.ensures.enough are.size valid sized enough in
     search rules
