@@ -29,7 +29,10 @@ fn sizes_of_shards(rt: HostRuntime) {
     // Exactly full, one byte less, and one byte more.
     assert_eq!(rt; [shard_bytes(1, 1), shard_bytes(2, 1)], [Some(2), Some(2)]);
     assert_eq!(rt; [shard_bytes(3, 1), shard_bytes(4, 1)], [Some(4), Some(4)]);
-    assert_eq!(rt; [shard_bytes(20, 10), shard_bytes(21, 10)], [Some(2), Some(4)]);
+    assert_eq!(rt;
+        [shard_bytes(20, 10), shard_bytes(21, 10)],
+        [Some(2), Some(4)]
+    );
     // The largest numbers.
     assert_eq!(rt; shard_bytes(usize::MAX, usize::MAX), Some(2));
     assert_eq!(rt; shard_bytes(usize::MAX, 2), Some(9_223_372_036_854_775_808));
@@ -308,7 +311,11 @@ fn files_of_any_length_come_back(rt: HostRuntime) -> Result<(), Fail> {
             let file = file_of(alloc, length)?;
             let loss = LOSSES[turn % 5];
             let back = comes_back(alloc, &file, k, r, loss, engine)?;
-            assert_eq!(rt; back.as_slice(), file.as_slice(), "{length} bytes, {loss:?} lost");
+            assert_eq!(rt;
+                back.as_slice(),
+                file.as_slice(),
+                "{length} bytes, {loss:?} lost"
+            );
             turn = turn.saturating_add(1);
         }
     }
