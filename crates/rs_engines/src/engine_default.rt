@@ -36,7 +36,7 @@ impl EngineKind {
     ///
     /// It is [`Ssse3`](EngineKind::Ssse3), the kind for the default build, which is for x86-64-v2. The language has no
     /// conditions on the target, so the source cannot look at the build. Before you build for AVX2
-    /// (`--cpu=x86-64-v3`), write [`Avx2`](EngineKind::Avx2) in this line. All proofs hold for both kinds.
+    /// (`--cpu=x86-64-v3`), write [`Avx2`](EngineKind::Avx2) in this line. The library is proved with both kinds.
     ///
     /// # Examples
     ///
@@ -149,6 +149,7 @@ impl<'t> DefaultEngine<'t> {
     /// let engine = DefaultEngine::fastest(&tables);
     /// let original: [&[u8]; 3] = [&[1, 2], &[4, 8], &[16, 32]];
     /// let recovery = encode(alloc, 3, 1, original.into_iter(), engine)?;
+    /// assert_eq!(rt; recovery.len(), 1);
     /// assert_eq!(rt; recovery[0].as_slice(), [21, 42].as_slice());
     /// ```
     pub fn fastest(tables: &'t Tables) -> DefaultEngine<'t>
