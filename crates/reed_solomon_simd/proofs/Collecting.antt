@@ -92,7 +92,7 @@ with_entries-lists given items lists =
     [ inl inside ↦ all.same i inside | inr outside ↦ all.none i outside ∙ sym (lists.none_past i outside) ])
 
 -- `nat_cmp` returns `Equal` exactly for equal numbers.
-is_eq-nat_cmp : (a b : ℕ) → is_eq (nat_cmp a b) ≡ (b == a)
+pub is_eq-nat_cmp : (a b : ℕ) → is_eq (nat_cmp a b) ≡ (b == a)
 is_eq-nat_cmp a b =
     elim (cases_order a b) [
       | inl same ↦ ap is_eq (sym (nat_cmp_is a b Equal same)) ∙ sym (eq-eqb b a (sym same))
@@ -108,7 +108,7 @@ module _ {Y : Type 0} where
   shards_in-empty m empty = fun_ext (λ i. ap (λ es. option_map (λ v. v.items) (lookup (is_at (nat_cmp i)) es)) empty)
 
   -- Inserting a vector into a map of vectors enters its shard.
-  shards_in-inserted : (old new : BTreeMap ℕ (Vec ℕ Y)) (index : ℕ) (vector : Vec ℕ Y) (shard : Shard)
+  pub shards_in-inserted : (old new : BTreeMap ℕ (Vec ℕ Y)) (index : ℕ) (vector : Vec ℕ Y) (shard : Shard)
       → vector.items ≡ shard → Updates nat_cmp old new index (Some vector)
       → shards_in new ≡ with_entry (shards_in old) index shard
   unfolding with_entry

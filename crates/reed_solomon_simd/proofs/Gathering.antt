@@ -1,19 +1,15 @@
 -- Gathered originals: the encoder state that they represent, and the result of encoding them.
-use Rattle.std.proofs.Common.{◌≡◌, ℕ, ◌<◌, ◌^◌, ◌%◌, Bool, true, false, cond, List, [], length, All, Bor, Ok, Err}
-use Rattle.std.proofs.Common.{Result, MatchResult, IfOk, inl, inr, refl, sym, ap, ◌∙◌, arith}
-use Rattle.std.specs.Prelude.{nat_le}
-use Rattle.std.proofs.lemmas.Bool.{cases_lt, le-leb}
-use Rattle.std.proofs.lemmas.Grind.{common_steps}
+use Rattle.std.proofs.Common.{◌≡◌, ℕ, List, [], length, All, Bor, Ok, Err}
+use Rattle.std.proofs.Common.{Result, MatchResult, IfOk, inr, refl, sym, ap, ◌∙◌, arith}
 use Rattle.std.proofs.lemmas.List.{get_or-map, length-map}
 use Rattle.rs_field.specs.declared.code.error.Error.{Error}
 use Rattle.rs_field.specs.declared.code.error.Error.TheVariants.{OutOfMemory}
 use Rattle.rs_field.specs.code.Code.{AreRecovery}
 use Rattle.rs_field.specs.code.Column.{Shard, IsShard}
-use Rattle.rs_field.specs.code.Configuration.{Configuration, validation_outcome, start_outcome, bytes_of_rows}
 use Rattle.rs_field.specs.code.Counts.{default_rate}
 use Rattle.rs_field.specs.code.Encoder.{EncoderState, IsEncoder, message_of}
 use Rattle.rs_field.specs.code.OneCall.{OneEncodeAnswers}
-use Rattle.rs_field.specs.code.Outcome.{result_and_then, answer_of}
+use Rattle.rs_field.specs.code.Outcome.{answer_of}
 use Rattle.rs_field.specs.code.RoundTrip.{AreCoded}
 use Rattle.rs_rate.specs.Giving.{IsEncoding}
 use Rattle.rs_field.proofs.of_code.MadeShards.{has_recovery}

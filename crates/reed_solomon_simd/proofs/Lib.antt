@@ -16,6 +16,9 @@ pub mod CallerLemmas
 pub mod ObjectRoundTrip
 pub mod StripLemmas
 pub mod RoomFits
+pub mod MessageLemmas
+pub mod CompletingLemmas
+pub mod MessageLaws
 pub mod Gathering
 pub mod Checking
 pub use Rattle.rs_field.proofs.of_code.Given

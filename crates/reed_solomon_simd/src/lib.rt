@@ -4,16 +4,20 @@
 //! `original_count` of all these shards give back every original. The index of an original is its place in the order in
 //! which originals are added, counted from 0. Recovery shards have indexes of their own, which also begin at 0.
 //!
+//! [`split`] makes originals of the bytes of a message of any length, and [`join`] makes the bytes of originals.
+//!
 //! [`encode`] and [`decode`] do a whole round in one call. [`ReedSolomonEncoder`] and [`ReedSolomonDecoder`] code many
 //! messages with the same memory. The module [`rate`] has objects whose rate, engine and memory the caller chooses.
 #![tactic(auto)]
 
 pub mod apart;
 mod checked_originals;
+mod completing;
 mod decoder;
 mod encoder;
 mod into;
 pub mod lent_originals;
+mod messages;
 mod one_call;
 pub mod pieces;
 pub mod received_shards;
@@ -28,9 +32,11 @@ pub mod strip_encoder;
 /// The version of this library.
 pub const VERSION: &str = "1.3";
 
+pub use completing::complete;
 pub use decoder::ReedSolomonDecoder;
 pub use encoder::ReedSolomonEncoder;
 pub use into::{decode_into, encode_into};
+pub use messages::{join, shard_bytes, split};
 pub use one_call::{decode, encode};
 /// The error of [`encode_into`] and [`decode_into`]: an [`Error`], or rooms that do not fit.
 pub use room_error::RoomError;

@@ -5,6 +5,7 @@
 pub mod callers;
 pub mod lent_rows;
 pub mod levels;
+pub mod message_round_trip;
 pub mod one_call;
 pub mod plain_callers;
 pub mod rate_round_trip;

@@ -4,7 +4,7 @@ ghost use Rattle.std.specs.Iterator.{IsFinite};
 ghost use Rattle.std.specs.Option.{option_copied, option_map};
 ghost use Rattle.std.specs.Prelude.{◌≡◌, ℕ, ◌^◌, ◌<◌, ◌≤◌, true, List, [], ◌∷◌, length, map};
 ghost use Rattle.std.specs.Prelude.{slice_get, slice_index, bit_xor};
-ghost use Rattle.std.specs.Prelude.{codes, Some, None, Result, Ok, Err, IfOk, IfSome, MatchResult};
+ghost use Rattle.std.specs.Prelude.{codes, Some, None, Result, Ok, Err, IfOk, IfSome, IsSome, MatchResult};
 ghost use Rattle.reed_solomon_simd.specs.Column.{Shard};
 ghost use Rattle.reed_solomon_simd.specs.Counts.{low_rate, high_rate, default_rate, supports};
 ghost use Rattle.reed_solomon_simd.specs.Field.{product, power};
@@ -15,6 +15,7 @@ ghost use Rattle.reed_solomon_simd.specs.EncoderObject.{state_of as encoder_of};
 ghost use Rattle.reed_solomon_simd.specs.Given.{Lists};
 ghost use Rattle.reed_solomon_simd.specs.Kind.{kind_of, engine_named};
 ghost use Rattle.reed_solomon_simd.specs.Locator.{IsLocator, IsLocatorBelow};
+ghost use Rattle.reed_solomon_simd.specs.Messages.{IsLeastSize};
 ghost use Rattle.reed_solomon_simd.specs.OneCall.{Items, Lends, LendsItems, shards_in, collected_shards, collected_map};
 ghost use Rattle.reed_solomon_simd.specs.OneCall.{OneEncodeAnswers, OneDecodeAnswers};
 ghost use Rattle.reed_solomon_simd.specs.Outcome.{answer_of};
@@ -44,7 +45,7 @@ use reed_solomon_simd::rate::{
 };
 use reed_solomon_simd::{
     DecoderResult, EncoderResult, Error, Recovery, ReedSolomonDecoder, ReedSolomonEncoder,
-    RestoredOriginal, VERSION, decode, decode_slice, encode, encode_slice,
+    RestoredOriginal, VERSION, decode, decode_slice, encode, encode_slice, shard_bytes,
 };
 use std::alloc::Global;
 use std::collections::BTreeMap;
@@ -188,6 +189,14 @@ pub fn engine_of_kind(tables: &Tables, kind: EngineKind) -> DefaultEngine<'_>
     DefaultEngine::new(tables, kind)
 }
 
+/// Returns the fastest engine of a build for the default target, and its kind.
+pub fn fastest_engine(tables: &Tables) -> (DefaultEngine<'_>, EngineKind)
+    ensures engine { kind_of result.0 ≡ EngineKind.Ssse3 }
+    ensures kind { result.1 ≡ EngineKind.Ssse3 }
+{
+    (DefaultEngine::fastest(tables), EngineKind::FASTEST)
+}
+
 /// Returns works that hold no memory.
 pub fn works() -> (EncoderWork, DecoderWork)
     ensures encoder { encoder_room result.0 ≡ 0 }
@@ -268,6 +277,14 @@ pub fn add_first(
         Some(shard) => decoder.add_recovery_shard(0, shard),
         None => Ok(()),
     }
+}
+
+/// Returns the size of the shards of a message of `total` bytes, if there is one.
+pub fn size_of_shards(total: usize, original_count: usize) -> Option<usize>
+    ensures least { IfSome result (IsLeastSize original_count total) }
+    ensures small { 0 < original_count → total < 2 ^ 63 → IsSome result }
+{
+    shard_bytes(total, original_count)
 }
 
 /// Returns whether the plain objects support these counts.

@@ -31,6 +31,21 @@ pub enum EngineKind {
     Ssse3,
 }
 
+impl EngineKind {
+    /// The kind of the fastest engine in this build, which [`DefaultEngine::fastest`] makes.
+    ///
+    /// It is [`Ssse3`](EngineKind::Ssse3), the kind for the default build, which is for x86-64-v2. The language has no
+    /// conditions on the target, so the source cannot look at the build. Before you build for AVX2
+    /// (`--cpu=x86-64-v3`), write [`Avx2`](EngineKind::Avx2) in this line. The library is proved with both kinds.
+    ///
+    /// # Examples
+    ///
+    /// ```
+    /// assert_eq!(rt; EngineKind::FASTEST, EngineKind::Ssse3);
+    /// ```
+    pub const FASTEST: EngineKind = EngineKind::Ssse3;
+}
+
 /// The error for a word that is no name of an engine.
 #[derive(Clone, Copy, Debug, PartialEq, Eq, Hash)]
 pub struct UnknownEngine;
@@ -93,7 +108,7 @@ pub enum DefaultEngine<'t> {
 }
 
 impl<'t> DefaultEngine<'t> {
-    ghost use Rattle.std.specs.Prelude.{◌≡◌};
+    ghost use Rattle.std.specs.Prelude.{◌≡◌, ◌⊎◌};
     ghost use Rattle.rs_engines.specs.Kind.{kind_of, tables_of};
 
     /// Makes the engine of this kind over these tables.
@@ -120,6 +135,30 @@ impl<'t> DefaultEngine<'t> {
             EngineKind::Avx2 => DefaultEngine::Avx2(Avx2::new(tables)),
             EngineKind::Ssse3 => DefaultEngine::Ssse3(Ssse3::new(tables)),
         }
+    }
+
+    /// Makes the fastest engine of this build over these tables, so that the caller need not choose a kind. The kind is
+    /// [`EngineKind::FASTEST`]. It is always one of the two kinds that look up products by shuffles.
+    ///
+    /// # Examples
+    ///
+    /// The engine encodes three originals of two bytes. One recovery shard of three originals is their XOR:
+    ///
+    /// ```
+    /// let tables = Tables::new(alloc)?;
+    /// let engine = DefaultEngine::fastest(&tables);
+    /// let original: [&[u8]; 3] = [&[1, 2], &[4, 8], &[16, 32]];
+    /// let recovery = encode(alloc, 3, 1, original.into_iter(), engine)?;
+    /// assert_eq!(rt; recovery.len(), 1);
+    /// assert_eq!(rt; recovery[0].as_slice(), [21, 42].as_slice());
+    /// ```
+    pub fn fastest(tables: &'t Tables) -> DefaultEngine<'t>
+        ensures kind { kind_of result ≡ EngineKind.FASTEST }
+        ensures by_shuffles { (kind_of result ≡ EngineKind.Ssse3)
+            ⊎ (kind_of result ≡ EngineKind.Avx2) }
+        ensures tables { tables_of result ≡ tables.now }
+    {
+        DefaultEngine::new(tables, EngineKind::FASTEST)
     }
 }
 

@@ -10,6 +10,8 @@ mod levels;
 #[cfg(test)]
 mod locators;
 #[cfg(test)]
+mod messages;
+#[cfg(test)]
 mod rows;
 #[cfg(test)]
 mod sizes;

@@ -2,7 +2,7 @@
 //! possible, and the lost originals come back. The tests show that these calls can allocate memory, which no contract
 //! states.
 mod few_lost;
-mod losses;
+pub mod losses;
 mod objects;
 mod one_call;
 mod plain;

@@ -1,0 +1,106 @@
+-- Received and restored originals in one map, and the originals of a map in order of their index.
+use Rattle.std.proofs.Common.{◌≡◌, ℕ, ◌+◌, ◌<◌, ◌≤◌, false, cond, List, [], ◌∷◌, ◌++◌, length}
+use Rattle.std.proofs.Common.{Option, Some, None, Result, Ok, Err, refl, sym, ap, subst, ◌∙◌, inl, inr, arith, add-one}
+use Rattle.std.specs.Prelude.{is_some, IsOkAnd, MatchResult}
+use Rattle.std.specs.BTreeMap.{BTreeMap, UpdatesBy}
+use Rattle.std.specs.Option.{option_map}
+use Rattle.std.specs.Ordering.{nat_cmp}
+use Rattle.std.specs.declared.vec.Vec.{Vec}
+use Rattle.std.proofs.lemmas.Bool.{cases_eq, lt-leb, le-ltb, ne_eqb}
+use Rattle.std.proofs.lemmas.List.{length_push, get_or_push, get_or_append_left}
+use Rattle.rs_field.specs.declared.code.error.Error.{Error}
+use Rattle.rs_field.specs.code.Column.{Shard, shard_at}
+use Rattle.rs_field.specs.code.Given.{Shards, with_entry, count_below}
+use Rattle.rs_field.specs.code.OneCall.{shards_in}
+use Rattle.rs_field.proofs.of_code.Entries.{count_most}
+use Rattle.rs_field.proofs.of_code.Given.{count_below-zero, count_below-suc}
+use Rattle.reed_solomon_simd.specs.Messages.{enter_outcome, whole_outcome, AreInOrder, HasInOrder}
+use Rattle.reed_solomon_simd.proofs.Collecting.{is_eq-nat_cmp}
+
+-- ---- one original is entered
+
+-- An original is entered at an index below k that has none.
+pub enter-free : (k index : ℕ) (given : Shards) (shard : Shard) → index < k → is_some (given index) ≡ false
+    → enter_outcome k given (index, shard) ≡ Ok (with_entry given index shard)
+enter-free k index given shard inside free = rw (lt-leb k index inside, free) refl
+
+-- ---- the originals of a map are taken in order
+
+module _ {Y : Type 0} where
+  -- Removing a vector from a map changes no other index.
+  pub shards_in-removed : (old new : BTreeMap ℕ (Vec ℕ Y)) (index : ℕ)
+      → UpdatesBy nat_cmp (nat_cmp index) old new None → (i : ℕ) → (i ≡ index → ⊥)
+      → shards_in new i ≡ shards_in old i
+  shards_in-removed old new index updates i other =
+      ap (option_map (λ v. v.items)) (updates.2 i (is_eq-nat_cmp index i ∙ ne_eqb i index other))
+
+-- The originals below an index were taken from a map, and the others are still in it.
+pub record AreTaken (all : Shards) (index : ℕ) (left : Shards) (taken : List Shard) : Type 0 where
+  pub same : (i : ℕ) → index ≤ i → left i ≡ all i
+  pub number : length taken ≡ count_below index all
+  pub whole : index ≤ length taken → (i : ℕ) → i < index → all i ≡ Some (shard_at taken i)
+
+pub taken-none : (all left : Shards) → left ≡ all → AreTaken all 0 left []
+taken-none all left is = record {
+  same = λ i past. ap (λ (given : Shards). given i) is;
+  number = sym (count_below-zero all);
+  whole = λ full i inside. absurd (let none : ⊥ = omega arith in none);
+}
+
+counted-next : (all : Shards) (index : ℕ) (o : Option Shard) → all index ≡ o
+    → count_below (index + 1) all ≡ count_below index all + cond (is_some o) 1 0
+counted-next all index o is =
+    ap (λ n. count_below n all) (add-one index)
+    ∙ count_below-suc index all
+    ∙ ap (λ (x : Option Shard). count_below index all + cond (is_some x) 1 0) is
+
+module _ (all : Shards) (index : ℕ) (left new : Shards) (taken : List Shard) (are : AreTaken all index left taken)
+    (others : (i : ℕ) → (i ≡ index → ⊥) → new i ≡ left i) where
+  kept : (i : ℕ) → index + 1 ≤ i → new i ≡ all i
+  kept i past = others i (λ same. let none : ⊥ = omega arith in none) ∙ are.same i (omega arith)
+
+  -- An original with the next index is taken.
+  pub taken-one : (shard : Shard) → left index ≡ Some shard → AreTaken all (index + 1) new (taken ++ shard ∷ [])
+  taken-one shard is =
+      let here : all index ≡ Some shard = sym (are.same index (omega arith)) ∙ is in
+      let long = length_push taken shard in
+      let count = counted-next all index (Some shard) here in
+      let number = are.number in
+      let most = count_most index all in
+      record {
+        same = kept;
+        number = omega arith;
+        whole = λ full i inside.
+            let exact : length taken ≡ index = omega arith in
+            elim (cases_eq i index) [
+              | inl last ↦ ap all last ∙ here ∙ ap Some (sym (get_or_push taken shard [] i (omega arith)))
+              | inr before ↦ are.whole (omega arith) i (omega arith)
+                  ∙ ap Some (sym (get_or_append_left taken (shard ∷ []) [] i (omega arith)))
+            ];
+      }
+
+  -- No original has the next index.
+  pub taken-skip : left index ≡ None → AreTaken all (index + 1) new taken
+  taken-skip is =
+      let here : all index ≡ None = sym (are.same index (omega arith)) ∙ is in
+      let count = counted-next all index None here in
+      let number = are.number in
+      let most = count_most index all in
+      record {
+        same = kept;
+        number = omega arith;
+        whole = λ full i inside. absurd (let none : ⊥ = omega arith in none);
+      }
+
+module _ (k : ℕ) (all left : Shards) (taken : List Shard) (are : AreTaken all k left taken)
+    (result : Result (List Shard) Error) where
+  -- If k originals were taken, they are the originals in order.
+  pub taken-all : k ≤ length taken → result ≡ Ok taken → HasInOrder k (whole_outcome k all) result
+  taken-all full is =
+      let number = are.number in
+      let most = count_most k all in
+      let whole : whole_outcome k all ≡ Ok all = rw (le-ltb (count_below k all) k (omega arith)) refl in
+      inr (subst (λ (wanted : Result Shards Error).
+      MatchResult wanted (λ map. IsOkAnd result (AreInOrder k map)) (λ e. result ≡ Err e)) (sym whole)
+      (subst (λ (r : Result (List Shard) Error). IsOkAnd r (AreInOrder k all)) (sym is)
+      (record { number = omega arith; each = are.whole full })))

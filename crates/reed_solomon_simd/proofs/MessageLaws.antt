@@ -1,0 +1,137 @@
+-- The originals that are left of a message, and the originals that were restored, are completed to all its originals.
+use Rattle.std.proofs.Common.{◌≡◌, ℕ, zero, suc, ◌+◌, ◌<◌, ◌≤◌, ◌&&◌, ◌||◌, not, nat_eq, Bool, true, false, cond, List}
+use Rattle.std.proofs.Common.{[], ◌∷◌, length, get_or, Some, None, Result, Ok, Err, refl, sym, ap, subst, ◌∙◌, inl, inr}
+use Rattle.std.proofs.Common.{arith}
+use Rattle.std.specs.Prelude.{is_some, nat_lt, MatchResult, IsOkAnd}
+use Rattle.std.specs.List.{AllByRecursion, IsDistinct, list_any}
+use Rattle.std.proofs.lemmas.Bool.{and_right, lt-ltb, le-ltb, eq-eqb, cases_lt}
+use Rattle.std.proofs.lemmas.List.{ext_get_or}
+use Rattle.std.proofs.lemmas.List.Elements.{recursion_from_All}
+use Rattle.std.proofs.lemmas.List.Folds.{list_any_at}
+use Rattle.std.proofs.lemmas.Map.Keys.{IsDistinct-tail}
+use Rattle.rs_field.specs.declared.code.error.Error.{Error}
+use Rattle.rs_field.specs.declared.code.error.Error.TheVariants.{OutOfMemory}
+use Rattle.rs_field.specs.code.Column.{Shard, shard_at}
+use Rattle.rs_field.specs.code.Given.{Shards, with_entry, count_below, AreAmong}
+use Rattle.rs_field.specs.code.OneCall.{Items, one_by_one}
+use Rattle.rs_field.specs.code.Outcome.{result_and_then}
+use Rattle.rs_field.specs.code.RoundTrip.{AreLeft, lost_of}
+use Rattle.rs_field.proofs.of_code.Entries.{entered_all, AreFree, indexes, free-next, among-entered_all}
+use Rattle.rs_field.proofs.of_code.Entries.{some-entered_all}
+use Rattle.rs_field.proofs.of_code.Given.{count_below-zero, count_below-suc}
+use Rattle.reed_solomon_simd.specs.Messages.{enter_outcome, whole_outcome, complete_outcome, AreInOrder, Completes}
+use Rattle.reed_solomon_simd.proofs.CompletingLemmas.{enter-free}
+
+-- Items with distinct free indexes below k are all entered.
+all_entered : (k : ℕ) (items : Items) (given : Shards) → AllByRecursion (λ item. item.0 < k) items → AreFree given items
+    → IsDistinct nat_eq (indexes items) → one_by_one (enter_outcome k) given items ≡ Ok (entered_all given items)
+all_entered k [] given below free once = refl
+all_entered k (item ∷ items) given below free once =
+    ap (result_and_then (λ next. one_by_one (enter_outcome k) next items))
+    (enter-free k item.0 given item.1 below.0 (ap is_some free.0))
+    ∙ all_entered k items (with_entry given item.0 item.1) below.1 (free-next given item items once free)
+    (IsDistinct-tail nat_eq item.0 (indexes items) once)
+
+-- If each index below n has a shard, there are n shards.
+count-full : (n : ℕ) (given : Shards) → ((i : ℕ) → i < n → is_some (given i) ≡ true) → count_below n given ≡ n
+count-full zero given some = count_below-zero given
+count-full (suc n) given some =
+    let rest = count-full n given (λ i inside. some i (omega arith)) in
+    let count = count_below-suc n given
+    ∙ ap (λ (b : Bool). count_below n given + cond b 1 0) (some n (omega arith)) in
+    omega arith
+
+module _ (originals : List Shard) (kept : Items) (restored : Shards) (left : AreLeft originals kept)
+    (lost : (i : ℕ) → restored i ≡ lost_of originals kept i) where
+  abbrev has : ℕ → Bool
+  has i = list_any (λ item. nat_eq i item.0) kept
+
+  restored-kept : (i : ℕ) → has i ≡ true → restored i ≡ None
+  unfolding lost_of
+  restored-kept i there =
+      lost i
+      ∙ ap (λ b. cond b (Some (shard_at originals i)) None)
+      (and_right (nat_lt i (length originals)) (not (has i)) (ap not there))
+
+  restored-past : (i : ℕ) → length originals ≤ i → restored i ≡ None
+  unfolding lost_of
+  restored-past i past =
+      lost i
+      ∙ ap (λ b. cond (b && not (has i)) (Some (shard_at originals i)) None) (le-ltb i (length originals) past)
+
+  restored-lost : (i : ℕ) → i < length originals → has i ≡ false → restored i ≡ Some (shard_at originals i)
+  unfolding lost_of
+  restored-lost i inside gone =
+      lost i
+      ∙ ap (λ b. cond (b && not (has i)) (Some (shard_at originals i)) None) (lt-ltb i (length originals) inside)
+      ∙ ap (λ b. cond (true && not b) (Some (shard_at originals i)) None) gone
+
+  free : AreFree restored kept
+  free = recursion_from_All (λ item. restored item.0 ≡ None) kept
+      (λ j d inside. restored-kept (get_or kept j d).0
+      (list_any_at (λ item. nat_eq (get_or kept j d).0 item.0) kept j d inside
+      (eq-eqb (get_or kept j d).0 (get_or kept j d).0 refl)))
+
+  below : AllByRecursion (λ item. item.0 < length originals) kept
+  below = recursion_from_All (λ item. item.0 < length originals) kept (λ j d inside. (left.own j d inside).0)
+
+  own : AllByRecursion (λ item. shard_at originals item.0 ≡ item.1) kept
+  own = recursion_from_All (λ item. shard_at originals item.0 ≡ item.1) kept (λ j d inside. (left.own j d inside).1)
+
+  among : AreAmong restored originals
+  among i shard is = by_kept (has i) refl
+    where
+      by_kept : (b : Bool) → has i ≡ b → shard_at originals i ≡ shard
+      by_kept true there = absurd (let none = restored-kept i there in let nothing_left : ⊥ = cc in nothing_left)
+      by_kept false gone =
+          elim (cases_lt i (length originals)) [
+            | inl inside ↦ let some = restored-lost i inside gone in
+                let same : Some (shard_at originals i) ≡ Some shard = sym some ∙ is in
+                let e : shard_at originals i ≡ shard = cc in e
+            | inr past ↦ absurd (let none = restored-past i past in let nothing_left : ⊥ = cc in nothing_left)
+          ]
+
+  -- Each original is in the map of the restored and the kept ones.
+  all_there : (i : ℕ) → i < length originals → is_some (entered_all restored kept i) ≡ true
+  all_there i inside = some-entered_all kept restored i ∙ by_kept (has i) refl
+    where
+      by_kept : (b : Bool) → has i ≡ b → (is_some (restored i) || has i) ≡ true
+      by_kept true there = ap (λ o. is_some o || has i) (restored-kept i there) ∙ there
+      by_kept false gone = ap (λ o. is_some o || has i) (restored-lost i inside gone)
+
+  whole : complete_outcome (length originals) kept restored ≡ Ok (entered_all restored kept)
+  whole =
+      ap (result_and_then (whole_outcome (length originals)))
+      (all_entered (length originals) kept restored below free left.once)
+      ∙ rw (le-ltb (count_below (length originals) (entered_all restored kept)) (length originals)
+      (let full = count-full (length originals) (entered_all restored kept) all_there in omega arith)) refl
+
+  -- Originals in order that are in the map of the restored and the kept ones are the originals of the message.
+  in_order : (shards : List Shard) → AreInOrder (length originals) (entered_all restored kept) shards
+      → shards ≡ originals
+  in_order shards are =
+      ext_get_or [] shards originals are.number
+      (λ i inside. sym (among-entered_all kept restored originals own among i (shard_at shards i)
+      (are.each i (let number = are.number in omega arith))))
+
+  -- The originals that are left of a message and the lost originals are completed to all originals. The only error is
+  -- `OutOfMemory`.
+  pub completes_all : (result : Result (List Shard) Error) → Completes (length originals) kept restored result
+      → MatchResult result (λ shards. shards ≡ originals) (λ e. e ≡ OutOfMemory)
+  completes_all result (inl (e, past, is)) =
+      absurd (let none = restored-past past.0 past.1 in let some : is_some (restored past.0) ≡ true = past.2 in
+      let nothing_left : ⊥ = cc in nothing_left)
+  completes_all result (inr (within, inl lacks)) =
+      subst (λ (r : Result (List Shard) Error). MatchResult r (λ shards. shards ≡ originals) (λ e. e ≡ OutOfMemory))
+      (sym lacks) refl
+  completes_all result (inr (within, inr has_all)) =
+      by_result result
+      (subst (λ (wanted : Result Shards Error).
+      MatchResult wanted (λ all. IsOkAnd result (AreInOrder (length originals) all)) (λ e. result ≡ Err e)) whole
+      has_all)
+    where
+      by_result : (r : Result (List Shard) Error)
+          → IsOkAnd r (AreInOrder (length originals) (entered_all restored kept))
+          → MatchResult r (λ shards. shards ≡ originals) (λ e. e ≡ OutOfMemory)
+      by_result (Ok shards) are = in_order shards are
+      by_result (Err e) none = absurd none

@@ -1,0 +1,103 @@
+-- The last steps of a round trip of a message: its originals are completed and joined.
+use Rattle.std.proofs.Common.{◌≡◌, ℕ, ◌<◌, ◌%◌, Bool, true, false, cond, List, [], map, length, Ok, Err, Result, Vec, Bor}
+use Rattle.std.proofs.Common.{refl, sym, ap, subst, ◌∙◌, inl, inr, arith}
+use Rattle.std.specs.Prelude.{All, IfOk, IfErr, MatchResult, ◌==◌}
+use Rattle.std.proofs.lemmas.Bool.{cases_eq, ne_eqb}
+use Rattle.std.proofs.lemmas.List.{get_or-map, length-map}
+use Rattle.reed_solomon_simd.specs.declared.Error.{Error}
+use Rattle.reed_solomon_simd.specs.declared.Error.TheVariants.{OutOfMemory, UnsupportedShardCount}
+use Rattle.reed_solomon_simd.specs.Column.{Shard}
+use Rattle.reed_solomon_simd.specs.Configuration.{UpToMemory, validation_outcome}
+use Rattle.reed_solomon_simd.specs.Counts.{default_rate, supports}
+use Rattle.reed_solomon_simd.specs.Messages.{AreShardsOf, join_outcome, collected_bytes}
+use Rattle.reed_solomon_simd.specs.OneCall.{counts_outcome, default_of}
+use Rattle.reed_solomon_simd.specs.Given.{Shards}
+use Rattle.reed_solomon_simd.specs.Messages.{Completes}
+use Rattle.reed_solomon_simd.proofs.CallerLemmas.{valid-some}
+use Rattle.reed_solomon_simd.proofs.Left.{kept_of, kept-left, lost-kept}
+use Rattle.reed_solomon_simd.proofs.MessageLaws.{completes_all}
+use Rattle.reed_solomon_simd.proofs.MessageLemmas.{joined-back}
+use Rattle.rs_callers.specs.Losing.{is_lost, left_of, lost_at}
+
+-- The originals of a message, joined to its length, are the message, or memory could not be allocated.
+pub message-joined : {Z : Type 0} (k : ℕ) (message : List ℕ) (originals all : List Shard)
+    (result : Result (Vec ℕ Z) Error) → AreShardsOf k message originals → all ≡ originals
+    → UpToMemory (join_outcome all (length message)) (collected_bytes result)
+    → IfOk result (λ back. back.items ≡ message) × IfErr result (λ e. e ≡ OutOfMemory)
+message-joined k message originals all result are same answer =
+    by_result result
+    (subst (λ (wanted : Result (List ℕ) Error). UpToMemory wanted (collected_bytes result))
+    (ap (λ shards. join_outcome shards (length message)) same ∙ joined-back k message originals are) answer)
+  where
+    by_result : {Z : Type 0} (r : Result (Vec ℕ Z) Error) → UpToMemory (Ok message) (collected_bytes r)
+        → IfOk r (λ back. back.items ≡ message) × IfErr r (λ e. e ≡ OutOfMemory)
+    by_result (Ok back) (inl is) = (let e : back.items ≡ message = cc in e, tt)
+    by_result (Ok back) (inr lacks) = let is = lacks.1 in absurd (let wrong : ⊥ = cc in wrong)
+    by_result (Err e) (inl is) = absurd (let wrong : ⊥ = cc in wrong)
+    by_result (Err e) (inr lacks) = let is = lacks.1 in (tt, let same : e ≡ OutOfMemory = cc in same)
+
+-- Supported counts and a valid size are a valid configuration.
+counted-valid : (k r size : ℕ) → counts_outcome k r ≡ Ok tt → 0 < size → size % 2 ≡ 0
+    → validation_outcome (default_of k r size) ≡ Ok tt
+counted-valid k r size counted some even = by_test (supports default_rate k r) refl counted
+  where
+    not_empty : (size == 0) ≡ false
+    not_empty = ne_eqb size 0 (λ none. let wrong : ⊥ = omega arith in wrong)
+
+    not_odd : (size % 2 == 1) ≡ false
+    not_odd = ne_eqb (size % 2) 1 (λ odd. let wrong : ⊥ = omega arith in wrong)
+
+    by_test : (b : Bool) → supports default_rate k r ≡ b
+        → cond b (let made : Result (Unit {0}) Error = Ok tt in made) (Err (UnsupportedShardCount k r)) ≡ Ok tt
+        → validation_outcome (default_of k r size) ≡ Ok tt
+    by_test true is counted = rw (is, not_empty, not_odd) refl
+    by_test false is counted = absurd (let wrong : ⊥ = cc in wrong)
+
+-- If counts are supported, there is an original.
+pub counted-some : (k r : ℕ) → counts_outcome k r ≡ Ok tt → 0 < k
+counted-some k r counted = valid-some (default_of k r 2) (counted-valid k r 2 counted (omega arith) refl)
+
+-- Supported counts and the size of the shards of a message are a valid configuration.
+pub message-valid : (k r : ℕ) (message : List ℕ) (originals : List Shard) (are : AreShardsOf k message originals)
+    → counts_outcome k r ≡ Ok tt → validation_outcome (default_of k r are.size) ≡ Ok tt
+message-valid k r message originals are counted =
+    counted-valid k r are.size counted are.least.holds.some are.least.holds.even
+
+-- The originals of a message that are left, and the lost ones, are completed to all originals, or memory could not be
+-- allocated. The originals are vectors, which were lent twice, and the kept ones were collected and then lent.
+pub vectors-completed : {Y : Type 0} (k : ℕ) (message : List ℕ) (originals first second : List (Vec ℕ Y))
+    (lost : List ℕ) (collected kept : List (ℕ × Bor (List ℕ))) (restored : Shards) (result : Result (List Shard) Error)
+    → AreShardsOf k message (map (λ v. v.items) originals) → first ≡ originals → second ≡ originals → kept ≡ collected
+    → map (λ item. (item.0, item.1.now)) collected ≡ left_of (map (λ v. v.items) second) lost
+    → ((i : ℕ) → restored i ≡ lost_at (map (λ v. v.items) first) lost i)
+    → Completes k (map (λ item. (item.0, item.1.now)) kept) restored result
+    → MatchResult result (λ all. all ≡ map (λ v. v.items) originals) (λ e. e ≡ OutOfMemory)
+vectors-completed k message originals first second lost collected kept restored result are lent again same left gone
+    answer =
+    let items : map (λ item. (item.0, item.1.now)) kept ≡ kept_of (map (λ v. v.items) originals) (is_lost lost) =
+    ap (map (λ item. (item.0, item.1.now))) same
+    ∙ left
+    ∙ ap (λ vectors. left_of (map (λ v. v.items) vectors) lost) again
+    in
+    completes_all (map (λ v. v.items) originals) (kept_of (map (λ v. v.items) originals) (is_lost lost)) restored
+    (kept-left (map (λ v. v.items) originals) (is_lost lost))
+    (λ i. gone i
+    ∙ ap (λ vectors. lost_at (map (λ v. v.items) vectors) lost i) lent
+    ∙ sym (lost-kept (map (λ v. v.items) originals) (is_lost lost) i)) result
+    (subst (λ xs. Completes (length (map (λ v. v.items) originals)) xs restored result) items
+    (subst (λ n. Completes n (map (λ item. (item.0, item.1.now)) kept) restored result) (sym are.number) answer))
+
+-- Vectors whose shards have a size have this size.
+pub vectors-sized : {Y : Type 0} (size : ℕ) (vectors others : List (Vec ℕ Y)) → others ≡ vectors
+    → All (λ shard. length shard ≡ size) (map (λ v. v.items) vectors) → All (λ v. length v.items ≡ size) others
+vectors-sized size vectors others is sized =
+    subst (λ xs. All (λ v. length v.items ≡ size) xs) (sym is)
+    (λ j d inside. ap length (sym (get_or-map (λ v. v.items) vectors j d [] inside))
+    ∙ sized j [] (let long = length-map vectors (λ v. v.items) in omega (arith, inside, long)))
+
+-- If a message was split, there is an original.
+pub split-some : {T : Type 0} (k : ℕ) (x : T) (e : Error) → (k ≡ 0 → Ok x ≡ Err e) → 0 < k
+split-some k x e none = elim (cases_eq k 0) [
+  | inl zero_is ↦ absurd (let refused = none zero_is in let wrong : ⊥ = cc in wrong)
+  | inr some ↦ omega (arith, some)
+]
