@@ -18,6 +18,10 @@ pub mod StripLemmas
 pub mod RoomFits
 pub mod Gathering
 pub mod Checking
+pub mod ConsistentStrips
+pub mod ComparedStrips
+pub mod ReceivingLemmas
+pub mod VerifyingLemmas
 pub use Rattle.rs_field.proofs.of_code.Given
 pub use Rattle.rs_field.proofs.of_code.Listed
 pub use Rattle.rs_field.proofs.of_code.Entries

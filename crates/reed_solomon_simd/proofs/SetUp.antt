@@ -1,6 +1,6 @@
 -- Facts about the configuration of a coder that was set up.
-use Rattle.std.proofs.Common.{◌≡◌, ℕ, ◌<◌, ◌^◌, ◌%◌, Bool, true, false, cond, Ok, Err, Result, inl, inr, refl, sym, ap}
-use Rattle.std.proofs.Common.{◌∙◌, arith}
+use Rattle.std.proofs.Common.{◌≡◌, ℕ, ◌<◌, ◌^◌, ◌%◌, Bool, true, false, cond, Ok, Err, Result, inl, inr, refl}
+use Rattle.std.proofs.Common.{arith}
 use Rattle.std.specs.Prelude.{nat_le}
 use Rattle.std.proofs.lemmas.Bool.{cases_lt, le-leb}
 use Rattle.std.proofs.lemmas.Grind.{common_steps}
@@ -34,3 +34,9 @@ started-parts rows c is = by_outcome (validation_outcome c) is
 -- The shard size of a valid configuration is even.
 pub valid-even : (c : Configuration) → validation_outcome c ≡ Ok tt → c.shard_bytes % 2 ≡ 0
 valid-even c valid = grind (arith, common_steps)
+
+-- If what follows setting up succeeds, setting up succeeds.
+pub started-of : {S : Type 0} (o : Result (Unit {0}) Error) (f : Unit {0} → Result S Error) (s : S)
+    → result_and_then f o ≡ Ok s → o ≡ Ok tt
+started-of (Ok u) f s made = refl
+started-of (Err e) f s made = absurd (let no : ⊥ = cc in no)

@@ -33,6 +33,7 @@ pub mod Received
 pub mod ReceivedState
 pub mod RoomTexts
 pub mod Into
+pub mod Verified
 pub mod LentState
 pub mod Checked
 pub mod EncoderObject

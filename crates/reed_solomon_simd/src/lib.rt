@@ -22,8 +22,11 @@ pub mod restoring;
 mod room_error;
 pub mod rooms;
 mod slices;
+pub mod strip_checker;
+pub mod strip_comparer;
 pub mod strip_decoder;
 pub mod strip_encoder;
+pub mod verifying;
 
 /// The version of this library.
 pub const VERSION: &str = "1.3";
@@ -50,6 +53,7 @@ pub use room_error::RoomError;
 /// ```
 pub use rs_field::error::Error;
 pub use slices::{decode_slice, encode_slice};
+pub use verifying::verify;
 /// The results of a round, and iterators over them. They lend shards and copy nothing.
 ///
 /// # Examples
