@@ -3,3 +3,4 @@ pub mod LentRows
 pub mod Chains
 pub mod InTurn
 pub mod LeftCount
+pub mod VerifyLaws
