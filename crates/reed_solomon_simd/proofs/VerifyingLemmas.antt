@@ -45,18 +45,20 @@ module _ (k r : ℕ) (originals recovery : Items) where
       inr (lacks.0, ap Err same)
 
   module _ (s : DecoderState) (is : IsReceiving k r originals recovery (Ok s)) where
-    led : Ok s ≡ receiving_outcome k r (received_size originals recovery) originals recovery
-    led = elim is [ inl same ↦ same | inr lacks ↦ let refused = lacks.1 in absurd (let no : ⊥ = cc in no) ]
+    -- The decoder is the outcome of adding the shards.
+    pub receiving-outcome : Ok s ≡ receiving_outcome k r (received_size originals recovery) originals recovery
+    receiving-outcome = elim is [ inl same ↦ same | inr lacks ↦ let refused = lacks.1 in absurd (let no : ⊥ = cc in no) ]
 
     -- What the decoder says of the shards is the result of `verify`.
     verifies-led : (result : Result (Unit {0}) Error) → VerifyAnswers s result
         → OneVerifies k r originals recovery result
     verifies-led result answers =
         inl (subst (λ (o : Result DecoderState Error).
-        MatchResult o (λ s. VerifyAnswers s result) (λ f. result ≡ Err f)) led answers)
+        MatchResult o (λ s. VerifyAnswers s result) (λ f. result ≡ Err f)) receiving-outcome answers)
 
-    opened : IsOk (receiving_opening k r (received_size originals recovery))
-    opened = by_size (received_size originals recovery) led
+    -- The checks before the first allocation found no error.
+    pub receiving-opened : IsOk (receiving_opening k r (received_size originals recovery))
+    receiving-opened = by_size (received_size originals recovery) receiving-outcome
       where
         by_counts : (o : Result (Unit {0}) Error)
             → Ok s ≡ result_and_then (λ _. Err (NotEnoughShards k 0 0)) o → ⊥
@@ -93,7 +95,7 @@ module _ (k r : ℕ) (originals recovery : Items) where
         → OneVerifies k r originals recovery result
     verifies-checked enough (Ok u) consistent = verifies-led (Ok u) (enough-says enough (Ok u) consistent)
     verifies-checked enough (Err e) (inl none) = verifies-led (Err e) (enough-says enough (Err e) none)
-    verifies-checked enough (Err e) (inr lacks) = inr (opened, ap Err lacks)
+    verifies-checked enough (Err e) (inr lacks) = inr (receiving-opened, ap Err lacks)
 
 -- ---- what was received
 

@@ -10,6 +10,8 @@ mod levels;
 #[cfg(test)]
 mod locators;
 #[cfg(test)]
+mod reconstructing;
+#[cfg(test)]
 mod rows;
 #[cfg(test)]
 mod sizes;
@@ -17,3 +19,5 @@ mod sizes;
 mod stripes;
 #[cfg(test)]
 mod tables;
+#[cfg(test)]
+mod verifying;

@@ -1,7 +1,7 @@
 //! Tests with counts and sizes that users have, at each level of use: messages are encoded, as many shards are lost as
 //! possible, and the lost originals come back. The tests show that these calls can allocate memory, which no contract
 //! states.
-mod losses;
+pub mod losses;
 mod objects;
 mod one_call;
 mod plain;
