@@ -3,4 +3,6 @@ pub mod LentRows
 pub mod Chains
 pub mod InTurn
 pub mod LeftCount
+pub mod LeftReceived
 pub mod VerifyLaws
+pub mod ReconstructLaws
