@@ -21,6 +21,13 @@ pub mod CompletingLemmas
 pub mod MessageLaws
 pub mod Gathering
 pub mod Checking
+pub mod ConsistentStrips
+pub mod ComparedStrips
+pub mod RebuiltStrips
+pub mod WantedLemmas
+pub mod ReceivingLemmas
+pub mod VerifyingLemmas
+pub mod ReconstructLemmas
 pub use Rattle.rs_field.proofs.of_code.Given
 pub use Rattle.rs_field.proofs.of_code.Listed
 pub use Rattle.rs_field.proofs.of_code.Entries

@@ -13,11 +13,10 @@ use Rattle.rs_field.specs.code.Given.{Shards, nothing}
 use Rattle.rs_field.specs.code.Configuration.{Configuration, start_outcome}
 use Rattle.rs_field.specs.code.Counts.{default_rate}
 use Rattle.rs_field.specs.code.OneCall.{Items, default_of, decode_opening, LacksMemory, OneDecodeAnswers}
-use Rattle.rs_field.specs.code.Outcome.{result_and_then}
 use Rattle.rs_field.specs.code.Frame.{decoder_rows}
 use Rattle.rs_rate.specs.Giving.{IsDecoding}
 use Rattle.rs_rate.proofs.OneCall.{decoding-led, decoding-answers, decoding-nothing, lists-none}
-use Rattle.reed_solomon_simd.proofs.SetUp.{started-parts}
+use Rattle.reed_solomon_simd.proofs.SetUp.{started-parts, started-of}
 use Rattle.rs_field.specs.code.Pieces.{ArePut}
 use Rattle.rs_field.specs.code.PieceStates.{HoldRestored, shards_listed}
 use Rattle.reed_solomon_simd.specs.declared.room_error.RoomError.{RoomError}
@@ -118,11 +117,6 @@ module _ (k r : ℕ) (originals recovery : Items) (s : DecoderState)
       let (valid, fits) = started-parts (decoder_rows default_rate k r) c
       (started-of (start_outcome (decoder_rows default_rate k r) c) _ s led) in
       subst (λ (items : Items). LacksMemory (decode_opening k r items) result) (sym same) (ap is_ok valid, lacks)
-    where
-      started-of : (o : Result (Unit {0}) Error) (f : Unit {0} → Result DecoderState Error) (s : DecoderState)
-          → result_and_then f o ≡ Ok s → o ≡ Ok tt
-      started-of (Ok u) f s made = refl
-      started-of (Err e) f s made = absurd (let no : ⊥ = cc in no)
 
   -- The result of the decoder, or `OutOfMemory`, is a result of one call.
   pub decoding-answered : (result : Result Shards Error) → DecodeAnswers s result ⊎ (result ≡ Err OutOfMemory)

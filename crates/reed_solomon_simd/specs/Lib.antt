@@ -34,6 +34,11 @@ pub mod ReceivedState
 pub mod RoomTexts
 pub mod Into
 pub mod Messages
+pub mod Verified
+pub mod ShardNames
+pub mod ReconstructTexts
+pub mod Reconstructed
+pub mod WantedMarks
 pub mod LentState
 pub mod Checked
 pub mod EncoderObject

@@ -22,12 +22,20 @@ mod one_call;
 pub mod pieces;
 pub mod received_shards;
 pub mod receiving;
+mod reconstruct_error;
+mod reconstructing;
 pub mod restoring;
 mod room_error;
 pub mod rooms;
+mod shard_index;
 mod slices;
+pub mod strip_checker;
+pub mod strip_comparer;
 pub mod strip_decoder;
 pub mod strip_encoder;
+pub mod strip_rebuilder;
+pub mod verifying;
+mod wanted_shards;
 
 /// The version of this library.
 pub const VERSION: &str = "1.3";
@@ -38,6 +46,20 @@ pub use encoder::ReedSolomonEncoder;
 pub use into::{decode_into, encode_into};
 pub use messages::{join, shard_bytes, split};
 pub use one_call::{decode, encode};
+/// The error of [`reconstruct`] and [`reconstruct_into`].
+///
+/// # Examples
+///
+/// A shard that was received cannot be wanted:
+///
+/// ```
+/// let wanted = [ShardIndex::Recovery(0)];
+/// let answer = reconstruct(alloc, 3, 2, &original, &recovery, &wanted, engine);
+/// let refusal = ReconstructError::WantedReceived { wanted: wanted[0] };
+/// assert_eq!(rt; answer.err(), Some(refusal));
+/// ```
+pub use reconstruct_error::ReconstructError;
+pub use reconstructing::{reconstruct, reconstruct_into};
 /// The error of [`encode_into`] and [`decode_into`]: an [`Error`], or rooms that do not fit.
 pub use room_error::RoomError;
 /// The error of all calls that allocate, encode or decode, except for [`encode_into`] and [`decode_into`].
@@ -55,7 +77,19 @@ pub use room_error::RoomError;
 /// }
 /// ```
 pub use rs_field::error::Error;
+/// The name of a shard: its kind and its index.
+///
+/// # Examples
+///
+/// Recovery shard 1 and original 2 are wanted:
+///
+/// ```
+/// let wanted = [ShardIndex::Recovery(1), ShardIndex::Original(2)];
+/// let made = reconstruct(alloc, 3, 2, &original, &recovery, &wanted, engine)?;
+/// ```
+pub use shard_index::ShardIndex;
 pub use slices::{decode_slice, encode_slice};
+pub use verifying::verify;
 /// The results of a round, and iterators over them. They lend shards and copy nothing.
 ///
 /// # Examples

@@ -1,5 +1,5 @@
 //! Functions that collect the shards that were received of a message.
-ghost use Rattle.std.specs.Prelude.{◌≡◌};
+ghost use Rattle.std.specs.Prelude.{◌≡◌, ◌++◌, map};
 ghost use Rattle.std.specs.Iterator.{IsFinite};
 ghost use Rattle.std.specs.Option.{option_map};
 ghost use Rattle.std.specs.Result.{result_map_both};
@@ -7,6 +7,7 @@ ghost use Rattle.rs_field.specs.code.OneCall.{Items, with_originals, with_recove
 ghost use Rattle.rs_rate.specs.Calls.{Calls, BeginsWithItems};
 ghost use Rattle.rs_rate.specs.Giving.{Reaches, IsDecoding};
 ghost use Rattle.reed_solomon_simd.specs.ReceivedState.{received_state};
+ghost use Rattle.reed_solomon_simd.specs.Verified.{IsReceiving, first_size};
 
 use crate::received_shards::ReceivedShards;
 use rs_field::error::Error;
@@ -60,6 +61,61 @@ where
     received.add_recovery(first_index, first_shard)?;
     add_recovery(&mut received, recovery)?;
     Ok(Some(received))
+}
+
+/// Returns all received shards. The shard size is that of the first recovery shard, or if there is none, that of the
+/// first original.
+///
+/// # Errors
+///
+/// - [`Error::NotEnoughShards`] if there is no shard.
+/// - [`Error::InvalidShardSize`] if the shard size is zero or odd.
+/// - [`Error::OutOfMemory`] if the rows for the whole shards would take more than `usize::MAX` bytes, or if the lists
+///   of references cannot be allocated.
+/// - For each original in order: [`Error::InvalidOriginalShardIndex`], [`Error::DuplicateOriginalShardIndex`],
+///   [`Error::DifferentShardSize`].
+/// - For each recovery shard in order: [`Error::InvalidRecoveryShardIndex`], [`Error::DuplicateRecoveryShardIndex`],
+///   [`Error::DifferentShardSize`].
+pub fn received_in_slices<'a>(
+    alloc: Global,
+    counts: DefaultRateCounts,
+    original: &[(usize, &'a [u8])],
+    recovery: &[(usize, &'a [u8])],
+) -> Result<ReceivedShards<'a>, Error>
+    ensures { IsReceiving counts.original_count counts.recovery_count
+        (map (λ item. (item.0, item.1.now)) original.now)
+        (map (λ item. (item.0, item.1.now)) recovery.now)
+        (result_map_both received_state (λ e. e) result) }
+{
+    let Some(shard_bytes) = size_in_slices(original, recovery) else {
+        return Err(Error::NotEnoughShards {
+            original_count: counts.original_count,
+            original_received_count: 0,
+            recovery_received_count: 0,
+        });
+    };
+    let mut received: ReceivedShards<'a> = ReceivedShards::new(alloc, counts, shard_bytes)?;
+    let own = original.iter().map(|item| *item);
+    let other = recovery.iter().map(|item| *item);
+    add_originals(&mut received, own)?;
+    add_recovery(&mut received, other)?;
+    Ok(received)
+}
+
+// Returns the size of the first recovery shard, or of the first original if there is no recovery shard, or `None` if
+// there is no shard.
+fn size_in_slices(original: &[(usize, &[u8])], recovery: &[(usize, &[u8])]) -> Option<usize>
+    ensures { result ≡ first_size
+        (map (λ item. (item.0, item.1.now)) recovery.now
+        ++ map (λ item. (item.0, item.1.now)) original.now) }
+{
+    if !recovery.is_empty() {
+        return Some(recovery[0].1.len());
+    }
+    if !original.is_empty() {
+        return Some(original[0].1.len());
+    }
+    None
 }
 
 // Adds originals in order. Fails with the error of the first original that is not accepted.

@@ -234,7 +234,7 @@ fn restore_by_vectors<E: Engine>(
 }
 
 // Copies vectors into rooms of their size.
-fn fill_rooms(vectors: &[Vec<u8>], shard_bytes: usize, rooms: &mut [&mut [u8]])
+pub(crate) fn fill_rooms(vectors: &[Vec<u8>], shard_bytes: usize, rooms: &mut [&mut [u8]])
     requires number { length vectors.now ≡ length rooms.old }
     requires sized { All (λ vector. length vector.items ≡ shard_bytes) vectors.now }
     requires fit { All (λ room. length room ≡ shard_bytes) (bytes_in rooms.old) }

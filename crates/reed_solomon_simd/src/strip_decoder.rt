@@ -1,14 +1,14 @@
 //! Decoding strip by strip. The work area has room for one strip of each shard, so it stays in the cache. For each strip,
 //! the bytes of the received shards are copied into the work area, and the restored bytes are copied from there into the
 //! rooms.
-ghost use Rattle.std.specs.Prelude.{◌≡◌, ◌⊎◌, ◌-◌, ◌+◌, ◌≤◌, ℕ, All, true, false, length, Ok, OnOk, IfErr};
+ghost use Rattle.std.specs.Prelude.{◌≡◌, ◌⊎◌, ◌-◌, ◌+◌, ◌≤◌, ℕ, All, true, false, length, Ok, OnOk, IfOk, IfErr};
 ghost use Rattle.rs_field.specs.code.Counts.{default_rate};
 ghost use Rattle.rs_field.specs.code.Decoder.{IsDecoder, fresh_decoder, enough_given, originals_given, Restored, NoneAgrees};
 ghost use Rattle.rs_field.specs.code.Given.{Shards, Lists, nothing};
 ghost use Rattle.rs_field.specs.code.OneCall.{Items};
 ghost use Rattle.rs_field.specs.code.Pieces.{ArePut, IsStrip, room_length};
 ghost use Rattle.rs_field.specs.code.PieceStates.{pieces_of, state_of_pieces, shards_listed, HoldRestored};
-ghost use Rattle.rs_rate.specs.DecoderView.{decoder_state};
+ghost use Rattle.rs_rate.specs.DecoderView.{decoder_state, restored_by_rows, restored_from};
 ghost use Rattle.rs_rate.specs.ResultView.{restored_originals};
 
 use crate::pieces::Pieces;
@@ -21,7 +21,7 @@ use rs_rate::rate::{DefaultRateDecoder, RateDecoder};
 use std::alloc::Global;
 
 /// The number of bytes of each shard that are decoded at a time.
-const STRIP_BYTES: usize = 2048;
+pub(crate) const STRIP_BYTES: usize = 2048;
 
 /// Writes the missing originals into rooms, in order of index. The store has the received shards and the rooms.
 ///
@@ -99,10 +99,37 @@ fn decode_strip<E: Engine, S: Pieces + Rooms>(
     ensures places { S.places store.new ≡ S.places store.old }
     ensures loan { S.loan store.new ≡ S.loan store.old }
 {
-    add_original_pieces(decoder, store, start, end)?;
-    add_recovery_pieces(decoder, store, start, end)?;
-    let restored_count = decode_round(decoder, &mut Steps::new())?;
+    let restored_count = decode_pieces(decoder, store, start, end)?;
     put_pieces(&lent_originals(decoder, restored_count), start, end, store)
+}
+
+// Decodes one strip of the received shards. The restored pieces of the missing originals are then in the decoder.
+// Returns their number.
+pub(crate) fn decode_pieces<E: Engine, P: Pieces>(
+    decoder: &mut DefaultRateDecoder<E>,
+    received: &P,
+    start: usize,
+    end: usize,
+) -> Result<usize, Error>
+    requires set_up { IsDecoder default_rate (P.received received.now) }
+    requires fresh { decoder_state default_rate decoder.old.rows
+        ≡ fresh_decoder (state_of_pieces start end (P.received received.now)).configuration }
+    requires order { start ≤ end }
+    requires inside { end ≤ (P.received received.now).configuration.shard_bytes }
+    requires enough { enough_given (P.received received.now) ≡ Ok tt }
+    ensures restored { IfOk result (λ _.
+        Restored (state_of_pieces start end (P.received received.now))
+        (restored_by_rows decoder.new.rows)) }
+    ensures counted { IfOk result (λ count. count ≡ length (restored_from decoder.new.rows 0)) }
+    ensures refused { IfErr result
+        (NoneAgrees (state_of_pieces start end (P.received received.now))) }
+    ensures fresh { decoder_state default_rate decoder.new.rows
+        ≡ decoder_state default_rate decoder.old.rows }
+{
+    add_original_pieces(decoder, received, start, end)?;
+    add_recovery_pieces(decoder, received, start, end)?;
+    let restored_count = decode_round(decoder, &mut Steps::new())?;
+    Ok(restored_count)
 }
 
 // Adds a strip of each received original to a decoder that has no original. This never fails.

@@ -22,7 +22,7 @@ use rs_rate::rate::{DefaultRateCounts, DefaultRateEncoder, RateEncoder};
 use std::alloc::Global;
 
 /// The number of bytes of each shard that are encoded at a time.
-const STRIP_BYTES: usize = 4096;
+pub(crate) const STRIP_BYTES: usize = 4096;
 
 /// Writes the recovery shards of originals of one size into rooms.
 ///

@@ -4,3 +4,6 @@ pub mod Chains
 pub mod InTurn
 pub mod LeftCount
 pub mod MessageBack
+pub mod LeftReceived
+pub mod VerifyLaws
+pub mod ReconstructLaws

@@ -2,14 +2,27 @@
 use Rattle.std.specs.Prelude.{ℕ, zero, suc, ◌+◌, Bool, ◌&&◌, not, List, length, map, nat_lt, nat_eq, Some, None}
 use Rattle.std.specs.Prelude.{if◌then◌else◌}
 use Rattle.std.specs.List.{list_any, filter, enumerate_from}
+use Rattle.std.specs.Borrow.{Bor}
 use Rattle.std.specs.declared.vec.Vec.{Vec}
+use Rattle.reed_solomon_simd.specs.CodeLaws.{changed_shards}
 use Rattle.reed_solomon_simd.specs.Column.{Shard, shard_at}
-use Rattle.reed_solomon_simd.specs.Given.{Shards}
+use Rattle.reed_solomon_simd.specs.Decoder.{DecoderState}
+use Rattle.reed_solomon_simd.specs.Given.{Shards, count_below}
 use Rattle.reed_solomon_simd.specs.OneCall.{Items}
 
 -- vectors with their indexes, as shards with their indexes
 abbrev pub items_in : {Y : Type 0} → List (ℕ × Vec ℕ Y) → Items
 items_in vectors = map (λ item. (item.0, item.1.items)) vectors
+
+-- lent shards with their indexes, as shards with their indexes
+abbrev pub items_lent : List (ℕ × Bor Shard) → Items
+items_lent lent = map (λ item. (item.0, item.1.now)) lent
+
+-- how many of the shards that were added to a decoder differ from the shards of a codeword with the same index
+abbrev pub changed_count : DecoderState → List Shard → List Shard → ℕ
+changed_count s message all =
+    count_below s.configuration.original_count (changed_shards s.originals message)
+    + count_below s.configuration.recovery_count (changed_shards s.recovery all)
 
 -- whether an index is in the list of lost indexes
 abbrev pub is_lost : List ℕ → ℕ → Bool

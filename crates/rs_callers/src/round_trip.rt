@@ -1,7 +1,9 @@
 //! Round trips: originals are encoded, some shards are lost, and exactly the lost originals come back, each as it was.
-ghost use Rattle.std.specs.Prelude.{◌≡◌, ◌+◌, ◌≤◌, ℕ, List, length, map, All, Ok, IfOk, IfErr};
-ghost use Rattle.reed_solomon_simd.specs.Column.{Shard};
+ghost use Rattle.std.specs.Prelude.{◌≡◌, ◌⊎◌, ◌+◌, ◌<◌, ◌≤◌, ℕ, List, [], length, map, All, Ok, Err, IfOk, IfErr};
+ghost use Rattle.reed_solomon_simd.specs.Code.{AreRecovery};
+ghost use Rattle.reed_solomon_simd.specs.Column.{Shard, AreShards};
 ghost use Rattle.reed_solomon_simd.specs.Configuration.{validation_outcome};
+ghost use Rattle.reed_solomon_simd.specs.Decoder.{DecoderState, originals_given, recovery_given};
 ghost use Rattle.reed_solomon_simd.specs.DecoderObject.{state_of as decoder_state};
 ghost use Rattle.reed_solomon_simd.specs.EncoderObject.{state_of as encoder_state};
 ghost use Rattle.reed_solomon_simd.specs.Given.{Lists};
@@ -9,13 +11,17 @@ ghost use Rattle.reed_solomon_simd.specs.Giving.{Reaches};
 ghost use Rattle.reed_solomon_simd.specs.OneCall.{collected_map, default_of, shards_in};
 ghost use Rattle.reed_solomon_simd.specs.OneCall.{with_shards, with_originals, with_recoveries};
 ghost use Rattle.reed_solomon_simd.specs.ResultView.{recovery_shards};
-ghost use Rattle.reed_solomon_simd.specs.RoundTrip.{AreCoded, AreLeft, OneBringsBack};
-ghost use Rattle.rs_callers.specs.Losing.{items_in, lost_at, left_of, left_below};
+ghost use Rattle.reed_solomon_simd.specs.RoundTrip.{AreCoded, AreLeft, OneBringsBack, enough_left};
+ghost use Rattle.reed_solomon_simd.specs.Reconstructed.{wanted_outcome};
+ghost use Rattle.reed_solomon_simd.specs.ShardNames.{shard_named};
+ghost use Rattle.reed_solomon_simd.specs.Verified.{received_size, receiving_outcome};
+ghost use Rattle.rs_callers.specs.Losing.{items_in, items_lent, changed_count, lost_at, left_of, left_below};
 
 use crate::walking::restored_copies;
 use reed_solomon_simd::engine::DefaultEngine;
 use reed_solomon_simd::{
-    EncoderResult, Error, ReedSolomonDecoder, ReedSolomonEncoder, decode, decode_slice, encode,
+    EncoderResult, Error, ReconstructError, ReedSolomonDecoder, ReedSolomonEncoder, ShardIndex,
+    decode, decode_slice, encode, reconstruct, verify,
 };
 use std::alloc::Global;
 use std::collections::BTreeMap;
@@ -89,6 +95,94 @@ pub fn restore_what_is_left(
         recovery_count,
         kept,
         received,
+        engine,
+    )
+}
+
+/// Verifies what is left of a message: `kept` are originals with their indexes, and `received` are recovery shards with
+/// their indexes.
+///
+/// If each shard that is left has its own index and no shard is there twice, the call succeeds whenever enough shards
+/// are left. If some shards were changed, but at most as many as there are shards beyond the number of originals, the
+/// call never succeeds.
+///
+/// # Errors
+///
+/// The errors of [`verify`], in the same order.
+pub fn verify_what_is_left(
+    alloc: Global,
+    original_count: usize,
+    recovery_count: usize,
+    kept: &[(usize, &[u8])],
+    received: &[(usize, &[u8])],
+    engine: DefaultEngine<'_>,
+) -> Result<(), Error>
+    ensures passes { (originals recovery : List Shard)
+        → AreCoded original_count recovery_count originals recovery
+        → AreLeft originals (items_lent kept.now) → AreLeft recovery (items_lent received.now)
+        → (result ≡ enough_left original_count (items_lent kept.now) (items_lent received.now))
+        ⊎ (result ≡ Err Error.OutOfMemory) }
+    ensures notices { (s : DecoderState) (message all : List Shard)
+        → receiving_outcome original_count recovery_count
+        (received_size (items_lent kept.now) (items_lent received.now))
+        (items_lent kept.now) (items_lent received.now) ≡ Ok s
+        → AreShards original_count s.configuration.shard_bytes message
+        → AreRecovery s.configuration message all → 0 < changed_count s message all
+        → changed_count s message all + original_count ≤ originals_given s + recovery_given s
+        → (result ≡ Err (Error.InconsistentShards (originals_given s) (recovery_given s)))
+        ⊎ (result ≡ Err Error.OutOfMemory) }
+{
+    verify(
+        alloc,
+        original_count,
+        recovery_count,
+        kept,
+        received,
+        engine,
+    )
+}
+
+/// Reconstructs wanted shards from what is left of a message: `kept` are originals with their indexes, and `received` are
+/// recovery shards with their indexes.
+///
+/// If each shard that is left has its own index and no shard is there twice, a success returns exactly the wanted shards of
+/// the message, each as it was. If enough shards are left and the wanted shards are lost, the only error is
+/// [`Error::OutOfMemory`].
+///
+/// # Errors
+///
+/// The errors of [`reconstruct`], in the same order.
+pub fn reconstruct_what_is_left(
+    alloc: Global,
+    original_count: usize,
+    recovery_count: usize,
+    kept: &[(usize, &[u8])],
+    received: &[(usize, &[u8])],
+    wanted: &[ShardIndex],
+    engine: DefaultEngine<'_>,
+) -> Result<Vec<Vec<u8>>, ReconstructError>
+    ensures restored { (originals recovery : List Shard)
+        → AreCoded original_count recovery_count originals recovery
+        → AreLeft originals (items_lent kept.now) → AreLeft recovery (items_lent received.now)
+        → IfOk result (λ shards. map (λ shard. shard.items) shards.items
+        ≡ map (shard_named originals recovery) wanted.now) }
+    ensures enough { (originals recovery : List Shard) (s : DecoderState)
+        → AreCoded original_count recovery_count originals recovery
+        → AreLeft originals (items_lent kept.now) → AreLeft recovery (items_lent received.now)
+        → receiving_outcome original_count recovery_count
+        (received_size (items_lent kept.now) (items_lent received.now))
+        (items_lent kept.now) (items_lent received.now) ≡ Ok s
+        → wanted_outcome s [] wanted.now ≡ Ok tt
+        → original_count ≤ length (items_lent kept.now) + length (items_lent received.now)
+        → IfErr result (λ e. e ≡ ReconstructError.Refused Error.OutOfMemory) }
+{
+    reconstruct(
+        alloc,
+        original_count,
+        recovery_count,
+        kept,
+        received,
+        wanted,
         engine,
     )
 }

@@ -6,8 +6,8 @@ use reed_solomon_simd::engine::{
 };
 use reed_solomon_simd::rate::DefaultRateCounts;
 use reed_solomon_simd::{
-    Error, ReedSolomonDecoder, ReedSolomonEncoder, decode, decode_into, encode, encode_into,
-    encode_slice,
+    Error, ReconstructError, ReedSolomonDecoder, ReedSolomonEncoder, ShardIndex, decode,
+    decode_into, encode, encode_into, encode_slice, reconstruct, reconstruct_into, verify,
 };
 use rs_callers::walking::restored_copies;
 use std::str::FromStr;
@@ -69,6 +69,72 @@ fn two_recovery_shards_restore_two_originals(rt: HostRuntime) -> Result<(), Fail
         restored.get(&1).ok_or("none")?.as_slice(),
         [1, 0].as_slice()
     );
+    Ok(())
+}
+
+#[test]
+fn lost_shards_of_both_kinds_come_back(rt: HostRuntime) -> Result<(), Fail> {
+    let alloc = rt.alloc();
+    let tables = Tables::new(alloc)?;
+    let engine = DefaultEngine::new(&tables, EngineKind::Ssse3);
+    let original: [(usize, &[u8]); 2] = [(0, ORIGINAL[0]), (1, ORIGINAL[1])];
+    let recovery: [(usize, &[u8]); 1] = [(0, &RECOVERY[0])];
+    let wanted = [ShardIndex::Recovery(1), ShardIndex::Original(2)];
+    let made = reconstruct(alloc, 3, 2, &original, &recovery, &wanted, engine)?;
+    assert_eq!(rt; made.len(), 2);
+    assert_eq!(rt; made[0].as_slice(), RECOVERY[1].as_slice());
+    assert_eq!(rt; made[1].as_slice(), ORIGINAL[2]);
+    Ok(())
+}
+
+#[test]
+fn lost_shards_are_written_into_arrays(rt: HostRuntime) -> Result<(), Fail> {
+    let alloc = rt.alloc();
+    let tables = Tables::new(alloc)?;
+    let engine = DefaultEngine::new(&tables, EngineKind::Ssse3);
+    let original: [(usize, &[u8]); 2] = [(0, ORIGINAL[0]), (1, ORIGINAL[1])];
+    let recovery: [(usize, &[u8]); 1] = [(0, &RECOVERY[0])];
+    let wanted = [ShardIndex::Recovery(1), ShardIndex::Original(2)];
+    let (mut first, mut second) = ([9; 12], [9; 12]);
+    let mut rooms: Vec<&mut [u8]> = Vec::new(alloc);
+    rooms.push(&mut first)?;
+    rooms.push(&mut second)?;
+    reconstruct_into(alloc, 3, 2, &original, &recovery, &wanted, &mut rooms, engine)?;
+    drop(rooms);
+    assert_eq!(rt; first, RECOVERY[1]);
+    assert_eq!(rt; second.as_slice(), ORIGINAL[2]);
+    Ok(())
+}
+
+#[test]
+fn a_shard_that_was_received_cannot_be_wanted(rt: HostRuntime) -> Result<(), Fail> {
+    let alloc = rt.alloc();
+    let tables = Tables::new(alloc)?;
+    let engine = DefaultEngine::new(&tables, EngineKind::Ssse3);
+    let original: [(usize, &[u8]); 2] = [(0, ORIGINAL[0]), (1, ORIGINAL[1])];
+    let recovery: [(usize, &[u8]); 1] = [(0, &RECOVERY[0])];
+    let wanted = [ShardIndex::Recovery(0)];
+    let answer = reconstruct(alloc, 3, 2, &original, &recovery, &wanted, engine);
+    let refusal = ReconstructError::WantedReceived { wanted: wanted[0] };
+    assert_eq!(rt; answer.err(), Some(refusal));
+    Ok(())
+}
+
+#[test]
+fn a_changed_byte_is_noticed(rt: HostRuntime) -> Result<(), Fail> {
+    let alloc = rt.alloc();
+    let tables = Tables::new(alloc)?;
+    let engine = DefaultEngine::new(&tables, EngineKind::Ssse3);
+    let original: [(usize, &[u8]); 2] = [(0, ORIGINAL[0]), (2, ORIGINAL[2])];
+    let recovery: [(usize, &[u8]); 2] = [(0, &RECOVERY[0]), (1, &RECOVERY[1])];
+    verify(alloc, 3, 2, &original, &recovery, engine)?;
+    let changed: [(usize, &[u8]); 2] = [(0, ORIGINAL[0]), (2, b" are coded! ")];
+    let refusal = Error::InconsistentShards {
+        original_received_count: 2,
+        recovery_received_count: 2,
+    };
+    let answer = verify(alloc, 3, 2, &changed, &recovery, engine);
+    assert_eq!(rt; answer, Err(refusal));
     Ok(())
 }
 

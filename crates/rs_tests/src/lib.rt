@@ -12,6 +12,8 @@ mod locators;
 #[cfg(test)]
 mod messages;
 #[cfg(test)]
+mod reconstructing;
+#[cfg(test)]
 mod rows;
 #[cfg(test)]
 mod sizes;
@@ -19,3 +21,5 @@ mod sizes;
 mod stripes;
 #[cfg(test)]
 mod tables;
+#[cfg(test)]
+mod verifying;

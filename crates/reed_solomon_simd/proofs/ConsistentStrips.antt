@@ -1,0 +1,89 @@
+-- Received shards are consistent exactly if their pieces in each strip are consistent.
+use Rattle.std.proofs.Common.{◌≡◌, ℕ, ◌+◌, ◌-◌, ◌/◌, ◌%◌, ◌≤◌, true, inl, inr, subst, arith}
+use Rattle.std.proofs.lemmas.Bool.{cases_lt}
+use Rattle.rs_field.specs.code.Counts.{default_rate, supports}
+use Rattle.rs_field.specs.code.Decoder.{DecoderState, IsDecoder, originals_given, recovery_given, IsConsistent}
+use Rattle.rs_field.specs.code.DirectLaws.{word_at}
+use Rattle.rs_field.specs.code.Frame.{frame_of}
+use Rattle.rs_field.specs.code.Pieces.{pieces, IsStrip}
+use Rattle.rs_field.specs.code.PieceStates.{state_of_pieces}
+use Rattle.rs_field.proofs.of_code.AgreeingMessages.{AreSized, sized-within}
+use Rattle.rs_field.proofs.of_code.AnyShards.{any_consistent, words_given}
+use Rattle.rs_field.proofs.of_code.PieceStates.{AreConsistentBelow, agrees-cut, consistent-whole}
+use Rattle.rs_field.proofs.of_code.RateFrames.{has_frame}
+use Rattle.rs_field.proofs.of_code.SupportedCounts.{default_fits}
+use Rattle.rs_rate.proofs.StateLemmas.{valid-supported}
+use Rattle.reed_solomon_simd.proofs.SetUp.{valid-even}
+
+-- Each column of the first bytes is in a strip whose pieces are consistent.
+abbrev pub AreCheckedBelow : DecoderState → ℕ → Type 0
+AreCheckedBelow s bound =
+    AreConsistentBelow s.configuration.rate s.configuration.original_count s.configuration.recovery_count
+    s.configuration.shard_bytes s.originals s.recovery bound
+
+-- Before the first strip, no column needs a strip.
+pub checked-none : (s : DecoderState) → AreCheckedBelow s 0
+checked-none s j inside = absurd (let no : ⊥ = omega (arith, inside) in no)
+
+-- After one more strip with consistent pieces, the columns up to its end are in such strips.
+pub checked-further : (s : DecoderState) (start end : ℕ) → IsStrip start end s.configuration.shard_bytes
+    → IsConsistent (state_of_pieces start end s) → AreCheckedBelow s start → AreCheckedBelow s end
+checked-further s start end strip consistent before j inside = elim (cases_lt j (start / 2)) [
+  | inl low ↦ before j low
+  | inr high ↦ (start, end, strip, high, inside, consistent)
+]
+
+module _ (s : DecoderState) (is : IsDecoder default_rate s) where
+  supported : supports s.configuration.rate s.configuration.original_count s.configuration.recovery_count ≡ true
+  supported = valid-supported s.configuration is.valid
+
+  even : s.configuration.shard_bytes % 2 ≡ 0
+  even = valid-even s.configuration is.valid
+
+  -- A strip has an even number of bytes.
+  pub even-strip : (start end : ℕ) → IsStrip start end s.configuration.shard_bytes → (end - start) % 2 ≡ 0
+  even-strip start end strip =
+      let whole = even in
+      elim strip.ends [
+        | inl chunks ↦ omega (arith, chunks, strip.begins, strip.order)
+        | inr last ↦ omega (arith, last, whole, strip.begins, strip.order)
+      ]
+
+  -- There are at most 65536 originals.
+  pub few-originals : s.configuration.original_count ≤ 65536
+  few-originals =
+      let fits = default_fits s.configuration.original_count s.configuration.recovery_count
+      (subst (λ rate. supports rate s.configuration.original_count s.configuration.recovery_count ≡ true) is.of_rate
+      supported) in
+      omega (arith, fits.2)
+
+  own_sized : AreSized s.configuration.original_count s.configuration.shard_bytes s.originals
+  own_sized = sized-within s.configuration.original_count s.configuration.shard_bytes s.originals is.originals_within
+
+  coded_sized : AreSized s.configuration.recovery_count s.configuration.shard_bytes s.recovery
+  coded_sized = sized-within s.configuration.recovery_count s.configuration.shard_bytes s.recovery is.recovery_within
+
+  -- If the pieces of all strips are consistent, the shards are consistent.
+  pub checked-all : AreCheckedBelow s s.configuration.shard_bytes → IsConsistent s
+  checked-all each =
+      let c = s.configuration in
+      let p = frame_of c.rate c.original_count c.recovery_count in
+      let h = has_frame c.rate c.original_count c.recovery_count supported in
+      consistent-whole c.rate c.original_count c.recovery_count c.shard_bytes s.originals s.recovery
+      (word_at p c.original_count c.recovery_count s.originals s.recovery) even own_sized coded_sized
+      (λ j inside. words_given p c.original_count c.recovery_count c.shard_bytes s.originals s.recovery j h own_sized
+      coded_sized) each
+
+  -- As many shards as originals are consistent.
+  pub exact-consistent : originals_given s + recovery_given s ≡ s.configuration.original_count → IsConsistent s
+  exact-consistent = any_consistent s.configuration s.originals s.recovery supported even own_sized coded_sized
+
+-- If shards are consistent, their pieces in a strip are consistent.
+pub consistent-cut : (s : DecoderState) (start end : ℕ) → IsStrip start end s.configuration.shard_bytes
+    → IsConsistent s → IsConsistent (state_of_pieces start end s)
+consistent-cut s start end strip (message, agrees) =
+    let c = s.configuration in (
+      pieces start end message,
+      agrees-cut start end c.rate c.original_count c.recovery_count c.shard_bytes s.originals s.recovery message strip
+          agrees,
+    )

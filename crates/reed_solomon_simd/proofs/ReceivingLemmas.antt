@@ -1,0 +1,66 @@
+-- From shards that were added to a decoder to the result of collecting received shards.
+use Rattle.std.proofs.Common.{◌≡◌, ℕ, Option, Some, None, Result, Ok, Err, true}
+use Rattle.std.proofs.Common.{refl, sym, ap, ◌∙◌, subst, inl, inr}
+use Rattle.std.specs.Prelude.{◌⊎◌, IsOk, is_ok}
+use Rattle.std.proofs.lemmas.Bool.{false≢true}
+use Rattle.rs_field.specs.declared.code.error.Error.{Error}
+use Rattle.rs_field.specs.declared.code.error.Error.TheVariants.{NotEnoughShards, OutOfMemory}
+use Rattle.rs_field.specs.code.Configuration.{start_outcome, UpToMemory}
+use Rattle.rs_field.specs.code.Counts.{default_rate, supports}
+use Rattle.rs_field.specs.code.Decoder.{DecoderState, fresh_decoder}
+use Rattle.rs_field.specs.code.Frame.{decoder_rows}
+use Rattle.rs_field.specs.code.OneCall.{Items, default_of, with_both, LacksMemory}
+use Rattle.rs_field.specs.code.Outcome.{result_and_then}
+use Rattle.reed_solomon_simd.specs.Verified.{received_size, receiving_opening, receiving_outcome, IsReceiving}
+use Rattle.reed_solomon_simd.proofs.SetUp.{started-parts}
+
+-- If a setting up can only fail because memory is short, and it succeeds, its outcome is a success.
+was-set_up : (o : Result (Unit {0}) Error) → UpToMemory o (Ok tt) → o ≡ Ok tt
+was-set_up o (inl same) = sym same
+was-set_up o (inr lacks) = let refused = lacks.1 in absurd (let no : ⊥ = cc in no)
+
+success : (o : Result (Unit {0}) Error) → IsOk o → o ≡ Ok tt
+success (Ok u) is = refl
+success (Err e) is = absurd (false≢true is)
+
+module _ (k r : ℕ) (originals recovery : Items) where
+  -- Without a shard, collecting fails with `NotEnoughShards`.
+  pub receiving-none : supports default_rate k r ≡ true → None ≡ received_size originals recovery
+      → IsReceiving k r originals recovery (Err (NotEnoughShards k 0 0))
+  receiving-none supported none =
+      subst (λ (size : Option ℕ).
+      (Err (NotEnoughShards k 0 0) ≡ receiving_outcome k r size originals recovery)
+      ⊎ LacksMemory {T = DecoderState} (receiving_opening k r size) (Err (NotEnoughShards k 0 0)))
+      none (rw supported (inl refl))
+
+  module _ (size : ℕ) (sized : Some size ≡ received_size originals recovery) where
+    receiving-led : (o : Result DecoderState Error) → receiving_outcome k r (Some size) originals recovery ≡ o
+        → IsReceiving k r originals recovery o
+    receiving-led o is =
+        inl (sym is ∙ ap (λ (n : Option ℕ). receiving_outcome k r n originals recovery) sized)
+
+    -- If setting up the decoder fails, collecting fails with the same error.
+    pub receiving-unset : (e : Error)
+        → UpToMemory (start_outcome (decoder_rows default_rate k r) (default_of k r size)) (Err e)
+        → IsReceiving k r originals recovery (Err e)
+    receiving-unset e (inl same) =
+        receiving-led (Err e)
+        (ap (result_and_then (λ _. with_both (fresh_decoder (default_of k r size)) originals recovery)) (sym same))
+    receiving-unset e (inr lacks) =
+        let refused = lacks.1 in
+        let same : e ≡ OutOfMemory = cc in
+        let (valid, fits) = started-parts (decoder_rows default_rate k r) (default_of k r size)
+        (success (start_outcome (decoder_rows default_rate k r) (default_of k r size)) lacks.0) in
+        inr (subst (λ (n : Option ℕ). IsOk (receiving_opening k r n)) sized (ap is_ok valid), ap Err same)
+
+    -- If the decoder was set up, the outcome of adding the shards is the outcome of collecting them.
+    pub receiving-given : (start : DecoderState)
+        → UpToMemory (start_outcome (decoder_rows default_rate k r) (default_of k r size)) (Ok tt)
+        → start ≡ fresh_decoder (default_of k r size) → (o : Result DecoderState Error)
+        → with_both start originals recovery ≡ o
+        → IsReceiving k r originals recovery o
+    receiving-given start made fresh o is =
+        receiving-led o
+        (ap (result_and_then (λ _. with_both (fresh_decoder (default_of k r size)) originals recovery))
+        (was-set_up (start_outcome (decoder_rows default_rate k r) (default_of k r size)) made)
+        ∙ sym (ap (λ (s : DecoderState). with_both s originals recovery) fresh) ∙ is)

@@ -1,0 +1,147 @@
+-- From the checks and the rebuilt shards to the result of `reconstruct`.
+use Rattle.std.proofs.Common.{◌≡◌, ℕ, ◌<◌, List, [], length, All, replicate, Option, Some, None, Result, Ok, Err, false, refl}
+use Rattle.std.proofs.Common.{sym, ap, ◌∙◌, subst, inl, inr}
+use Rattle.std.specs.Prelude.{◌⊎◌, MatchResult, IsOk}
+use Rattle.std.specs.Result.{result_map_both}
+use Rattle.std.proofs.lemmas.List.{length-replicate, get_or-replicate}
+use Rattle.rs_field.specs.declared.code.error.Error.{Error}
+use Rattle.rs_field.specs.declared.code.error.Error.TheVariants.{UnsupportedShardCount, OutOfMemory}
+use Rattle.rs_field.specs.code.Column.{Shard}
+use Rattle.rs_field.specs.code.Counts.{default_rate, supports}
+use Rattle.rs_field.specs.code.Decoder.{DecoderState, enough_given, NoneAgrees}
+use Rattle.rs_field.specs.code.OneCall.{Items}
+use Rattle.rs_field.specs.code.Outcome.{result_and_then}
+use Rattle.reed_solomon_simd.specs.declared.reconstruct_error.ReconstructError.{ReconstructError}
+use Rattle.reed_solomon_simd.specs.declared.reconstruct_error.ReconstructError.TheVariants.{Refused}
+use Rattle.reed_solomon_simd.specs.declared.shard_index.ShardIndex.{ShardIndex}
+use Rattle.reed_solomon_simd.specs.Reconstructed.{AreReconstructed, wanted_outcome, ready_outcome, ReconstructAnswers}
+use Rattle.reed_solomon_simd.specs.Reconstructed.{OneReconstructs}
+use Rattle.reed_solomon_simd.specs.Verified.{received_size, receiving_opening, receiving_outcome, IsReceiving}
+use Rattle.reed_solomon_simd.proofs.VerifyingLemmas.{receiving-outcome, receiving-opened}
+
+module _ (k r : ℕ) (originals recovery : Items) (wanted : List ShardIndex)
+    (fit : ℕ → Result (Unit {0}) ReconstructError) where
+  -- If the counts are not supported, reconstructing fails with their error.
+  pub reconstructs-uncounted : (e : Error) → (supports default_rate k r ≡ false) × (e ≡ UnsupportedShardCount k r)
+      → OneReconstructs k r originals recovery wanted fit (Err (Refused e))
+  reconstructs-uncounted e refused = by_size (received_size originals recovery)
+    where
+      by_size : (size : Option ℕ)
+          → MatchResult (receiving_outcome k r size originals recovery)
+          (λ s. ReconstructAnswers s wanted (fit s.configuration.shard_bytes) (Err (Refused e)))
+          (λ f. ◌≡◌ {A = Result (List Shard) ReconstructError} (Err (Refused e)) (Err (Refused f)))
+          ⊎ (IsOk (receiving_opening k r size)
+          × (◌≡◌ {A = Result (List Shard) ReconstructError} (Err (Refused e)) (Err (Refused OutOfMemory))))
+      by_size None = rw (refused.0, refused.1) (inl refl)
+      by_size (Some size) = rw (refused.0, refused.1) (inl refl)
+
+  -- An error of collecting the shards is an error of reconstructing.
+  pub reconstructs-refused : (e : Error) → IsReceiving k r originals recovery (Err e)
+      → OneReconstructs k r originals recovery wanted fit (Err (Refused e))
+  reconstructs-refused e (inl same) =
+      inl (subst (λ (o : Result DecoderState Error).
+      MatchResult o (λ s. ReconstructAnswers s wanted (fit s.configuration.shard_bytes) (Err (Refused e)))
+      (λ f. ◌≡◌ {A = Result (List Shard) ReconstructError} (Err (Refused e)) (Err (Refused f)))) same refl)
+  reconstructs-refused e (inr lacks) =
+      let refused = lacks.1 in
+      let same : e ≡ OutOfMemory = cc in
+      inr (lacks.0, ap (λ (x : Error). Err (Refused x)) same)
+
+  module _ (s : DecoderState) (is : IsReceiving k r originals recovery (Ok s)) where
+    -- The result of reconstructing from the decoder is the result of one call.
+    reconstructs-led : (result : Result (List Shard) ReconstructError)
+        → ReconstructAnswers s wanted (fit s.configuration.shard_bytes) result
+        → OneReconstructs k r originals recovery wanted fit result
+    reconstructs-led result answers =
+        inl (subst (λ (o : Result DecoderState Error).
+        MatchResult o (λ s. ReconstructAnswers s wanted (fit s.configuration.shard_bytes) result)
+        (λ f. result ≡ Err (Refused f))) (receiving-outcome k r originals recovery s is) answers)
+
+    -- `OutOfMemory` is a result of one call.
+    reconstructs-short : OneReconstructs k r originals recovery wanted fit (Err (Refused OutOfMemory))
+    reconstructs-short = inr (receiving-opened k r originals recovery s is, refl)
+
+    -- `OutOfMemory` of the check of the wanted shards is a result of one call.
+    pub reconstructs-lacking : (e : ReconstructError)
+        → ◌≡◌ {A = Result (Unit {0}) ReconstructError} (Err e) (Err (Refused OutOfMemory))
+        → OneReconstructs k r originals recovery wanted fit (Err e)
+    reconstructs-lacking e lacks =
+        let same : e ≡ Refused OutOfMemory = cc in
+        subst (λ (x : ReconstructError). OneReconstructs k r originals recovery wanted fit (Err x)) (sym same)
+        reconstructs-short
+
+    -- The result for an outcome of the checks.
+    by_ready : (result : Result (List Shard) ReconstructError) (o : Result (Unit {0}) ReconstructError)
+        → o ≡ ready_outcome s wanted (fit s.configuration.shard_bytes)
+        → MatchResult o (λ _. MatchResult result (AreReconstructed s wanted)
+        (λ e. (f : Error) × NoneAgrees s f × (e ≡ Refused f))) (λ e. result ≡ Err e)
+        → OneReconstructs k r originals recovery wanted fit result
+    by_ready result o ready says =
+        reconstructs-led result
+        (subst (λ (o : Result (Unit {0}) ReconstructError).
+        MatchResult o (λ _. MatchResult result (AreReconstructed s wanted)
+        (λ e. (f : Error) × NoneAgrees s f × (e ≡ Refused f))) (λ e. result ≡ Err e)) ready says)
+
+    -- The outcome of the checks, from the outcome of the check for enough shards.
+    abbrev after_enough : Result (Unit {0}) Error → Result (Unit {0}) ReconstructError
+    after_enough enough =
+        result_and_then (λ _. result_and_then (λ _. fit s.configuration.shard_bytes) (wanted_outcome s [] wanted))
+        (result_map_both (λ u. u) Refused enough)
+
+    -- The error of too few shards is a result of one call.
+    pub reconstructs-few : (e : Error) → Err e ≡ enough_given s
+        → OneReconstructs k r originals recovery wanted fit (Err (Refused e))
+    reconstructs-few e few = by_ready (Err (Refused e)) (Err (Refused e)) (ap after_enough few) refl
+
+    module _ (enough : Ok tt ≡ enough_given s) where
+      -- The error of a wanted shard is a result of one call.
+      pub reconstructs-unwanted : (e : ReconstructError) → Err e ≡ wanted_outcome s [] wanted
+          → OneReconstructs k r originals recovery wanted fit (Err e)
+      reconstructs-unwanted e refused =
+          by_ready (Err e) (Err e)
+          (ap (result_and_then (λ (u : Unit {0}). fit s.configuration.shard_bytes)) refused ∙ ap after_enough enough) refl
+
+      module _ (can : Ok tt ≡ wanted_outcome s [] wanted) where
+        -- The error of the rooms is a result of one call.
+        pub reconstructs-misfit : (e : ReconstructError) → Err e ≡ fit s.configuration.shard_bytes
+            → OneReconstructs k r originals recovery wanted fit (Err e)
+        reconstructs-misfit e refused =
+            by_ready (Err e) (Err e)
+            (refused ∙ ap (result_and_then (λ (u : Unit {0}). fit s.configuration.shard_bytes)) can
+            ∙ ap after_enough enough) refl
+
+        -- Rebuilt shards, or the error of rebuilding them, are a result of one call.
+        pub reconstructs-made : Ok tt ≡ fit s.configuration.shard_bytes → (result : Result (List Shard) Error)
+            → MatchResult result (AreReconstructed s wanted) (λ e. NoneAgrees s e ⊎ (e ≡ OutOfMemory))
+            → OneReconstructs k r originals recovery wanted fit (result_map_both (λ x. x) Refused result)
+        reconstructs-made fits (Ok shards) made =
+            by_ready (Ok shards) (Ok tt)
+            (fits ∙ ap (result_and_then (λ (u : Unit {0}). fit s.configuration.shard_bytes)) can
+            ∙ ap after_enough enough) made
+        reconstructs-made fits (Err e) (inl none) =
+            by_ready (Err (Refused e)) (Ok tt)
+            (fits ∙ ap (result_and_then (λ (u : Unit {0}). fit s.configuration.shard_bytes)) can
+            ∙ ap after_enough enough) (e, none, refl)
+        reconstructs-made fits (Err e) (inr lacks) =
+            subst (λ (x : Error). OneReconstructs k r originals recovery wanted fit (Err (Refused x))) (sym lacks)
+            reconstructs-short
+
+-- As many shards of zeros as are wanted, each of the size.
+abbrev pub zeros : ℕ → ℕ → List Shard
+zeros n size = replicate n (replicate {A = ℕ} size 0)
+
+pub zeros-number : (n size : ℕ) → length (zeros n size) ≡ n
+zeros-number n size = length-replicate n (replicate {A = ℕ} size 0)
+
+pub zeros-sized : (n size : ℕ) → All (λ shard. length shard ≡ size) (zeros n size)
+zeros-sized n size i d h =
+    ap length (get_or-replicate n i (replicate {A = ℕ} size 0) d
+    (subst (λ (m : ℕ). i < m) (zeros-number n size) h)) ∙ length-replicate {A = ℕ} size 0
+
+-- If a check can only fail because memory is short, and it succeeds, its outcome is a success.
+pub was-checked : (o : Result (Unit {0}) ReconstructError) (e : ReconstructError)
+    → (◌≡◌ {A = Result (Unit {0}) ReconstructError} (Ok tt) o)
+    ⊎ (◌≡◌ {A = Result (Unit {0}) ReconstructError} (Ok tt) (Err e))
+    → ◌≡◌ {A = Result (Unit {0}) ReconstructError} (Ok tt) o
+was-checked o e (inl same) = same
+was-checked o e (inr lacks) = absurd (let no : ⊥ = cc in no)

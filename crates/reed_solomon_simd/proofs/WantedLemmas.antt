@@ -1,0 +1,99 @@
+-- Checking wanted shards one after another.
+use Rattle.std.proofs.Common.{◌≡◌, ℕ, ◌+◌, ◌<◌, Bool, true, false, cond, List, [], ◌∷◌, length, get_or, set, replicate, drop}
+use Rattle.std.proofs.Common.{Result, Ok, Err, refl, sym, ap, ◌∙◌, inl, inr, arith, ◌||◌, ◌==◌}
+use Rattle.std.specs.Prelude.{nat_le}
+use Rattle.std.specs.List.{list_any}
+use Rattle.std.proofs.lemmas.Bool.{cases_eq, cases_lt, eq-eqb, ne_eqb}
+use Rattle.std.proofs.lemmas.List.{get_or-set_same, get_or-set_other, get_or-replicate, get_or_past, length-replicate}
+use Rattle.std.proofs.lemmas.List.{drop_more}
+use Rattle.rs_field.specs.code.Decoder.{DecoderState}
+use Rattle.rs_field.specs.code.Outcome.{result_and_then}
+use Rattle.reed_solomon_simd.specs.declared.reconstruct_error.ReconstructError.{ReconstructError}
+use Rattle.reed_solomon_simd.specs.declared.reconstruct_error.ReconstructError.TheVariants.{WantedIndexTooLarge}
+use Rattle.reed_solomon_simd.specs.declared.reconstruct_error.ReconstructError.TheVariants.{WantedTwice, WantedReceived}
+use Rattle.reed_solomon_simd.specs.declared.shard_index.ShardIndex.{ShardIndex}
+use Rattle.reed_solomon_simd.specs.declared.shard_index.ShardIndex.TheVariants.{Original, Recovery}
+use Rattle.reed_solomon_simd.specs.Reconstructed.{wanted_outcome, count_of, is_received}
+use Rattle.reed_solomon_simd.specs.ShardNames.{index_of, is_same}
+use Rattle.reed_solomon_simd.specs.WantedMarks.{AreMarked}
+
+-- The outcome of the three checks of a wanted shard, and of what follows them.
+abbrev checked : ShardIndex → ℕ → Bool → Bool → Bool → Result (Unit {0}) ReconstructError
+    → Result (Unit {0}) ReconstructError
+checked shard count large twice there rest =
+    cond large (Err (WantedIndexTooLarge shard count))
+    (cond twice (Err (WantedTwice shard)) (cond there (Err (WantedReceived shard)) rest))
+
+-- Checking a wanted shard and others is checking the shard, and then the others.
+pub wanted-more : (s : DecoderState) (before rest : List ShardIndex) (shard : ShardIndex)
+    → wanted_outcome s before (shard ∷ rest)
+    ≡ result_and_then (λ _. wanted_outcome s (shard ∷ before) rest) (wanted_outcome s before (shard ∷ []))
+wanted-more s before rest shard =
+    by_tests (nat_le (count_of s shard) (index_of shard)) (list_any (is_same shard) before) (is_received s shard)
+  where
+    by_tests : (large twice there : Bool)
+        → checked shard (count_of s shard) large twice there (wanted_outcome s (shard ∷ before) rest)
+        ≡ result_and_then (λ _. wanted_outcome s (shard ∷ before) rest)
+        (checked shard (count_of s shard) large twice there (Ok tt))
+    by_tests true twice there = refl
+    by_tests false true there = refl
+    by_tests false false true = refl
+    by_tests false false false = refl
+
+-- Without wanted shards, no place is marked.
+pub marked-none : (n m : ℕ) (originals recovery : List Bool) → originals ≡ replicate n false
+    → recovery ≡ replicate m false → AreMarked [] originals recovery
+marked-none n m originals recovery own coded =
+    record {
+      own = λ i. ap (λ l. get_or l i false) own ∙ all n i;
+      coded = λ i. ap (λ l. get_or l i false) coded ∙ all m i;
+    }
+  where
+    all : (n i : ℕ) → get_or (replicate n false) i false ≡ false
+    all n i = elim (cases_lt i n) [
+      | inl inside ↦ get_or-replicate n i false false inside
+      | inr past ↦ get_or_past (replicate n false) i false (omega (arith, past, length-replicate {A = Bool} n false))
+    ]
+
+-- Marking a place marks it, and leaves the other marks as they are.
+mark-at : (marks : List Bool) (index i : ℕ) → index < length marks
+    → get_or (set marks index true) i false ≡ ((i == index) || get_or marks i false)
+mark-at marks index i inside = elim (cases_eq i index) [
+  | inl same ↦
+      ap (λ (n : ℕ). get_or (set marks index true) n false) same ∙ get_or-set_same marks index true false inside
+      ∙ sym (ap (λ (b : Bool). b || get_or marks i false) (eq-eqb i index same))
+  | inr other ↦
+      get_or-set_other marks index i true false other
+      ∙ sym (ap (λ (b : Bool). b || get_or marks i false) (ne_eqb i index other))
+]
+
+-- Marking the place of an original adds it to the wanted shards.
+pub marked-own : (before : List ShardIndex) (originals recovery : List Bool) (index : ℕ) → index < length originals
+    → AreMarked before originals recovery
+    → AreMarked (Original index ∷ before) (set originals index true) recovery
+marked-own before originals recovery index inside marked =
+    record {
+      own = λ i. mark-at originals index i inside ∙ ap (λ (b : Bool). (i == index) || b) (marked.own i);
+      coded = marked.coded;
+    }
+
+-- Marking the place of a recovery shard adds it to the wanted shards.
+pub marked-coded : (before : List ShardIndex) (originals recovery : List Bool) (index : ℕ) → index < length recovery
+    → AreMarked before originals recovery
+    → AreMarked (Recovery index ∷ before) originals (set recovery index true)
+marked-coded before originals recovery index inside marked =
+    record {
+      own = marked.own;
+      coded = λ i. mark-at recovery index i inside ∙ ap (λ (b : Bool). (i == index) || b) (marked.coded i);
+    }
+
+-- If the next wanted shard was checked, what is left is to check the others after it, or to return its error.
+pub wanted-next : (s : DecoderState) (before wanted : List ShardIndex) (i : ℕ) (d : ShardIndex)
+    (o : Result (Unit {0}) ReconstructError) → i < length wanted
+    → o ≡ wanted_outcome s before (get_or wanted i d ∷ [])
+    → wanted_outcome s before (drop i wanted)
+    ≡ result_and_then (λ _. wanted_outcome s (get_or wanted i d ∷ before) (drop (i + 1) wanted)) o
+wanted-next s before wanted i d o inside checks =
+    ap (wanted_outcome s before) (drop_more wanted i d inside)
+    ∙ wanted-more s before (drop (i + 1) wanted) (get_or wanted i d)
+    ∙ ap (result_and_then (λ _. wanted_outcome s (get_or wanted i d ∷ before) (drop (i + 1) wanted))) (sym checks)

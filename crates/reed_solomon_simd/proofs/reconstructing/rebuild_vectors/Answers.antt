@@ -1,0 +1,8 @@
+use Rattle.std.proofs.Common.{◌≡◌, length, ap}
+use Rattle.std.proofs.lemmas.List.Elements.{All-map}
+use Rattle.reed_solomon_simd.proofs.reconstructing.rebuild_vectors.Goals as goal
+
+pub rebuild_strips-requires-clause-fit : goal.rebuild_strips-requires-clause-fit
+rebuild_strips-requires-clause-fit g c =
+    All-map (λ s. length s ≡ 0) (λ v. v.items) c.in_ok-vectors.vectors.items
+    (λ i d h. ap length (c.in_ok-vectors.ensures.empty i d h))

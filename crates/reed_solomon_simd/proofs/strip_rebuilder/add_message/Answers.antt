@@ -1,0 +1,65 @@
+use Rattle.std.proofs.Common.{rules, ◌≡◌, ℕ, ◌+◌, ◌<◌, ◌≤◌, List, [], ◌∷◌, length, drop, Some, refl, sym, ap, ◌∙◌}
+use Rattle.std.proofs.Common.{arith}
+use Rattle.std.specs.Prelude.{unwrap_or}
+use Rattle.std.proofs.lemmas.List.{drop_more, drop_all}
+use Rattle.std.proofs.lemmas.Option.{none-some}
+use Rattle.rs_field.specs.code.Column.{Shard, shard_at}
+use Rattle.rs_field.specs.code.Counts.{default_rate}
+use Rattle.rs_field.specs.code.Encoder.{EncoderState, with_shard}
+use Rattle.rs_field.specs.code.OneCall.{with_shards}
+use Rattle.rs_field.specs.code.Outcome.{result_and_then}
+use Rattle.rs_rate.proofs.Giving.{outcome-ok, outcome-err, reaches-ok, reaches-err}
+use Rattle.rs_rate.specs.EncoderView.{encoder_state}
+use Rattle.reed_solomon_simd.proofs.strip_rebuilder.add_message.Goals.{in-Some+in_ok-add_original_shard, in_default}
+use Rattle.reed_solomon_simd.proofs.strip_rebuilder.add_message.Goals as goal
+
+-- Adding the originals from an index on adds the original with this index first.
+more : (s : EncoderState) (message : List Shard) (i : ℕ) (piece : Shard) → i < length message
+    → Some piece ≡ Some (shard_at message i)
+    → with_shards s (drop i message)
+    ≡ result_and_then (λ next. with_shards next (drop (i + 1) message)) (with_shard s piece)
+more s message i piece inside found =
+    ap (with_shards s) (drop_more message i [] inside)
+    ∙ ap (λ (x : Shard). with_shards s (x ∷ drop (i + 1) message)) (sym (ap (λ o. unwrap_or o piece) found))
+
+pub loop-index-init : goal.loop-index-init
+loop-index-init g c = λ message agrees. refl
+
+pub returns-in_err-add_original_shard : goal.returns-in_err-add_original_shard
+returns-in_err-add_original_shard g c = λ message agrees.
+    let i : ℕ = c.loop-index.index in
+    let now : EncoderState = encoder_state default_rate c.loop-index.encoder.rows in
+    let inside : c.loop-index.index < length message =
+    omega (arith, agrees.shards.length_is, c.counts-index-end.ensures.originals, c.loop-index-test.true) in
+    reaches-err _ (λ s. encoder_state default_rate c.add_original_shard.new.self.rows ≡ s) _
+    c.in_err-add_original_shard.field-0.0
+    (c.loop-index.invariant message agrees
+    ∙ more now message i c.in-Some.piece.now inside (c.in-Some.ensures message agrees)
+    ∙ ap (result_and_then (λ next. with_shards next (drop (i + 1) message)))
+    (outcome-err _ _ c.in_err-add_original_shard.ensures.answer))
+    (search rules)
+
+pub loop-index-preserved : goal.loop-index-preserved
+loop-index-preserved g c = λ message agrees.
+    let i : ℕ = c.loop-index.index in
+    let now : EncoderState = encoder_state default_rate c.loop-index.encoder.rows in
+    let inside : c.loop-index.index < length message =
+    omega (arith, agrees.shards.length_is, c.counts-index-end.ensures.originals, c.loop-index-test.true) in
+    elim c.match-message_piece.branch [
+      | in-Some+in_ok-add_original_shard w ↦
+          c.loop-index.invariant message agrees
+          ∙ more now message i w.in-Some.piece.now inside (w.in-Some.ensures message agrees)
+          ∙ ap (result_and_then (λ next. with_shards next (drop (i + 1) message)))
+          (outcome-ok _ _ _ w.in_ok-add_original_shard.ensures.answer w.in_ok-add_original_shard.ensures.left)
+          ∙ sym (ap (λ e. with_shards (encoder_state default_rate e.rows) (drop (i + 1) message)) w.encoder-is)
+      | in_default w ↦ absurd (none-some (shard_at message i) (w.in_default.ensures message agrees))
+    ]
+
+pub returns : goal.returns
+returns g c = λ message agrees.
+    let i : ℕ = c.loop-index.index in
+    let now : EncoderState = encoder_state default_rate c.loop-index.encoder.rows in
+    let past : length message ≤ c.loop-index.index =
+    omega (arith, agrees.shards.length_is, c.counts-index-end.ensures.originals, c.loop-index-test.false) in
+    reaches-ok _ (λ s. encoder_state default_rate c.loop-index.encoder.rows ≡ s) now
+    (c.loop-index.invariant message agrees ∙ ap (with_shards now) (drop_all i message past)) refl

@@ -1,0 +1,39 @@
+use Rattle.std.proofs.Common.{rules, ℕ, List, map, Bor}
+use Rattle.rs_field.specs.code.Column.{Shard}
+use Rattle.rs_field.specs.code.OneCall.{Items}
+use Rattle.reed_solomon_simd.specs.ReceivedState.{received_state}
+use Rattle.reed_solomon_simd.proofs.VerifyingLemmas.{verifies-uncounted, verifies-refused, verifies-few}
+use Rattle.reed_solomon_simd.proofs.VerifyingLemmas.{verifies-checked}
+use Rattle.reed_solomon_simd.proofs.verifying.verify.Goals as goal
+
+-- The shards of borrowed items, with their indexes.
+abbrev lent : List (ℕ × Bor Shard) → Items
+lent items = map (λ item. (item.0, item.1.now)) items
+
+pub returns-in_err-counts : goal.returns-in_err-counts
+returns-in_err-counts g c =
+    let led = verifies-uncounted c.args.original_count c.args.recovery_count (lent c.args.original.now)
+    (lent c.args.recovery.now) c.in_err-counts.field-0.0 c.in_err-counts.ensures in
+    search rules
+
+pub returns-in_err-received : goal.returns-in_err-received
+returns-in_err-received g c =
+    let led = verifies-refused c.args.original_count c.args.recovery_count (lent c.args.original.now)
+    (lent c.args.recovery.now) c.in_err-received.field-0.0
+    (rw (c.in_ok-counts.ensures.0, c.in_ok-counts.ensures.1) at c.in_err-received.ensures) in
+    search rules
+
+pub returns-in_err-surplus : goal.returns-in_err-surplus
+returns-in_err-surplus g c =
+    let led = verifies-few c.args.original_count c.args.recovery_count (lent c.args.original.now)
+    (lent c.args.recovery.now) (received_state c.in_ok-received.received)
+    (rw (c.in_ok-counts.ensures.0, c.in_ok-counts.ensures.1) at c.in_ok-received.ensures)
+    c.in_err-surplus.field-0.0 c.in_err-surplus.ensures.answer in
+    search rules
+
+pub returns : goal.returns
+returns g c =
+    verifies-checked c.args.original_count c.args.recovery_count (lent c.args.original.now)
+    (lent c.args.recovery.now) (received_state c.in_ok-received.received)
+    (rw (c.in_ok-counts.ensures.0, c.in_ok-counts.ensures.1) at c.in_ok-received.ensures)
+    c.in_ok-surplus.ensures.answer _ c.check_consistent.ensures

@@ -1,0 +1,187 @@
+//! Functions that reconstruct wanted shards in one call.
+ghost use Rattle.std.specs.Prelude.{◌≡◌, ◌⊎◌, ◌+◌, All, Ok, Err, OnOk, OnErr, length, map, MatchResult};
+ghost use Rattle.std.specs.Result.{result_map_both};
+ghost use Rattle.rs_field.specs.code.Counts.{default_rate};
+ghost use Rattle.rs_field.specs.code.Decoder.{IsDecoder, enough_given, originals_given, recovery_given, NoneAgrees};
+ghost use Rattle.rs_field.specs.code.OneCall.{collected_shards};
+ghost use Rattle.reed_solomon_simd.specs.Reconstructed.{AreReconstructed, CanBeRebuilt, OneReconstructs, ReconstructsInto};
+ghost use Rattle.reed_solomon_simd.specs.Rooms.{bytes_in, loans_of};
+
+use crate::Error;
+use crate::lent_originals::empty_vectors;
+use crate::pieces::Pieces;
+use crate::receiving::received_in_slices;
+use crate::reconstruct_error::ReconstructError;
+use crate::restoring::fill_rooms;
+use crate::rooms::{LentRooms, check_rooms};
+use crate::shard_index::ShardIndex;
+use crate::strip_rebuilder::rebuild_strips;
+use crate::wanted_shards::check_wanted;
+use rs_field::engine::Engine;
+use rs_rate::rate::DefaultRateCounts;
+use std::alloc::Global;
+
+/// Reconstructs the wanted shards of a message from received shards, and returns them in the order of `wanted`.
+///
+/// `original` and `recovery` hold the received shards with their indexes. The index of an original is its place in the
+/// order in which the originals were added to the encoder, counted from 0. Recovery shards have indexes of their own,
+/// which also begin at 0. All shards have the size of the first recovery shard, or of the first original if there is no
+/// recovery shard. A shard that was received cannot be wanted.
+///
+/// The call allocates two lists of references to shards, two lists of marks, the vectors, and work areas for at most 2048
+/// bytes of each shard. It decodes strip by strip. If a recovery shard is wanted, it also encodes the originals of each
+/// strip.
+///
+/// # Errors
+///
+/// - The errors of [`verify`](crate::verify) up to [`Error::NotEnoughShards`], in the same order, as
+///   [`ReconstructError::Refused`].
+/// - For each wanted shard in order: [`ReconstructError::WantedIndexTooLarge`] if its index is not below the number of
+///   shards of its kind, [`ReconstructError::WantedTwice`], [`ReconstructError::WantedReceived`].
+/// - [`Error::OutOfMemory`] if the vectors or the work areas cannot be allocated.
+/// - [`Error::InconsistentShards`] if no message agrees with all received shards.
+///
+/// The order is proved, with one exception: if the check of the size finds no error, the contract allows
+/// [`Error::OutOfMemory`] instead of any other result.
+///
+/// # Examples
+///
+/// An original and a recovery shard are lost, and both come back:
+///
+/// ```
+/// // ORIGINAL is [b"Three shards", b" of one size", b" are coded. "], and RECOVERY has its two recovery shards.
+/// let original: [(usize, &[u8]); 2] = [(0, ORIGINAL[0]), (1, ORIGINAL[1])];
+/// let recovery: [(usize, &[u8]); 1] = [(0, &RECOVERY[0])];
+/// let wanted = [ShardIndex::Recovery(1), ShardIndex::Original(2)];
+/// let made = reconstruct(alloc, 3, 2, &original, &recovery, &wanted, engine)?;
+/// assert_eq!(rt; made.len(), 2);
+/// assert_eq!(rt; made[0].as_slice(), RECOVERY[1].as_slice());
+/// assert_eq!(rt; made[1].as_slice(), ORIGINAL[2]);
+/// ```
+pub fn reconstruct<E: Engine + Copy>(
+    alloc: Global,
+    original_count: usize,
+    recovery_count: usize,
+    original: &[(usize, &[u8])],
+    recovery: &[(usize, &[u8])],
+    wanted: &[ShardIndex],
+    engine: E,
+) -> Result<Vec<Vec<u8>>, ReconstructError>
+    ensures { OneReconstructs original_count recovery_count
+        (map (λ item. (item.0, item.1.now)) original.now)
+        (map (λ item. (item.0, item.1.now)) recovery.now) wanted.now (λ _. Ok tt)
+        (result_map_both (λ vectors. map (λ vector. vector.items) vectors.items) (λ e. e) result) }
+{
+    let counts = DefaultRateCounts::new(original_count, recovery_count)?;
+    let received = received_in_slices(alloc, counts, original, recovery)?;
+    received.surplus()?;
+    check_wanted(alloc, &received, wanted)?;
+    let vectors = rebuild_vectors(alloc, engine, &received, wanted)?;
+    Ok(vectors)
+}
+
+/// Reconstructs the wanted shards of a message from received shards, and writes them into `rooms`, in the order of
+/// `wanted`. Each room is memory for one shard.
+///
+/// The received shards are passed as in [`reconstruct`]. If there are more shards than originals, the call also
+/// allocates memory for the wanted shards, because a later strip may show that no message agrees with all received
+/// shards. After an error the rooms hold what they held before the call.
+///
+/// # Errors
+///
+/// The errors of [`reconstruct`]. Before [`Error::InconsistentShards`]:
+///
+/// - [`ReconstructError::WrongNumberOfRooms`] if there are not as many rooms as wanted shards.
+/// - [`ReconstructError::WrongLength`] for the first room that does not have the size of the shards.
+///
+/// # Examples
+///
+/// ```
+/// let (mut first, mut second) = ([9; 12], [9; 12]);
+/// let mut rooms: Vec<&mut [u8]> = Vec::new(alloc);
+/// rooms.push(&mut first)?;
+/// rooms.push(&mut second)?;
+/// reconstruct_into(alloc, 3, 2, &original, &recovery, &wanted, &mut rooms, engine)?;
+/// drop(rooms);
+/// assert_eq!(rt; first, RECOVERY[1]);
+/// assert_eq!(rt; second.as_slice(), ORIGINAL[2]);
+/// ```
+pub fn reconstruct_into<E: Engine + Copy>(
+    alloc: Global,
+    original_count: usize,
+    recovery_count: usize,
+    original: &[(usize, &[u8])],
+    recovery: &[(usize, &[u8])],
+    wanted: &[ShardIndex],
+    rooms: &mut [&mut [u8]],
+    engine: E,
+) -> Result<(), ReconstructError>
+    ensures answer { ReconstructsInto original_count recovery_count
+        (map (λ item. (item.0, item.1.now)) original.now)
+        (map (λ item. (item.0, item.1.now)) recovery.now) wanted.now
+        (bytes_in rooms.old) (bytes_in rooms.new) result }
+    ensures kept { loans_of rooms.new ≡ loans_of rooms.old }
+{
+    let counts = DefaultRateCounts::new(original_count, recovery_count)?;
+    let received = received_in_slices(alloc, counts, original, recovery)?;
+    let surplus = received.surplus()?;
+    check_wanted(alloc, &received, wanted)?;
+    check_rooms(wanted.len(), received.shard_bytes, rooms)?;
+    if surplus == 0 {
+        rebuild_lent(alloc, engine, &received, wanted, rooms)?;
+        return Ok(());
+    }
+    let vectors = rebuild_vectors(alloc, engine, &received, wanted)?;
+    fill_rooms(vectors.as_slice(), received.shard_bytes, rooms);
+    Ok(())
+}
+
+// Writes the wanted shards into rooms of their size, in order. As many shards as originals were received, so there is a
+// message that agrees with them all. Fails with `OutOfMemory` if the work areas cannot be allocated. The rooms then hold
+// what they held.
+fn rebuild_lent<E: Engine + Copy, P: Pieces>(
+    alloc: Global,
+    engine: E,
+    received: &P,
+    wanted: &[ShardIndex],
+    rooms: &mut [&mut [u8]],
+) -> Result<(), Error>
+    requires set_up { IsDecoder default_rate (P.received received.now) }
+    requires enough { enough_given (P.received received.now) ≡ Ok tt }
+    requires exact { originals_given (P.received received.now)
+        + recovery_given (P.received received.now)
+        ≡ (P.received received.now).configuration.original_count }
+    requires can { All (CanBeRebuilt (P.received received.now)) wanted.now }
+    requires number { length rooms.old ≡ length wanted.now }
+    requires fit { All
+        (λ room. length room ≡ (P.received received.now).configuration.shard_bytes)
+        (bytes_in rooms.old) }
+    ensures rebuilt { OnOk result
+        (AreReconstructed (P.received received.now) wanted.now (bytes_in rooms.new)) }
+    ensures refused { OnErr result (result ≡ Err Error.OutOfMemory) }
+    ensures untouched { OnErr result (bytes_in rooms.new ≡ bytes_in rooms.old) }
+    ensures kept { loans_of rooms.new ≡ loans_of rooms.old }
+{
+    let mut lent = LentRooms { rooms };
+    rebuild_strips(alloc, engine, received, wanted, &mut lent)
+}
+
+// Returns the wanted shards as vectors, in order. Fails with `OutOfMemory`, and with `InconsistentShards` if no message
+// agrees with all received shards.
+fn rebuild_vectors<E: Engine + Copy, P: Pieces>(
+    alloc: Global,
+    engine: E,
+    received: &P,
+    wanted: &[ShardIndex],
+) -> Result<Vec<Vec<u8>>, Error>
+    requires set_up { IsDecoder default_rate (P.received received.now) }
+    requires enough { enough_given (P.received received.now) ≡ Ok tt }
+    requires can { All (CanBeRebuilt (P.received received.now)) wanted.now }
+    ensures { MatchResult (collected_shards result)
+        (AreReconstructed (P.received received.now) wanted.now)
+        (λ e. NoneAgrees (P.received received.now) e ⊎ (e ≡ Error.OutOfMemory)) }
+{
+    let mut vectors = empty_vectors(alloc, wanted.len(), received.shard_bytes())?;
+    rebuild_strips(alloc, engine, received, wanted, &mut vectors)?;
+    Ok(vectors)
+}

@@ -1,0 +1,115 @@
+-- The decoder with the shards that are left of a codeword.
+use Rattle.std.proofs.Common.{◌≡◌, ℕ, ◌+◌, ◌^◌, ◌<◌, Bool, true, false, cond, List, [], ◌∷◌, length, Result, Ok, Err, Some}
+use Rattle.std.proofs.Common.{MatchResult, refl, sym, ap, ap₂, ◌∙◌, subst, inl, inr, arith}
+use Rattle.std.specs.Prelude.{◌⊎◌, nat_le, nat_lt}
+use Rattle.std.proofs.lemmas.List.Elements.{recursion_from_All}
+use Rattle.reed_solomon_simd.specs.declared.Error.{Error}
+use Rattle.reed_solomon_simd.specs.declared.Error.TheVariants.{OutOfMemory, NotEnoughShards}
+use Rattle.reed_solomon_simd.specs.Column.{Shard, shard_at}
+use Rattle.reed_solomon_simd.specs.Configuration.{start_outcome, bytes_of_rows}
+use Rattle.reed_solomon_simd.specs.Counts.{default_rate}
+use Rattle.reed_solomon_simd.specs.Decoder.{DecoderState, fresh_decoder, enough_given, IsAgreeing}
+use Rattle.reed_solomon_simd.specs.Frame.{decoder_rows}
+use Rattle.reed_solomon_simd.specs.Given.{nothing, count_below}
+use Rattle.reed_solomon_simd.specs.OneCall.{Items, default_of, with_both}
+use Rattle.reed_solomon_simd.specs.Outcome.{result_and_then}
+use Rattle.reed_solomon_simd.specs.RoundTrip.{AreCoded, AreLeft, enough_left}
+use Rattle.reed_solomon_simd.specs.Verified.{received_size, receiving_outcome}
+use Rattle.reed_solomon_simd.proofs.Entries.{AreFree, entered_all, count-nothing, count-entered_all, among-entered_all}
+use Rattle.reed_solomon_simd.proofs.Given.{nothing_among}
+use Rattle.reed_solomon_simd.proofs.OneRoundTrip.{left_with, all_taken}
+use Rattle.rs_rate.proofs.StateLemmas.{valid-supported}
+
+-- Success unless there are too few shards.
+abbrev pub unless_few : ℕ → ℕ → ℕ → Bool → Result (Unit {0}) Error
+unless_few k originals recovery few = cond few (Err (NotEnoughShards k originals recovery)) (Ok tt)
+
+-- The empty map has no shard at the indexes of any items.
+all_free : (items : Items) → AreFree nothing items
+all_free [] = tt
+all_free (item ∷ items) = (refl, all_free items)
+
+-- The map of the items that are left has as many shards as there are items.
+left-count : (count : ℕ) (shards : List Shard) (items : Items) → length shards ≡ count → AreLeft shards items
+    → count_below count (entered_all nothing items) ≡ length items
+left-count count shards items long left =
+    let counted = count-entered_all count items nothing
+    (recursion_from_All (λ (item : ℕ × Shard). item.0 < count) items
+    (λ i d h. let own = (left.own i d h).0 in omega (arith, own, long))) (all_free items) left.once in
+    counted ∙ ap (λ (n : ℕ). n + length items) (count-nothing count)
+    ∙ (let e : 0 + length items ≡ length items = omega arith in e)
+
+module _ (k r : ℕ) (originals recovery : List Shard) (kept received : Items) (was : AreCoded k r originals recovery)
+    (left : AreLeft originals kept) (got : AreLeft recovery received) where
+  -- The state of a decoder with the shards that are left.
+  abbrev pub left_state : DecoderState
+  left_state = left_with (default_of k r was.size) kept received
+
+  -- The originals agree with the shards that are left.
+  pub left_agrees : IsAgreeing left_state originals
+  left_agrees =
+      record {
+        shards = was.shards;
+        own = among-entered_all kept nothing originals
+            (recursion_from_All (λ (item : ℕ × Shard). shard_at originals item.0 ≡ item.1) kept
+            (λ i d h. (left.own i d h).1)) (nothing_among originals);
+        coded = (
+          recovery,
+          was.coded,
+          among-entered_all received nothing recovery
+              (recursion_from_All (λ (item : ℕ × Shard). shard_at recovery item.0 ≡ item.1) received
+              (λ i d h. (got.own i d h).1)) (nothing_among recovery),
+        );
+      }
+
+  -- There are enough shards in the decoder exactly if enough shards are left.
+  pub left_enough : enough_given left_state ≡ enough_left k kept received
+  left_enough =
+      ap₂ (λ (o c : ℕ). unless_few k o c (nat_lt (o + c) k))
+      (left-count k originals kept was.shards.length_is left)
+      (left-count r recovery received was.coded.shards.length_is got)
+
+  -- A property of the outcome of setting up a decoder and adding the shards.
+  abbrev Begun : (DecoderState → Type 0) → (Error → Type 0) → Result (Unit {0}) Error → Type 0
+  Begun A B begun =
+      MatchResult (result_and_then (λ _. with_both (fresh_decoder (default_of k r was.size)) kept received) begun) A B
+
+  by_start : (A : DecoderState → Type 0) (B : Error → Type 0)
+      → Begun A B (start_outcome (decoder_rows default_rate k r) (default_of k r was.size))
+      → A left_state ⊎ B OutOfMemory
+  by_start A B holds =
+      by_bytes (nat_le (2 ^ 64) (bytes_of_rows (decoder_rows default_rate k r) was.size))
+      (subst (Begun A B)
+      (ap (result_and_then
+      (λ _. cond (nat_le (2 ^ 64) (bytes_of_rows (decoder_rows default_rate k r) was.size)) (Err OutOfMemory)
+      (Ok tt))) was.valid) holds)
+    where
+      by_bytes : (full : Bool) → Begun A B (cond full (Err OutOfMemory) (Ok tt)) → A left_state ⊎ B OutOfMemory
+      by_bytes true h = inr h
+      by_bytes false h =
+          inl (subst (λ (o : Result DecoderState Error). MatchResult o A B)
+          (all_taken (default_of k r was.size) originals recovery kept received was.shards was.coded left got) h)
+
+-- A property of the outcome of collecting what is left is a property of the decoder with these shards, or of
+-- `OutOfMemory`, or of `NotEnoughShards` if nothing is left.
+pub received-left : (k r : ℕ) (originals recovery : List Shard) (kept received : Items)
+    (was : AreCoded k r originals recovery)
+    → AreLeft originals kept → AreLeft recovery received → (A : DecoderState → Type 0) (B : Error → Type 0)
+    → MatchResult (receiving_outcome k r (received_size kept received) kept received) A B
+    → (A (left_with (default_of k r was.size) kept received) ⊎ B OutOfMemory)
+    ⊎ (B (NotEnoughShards k 0 0) × (kept ≡ []) × (received ≡ []))
+received-left k r originals recovery kept (first ∷ rest) was left got A B holds =
+    let own = got.own 0 first (omega arith) in
+    let size : length first.1 ≡ was.size =
+    sym (ap length own.1) ∙ (was.coded.shards.each first.0 [] own.0).length_is in
+    inl (by_start k r originals recovery kept (first ∷ rest) was left got A B
+    (subst (λ (n : ℕ). MatchResult (receiving_outcome k r (Some n) kept (first ∷ rest)) A B) size holds))
+received-left k r originals recovery (first ∷ rest) [] was left got A B holds =
+    let own = left.own 0 first (omega arith) in
+    let size : length first.1 ≡ was.size =
+    sym (ap length own.1) ∙ (was.shards.each first.0 [] own.0).length_is in
+    inl (by_start k r originals recovery (first ∷ rest) [] was left got A B
+    (subst (λ (n : ℕ). MatchResult (receiving_outcome k r (Some n) (first ∷ rest) []) A B) size holds))
+received-left k r originals recovery [] [] was left got A B holds =
+    let supported = valid-supported (default_of k r was.size) was.valid in
+    inr (rw supported at holds, refl, refl)

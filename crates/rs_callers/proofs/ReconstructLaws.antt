@@ -1,0 +1,130 @@
+-- What `reconstruct` returns for shards of one message.
+use Rattle.std.proofs.Common.{◌≡◌, ℕ, ◌+◌, ◌≤◌, false, List, [], length, map, Result, Ok, Err, MatchResult, IfOk, IfErr}
+use Rattle.std.proofs.Common.{refl, sym, ap, ap₂, ◌∙◌, subst, inl, inr, arith}
+use Rattle.std.specs.Prelude.{nat_lt}
+use Rattle.std.specs.Result.{result_map_both}
+use Rattle.std.specs.declared.vec.Vec.{Vec}
+use Rattle.std.proofs.lemmas.Bool.{le-ltb}
+use Rattle.reed_solomon_simd.specs.declared.Error.{Error}
+use Rattle.reed_solomon_simd.specs.declared.Error.TheVariants.{OutOfMemory}
+use Rattle.reed_solomon_simd.specs.declared.ReconstructError.{ReconstructError}
+use Rattle.reed_solomon_simd.specs.declared.ReconstructError.TheVariants.{Refused}
+use Rattle.reed_solomon_simd.specs.declared.ShardIndex.{ShardIndex}
+use Rattle.reed_solomon_simd.specs.Code.{AreRecovery}
+use Rattle.reed_solomon_simd.specs.Column.{Shard}
+use Rattle.reed_solomon_simd.specs.Decoder.{DecoderState, enough_given, NoneAgrees}
+use Rattle.reed_solomon_simd.specs.OneCall.{Items, default_of}
+use Rattle.reed_solomon_simd.specs.Outcome.{result_and_then}
+use Rattle.reed_solomon_simd.specs.Reconstructed.{AreReconstructed, wanted_outcome, ready_outcome, ReconstructAnswers}
+use Rattle.reed_solomon_simd.specs.Reconstructed.{OneReconstructs}
+use Rattle.reed_solomon_simd.specs.RoundTrip.{AreCoded, AreLeft}
+use Rattle.reed_solomon_simd.specs.ShardNames.{shard_named}
+use Rattle.reed_solomon_simd.specs.Verified.{received_size, receiving_outcome}
+use Rattle.reed_solomon_simd.proofs.SetUp.{valid-even}
+use Rattle.rs_field.proofs.of_code.SupportedCounts.{default_fits}
+use Rattle.rs_field.proofs.of_code.Unique.{recovery_unique}
+use Rattle.rs_rate.proofs.StateLemmas.{valid-supported}
+use Rattle.rs_callers.proofs.LeftReceived.{unless_few, left_state, left_agrees, left_enough, received-left}
+
+module _ (k r : ℕ) (originals recovery : List Shard) (kept received : Items) (wanted : List ShardIndex)
+    (was : AreCoded k r originals recovery) (left : AreLeft originals kept) (got : AreLeft recovery received) where
+  -- The decoder with the shards that are left.
+  abbrev state : DecoderState
+  state = left_state k r originals recovery kept received was left got
+
+  -- Shards that are reconstructed from what is left of a codeword are shards of this codeword.
+  are_named : (shards : List Shard)
+      → AreReconstructed state wanted shards
+      → shards ≡ map (shard_named originals recovery) wanted
+  are_named shards are =
+      let same = are.only originals (left_agrees k r originals recovery kept received was left got) in
+      let fits = default_fits k r (valid-supported (default_of k r was.size) was.valid) in
+      let other : AreRecovery (default_of k r was.size) originals are.agrees.coded.0 =
+      subst (λ (m : List Shard). AreRecovery (default_of k r was.size) m are.agrees.coded.0) (sym same)
+      are.agrees.coded.1 in
+      let coded = recovery_unique (default_of k r was.size) originals are.agrees.coded.0 recovery
+      (let n : k ≤ 65536 = omega (arith, fits.2) in n) (valid-even (default_of k r was.size) was.valid) other was.coded
+      in
+      are.named ∙ ap₂ (λ (m c : List Shard). map (shard_named m c) wanted) (sym same) coded
+
+  module _ (fit : ℕ → Result (Unit {0}) ReconstructError) where
+    -- A success returns the wanted shards of the codeword.
+    pub wanted_come_back : (shards : List Shard) → OneReconstructs k r kept received wanted fit (Ok shards)
+        → shards ≡ map (shard_named originals recovery) wanted
+    wanted_come_back shards (inr lacks) = let short = lacks.1 in absurd (let no : ⊥ = cc in no)
+    wanted_come_back shards (inl answers) =
+        elim (received-left k r originals recovery kept received was left got
+        (λ s. ReconstructAnswers s wanted (fit s.configuration.shard_bytes) (Ok shards))
+        (λ e. ◌≡◌ {A = Result (List Shard) ReconstructError} (Ok shards) (Err (Refused e))) answers) [
+          | inl some ↦ elim some [
+            | inl says ↦ by_ready shards (ready_outcome state wanted (fit was.size)) says
+            | inr short ↦ absurd (let no : ⊥ = cc in no)
+          ]
+          | inr none ↦ let few = none.0 in absurd (let no : ⊥ = cc in no)
+        ]
+      where
+        by_ready : (shards : List Shard) (o : Result (Unit {0}) ReconstructError)
+            → MatchResult o (λ _. AreReconstructed state wanted shards)
+            (λ e. ◌≡◌ {A = Result (List Shard) ReconstructError} (Ok shards) (Err e))
+            → shards ≡ map (shard_named originals recovery) wanted
+        by_ready shards (Ok u) are = are_named shards are
+        by_ready shards (Err e) refused = absurd (let no : ⊥ = cc in no)
+
+  -- If enough shards are left and the wanted shards are among the lost ones, reconstructing into vectors can only fail
+  -- because memory is short.
+  pub only_memory : (s : DecoderState) (e : ReconstructError)
+      → receiving_outcome k r (received_size kept received) kept received ≡ Ok s
+      → wanted_outcome s [] wanted ≡ Ok tt → k ≤ length kept + length received
+      → OneReconstructs k r kept received wanted (λ _. Ok tt) (Err e) → e ≡ Refused OutOfMemory
+  only_memory s e taken lost many (inr lacks) = let short = lacks.1 in cc
+  only_memory s e taken lost many (inl answers) =
+      by_none (subst (λ (o : Result DecoderState Error).
+      MatchResult o (λ s. ReconstructAnswers s wanted (Ok tt) (Err e))
+      (λ f. ◌≡◌ {A = Result (List Shard) ReconstructError} (Err e) (Err (Refused f)))) taken answers)
+    where
+      same : state ≡ s
+      same =
+          elim (received-left k r originals recovery kept received was left got (λ t. t ≡ s) (λ f. ⊥)
+          (subst (λ (o : Result DecoderState Error). MatchResult o (λ t. t ≡ s) (λ f. ⊥)) (sym taken) refl)) [
+            | inl some ↦ elim some [ inl is ↦ is | inr short ↦ absurd short ]
+            | inr none ↦ absurd none.0
+          ]
+
+      enough : enough_given s ≡ Ok tt
+      enough =
+          ap enough_given (sym same) ∙ left_enough k r originals recovery kept received was left got
+          ∙ ap (unless_few k (length kept) (length received)) (le-ltb (length kept + length received) k many)
+
+      ready : ready_outcome s wanted (Ok tt) ≡ Ok tt
+      ready =
+          ap (λ (o : Result (Unit {0}) Error).
+          result_and_then (λ (u : Unit {0}). result_and_then (λ (v : Unit {0}). Ok tt) (wanted_outcome s [] wanted))
+          (result_map_both (λ u. u) Refused o)) enough
+          ∙ ap (result_and_then (λ (v : Unit {0}). Ok tt)) lost
+
+      by_none : ReconstructAnswers s wanted (Ok tt) (Err e) → e ≡ Refused OutOfMemory
+      by_none says =
+          let (f, none, is) = subst (λ (o : Result (Unit {0}) ReconstructError).
+          MatchResult o (λ _. (f : Error) × NoneAgrees s f × (e ≡ Refused f))
+          (λ x. ◌≡◌ {A = Result (List Shard) ReconstructError} (Err e) (Err x))) ready says in
+          let here = subst (λ (t : DecoderState). NoneAgrees t f) (sym same) none in
+          absurd (here.none (originals, left_agrees k r originals recovery kept received was left got))
+
+  -- The vectors of a result, or its error.
+  abbrev vectors_in : {Y Z : Type 0} → Result (Vec (Vec ℕ Y) Z) ReconstructError
+      → Result (List Shard) ReconstructError
+  vectors_in result = result_map_both (λ vectors. map (λ vector. vector.items) vectors.items) (λ e. e) result
+
+  pub restored_only : {Y Z : Type 0} (result : Result (Vec (Vec ℕ Y) Z) ReconstructError)
+      → OneReconstructs k r kept received wanted (λ _. Ok tt) (vectors_in result)
+      → IfOk result (λ shards. map (λ shard. shard.items) shards.items ≡ map (shard_named originals recovery) wanted)
+  restored_only (Ok shards) made = wanted_come_back (λ _. Ok tt) (map (λ vector. vector.items) shards.items) made
+  restored_only (Err e) made = tt
+
+  pub refused_only : {Y Z : Type 0} (result : Result (Vec (Vec ℕ Y) Z) ReconstructError) (s : DecoderState)
+      → receiving_outcome k r (received_size kept received) kept received ≡ Ok s
+      → wanted_outcome s [] wanted ≡ Ok tt → k ≤ length kept + length received
+      → OneReconstructs k r kept received wanted (λ _. Ok tt) (vectors_in result)
+      → IfErr result (λ e. e ≡ Refused OutOfMemory)
+  refused_only (Ok shards) s taken lost many made = tt
+  refused_only (Err e) s taken lost many made = only_memory s e taken lost many made

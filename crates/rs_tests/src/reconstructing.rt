@@ -1,0 +1,174 @@
+//! Tests of `reconstruct` and `reconstruct_into`: wanted originals and recovery shards come back, whichever are lost.
+use crate::sizes::losses::drawn;
+use reed_solomon_simd::engine::tables::Tables;
+use reed_solomon_simd::engine::{DefaultEngine, EngineKind};
+use reed_solomon_simd::{
+    Error, ReconstructError, ShardIndex, encode_slice, reconstruct, reconstruct_into,
+};
+use std::alloc::Global;
+use std::process::Abort;
+use std::test::Fail;
+
+// Shards with their indexes.
+type Items<'a> = Vec<(usize, &'a [u8])>;
+
+// Returns the shards whose index is not in `lost`.
+fn left<'a>(alloc: Global, shards: &'a [Vec<u8>], lost: &[usize]) -> Result<Items<'a>, Fail> {
+    let mut items: Items<'a> = Vec::new(alloc);
+    for (index, shard) in shards.iter().enumerate() {
+        if !lost.contains(&index) {
+            items.push((index, shard.as_slice()))?;
+        }
+    }
+    Ok(items)
+}
+
+// Loses an original and a recovery shard, and checks that both come back, in both orders.
+fn check_pair(
+    rt: &impl Abort,
+    alloc: Global,
+    originals: &[Vec<u8>],
+    recovery: &[Vec<u8>],
+    lost: (usize, usize),
+    engine: DefaultEngine<'_>,
+) -> Result<(), Fail> {
+    let (k, r) = (originals.len(), recovery.len());
+    let own = left(alloc, originals, &[lost.0])?;
+    let other = left(alloc, recovery, &[lost.1])?;
+    let original = originals.get(lost.0).ok_or("no original")?;
+    let coded = recovery.get(lost.1).ok_or("no recovery shard")?;
+    let wanted = [ShardIndex::Recovery(lost.1), ShardIndex::Original(lost.0)];
+    let made = reconstruct(alloc, k, r, &own, &other, &wanted, engine)?;
+    assert!(rt; made.len() == 2 && made[0] == *coded && made[1] == *original, "{k}:{r}, {lost:?}");
+    let mut first = vec![in alloc; 9; original.len()]?;
+    let mut second = vec![in alloc; 9; coded.len()]?;
+    let mut rooms: Vec<&mut [u8]> = Vec::new(alloc);
+    rooms.push(first.as_mut_slice())?;
+    rooms.push(second.as_mut_slice())?;
+    let wanted = [ShardIndex::Original(lost.0), ShardIndex::Recovery(lost.1)];
+    reconstruct_into(alloc, k, r, &own, &other, &wanted, &mut rooms, engine)?;
+    drop(rooms);
+    assert!(rt; first == *original && second == *coded, "{k}:{r}, {lost:?} in rooms");
+    Ok(())
+}
+
+#[test]
+fn each_pair_comes_back(rt: HostRuntime) -> Result<(), Fail> {
+    let alloc = rt.alloc();
+    let tables = Tables::new(alloc)?;
+    let engine = DefaultEngine::new(&tables, EngineKind::Ssse3);
+    for k in 1..7 {
+        for r in 2..7 {
+            let originals = drawn(alloc, k, 66)?;
+            let recovery = encode_slice(alloc, k, r, &originals, engine)?;
+            for own in 0..k {
+                for other in 0..r {
+                    check_pair(&rt, alloc, &originals, &recovery, (own, other), engine)?;
+                }
+            }
+        }
+    }
+    Ok(())
+}
+
+// All recovery shards are wanted, from all originals alone, and from the last shards alone.
+#[test]
+fn everything_missing_comes_back(rt: HostRuntime) -> Result<(), Fail> {
+    let alloc = rt.alloc();
+    let tables = Tables::new(alloc)?;
+    let engine = DefaultEngine::new(&tables, EngineKind::Ssse3);
+    for shard_bytes in [2, 64, 2050, 4130] {
+        let originals = drawn(alloc, 3, shard_bytes)?;
+        let recovery = encode_slice(alloc, 3, 4, &originals, engine)?;
+        let own = left(alloc, &originals, &[])?;
+        let all = [
+            ShardIndex::Recovery(0),
+            ShardIndex::Recovery(1),
+            ShardIndex::Recovery(2),
+            ShardIndex::Recovery(3),
+        ];
+        let made = reconstruct(alloc, 3, 4, &own, &[], &all, engine)?;
+        assert!(rt; made == recovery, "{shard_bytes} bytes, from originals");
+        let other = left(alloc, &recovery, &[0])?;
+        let rest = [
+            ShardIndex::Original(0),
+            ShardIndex::Original(1),
+            ShardIndex::Original(2),
+            ShardIndex::Recovery(0),
+        ];
+        let made = reconstruct(alloc, 3, 4, &[], &other, &rest, engine)?;
+        assert_eq!(rt; made.len(), 4);
+        assert!(rt; made[..3] == originals[..] && made[3] == recovery[0], "{shard_bytes} bytes");
+        let none = reconstruct(alloc, 3, 4, &own, &other, &[], engine)?;
+        assert!(rt; none.is_empty(), "nothing is wanted");
+    }
+    Ok(())
+}
+
+// Checks that a call fails with an error and leaves its rooms as they were.
+fn check_refused(
+    rt: &impl Abort,
+    alloc: Global,
+    original: &[(usize, &[u8])],
+    recovery: &[(usize, &[u8])],
+    wanted: &[ShardIndex],
+    lengths: &[usize],
+    refusal: ReconstructError,
+) -> Result<(), Fail> {
+    let tables = Tables::new(alloc)?;
+    let engine = DefaultEngine::new(&tables, EngineKind::Ssse3);
+    let mut memory: Vec<Vec<u8>> = Vec::new(alloc);
+    for length in lengths {
+        memory.push(vec![in alloc; 9; *length]?)?;
+    }
+    let mut rooms: Vec<&mut [u8]> = Vec::new(alloc);
+    for room in memory.iter_mut() {
+        rooms.push(room.as_mut_slice())?;
+    }
+    let answer = reconstruct_into(alloc, 2, 3, original, recovery, wanted, &mut rooms, engine);
+    drop(rooms);
+    assert_eq!(rt; answer.err(), Some(refusal));
+    for room in memory.iter() {
+        assert!(rt; room.iter().all(|byte| *byte == 9), "a room changed");
+    }
+    Ok(())
+}
+
+// The originals [0, 0] and [1, 0] have the recovery shards [2, 0], [3, 0] and [4, 0].
+#[test]
+fn refusals_come_in_order(rt: HostRuntime) -> Result<(), Fail> {
+    let alloc = rt.alloc();
+    let one: [(usize, &[u8]); 1] = [(1, &[1, 2])];
+    let own: [(usize, &[u8]); 2] = [(0, &[0, 0]), (1, &[1, 0])];
+    let far = [ShardIndex::Recovery(3), ShardIndex::Original(0)];
+    let twice = [ShardIndex::Recovery(2), ShardIndex::Recovery(2), ShardIndex::Original(0)];
+    let received = [ShardIndex::Recovery(2), ShardIndex::Original(0)];
+    let good = [ShardIndex::Recovery(2)];
+    let few = Error::NotEnoughShards {
+        original_count: 2,
+        original_received_count: 1,
+        recovery_received_count: 0,
+    };
+    let few = ReconstructError::Refused(few);
+    check_refused(&rt, alloc, &one, &[], &far, &[], few)?;
+    let wanted = ShardIndex::Recovery(3);
+    let large = ReconstructError::WantedIndexTooLarge { wanted, count: 3 };
+    check_refused(&rt, alloc, &own, &[], &far, &[], large)?;
+    let wanted = ShardIndex::Recovery(2);
+    let repeated = ReconstructError::WantedTwice { wanted };
+    check_refused(&rt, alloc, &own, &[], &twice, &[], repeated)?;
+    let wanted = ShardIndex::Original(0);
+    let there = ReconstructError::WantedReceived { wanted };
+    check_refused(&rt, alloc, &own, &[], &received, &[], there)?;
+    let number = ReconstructError::WrongNumberOfRooms { wanted: 1, got: 2 };
+    check_refused(&rt, alloc, &own, &[], &good, &[2, 3], number)?;
+    let length = ReconstructError::WrongLength { wanted: 2, got: 3 };
+    check_refused(&rt, alloc, &own, &[], &good, &[3], length)?;
+    let other: [(usize, &[u8]); 1] = [(0, &[3, 0])];
+    let inconsistent = Error::InconsistentShards {
+        original_received_count: 2,
+        recovery_received_count: 1,
+    };
+    let inconsistent = ReconstructError::Refused(inconsistent);
+    check_refused(&rt, alloc, &own, &other, &good, &[2], inconsistent)
+}
