@@ -4,7 +4,7 @@
 //! `original_count` of all these shards give back every original. The index of an original is its place in the order in
 //! which originals are added, counted from 0. Recovery shards have indexes of their own, which also begin at 0.
 //!
-//! [`split`] makes originals of the bytes of a message of any length, and [`join`] makes the bytes of originals.
+//! [`split`] makes the originals of a message of any length, and [`join`] makes the message from its originals.
 //!
 //! [`encode`] and [`decode`] do a whole round in one call. [`ReedSolomonEncoder`] and [`ReedSolomonDecoder`] code many
 //! messages with the same memory. The module [`rate`] has objects whose rate, engine and memory the caller chooses.
