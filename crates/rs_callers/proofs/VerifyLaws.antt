@@ -4,7 +4,7 @@ use Rattle.std.proofs.Common.{ap₂, ◌∙◌, subst, inl, inr, arith}
 use Rattle.std.specs.Prelude.{◌⊎◌, MatchResult, nat_lt}
 use Rattle.std.proofs.lemmas.Bool.{le-ltb, lt-ltb}
 use Rattle.reed_solomon_simd.specs.declared.Error.{Error}
-use Rattle.reed_solomon_simd.specs.declared.Error.TheVariants.{OutOfMemory, NotEnoughShards, InconsistentShards}
+use Rattle.reed_solomon_simd.specs.declared.Error.TheVariants.{OutOfMemory, InconsistentShards}
 use Rattle.reed_solomon_simd.specs.Code.{AreRecovery}
 use Rattle.reed_solomon_simd.specs.Column.{Shard, AreShards}
 use Rattle.reed_solomon_simd.specs.Configuration.{validation_outcome}

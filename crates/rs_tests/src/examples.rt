@@ -99,7 +99,9 @@ fn lost_shards_are_written_into_arrays(rt: HostRuntime) -> Result<(), Fail> {
     let mut rooms: Vec<&mut [u8]> = Vec::new(alloc);
     rooms.push(&mut first)?;
     rooms.push(&mut second)?;
-    reconstruct_into(alloc, 3, 2, &original, &recovery, &wanted, &mut rooms, engine)?;
+    reconstruct_into(
+        alloc, 3, 2, &original, &recovery, &wanted, &mut rooms, engine,
+    )?;
     drop(rooms);
     assert_eq!(rt; first, RECOVERY[1]);
     assert_eq!(rt; second.as_slice(), ORIGINAL[2]);

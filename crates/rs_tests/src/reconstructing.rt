@@ -39,7 +39,10 @@ fn check_pair(
     let coded = recovery.get(lost.1).ok_or("no recovery shard")?;
     let wanted = [ShardIndex::Recovery(lost.1), ShardIndex::Original(lost.0)];
     let made = reconstruct(alloc, k, r, &own, &other, &wanted, engine)?;
-    assert!(rt; made.len() == 2 && made[0] == *coded && made[1] == *original, "{k}:{r}, {lost:?}");
+    assert!(rt;
+        made.len() == 2 && made[0] == *coded && made[1] == *original,
+        "{k}:{r}, {lost:?}"
+    );
     let mut first = vec![in alloc; 9; original.len()]?;
     let mut second = vec![in alloc; 9; coded.len()]?;
     let mut rooms: Vec<&mut [u8]> = Vec::new(alloc);
@@ -48,7 +51,10 @@ fn check_pair(
     let wanted = [ShardIndex::Original(lost.0), ShardIndex::Recovery(lost.1)];
     reconstruct_into(alloc, k, r, &own, &other, &wanted, &mut rooms, engine)?;
     drop(rooms);
-    assert!(rt; first == *original && second == *coded, "{k}:{r}, {lost:?} in rooms");
+    assert!(rt;
+        first == *original && second == *coded,
+        "{k}:{r}, {lost:?} in rooms"
+    );
     Ok(())
 }
 
@@ -98,9 +104,68 @@ fn everything_missing_comes_back(rt: HostRuntime) -> Result<(), Fail> {
         ];
         let made = reconstruct(alloc, 3, 4, &[], &other, &rest, engine)?;
         assert_eq!(rt; made.len(), 4);
-        assert!(rt; made[..3] == originals[..] && made[3] == recovery[0], "{shard_bytes} bytes");
+        assert!(rt;
+            made[..3] == originals[..],
+            "{shard_bytes} bytes, originals"
+        );
+        assert!(rt;
+            made.get(3) == recovery.first(),
+            "{shard_bytes} bytes, recovery shard 0"
+        );
         let none = reconstruct(alloc, 3, 4, &own, &other, &[], engine)?;
         assert!(rt; none.is_empty(), "nothing is wanted");
+    }
+    Ok(())
+}
+
+// Loses `half` of the first originals and `half` of the last recovery shards, and checks that all of them come back.
+fn check_many(
+    rt: &impl Abort,
+    alloc: Global,
+    originals: &[Vec<u8>],
+    recovery: &[Vec<u8>],
+    half: usize,
+    engine: DefaultEngine<'_>,
+) -> Result<(), Fail> {
+    let (k, r) = (originals.len(), recovery.len());
+    let mut own_lost: Vec<usize> = Vec::new(alloc);
+    let mut coded_lost: Vec<usize> = Vec::new(alloc);
+    let mut wanted: Vec<ShardIndex> = Vec::new(alloc);
+    let mut lost: Vec<&Vec<u8>> = Vec::new(alloc);
+    for index in 0..half {
+        let last = r.saturating_sub(index).saturating_sub(1);
+        own_lost.push(index)?;
+        coded_lost.push(last)?;
+        wanted.push(ShardIndex::Recovery(last))?;
+        wanted.push(ShardIndex::Original(index))?;
+        lost.push(recovery.get(last).ok_or("no recovery shard")?)?;
+        lost.push(originals.get(index).ok_or("no original")?)?;
+    }
+    let own = left(alloc, originals, &own_lost)?;
+    let other = left(alloc, recovery, &coded_lost)?;
+    let made = reconstruct(alloc, k, r, &own, &other, &wanted, engine)?;
+    assert_eq!(rt; made.len(), lost.len());
+    for (shard, original) in made.iter().zip(lost.iter()) {
+        assert!(rt; *shard == **original, "{k}:{r}, {half} of each kind");
+    }
+    Ok(())
+}
+
+#[test]
+fn many_lost_shards_come_back(rt: HostRuntime) -> Result<(), Fail> {
+    let alloc = rt.alloc();
+    let tables = Tables::new(alloc)?;
+    let engine = DefaultEngine::new(&tables, EngineKind::Ssse3);
+    for (k, r, half, shard_bytes) in [
+        (10, 4, 2, 2),
+        (33, 31, 15, 66),
+        (20, 60, 20, 2050),
+        (64, 17, 8, 64),
+        (100, 30, 7, 4098),
+    ] {
+        let originals = drawn(alloc, k, shard_bytes)?;
+        let recovery = encode_slice(alloc, k, r, &originals, engine)?;
+        check_many(&rt, alloc, &originals, &recovery, half, engine)?;
     }
     Ok(())
 }
@@ -117,20 +182,26 @@ fn check_refused(
 ) -> Result<(), Fail> {
     let tables = Tables::new(alloc)?;
     let engine = DefaultEngine::new(&tables, EngineKind::Ssse3);
-    let mut memory: Vec<Vec<u8>> = Vec::new(alloc);
-    for length in lengths {
-        memory.push(vec![in alloc; 9; *length]?)?;
-    }
+    let mut first = vec![in alloc; 9; lengths.first().copied().unwrap_or(0)]?;
+    let mut second = vec![in alloc; 9; lengths.last().copied().unwrap_or(0)]?;
     let mut rooms: Vec<&mut [u8]> = Vec::new(alloc);
-    for room in memory.iter_mut() {
-        rooms.push(room.as_mut_slice())?;
+    if !lengths.is_empty() {
+        rooms.push(first.as_mut_slice())?;
+    }
+    if lengths.len() > 1 {
+        rooms.push(second.as_mut_slice())?;
     }
     let answer = reconstruct_into(alloc, 2, 3, original, recovery, wanted, &mut rooms, engine);
     drop(rooms);
     assert_eq!(rt; answer.err(), Some(refusal));
-    for room in memory.iter() {
-        assert!(rt; room.iter().all(|byte| *byte == 9), "a room changed");
-    }
+    assert!(rt;
+        first.iter().all(|byte| *byte == 9),
+        "the first room changed"
+    );
+    assert!(rt;
+        second.iter().all(|byte| *byte == 9),
+        "the second room changed"
+    );
     Ok(())
 }
 
@@ -141,7 +212,11 @@ fn refusals_come_in_order(rt: HostRuntime) -> Result<(), Fail> {
     let one: [(usize, &[u8]); 1] = [(1, &[1, 2])];
     let own: [(usize, &[u8]); 2] = [(0, &[0, 0]), (1, &[1, 0])];
     let far = [ShardIndex::Recovery(3), ShardIndex::Original(0)];
-    let twice = [ShardIndex::Recovery(2), ShardIndex::Recovery(2), ShardIndex::Original(0)];
+    let twice = [
+        ShardIndex::Recovery(2),
+        ShardIndex::Recovery(2),
+        ShardIndex::Original(0),
+    ];
     let received = [ShardIndex::Recovery(2), ShardIndex::Original(0)];
     let good = [ShardIndex::Recovery(2)];
     let few = Error::NotEnoughShards {

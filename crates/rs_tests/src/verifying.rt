@@ -12,11 +12,7 @@ type Items<'a> = Vec<(usize, &'a [u8])>;
 
 // Returns the shards that are not lost, and the bits of `lost` after those of these shards. Shard i is lost if bit i of
 // `lost` is set.
-fn left<'a>(
-    alloc: Global,
-    shards: &'a [Vec<u8>],
-    lost: u64,
-) -> Result<(Items<'a>, u64), Fail> {
+fn left<'a>(alloc: Global, shards: &'a [Vec<u8>], lost: u64) -> Result<(Items<'a>, u64), Fail> {
     let mut items: Items<'a> = Vec::new(alloc);
     let mut bits = lost;
     for (index, shard) in shards.iter().enumerate() {

@@ -1,7 +1,3 @@
-use Rattle.std.proofs.Common.{◌≡◌, List, map, Result, Ok, Err, IfOk, IfErr}
-use Rattle.reed_solomon_simd.specs.declared.Error.TheVariants.{OutOfMemory}
-use Rattle.reed_solomon_simd.specs.declared.ReconstructError.{ReconstructError}
-use Rattle.reed_solomon_simd.specs.declared.ReconstructError.TheVariants.{Refused}
 use Rattle.rs_callers.specs.Losing.{items_lent}
 use Rattle.rs_callers.proofs.ReconstructLaws.{restored_only, refused_only}
 use Rattle.rs_callers.proofs.round_trip.reconstruct_what_is_left.Goals as goal
