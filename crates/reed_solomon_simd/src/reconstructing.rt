@@ -101,7 +101,9 @@ pub fn reconstruct<E: Engine + Copy>(
 /// let mut rooms: Vec<&mut [u8]> = Vec::new(alloc);
 /// rooms.push(&mut first)?;
 /// rooms.push(&mut second)?;
-/// reconstruct_into(alloc, 3, 2, &original, &recovery, &wanted, &mut rooms, engine)?;
+/// reconstruct_into(
+///     alloc, 3, 2, &original, &recovery, &wanted, &mut rooms, engine,
+/// )?;
 /// drop(rooms);
 /// assert_eq!(rt; first, RECOVERY[1]);
 /// assert_eq!(rt; second.as_slice(), ORIGINAL[2]);
