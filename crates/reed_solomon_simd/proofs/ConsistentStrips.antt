@@ -3,14 +3,12 @@ use Rattle.std.proofs.Common.{◌≡◌, ℕ, ◌+◌, ◌-◌, ◌/◌, ◌%◌
 use Rattle.std.proofs.lemmas.Bool.{cases_lt}
 use Rattle.rs_field.specs.code.Counts.{default_rate, supports}
 use Rattle.rs_field.specs.code.Decoder.{DecoderState, IsDecoder, originals_given, recovery_given, IsConsistent}
-use Rattle.rs_field.specs.code.DirectLaws.{word_at}
-use Rattle.rs_field.specs.code.Frame.{frame_of}
 use Rattle.rs_field.specs.code.Pieces.{pieces, IsStrip}
 use Rattle.rs_field.specs.code.PieceStates.{state_of_pieces}
 use Rattle.rs_field.proofs.of_code.AgreeingMessages.{AreSized, sized-within}
-use Rattle.rs_field.proofs.of_code.AnyShards.{any_consistent, words_given}
-use Rattle.rs_field.proofs.of_code.PieceStates.{AreConsistentBelow, agrees-cut, consistent-whole}
-use Rattle.rs_field.proofs.of_code.RateFrames.{has_frame}
+use Rattle.rs_field.proofs.of_code.AnyShards.{any_consistent}
+use Rattle.rs_field.proofs.of_code.PieceStates.{AreConsistentBelow, agrees-cut}
+use Rattle.rs_field.proofs.of_code.RestoredBelow.{all-consistent}
 use Rattle.rs_field.proofs.of_code.SupportedCounts.{default_fits}
 use Rattle.rs_rate.proofs.StateLemmas.{valid-supported}
 use Rattle.reed_solomon_simd.proofs.SetUp.{valid-even}
@@ -65,14 +63,7 @@ module _ (s : DecoderState) (is : IsDecoder default_rate s) where
 
   -- If the pieces of all strips are consistent, the shards are consistent.
   pub checked-all : AreCheckedBelow s s.configuration.shard_bytes → IsConsistent s
-  checked-all each =
-      let c = s.configuration in
-      let p = frame_of c.rate c.original_count c.recovery_count in
-      let h = has_frame c.rate c.original_count c.recovery_count supported in
-      consistent-whole c.rate c.original_count c.recovery_count c.shard_bytes s.originals s.recovery
-      (word_at p c.original_count c.recovery_count s.originals s.recovery) even own_sized coded_sized
-      (λ j inside. words_given p c.original_count c.recovery_count c.shard_bytes s.originals s.recovery j h own_sized
-      coded_sized) each
+  checked-all each = all-consistent s supported even own_sized coded_sized each
 
   -- As many shards as originals are consistent.
   pub exact-consistent : originals_given s + recovery_given s ≡ s.configuration.original_count → IsConsistent s

@@ -1,5 +1,5 @@
--- Reconstructing by strips: the bytes in the rooms after some strips, and the proof that the rooms hold the wanted shards
--- after all strips.
+-- Reconstructing by strips: the bytes in the rooms after some strips, and the proof that the rooms hold the wanted
+-- shards after all strips.
 use Rattle.std.proofs.Common.{◌≡◌, ℕ, ◌+◌, ◌-◌, ◌<◌, ◌≤◌, Bool, List, [], ◌∷◌, ◌++◌, length, take, drop, get_or, map}
 use Rattle.std.proofs.Common.{All, Ok, suc, true, cond, ◌&&◌, refl, sym, ap, ap₂, ◌∙◌, subst, arith}
 use Rattle.std.specs.Prelude.{Option, Some, None, is_some, not}
@@ -110,7 +110,8 @@ module _ (s : DecoderState) (is : IsDecoder default_rate s) (wanted : List Shard
       subst (λ (m : List Shard). AreRecovery (state_of_pieces start end s).configuration m
       (pieces start end agrees.coded.0)) same coded in
       let all = recovery_unique (state_of_pieces start end s).configuration rebuilt.message rebuilt.agrees.coded.0
-      (pieces start end agrees.coded.0) (few-originals s is) (even-strip s is start end strip) rebuilt.agrees.coded.1 recovered in
+      (pieces start end agrees.coded.0) (few-originals s is) (even-strip s is start end strip) rebuilt.agrees.coded.1
+        recovered in
       rebuilt.named
       ∙ ap₂ (λ (m r : List Shard). named_shards m r wanted) (sym same) all
       ∙ named-pieces start end message agrees.coded.0 wanted

@@ -1,5 +1,6 @@
 -- From the checks and the rebuilt shards to the result of `reconstruct`.
-use Rattle.std.proofs.Common.{◌≡◌, ℕ, ◌<◌, List, [], length, All, replicate, Option, Some, None, Result, Ok, Err, false, refl}
+use Rattle.std.proofs.Common.{◌≡◌, ℕ, ◌<◌, List, [], length, All, replicate, Option, Some, None, Result, Ok, Err, false,
+  refl}
 use Rattle.std.proofs.Common.{sym, ap, ◌∙◌, subst, inl, inr}
 use Rattle.std.specs.Prelude.{◌⊎◌, MatchResult, IsOk}
 use Rattle.std.specs.Result.{result_map_both}
@@ -99,7 +100,8 @@ module _ (k r : ℕ) (originals recovery : Items) (wanted : List ShardIndex)
           → OneReconstructs k r originals recovery wanted fit (Err e)
       reconstructs-unwanted e refused =
           by_ready (Err e) (Err e)
-          (ap (result_and_then (λ (u : Unit {0}). fit s.configuration.shard_bytes)) refused ∙ ap after_enough enough) refl
+          (ap (result_and_then (λ (u : Unit {0}). fit s.configuration.shard_bytes)) refused ∙ ap after_enough enough)
+            refl
 
       module _ (can : Ok tt ≡ wanted_outcome s [] wanted) where
         -- The error of the rooms is a result of one call.

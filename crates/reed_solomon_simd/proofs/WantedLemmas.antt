@@ -1,10 +1,11 @@
 -- Checking wanted shards one after another.
-use Rattle.std.proofs.Common.{◌≡◌, ℕ, ◌+◌, ◌<◌, Bool, true, false, cond, List, [], ◌∷◌, length, get_or, set, replicate, drop}
+use Rattle.std.proofs.Common.{◌≡◌, ℕ, ◌+◌, ◌<◌, Bool, true, false, cond, List, [], ◌∷◌, length, get_or, set, replicate,
+  drop}
 use Rattle.std.proofs.Common.{Result, Ok, Err, refl, sym, ap, ◌∙◌, inl, inr, arith, ◌||◌, ◌==◌}
 use Rattle.std.specs.Prelude.{nat_le}
 use Rattle.std.specs.List.{list_any}
-use Rattle.std.proofs.lemmas.Bool.{cases_eq, cases_lt, eq-eqb, ne_eqb}
-use Rattle.std.proofs.lemmas.List.{get_or-set_same, get_or-set_other, get_or-replicate, get_or_past, length-replicate}
+use Rattle.std.proofs.lemmas.Bool.{cases_lt}
+use Rattle.std.proofs.lemmas.List.{get_or-replicate, get_or_past, length-replicate}
 use Rattle.std.proofs.lemmas.List.{drop_more}
 use Rattle.rs_field.specs.code.Decoder.{DecoderState}
 use Rattle.rs_field.specs.code.Outcome.{result_and_then}
@@ -54,38 +55,6 @@ marked-none n m originals recovery own coded =
       | inl inside ↦ get_or-replicate n i false false inside
       | inr past ↦ get_or_past (replicate n false) i false (omega (arith, past, length-replicate {A = Bool} n false))
     ]
-
--- Marking a place marks it, and leaves the other marks as they are.
-mark-at : (marks : List Bool) (index i : ℕ) → index < length marks
-    → get_or (set marks index true) i false ≡ ((i == index) || get_or marks i false)
-mark-at marks index i inside = elim (cases_eq i index) [
-  | inl same ↦
-      ap (λ (n : ℕ). get_or (set marks index true) n false) same ∙ get_or-set_same marks index true false inside
-      ∙ sym (ap (λ (b : Bool). b || get_or marks i false) (eq-eqb i index same))
-  | inr other ↦
-      get_or-set_other marks index i true false other
-      ∙ sym (ap (λ (b : Bool). b || get_or marks i false) (ne_eqb i index other))
-]
-
--- Marking the place of an original adds it to the wanted shards.
-pub marked-own : (before : List ShardIndex) (originals recovery : List Bool) (index : ℕ) → index < length originals
-    → AreMarked before originals recovery
-    → AreMarked (Original index ∷ before) (set originals index true) recovery
-marked-own before originals recovery index inside marked =
-    record {
-      own = λ i. mark-at originals index i inside ∙ ap (λ (b : Bool). (i == index) || b) (marked.own i);
-      coded = marked.coded;
-    }
-
--- Marking the place of a recovery shard adds it to the wanted shards.
-pub marked-coded : (before : List ShardIndex) (originals recovery : List Bool) (index : ℕ) → index < length recovery
-    → AreMarked before originals recovery
-    → AreMarked (Recovery index ∷ before) originals (set recovery index true)
-marked-coded before originals recovery index inside marked =
-    record {
-      own = marked.own;
-      coded = λ i. mark-at recovery index i inside ∙ ap (λ (b : Bool). (i == index) || b) (marked.coded i);
-    }
 
 -- If the next wanted shard was checked, what is left is to check the others after it, or to return its error.
 pub wanted-next : (s : DecoderState) (before wanted : List ShardIndex) (i : ℕ) (d : ShardIndex)

@@ -11,7 +11,8 @@ use Rattle.rs_field.specs.code.Given.{Shards}
 use Rattle.rs_field.specs.code.OneCall.{Items}
 use Rattle.rs_field.specs.code.Outcome.{result_and_then}
 use Rattle.reed_solomon_simd.specs.declared.reconstruct_error.ReconstructError.{ReconstructError}
-use Rattle.reed_solomon_simd.specs.declared.reconstruct_error.ReconstructError.TheVariants.{Refused, WantedIndexTooLarge}
+use Rattle.reed_solomon_simd.specs.declared.reconstruct_error.ReconstructError.TheVariants.{Refused,
+  WantedIndexTooLarge}
 use Rattle.reed_solomon_simd.specs.declared.reconstruct_error.ReconstructError.TheVariants.{WantedTwice, WantedReceived}
 use Rattle.reed_solomon_simd.specs.declared.reconstruct_error.ReconstructError.TheVariants.{WrongNumberOfRooms}
 use Rattle.reed_solomon_simd.specs.declared.reconstruct_error.ReconstructError.TheVariants.{WrongLength}
@@ -42,8 +43,8 @@ abbrev pub is_received : DecoderState → ShardIndex → Bool
 is_received s (Original i) = is_some (s.originals i)
 is_received s (Recovery i) = is_some (s.recovery i)
 
--- the outcome of checking wanted shards, after others: the index of each must be below the number of shards of its kind,
--- the shard must not be wanted before, and it must not have been received
+-- the outcome of checking wanted shards, after others: the index of each must be below the number of shards of its
+-- kind, the shard must not be wanted before, and it must not have been received
 abbrev pub wanted_outcome : DecoderState → List ShardIndex → List ShardIndex → Result (Unit {0}) ReconstructError
 wanted_outcome s before [] = Ok tt
 wanted_outcome s before (shard ∷ shards) =
@@ -98,7 +99,8 @@ OneReconstructs k r originals recovery wanted fit result =
     (λ s. ReconstructAnswers s wanted (fit s.configuration.shard_bytes) result) (λ e. result ≡ Err (Refused e))
     ⊎ (IsOk (receiving_opening k r (received_size originals recovery)) × (result ≡ Err (Refused OutOfMemory)))
 
--- the result of `reconstruct_into`: the wanted shards, written into the rooms in order, or an error with unchanged rooms
+-- the result of `reconstruct_into`: the wanted shards, written into the rooms in order, or an error with unchanged
+-- rooms
 abbrev pub ReconstructsInto : ℕ → ℕ → Items → Items → List ShardIndex → List (List ℕ) → List (List ℕ)
     → Result (Unit {0}) ReconstructError → Type 0
 ReconstructsInto k r originals recovery wanted old new answer =

@@ -67,7 +67,7 @@ pub record Request : Type 0 where
   pub recovery_count : ℕ
   pub task : Task
 
--- the task that the name of a command and the words after the counts represent, if they are valid
+-- what the name of a command and the words after the counts ask for, if they are valid
 abbrev pub task_of : List ℕ → List (List ℕ) → Option Task
 task_of command words =
     if bytes_eq command (codes "encode") then option_map Coded (shards_of words)

@@ -1,5 +1,6 @@
 -- Shards anywhere in memory, and rooms for the shards that a call writes.
-use Rattle.std.specs.Prelude.{◌≡◌, ℕ, ◌==◌, List, [], ◌∷◌, ◌++◌, length, map, if◌then◌else◌, Result, Ok, Err, MatchResult}
+use Rattle.std.specs.Prelude.{◌≡◌, ℕ, ◌==◌, List, [], ◌∷◌, ◌++◌, length, map, if◌then◌else◌, Result, Ok, Err,
+  MatchResult}
 use Rattle.std.specs.Borrow.{Bor, MutBor}
 use Rattle.rs_field.specs.declared.code.error.Error.{Error}
 use Rattle.rs_field.specs.code.Column.{Shard}
@@ -64,8 +65,8 @@ abbrev pub shards_in : Items → List Shard
 shards_in items = map (λ item. item.1) items
 
 -- the result of a decode over arrays: the result of one-call `decode` for these shards. The restored originals are
--- written into the rooms, in order of index. The fault of a shard of another size says its place: the places of recovery
--- shards come after those of the originals
+-- written into the rooms, in order of index. The fault of a shard of another size says its place: the places of
+-- recovery shards come after those of the originals
 abbrev pub DecodesArrays : ℕ → ℕ → Items → Items → List (List ℕ) → List (List ℕ) → Result (Unit {0}) Fault → Type 0
 DecodesArrays k r originals recovery old new answer =
     (decoded : Result Shards Error) × OneDecodeAnswers k r originals recovery decoded

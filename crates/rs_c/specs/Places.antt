@@ -11,7 +11,8 @@ use Rattle.rs_c.specs.declared.fault.Fault.{Fault}
 use Rattle.rs_c.specs.declared.fault.Fault.TheVariants.{Refused, WrongLength, WrongNumberOfRooms}
 use Rattle.rs_c.specs.declared.fault.Fault.TheVariants.{DifferentShardSize as different_size}
 
--- the place of the first shard or room that does not have this size, counted from 0. If all have it, this is their number
+-- the place of the first shard or room that does not have this size, counted from 0. If all have it, this is their
+-- number
 abbrev pub place_of_other : ℕ → List Shard → ℕ
 place_of_other size [] = 0
 place_of_other size (shard ∷ shards) = if length shard == size then place_of_other size shards + 1 else 0
@@ -21,7 +22,8 @@ abbrev pub placed_refusal : List Shard → Error → Fault
 placed_refusal shards (DifferentShardSize size got) = different_size size got (place_of_other size shards)
 placed_refusal shards error = Refused error
 
--- the fault of an error of a call over arrays. It says the place of the first shard, or of the first room, of another size
+-- the fault of an error of a call over arrays. It says the place of the first shard, or of the first room, of another
+-- size
 abbrev pub placed : List Shard → List (List ℕ) → RoomError → Fault
 placed shards rooms (refused error) = placed_refusal shards error
 placed shards rooms (wrong_number wanted got) = WrongNumberOfRooms wanted got

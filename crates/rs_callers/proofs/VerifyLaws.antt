@@ -47,8 +47,8 @@ module _ (k r : ℕ) (originals recovery : List Shard) (kept received : Items) (
       by_test true few says = inl (says ∙ sym (ap (unless_few k (length kept) (length received)) few))
       by_test false few says = inl (by_result result says ∙ sym (ap (unless_few k (length kept) (length received)) few))
 
--- If each shard that is left belongs to a codeword, `verify` succeeds, or fails because too few shards are left or memory
--- is short.
+-- If each shard that is left belongs to a codeword, `verify` succeeds, or fails because too few shards are left or
+-- memory is short.
 pub codeword_passes : (k r : ℕ) (originals recovery : List Shard) (kept received : Items)
     (result : Result (Unit {0}) Error)
     → AreCoded k r originals recovery → AreLeft originals kept → AreLeft recovery received

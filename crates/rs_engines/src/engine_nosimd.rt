@@ -4,7 +4,6 @@
 //! word is the sum of the products of its four nibbles.
 ghost use Rattle.std.specs.Prelude.{◌≡◌, ℕ, ◌+◌, ◌*◌, ◌<◌, length, bit_xor};
 ghost use Rattle.rs_field.specs.words.Field.{product};
-ghost use Rattle.rs_field.specs.words.Tables.{times_factor};
 ghost use Rattle.rs_field.specs.rows.Rows.{chunk, symbol};
 ghost use Rattle.rs_field.specs.words.Products.{IsNibbles};
 

@@ -2,7 +2,8 @@
 -- error if no message agrees.
 use Rattle.std.proofs.Common.{◌≡◌, ℕ, ◌-◌, ◌/◌, ◌%◌, ◌<◌, List, Bool, true, false, cond, refl, sym, ap, ap₂, ◌∙◌}
 use Rattle.std.proofs.Common.{arith, inl, inr, subst, true≢false, zero, suc}
-use Rattle.std.specs.Prelude.{slice_index, Option, Some, None, is_some, not, ◌&&◌, ◌↔◌, [], Result, Ok, Err, MatchResult}
+use Rattle.std.specs.Prelude.{slice_index, Option, Some, None, is_some, not, ◌&&◌, ◌↔◌, [], Result, Ok, Err,
+  MatchResult}
 use Rattle.std.proofs.lemmas.Bool.{cases_lt, cases_eq, lt-ltb}
 use Rattle.rs_field.specs.declared.code.error.Error.{Error}
 use Rattle.rs_field.specs.declared.code.error.Error.TheVariants.{InconsistentShards}
@@ -35,7 +36,8 @@ use Rattle.rs_rate.specs.ObjectLaws.{all-up_to}
 use Rattle.rs_rate.specs.SetUp.{IsSetUp}
 use Rattle.rs_rate.specs.ShardRows.{word_in, shard_laid_out, shard_in_order}
 use Rattle.rs_rate.proofs.RowMaps.{marked-at, part-in, part-out}
-use Rattle.rs_rate.proofs.DecodedColumns.{IsDecoded, are_columns, given_count, given_some, given-marked, located_at, row_some}
+use Rattle.rs_rate.proofs.DecodedColumns.{IsDecoded, are_columns, given_count, given_some, given-marked, located_at,
+  row_some}
 use Rattle.rs_rate.proofs.DecodedColumns.{words_given, words_given-at, are_direct, given_sized}
 use Rattle.rs_rate.proofs.Erased.{erased-row}
 use Rattle.rs_rate.proofs.ShardRowsLemmas.{column-put}
@@ -282,7 +284,8 @@ no_shard (suc n) given i shard none inside is =
     let more = count_below-suc n given in
     elim (cases_eq i n) [
       | inl last ↦
-          let here = ap {B = ℕ} (λ o. cond (is_some o) 1 0) (ap given (sym last) ∙ is) in omega (arith, more, here, none)
+          let here = ap {B = ℕ} (λ o. cond (is_some o) 1 0) (ap given (sym last) ∙ is) in omega
+            (arith, more, here, none)
       | inr less ↦ no_shard n given i shard (omega (arith, more, none)) (omega arith) is
     ]
 

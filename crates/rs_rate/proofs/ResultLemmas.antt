@@ -105,7 +105,8 @@ pub length-restored : (old new : List Bool) (before after : Chunks) (size from n
     + count_below n (part (shards_by_row old before size) from n) ≡ n
 length-restored old new before after size from n marked =
     let counted = length-listed n (part (restored_by_row new after size) from n) in
-    let apart = count-apart n (part (restored_by_row new after size) from n) (part (shards_by_row old before size) from n)
+    let apart = count-apart n (part (restored_by_row new after size) from n)
+      (part (shards_by_row old before size) from n)
     (λ i inside.
     ap is_some (part-in (restored_by_row new after size) from n i inside)
     ∙ some-marked new (shard_in_order after size) (from + i) ∙ marked i inside

@@ -1,5 +1,6 @@
 -- The relation of the words in a decoder's rows to the words of the missing originals.
-use Rattle.std.specs.Prelude.{◌≡◌, ℕ, ◌+◌, ◌-◌, ◌*◌, ◌/◌, ◌%◌, ◌<◌, ◌≤◌, ◌↔◌, ◌⊎◌, not, if◌then◌else◌, Bool, true, false, List}
+use Rattle.std.specs.Prelude.{◌≡◌, ℕ, ◌+◌, ◌-◌, ◌*◌, ◌/◌, ◌%◌, ◌<◌, ◌≤◌, ◌↔◌, ◌⊎◌, not, if◌then◌else◌, Bool, true,
+  false, List}
 use Rattle.std.specs.Prelude.{slice_index}
 use Rattle.rs_field.specs.words.StepBounds.{transform_steps}
 use Rattle.rs_field.specs.words.Derivative.{IsDerivativeAdded}

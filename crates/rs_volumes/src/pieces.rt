@@ -47,5 +47,6 @@ pub trait BlockSink {
     fn put(&mut self, index: usize, start: usize, piece: &[u8]) -> io::Result<()>
         ensures here { OnOk result ((before : Shard) → written self.old index ≡ Some before
             → written self.new index ≡ Some (before ++ piece.now)) }
-        ensures others { OnOk result ((i : ℕ) → i ≢ index → written self.new i ≡ written self.old i) };
+        ensures others { OnOk result
+            ((i : ℕ) → i ≢ index → written self.new i ≡ written self.old i) };
 }

@@ -63,7 +63,8 @@ pub fn places_of(alloc: Global, description: &Description) -> Result<Vec<Place>,
     ensures exact { IfOk result (λ places. places.items
         ≡ set_places 0 description.now.block_bytes (files_of description.now.files.items)) }
     // The places cover each file exactly once, in order.
-    ensures cover { IfOk result (λ places. Cover (files_of description.now.files.items) places.items) }
+    ensures cover { IfOk result
+        (λ places. Cover (files_of description.now.files.items) places.items) }
 {
     let mut places = Vec::new(alloc);
     for (index, file) in description.files.as_slice().iter().enumerate() {

@@ -72,7 +72,8 @@ pub fn restore<S: BlockSource, W: BlockSink>(
     requires some { 0 < piece_bytes }
     requires chunks { piece_bytes % 64 ≡ 0 }
     // Each wanted block that was written has its digest.
-    ensures digests { OnOk result (AreRestored plan.now.wanted.items digests.now (W.written sink.old)
+    ensures digests { OnOk result
+        (AreRestored plan.now.wanted.items digests.now (W.written sink.old)
         (W.written sink.new)) }
     // If the blocks that are read are blocks of a set, the blocks that are written are the originals of this set.
     ensures originals { OnOk result ((originals recovery : List Shard)
@@ -261,7 +262,8 @@ fn put_one<W: BlockSink>(
         → AreInStep hashers.new.items before (W.written sink.new)) }
     ensures here { OnOk result ((before : Shard) → W.written sink.old index ≡ Some before
         → W.written sink.new index ≡ Some (before ++ piece.now)) }
-    ensures others { OnOk result ((i : ℕ) → i ≢ index → W.written sink.new i ≡ W.written sink.old i) }
+    ensures others { OnOk result
+        ((i : ℕ) → i ≢ index → W.written sink.new i ≡ W.written sink.old i) }
 {
     if index >= hashers.len() {
         return Err(CodingError::Missing(index));

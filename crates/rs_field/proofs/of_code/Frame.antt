@@ -21,9 +21,9 @@ zeros_end frame = min frame.zeros_to (row_count frame)
 unfoldable pub coefficient_count : Frame → ℕ
 coefficient_count frame = zeros_end frame - frame.originals_from
 
--- In a frame, k originals, r recovery shards and the zero points have different rows, at most 65536. The zero points come right
--- after the originals; recovery shards come after the zero points, or before the originals. The zero points end among
--- the rows, or they are all further points.
+-- In a frame, k originals, r recovery shards and the zero points have different rows, at most 65536. The zero points
+-- come right after the originals; recovery shards come after the zero points, or before the originals. The zero points
+-- end among the rows, or they are all further points.
 pub record IsFrame (frame : Frame) (k r : ℕ) : Type 0 where
   pub few : frame.exponent ≤ 16
   pub originals : original_row frame k ≤ row_count frame

@@ -1,5 +1,5 @@
--- If one original of a message changes, each word of a recovery shard changes by the change of the original's word times
--- a factor.
+-- If one original of a message changes, each word of a recovery shard changes by the change of the original's word
+-- times a factor.
 use Rattle.std.proofs.Common.{◌≡◌, ◌≢◌, ℕ, zero, suc, ◌+◌, ◌-◌, ◌/◌, ◌<◌, ◌≤◌, ◌⊎◌, Bool, true, false, cond, List, refl}
 use Rattle.std.proofs.Common.{sym, ap, ap₂, ◌∙◌, arith, inl, inr, bit_xor}
 use Rattle.std.specs.Prelude.{Option, Some, None, is_some, nat_lt}
@@ -55,7 +55,8 @@ all_of-some : (k i : ℕ) (shards : List Shard) (shard : Shard) → all_of k sha
 all_of-some k i shards shard is = elim (cases_lt i k) [
   | inl inside ↦ (
     inside,
-    (let same : ◌≡◌ {A = Option Shard} (Some (shard_at shards i)) (Some shard) = sym (all_of-in k i shards inside) ∙ is in cc same),
+    (let same : ◌≡◌ {A = Option Shard} (Some (shard_at shards i)) (Some shard) = sym (all_of-in k i shards inside) ∙ is
+      in cc same),
   )
   | inr past ↦ absurd (none-some shard (sym (all_of-past k i shards past) ∙ is))
 ]
@@ -64,7 +65,8 @@ count-all_of : (n k : ℕ) (shards : List Shard) → n ≤ k → count_below n (
 count-all_of zero k shards few = count_below-zero (all_of k shards)
 count-all_of (suc n) k shards few =
     count_below-suc n (all_of k shards)
-    ∙ ap₂ (λ m b. m + cond b 1 0) (count-all_of n k shards (omega arith)) (ap is_some (all_of-in k n shards (omega arith)))
+    ∙ ap₂ (λ m b. m + cond b 1 0) (count-all_of n k shards (omega arith))
+      (ap is_some (all_of-in k n shards (omega arith)))
     ∙ omega arith
 
 module _ (c : Configuration) (marks locator : ℕ → ℕ) (received : ℕ → Bool)

@@ -73,7 +73,7 @@ module _ (start end : ℕ) where
       }
 
 -- If the pieces in all strips are consistent, the shards are consistent.
-all-consistent : (s : DecoderState)
+pub all-consistent : (s : DecoderState)
     → supports s.configuration.rate s.configuration.original_count s.configuration.recovery_count ≡ true
     → s.configuration.shard_bytes % 2 ≡ 0
     → AreSized s.configuration.original_count s.configuration.shard_bytes s.originals

@@ -10,8 +10,8 @@ use Rattle.rs_field.specs.code.Code.{AreRecovery}
 abbrev pub ChangesOnly : ℕ → List Shard → List Shard → Type 0
 ChangesOnly index message changed = (i : ℕ) → i ≢ index → shard_at changed i ≡ shard_at message i
 
--- one logarithm for each recovery shard: if the original with this index changes, each word of recovery shard i changes by
--- the change of the word of the original times the generator to the power of logarithm i
+-- one logarithm for each recovery shard: if the original with this index changes, each word of recovery shard i changes
+-- by the change of the word of the original times the generator to the power of logarithm i
 pub record AreChangeFactors (rate : Rate) (k r index : ℕ) (factors : List ℕ) : Type 0 where
   pub count : length factors ≡ r
   pub small : (i : ℕ) → i < r → slice_index factors i < 65535

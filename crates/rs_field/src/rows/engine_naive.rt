@@ -1,7 +1,7 @@
 //! The plain engine: each product by the tables of powers and logarithms, symbol by symbol.
 ghost use Rattle.std.specs.Prelude.{◌≡◌, ℕ, ◌<◌, length, bit_xor};
 ghost use Rattle.rs_field.specs.words.Field.{product, power};
-ghost use Rattle.rs_field.specs.words.Tables.{IsExpLog, times_factor};
+ghost use Rattle.rs_field.specs.words.Tables.{IsExpLog};
 ghost use Rattle.rs_field.specs.rows.Rows.{chunk, symbol};
 
 use super::kernel::Kernel;

@@ -1,7 +1,7 @@
 //! The engine that a kernel makes.
-ghost use Rattle.std.specs.Prelude.{◌≡◌, ℕ, ◌^◌, ◌<◌, ◌≤◌, length, slice_index};
+ghost use Rattle.std.specs.Prelude.{◌≡◌, ℕ, true, ◌^◌, ◌<◌, ◌≤◌, length, slice_index};
 ghost use Rattle.rs_field.specs.words.StepBounds.{LocatorCounts, LocatorCountsBelow};
-ghost use Rattle.rs_field.specs.words.Field.{power};
+ghost use Rattle.rs_field.specs.words.Field.{power, log};
 ghost use Rattle.rs_field.specs.words.Locator.{IsLocatorBelow};
 
 use super::ShardsRefMut;
@@ -96,7 +96,12 @@ impl<K: Kernel> Engine for K {
         locating::locate(steps, erasures, log_walsh);
     }
 
-    fn logarithms(&self, logs: &mut [GfElement]) -> bool {
+    fn logarithms(&self, logs: &mut [GfElement]) -> bool
+        requires few { length logs.old ≤ 65536 }
+        ensures values { result ≡ true
+            → (z : ℕ) → 0 < z → z < length logs.old → slice_index logs.new z ≡ log z }
+        ensures always { result ≡ true }
+    {
         put_logarithms(logs, self.tables().skew);
         true
     }

@@ -204,7 +204,8 @@ fn find_words<E: Engine>(
     ensures marks { WantsMissing tally.configuration marks.old marks.new }
     ensures words { FindsWords tally.configuration (given_marks marks.old) locator.now tally.surplus
         (word rows.old) (word rows.new) result }
-    ensures counts { CountsUpTo (restore_steps tally.configuration tally.surplus) 0 0 steps.old steps.new }
+    ensures counts { CountsUpTo (restore_steps tally.configuration tally.surplus) 0 0 steps.old
+        steps.new }
 {
     if sum_rows(engine, steps, rows, marks, locator, tally) {
         marks.want_missing(tally.configuration);

@@ -87,8 +87,10 @@ pub(crate) fn sum_rows<E: Engine>(
     ensures kept { result ≡ false → rows.new ≡ rows.old }
     ensures exact { result ≡ true → tally.surplus ≡ 0 }
     ensures words { result ≡ true
-        → SumsWords tally.configuration (given_marks marks.now) locator.now (word rows.old) (word rows.new) }
-    ensures counts { CountsUpTo (if result then sum_steps tally.configuration tally.missing else 0) 0 0
+        → SumsWords tally.configuration (given_marks marks.now) locator.now (word rows.old)
+            (word rows.new) }
+    ensures counts { CountsUpTo (if result then sum_steps tally.configuration tally.missing else 0)
+        0 0
         steps.old steps.new }
     ensures cheaper { result ≡ true
         → 2 * (tally.missing * tally.configuration.original_count)
@@ -129,11 +131,13 @@ fn sum_missing<E: Engine>(
     requires located { length logarithms.now.locator.now ≡ rows_to_decode configuration }
     requires known { length logarithms.now.logs.now ≡ rows_to_decode configuration }
     ensures extent { SameExtent rows.old rows.new }
-    ensures words { SumsWords configuration given.now logarithms.now.locator.now (word rows.old) (word rows.new) }
+    ensures words { SumsWords configuration given.now logarithms.now.locator.now (word rows.old)
+        (word rows.new) }
     ensures counts { CountsUpTo
         (how_many configuration.original_count
         (λ i. not (is_marked given.now (original_row configuration.frame i)))
-        * (1 + how_many (rows_to_decode configuration) (is_marked given.now))) 0 0 steps.old steps.new }
+        * (1 + how_many (rows_to_decode configuration) (is_marked given.now))) 0 0 steps.old
+            steps.new }
 {
     for i in 0..configuration.original_count {
         let row = configuration.frame.original_row(i);
@@ -165,7 +169,8 @@ fn sum_if_missing<E: Engine>(
         (λ x. slice_index logarithms.now.locator.now x) (word rows.old k s) y }
     ensures others { SameRowsOutside y (y + 1) rows.old rows.new }
     ensures counts { CountsUpTo
-        (if not (is_marked given.now y) then 1 + how_many rows.old.shard_count (is_marked given.now) else 0)
+        (if not (is_marked given.now y) then 1 + how_many rows.old.shard_count (is_marked given.now)
+            else 0)
         0 0 steps.old steps.new }
 {
     if !given[y] {

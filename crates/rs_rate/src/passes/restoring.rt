@@ -42,9 +42,11 @@ pub(crate) fn restore_rows<E: Engine>(
     requires located { length locator.now ≡ rows_to_decode tally.configuration }
     ensures extent { SameExtent rows.old rows.new }
     ensures marks { WantsMissing tally.configuration marks.old marks.new }
-    ensures words { RestoresWords tally.configuration (given_marks marks.old) locator.now tally.surplus
+    ensures words { RestoresWords tally.configuration (given_marks marks.old) locator.now
+        tally.surplus
         (word rows.old) (word rows.new) result }
-    ensures counts { CountsUpTo (restore_steps tally.configuration tally.surplus) 0 0 steps.old steps.new }
+    ensures counts { CountsUpTo (restore_steps tally.configuration tally.surplus) 0 0 steps.old
+        steps.new }
 {
     let configuration = tally.configuration;
     let agrees = interpolate(engine, steps, rows, marks, locator, tally);
@@ -158,7 +160,8 @@ fn reveal_rows<E: Engine>(
     ensures extent { SameExtent rows.old rows.new }
     ensures revealed { (k s i : ℕ) → k < rows.old.shard_len_64 → s < 32
         → i < configuration.original_count
-        → let p = original_row configuration.frame i in is_marked (restored_marks marks.now) p ≡ true
+        → let p = original_row configuration.frame i in
+            is_marked (restored_marks marks.now) p ≡ true
         → word rows.new k s p
         ≡ product (word rows.old k s p) (power (65535 - slice_index locator.now p)) }
     ensures counts { CountsUpTo configuration.original_count 0 0 steps.old steps.new }

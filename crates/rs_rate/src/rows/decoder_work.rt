@@ -100,7 +100,8 @@ impl DecoderMemory {
         requires { IsConfigured configuration }
         ensures laid_out { IfOk result (IsLaidOut configuration) }
         ensures empty { IfOk result (λ m. (p : ℕ) → is_marked (given_marks m.marks) p ≡ false) }
-        ensures answer { UpToMemory (memory_outcome (decoder_chunks configuration)) (answer_of result) }
+        ensures answer { UpToMemory (memory_outcome (decoder_chunks configuration))
+            (answer_of result) }
     {
         let row_count = configuration.frame.row_count();
         let chunk_count = chunk_count(row_count, configuration.shard_bytes)?;
@@ -123,7 +124,8 @@ impl DecoderMemory {
         requires { IsConfigured configuration }
         ensures laid_out { IfOk result (IsLaidOut configuration) }
         ensures empty { IfOk result (λ m. (p : ℕ) → is_marked (given_marks m.marks) p ≡ false) }
-        ensures answer { UpToMemory (memory_outcome (decoder_chunks configuration)) (answer_of result) }
+        ensures answer { UpToMemory (memory_outcome (decoder_chunks configuration))
+            (answer_of result) }
         ensures grown { IfOk result (λ m. IfSome work (λ w. Grows (work_room w) (memory_room m))) }
         ensures roomy { IfSome work
             (λ w. HasRoom (work_room w) (rows_to_decode configuration) configuration.shard_bytes

@@ -155,7 +155,8 @@ impl Marks {
             → row < original_row configuration.frame configuration.original_count
             → result ≡ not (is_marked (given_marks self.now) row) }
         ensures others { (row < configuration.frame.originals_from)
-            ⊎ (original_row configuration.frame configuration.original_count ≤ row) → result ≡ false }
+            ⊎ (original_row configuration.frame configuration.original_count ≤ row)
+            → result ≡ false }
     {
         let end = configuration
             .frame

@@ -5,7 +5,8 @@ use Rattle.reed_solomon_simd.specs.declared.reconstruct_error.ReconstructError.{
 use Rattle.reed_solomon_simd.specs.Reconstructed.{OneReconstructs}
 use Rattle.reed_solomon_simd.specs.ReceivedState.{received_state}
 use Rattle.reed_solomon_simd.specs.Reconstructed.{wanted_outcome}
-use Rattle.reed_solomon_simd.proofs.ReconstructLemmas.{reconstructs-uncounted, reconstructs-refused, reconstructs-lacking}
+use Rattle.reed_solomon_simd.proofs.ReconstructLemmas.{reconstructs-uncounted, reconstructs-refused,
+  reconstructs-lacking}
 use Rattle.reed_solomon_simd.proofs.ReconstructLemmas.{reconstructs-few, reconstructs-unwanted, reconstructs-made}
 use Rattle.reed_solomon_simd.proofs.ReconstructLemmas.{was-checked}
 use Rattle.reed_solomon_simd.proofs.reconstructing.reconstruct.Goals as goal

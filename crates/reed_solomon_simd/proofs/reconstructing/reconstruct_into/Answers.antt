@@ -10,7 +10,8 @@ use Rattle.reed_solomon_simd.specs.Reconstructed.{of_rooms, rooms_outcome}
 use Rattle.reed_solomon_simd.specs.Rooms.{bytes_in}
 use Rattle.reed_solomon_simd.specs.ReceivedState.{received_state}
 use Rattle.reed_solomon_simd.specs.Reconstructed.{wanted_outcome}
-use Rattle.reed_solomon_simd.proofs.ReconstructLemmas.{reconstructs-uncounted, reconstructs-refused, reconstructs-lacking}
+use Rattle.reed_solomon_simd.proofs.ReconstructLemmas.{reconstructs-uncounted, reconstructs-refused,
+  reconstructs-lacking}
 use Rattle.reed_solomon_simd.proofs.ReconstructLemmas.{reconstructs-few, reconstructs-unwanted, reconstructs-made}
 use Rattle.reed_solomon_simd.proofs.ReconstructLemmas.{reconstructs-misfit, was-checked, zeros-number, zeros-sized}
 use Rattle.reed_solomon_simd.proofs.RebuiltStrips.{reconstructed-sized}
@@ -66,7 +67,8 @@ returns-in_err-check_wanted-clause-answer g c =
     let e = c.in_err-check_wanted.field-0.0 in (
       Err e,
       elim c.in_err-check_wanted.ensures.answer [
-        | inl same ↦ reconstructs-unwanted k r own other c.args.wanted.now fit s is c.in_ok-surplus.ensures.answer e same
+        | inl same ↦ reconstructs-unwanted k r own other c.args.wanted.now fit s is c.in_ok-surplus.ensures.answer e
+          same
         | inr lacks ↦ reconstructs-lacking k r own other c.args.wanted.now fit s is e lacks
       ],
       (search rules, refl),

@@ -5,8 +5,8 @@ use Rattle.reed_solomon_simd.specs.ReceivedState.{received_state}
 use Rattle.reed_solomon_simd.specs.WantedMarks.{AreMarked}
 use Rattle.reed_solomon_simd.proofs.wanted_shards.mark_all.Given as goal
 
--- The shards below the index were checked: they are marked, and they can be rebuilt. What is left is to check the others
--- after them.
+-- The shards below the index were checked: they are marked, and they can be rebuilt. What is left is to check the
+-- others after them.
 abbrev pub invariant-loop-index : goal.invariant-loop-index
 invariant-loop-index l =
     record {

@@ -22,7 +22,8 @@ returns-in-Err-clause-answer c =
     c.placed_fault.ensures in
     let given : bytes_of c.args.originals.now ++ bytes_of c.args.recovery.now
     ≡ shards_in (items_of c.args.originals.now) ++ shards_in (items_of c.args.recovery.now) =
-    ap₂ (λ (l m : List Shard). l ++ m) (sym (bytes-shards c.args.originals.now)) (sym (bytes-shards c.args.recovery.now))
+    ap₂ (λ (l m : List Shard). l ++ m) (sym (bytes-shards c.args.originals.now))
+      (sym (bytes-shards c.args.recovery.now))
     in
     decodes-told k r own other old new c.restore_arrays-answer.result (Err c.placed_fault.result)
     (ap Err (is ∙ ap₂ (λ (l rooms : List Shard). placed l rooms c.in-Err.error) given same)

@@ -5,7 +5,8 @@ use Rattle.rs_volumes.proofs.HeadLemmas.{head_found, head_again}
 use Rattle.rs_volumes.proofs.head.read_head.Goals as goal
 
 pub returns-clause-found : goal.returns-clause-found
-returns-clause-found c = head_found c.args.bytes.now c.head_from.result (λ i. omega (arith, c.fits-bytes i)) c.head_from.ensures
+returns-clause-found c = head_found c.args.bytes.now c.head_from.result (λ i. omega (arith, c.fits-bytes i))
+  c.head_from.ensures
 
 pub returns-clause-only : goal.returns-clause-only
 returns-clause-only c = λ h fits e.

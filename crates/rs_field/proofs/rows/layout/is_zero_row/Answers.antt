@@ -61,5 +61,6 @@ returns-else-are_zero_bytes c =
       λ yes. absurd (true≢false (sym yes ∙ c.if-are_zero_bytes.false)),
       λ zeros.
           c.are_zero_bytes.ensures.1
-          (zero-part bytes 0 _ (first-fits size c.args.row.now bytes is) (zero-first size c.args.row.now bytes is zeros)),
+          (zero-part bytes 0 _ (first-fits size c.args.row.now bytes is)
+            (zero-first size c.args.row.now bytes is zeros)),
     )

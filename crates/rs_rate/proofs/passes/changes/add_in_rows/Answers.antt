@@ -1,4 +1,5 @@
-use Rattle.std.proofs.Common.{◌≡◌, ℕ, ◌+◌, ◌*◌, ◌/◌, ◌%◌, ◌<◌, ◌≤◌, length, bit_xor, sym, ap, ap₂, ◌∙◌, arith, ne_eqb, cond}
+use Rattle.std.proofs.Common.{◌≡◌, ℕ, ◌+◌, ◌*◌, ◌/◌, ◌%◌, ◌<◌, ◌≤◌, length, bit_xor, sym, ap, ap₂, ◌∙◌, arith, ne_eqb,
+  cond}
 use Rattle.rs_field.specs.words.Field.{product, power}
 use Rattle.rs_field.specs.words.Tables.{times_factor}
 use Rattle.rs_field.specs.code.Column.{Shard, column}

@@ -70,7 +70,8 @@ returns-clause-answer g c = λ rate is.
           (omega (arith, none, tally.missing, tally.surplus)) old.given)) missing.missing)
       | inr some ↦
           let made = rw tally.configuration at (c.restore-agrees.ensures.restored (omega arith)) in
-          decode_answers rate own given marks made.0 c.tally-tally.result.surplus before after c.restore-agrees.result is
+          decode_answers rate own given marks made.0 c.tally-tally.result.surplus before after c.restore-agrees.result
+            is
           (record {
             configured = old.configured;
             originals = old.originals_given;
