@@ -1,8 +1,9 @@
 -- How many numbers have a property, and how many rows of a decoder hold given shards.
 use Rattle.std.proofs.Common.{◌≡◌, ℕ, zero, suc, ◌+◌, ◌-◌, ◌<◌, ◌≤◌, ◌⊎◌, Bool, true, false, cond, refl, sym, ap, ap₂,
   ◌∙◌}
-use Rattle.std.proofs.Common.{arith, inl, inr, add-zero, add-suc}
-use Rattle.std.specs.Prelude.{is_some, not}
+use Rattle.std.proofs.Common.{arith, inl, inr, add-zero, add-suc, true≢false}
+use Rattle.std.specs.Prelude.{is_some, not, ◌&&◌}
+use Rattle.std.proofs.lemmas.Bool.{cases_lt}
 use Rattle.rs_field.specs.code.Frame.{original_row, recovery_row, row_count}
 use Rattle.rs_field.specs.code.Given.{Shards, count_below}
 use Rattle.rs_field.proofs.of_code.Frame.{IsFrame}
@@ -18,6 +19,14 @@ how_many-zero has = refl
 pub how_many-suc : (n : ℕ) (has : ℕ → Bool) → how_many (suc n) has ≡ how_many n has + cond (has n) 1 0
 unfolding how_many
 how_many-suc n has = refl
+
+-- One more number has the property, or has it not.
+pub how_many-one : (n : ℕ) (has : ℕ → Bool) → has n ≡ true → how_many (suc n) has ≡ how_many n has + 1
+how_many-one n has is = how_many-suc n has ∙ ap (λ b. how_many n has + cond b 1 0) is
+
+pub how_many-none : (n : ℕ) (has : ℕ → Bool) → has n ≡ false → how_many (suc n) has ≡ how_many n has
+how_many-none n has is =
+    how_many-suc n has ∙ ap (λ b. how_many n has + cond b 1 0) is ∙ add-zero (how_many n has)
 
 pub how_many-same : (n : ℕ) (has too : ℕ → Bool) → ((i : ℕ) → i < n → has i ≡ too i) → how_many n has ≡ how_many n too
 how_many-same zero has too same = how_many-zero has ∙ sym (how_many-zero too)
@@ -45,6 +54,36 @@ how_many-not (suc n) has =
 -- At most all numbers have the property.
 pub how_many-most : (n : ℕ) (has : ℕ → Bool) → how_many n has ≤ n
 how_many-most n has = omega (arith, how_many-not n has)
+
+-- At least as many of the numbers below a greater number have the property.
+pub how_many-rises : (m n : ℕ) (has : ℕ → Bool) → m ≤ n → how_many m has ≤ how_many n has
+how_many-rises m zero has le = let same : m ≡ 0 = omega arith in rw same (omega arith)
+how_many-rises m (suc n) has le = elim (cases_lt m (suc n)) [
+  | inl below ↦ omega (arith, how_many-rises m n has (omega arith), how_many-suc n has)
+  | inr past ↦ let same : m ≡ suc n = omega arith in rw same (omega arith)
+]
+
+-- The numbers with one property but not with a narrower one, and those with the narrower one, are those with the property.
+pub how_many-rest : (n : ℕ) (has narrow : ℕ → Bool) → ((i : ℕ) → narrow i ≡ true → has i ≡ true)
+    → how_many n (λ i. has i && not (narrow i)) + how_many n narrow ≡ how_many n has
+how_many-rest zero has narrow part =
+    omega (arith, how_many-zero (λ i. has i && not (narrow i)), how_many-zero narrow, how_many-zero has)
+how_many-rest (suc n) has narrow part =
+    omega (
+      arith,
+      how_many-rest n has narrow part,
+      how_many-suc n (λ i. has i && not (narrow i)),
+      how_many-suc n narrow,
+      how_many-suc n has,
+      one_of_both (has n) (narrow n) (part n),
+    )
+  where
+    one_of_both : (wide narrow : Bool) → (narrow ≡ true → wide ≡ true)
+        → cond (wide && not narrow) 1 0 + cond narrow 1 0 ≡ cond wide 1 0
+    one_of_both true true part = refl
+    one_of_both true false part = refl
+    one_of_both false true part = absurd (true≢false (sym (part refl)))
+    one_of_both false false part = refl
 
 -- The number of entries that have a shard.
 count_below-many : (n : ℕ) (given : Shards) → how_many n (λ i. is_some (given i)) ≡ count_below n given

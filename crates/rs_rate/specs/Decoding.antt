@@ -1,6 +1,6 @@
 -- The relation of the words in a decoder's rows to the words of the missing originals.
-use Rattle.std.specs.Prelude.{◌≡◌, ℕ, ◌+◌, ◌-◌, ◌*◌, ◌/◌, ◌%◌, ◌<◌, ◌≤◌, ◌↔◌, ◌⊎◌, not, if◌then◌else◌, Bool, true,
-  false, List}
+use Rattle.std.specs.Prelude.{◌≡◌, ℕ, ◌+◌, ◌-◌, ◌*◌, ◌/◌, ◌%◌, ◌<◌, ◌≤◌, ◌↔◌, ◌⊎◌, ◌&&◌, not, if◌then◌else◌, Bool,
+  true, false, List}
 use Rattle.std.specs.Prelude.{slice_index}
 use Rattle.rs_field.specs.words.StepBounds.{transform_steps}
 use Rattle.rs_field.specs.words.Derivative.{IsDerivativeAdded}
@@ -57,9 +57,10 @@ restore_steps c surplus =
     let w = rows_to_decode c in
     w + (transform_steps w + (surplus + (2 * transform_steps w + c.original_count)))
 
--- the row steps of direct sums: for each missing original, one to clear its row and one for each original
-abbrev pub sum_steps : Configuration → ℕ → ℕ
-sum_steps c missing = missing * (1 + c.original_count)
+-- the row steps of direct sums: for each missing original and each surplus shard, one to clear or to check its row, and
+-- one for each original
+abbrev pub sum_steps : Configuration → ℕ → ℕ → ℕ
+sum_steps c missing surplus = (missing + surplus) * (1 + c.original_count)
 
 -- the located word of row p: if its shard is given, the word times the generator to the power of the locator at p, else
 -- zero
@@ -94,26 +95,45 @@ pub record RestoresWords (c : Configuration) (marks : List Bool) (locator : List
   pub revealed : agrees ≡ true → (k s : ℕ) → k < row_len c.shard_bytes → s < 32
       → AreRevealed c marks locator (coefficients k s) (new k s)
 
--- each missing original has in its row the direct sums over the rows of the given shards
-abbrev pub SumsWords : Configuration → List Bool → List ℕ → (ℕ → ℕ → ℕ → ℕ) → (ℕ → ℕ → ℕ → ℕ) → Type 0
-SumsWords c marks locator old new =
-    (k s i : ℕ) → k < row_len c.shard_bytes → s < 32 → i < c.original_count → let p = original_row c.frame i in
-    is_marked marks p ≡ false
-    → new k s p ≡ direct_sum (rows_to_decode c) (is_marked marks) (λ x. slice_index locator x) (old k s) p
+-- the base of direct sums: as many rows of given shards as there are originals
+pub record IsBaseOf (c : Configuration) (marks base : List Bool) : Type 0 where
+  pub given : (p : ℕ) → is_marked base p ≡ true → is_marked marks p ≡ true
+  pub counted : how_many (rows_to_decode c) (is_marked base) ≡ c.original_count
 
--- the missing words are restored from a polynomial, or they are direct sums, if there are no surplus shards
-abbrev pub FindsWords : Configuration → List Bool → List ℕ → ℕ → (ℕ → ℕ → ℕ → ℕ) → (ℕ → ℕ → ℕ → ℕ) → Bool → Type 0
-FindsWords c marks locator surplus old new agrees =
-    RestoresWords c marks locator surplus old new agrees
-    ⊎ ((surplus ≡ 0) × (agrees ≡ true) × SumsWords c marks locator old new)
+-- whether row p is given and not in the base
+abbrev pub is_outside : List Bool → List Bool → ℕ → Bool
+is_outside marks base p = is_marked marks p && not (is_marked base p)
+
+-- each given row outside the base has the direct sums over the rows of the base as its words
+abbrev pub AreEqualToSums : Configuration → List Bool → List Bool → List ℕ → (ℕ → ℕ → ℕ → ℕ) → Type 0
+AreEqualToSums c marks base locator words =
+    (p j : ℕ) → p < rows_to_decode c → is_outside marks base p ≡ true → j < c.shard_bytes / 2
+    → words (j / 32) (j % 32) p
+    ≡ direct_sum (rows_to_decode c) (is_marked base) (λ x. slice_index locator x) (words (j / 32) (j % 32)) p
+
+-- `agrees` says whether the given rows outside the base are equal to their direct sums, and if they are, each missing
+-- original has its direct sums in its row
+pub record SumsWords (c : Configuration) (marks base : List Bool) (locator : List ℕ)
+    (old new : ℕ → ℕ → ℕ → ℕ) (agrees : Bool) : Type 0 where
+  pub checked : AreEqualToSums c marks base locator old ↔ (agrees ≡ true)
+  pub summed : agrees ≡ true → (k s i : ℕ) → k < row_len c.shard_bytes → s < 32 → i < c.original_count
+      → let p = original_row c.frame i in
+      is_marked marks p ≡ false
+      → new k s p ≡ direct_sum (rows_to_decode c) (is_marked base) (λ x. slice_index locator x) (old k s) p
+
+-- the missing words are restored from a polynomial through all given words, or they are direct sums over a base
+abbrev pub FindsWords : Configuration → List Bool → ℕ → (ℕ → ℕ → ℕ → ℕ) → (ℕ → ℕ → ℕ → ℕ) → Bool → Type 0
+FindsWords c marks surplus old new agrees =
+    ((locator : List ℕ) × IsLocatorOf c.frame marks locator × RestoresWords c marks locator surplus old new agrees)
+    ⊎ ((base : List Bool) × (locator : List ℕ) × IsBaseOf c marks base × IsLocatorOf c.frame base locator
+    × SumsWords c marks base locator old new agrees)
 
 -- the words of the missing originals are found in the chunks of the rows, and the rows of the missing originals hold
 -- shards with these words
-pub record RestoresShards (c : Configuration) (marks : List Bool) (locator : List ℕ) (surplus : ℕ) (old new : Chunks)
+pub record RestoresShards (c : Configuration) (marks : List Bool) (surplus : ℕ) (old new : Chunks)
     (agrees : Bool) : Type 0 where
   pub words : ℕ → ℕ → ℕ → ℕ
-  pub found : FindsWords c marks locator surplus
-      (word_in old (row_len c.shard_bytes)) words agrees
+  pub found : FindsWords c marks surplus (word_in old (row_len c.shard_bytes)) words agrees
   pub shards : agrees ≡ true → (i j : ℕ) → i < c.original_count
       → j < c.shard_bytes / 2 → is_marked marks (original_row c.frame i) ≡ false
       → column j (shard_in_order new c.shard_bytes (original_row c.frame i))

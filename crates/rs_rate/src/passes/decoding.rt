@@ -1,7 +1,7 @@
 //! The decoding of a round, for every rate: the locator of the erased rows, the rows over the chunks, the tails, and
 //! the round's end.
 ghost use Rattle.std.specs.Prelude.{◌≡◌, ℕ, ◌+◌, ◌-◌, ◌*◌, ◌/◌, ◌%◌, ◌^◌, ◌<◌, ◌≤◌, ◌⊎◌, ◌&&◌, if◌then◌else◌};
-ghost use Rattle.std.specs.Prelude.{true, List, length, slice_index, IfOk, MatchResult};
+ghost use Rattle.std.specs.Prelude.{true, List, length, slice_index, IfNone, IfOk, IfSome, MatchResult};
 ghost use Rattle.rs_field.specs.words.StepBounds.{CountsUpTo, LocatorCounts, transform_steps};
 ghost use Rattle.rs_field.specs.code.Bounds.{DecodeCounts};
 ghost use Rattle.rs_field.specs.code.Counts.{Rate};
@@ -17,7 +17,7 @@ ghost use Rattle.rs_rate.specs.Marks.{erasure, given_marks, restored_marks, mark
 ghost use Rattle.rs_rate.specs.SetUp.{IsSetUp};
 ghost use Rattle.rs_rate.specs.ShardRows.{chunk_count, shard_laid_out, shard_in_order};
 
-use crate::passes::direct::sum_rows;
+use crate::passes::direct::{Logarithms, MOST_ROWS, are_sums_cheaper, mark_base, sum_rows};
 use crate::passes::restoring::restore_rows;
 use crate::rows::decoder_work::{DecoderMemory, DecoderRows};
 use crate::rows::marks::Marks;
@@ -89,29 +89,17 @@ fn restore<E: Engine>(
     ensures room { memory_room memory.new ≡ memory_room memory.old }
     ensures nothing { tally.missing ≡ 0 → tally.surplus ≡ 0 → result ≡ true }
     ensures restored { 0 < tally.missing + tally.surplus
-        → (locator : List ℕ)
-        × IsLocatorOf tally.configuration.frame (given_marks memory.old.marks) locator
-        × RestoresShards tally.configuration
-        (given_marks memory.old.marks) locator tally.surplus memory.old.chunks.items
-        memory.new.chunks.items result }
+        → RestoresShards tally.configuration (given_marks memory.old.marks) tally.surplus
+        memory.old.chunks.items memory.new.chunks.items result }
     ensures counts { DecodeCounts (rows_to_decode tally.configuration) steps.old steps.new }
 {
-    let configuration = tally.configuration;
     if tally.missing == 0 && tally.surplus == 0 {
-        memory.marks.want_missing(configuration);
+        memory.marks.want_missing(tally.configuration);
         return true;
     }
-    let entries = memory.entries.as_mut_slice();
-    make_locator(
-        engine,
-        steps,
-        entries,
-        memory.marks.given(),
-        configuration.frame,
-    );
     let chunks = memory.chunks.as_mut_slice();
-    let locator = memory.entries.as_slice();
-    restore_chunks(engine, steps, chunks, &mut memory.marks, locator, tally)
+    let entries = memory.entries.as_mut_slice();
+    restore_chunks(engine, steps, chunks, &mut memory.marks, entries, tally)
 }
 
 // Computes the locator of the erased rows, at all rows.
@@ -154,31 +142,30 @@ fn erased_at(given: &[bool], frame: Frame, row: usize) -> GfElement
     if is_zero || given[row] { 0 } else { 1 }
 }
 
-// Restores the missing originals over all chunks if some message agrees, and moves their tails.
+// Restores the missing originals over all chunks if some message agrees, and moves their tails. `entries` is memory for the
+// locator.
 #[tactic(auto, unfolding(crate::specs::ShardRows::chunk_count))]
 fn restore_chunks<E: Engine>(
     engine: &E,
     steps: &mut Steps,
     chunks: &mut [[u8; 64]],
     marks: &mut Marks,
-    locator: &[GfElement],
+    entries: &mut [GfElement],
     tally: Tally,
 ) -> bool
     requires whole { chunk_count
         (rows_to_decode tally.configuration) tally.configuration.shard_bytes ≤ length chunks.old }
     requires facts { CanBeRestored tally marks.old }
-    requires located { length locator.now ≡ rows_to_decode tally.configuration }
-    requires words { (x : ℕ) → slice_index locator.now x < 65536 }
+    requires entries { length entries.old ≡ rows_to_decode tally.configuration }
     ensures marks { WantsMissing tally.configuration marks.old marks.new }
     ensures shards { RestoresShards tally.configuration
-        (given_marks marks.old) locator.now tally.surplus chunks.old chunks.new result }
-    ensures counts { let w = rows_to_decode tally.configuration in
-        CountsUpTo (3 * transform_steps w + 4 * w) 0 0 steps.old steps.new }
+        (given_marks marks.old) tally.surplus chunks.old chunks.new result }
+    ensures counts { DecodeCounts (rows_to_decode tally.configuration) steps.old steps.new }
 {
     let configuration = tally.configuration;
     let len = row_len(configuration.shard_bytes);
     let mut rows = ShardsRefMut::new(configuration.frame.row_count(), len, chunks);
-    let agrees = find_words(engine, steps, &mut rows, marks, locator, tally);
+    let agrees = find_words(engine, steps, &mut rows, marks, entries, tally);
     if agrees {
         move_restored_tails(steps, chunks, marks, configuration);
     }
@@ -186,32 +173,74 @@ fn restore_chunks<E: Engine>(
 }
 
 // Restores the words of the missing originals if some message agrees with all given shards, and returns whether one does.
-// Few missing originals are direct sums, others are values of a polynomial. Afterwards the marks are those of restored
-// originals.
+// Afterwards the marks are those of restored originals.
 fn find_words<E: Engine>(
     engine: &E,
     steps: &mut Steps,
     rows: &mut ShardsRefMut<'_>,
     marks: &mut Marks,
-    locator: &[GfElement],
+    entries: &mut [GfElement],
     tally: Tally,
 ) -> bool
     requires rows { AreRowsOf tally.configuration rows.old }
     requires facts { CanBeRestored tally marks.old }
-    requires located { length locator.now ≡ rows_to_decode tally.configuration }
-    requires words { (x : ℕ) → slice_index locator.now x < 65536 }
+    requires entries { length entries.old ≡ rows_to_decode tally.configuration }
     ensures extent { SameExtent rows.old rows.new }
     ensures marks { WantsMissing tally.configuration marks.old marks.new }
-    ensures words { FindsWords tally.configuration (given_marks marks.old) locator.now tally.surplus
+    ensures words { FindsWords tally.configuration (given_marks marks.old) tally.surplus
         (word rows.old) (word rows.new) result }
-    ensures counts { CountsUpTo (restore_steps tally.configuration tally.surplus) 0 0 steps.old
-        steps.new }
+    ensures counts { CountsUpTo (restore_steps tally.configuration tally.surplus) 1048576 65536
+        steps.old steps.new }
 {
-    if sum_rows(engine, steps, rows, marks, locator, tally) {
-        marks.want_missing(tally.configuration);
-        return true;
+    if let Some(agrees) = find_by_sums(engine, steps, rows, marks, entries, tally) {
+        return agrees;
     }
-    restore_rows(engine, steps, rows, marks, locator, tally)
+    let frame = tally.configuration.frame;
+    make_locator(engine, steps, entries, marks.given(), frame);
+    restore_rows(engine, steps, rows, marks, entries, tally)
+}
+
+// Restores the words of the missing originals by direct sums over k given shards, if the other given shards agree with these.
+// Returns whether they do. Afterwards the marks are those of restored originals. Returns `None` if transforms cost less or the
+// engine has no logarithms; then nothing has changed.
+fn find_by_sums<E: Engine>(
+    engine: &E,
+    steps: &mut Steps,
+    rows: &mut ShardsRefMut<'_>,
+    marks: &mut Marks,
+    entries: &mut [GfElement],
+    tally: Tally,
+) -> Option<bool>
+    requires rows { AreRowsOf tally.configuration rows.old }
+    requires facts { CanBeRestored tally marks.old }
+    requires entries { length entries.old ≡ rows_to_decode tally.configuration }
+    ensures none { IfNone result ((rows.new ≡ rows.old) × (marks.new ≡ marks.old)
+        × (steps.new ≡ steps.old) × (entries.new ≡ entries.old)) }
+    ensures extent { SameExtent rows.old rows.new }
+    ensures marks { IfSome result (λ _. WantsMissing tally.configuration marks.old marks.new) }
+    ensures words { IfSome result (λ agrees. FindsWords tally.configuration (given_marks marks.old)
+        tally.surplus (word rows.old) (word rows.new) agrees) }
+    ensures counts { IfSome result (λ _. CountsUpTo
+        (restore_steps tally.configuration tally.surplus) 1048576 65536 steps.old steps.new) }
+{
+    if !are_sums_cheaper(tally) {
+        return None;
+    }
+    let configuration = tally.configuration;
+    let row_count = configuration.frame.row_count();
+    let mut logs = [0; MOST_ROWS];
+    let logs = &mut logs[..row_count];
+    if !engine.logarithms(logs) {
+        return None;
+    }
+    let mut base = [false; MOST_ROWS];
+    let base = &mut base[..row_count];
+    mark_base(base, marks.given(), configuration.original_count);
+    make_locator(engine, steps, entries, base, configuration.frame);
+    let logarithms = Logarithms { locator: entries, logs };
+    let agrees = sum_rows(engine, steps, rows, marks.given(), base, &logarithms, configuration);
+    marks.want_missing(configuration);
+    Some(agrees)
 }
 
 // Moves the tails of the restored originals, and counts one row step for each of them.

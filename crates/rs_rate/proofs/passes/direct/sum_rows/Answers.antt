@@ -1,32 +1,52 @@
-use Rattle.std.proofs.Common.{rules, ◌≡◌, ◌<◌, ℕ, ◌%◌, ◌^◌, ◌≤◌, ap, ◌∙◌, arith, pow_mono}
-use Rattle.std.proofs.Math.Nat.{mod-eq_of_lt}
-use Rattle.rs_field.specs.words.Field.{log}
-use Rattle.rs_field.proofs.of_words.Power.{log_lt}
-use Rattle.std.specs.Prelude.{not}
+use Rattle.std.proofs.Common.{◌≡◌, ℕ, ◌+◌, ◌/◌, ◌%◌, ◌<◌, true, sym, ap, ◌∙◌, arith, subst, true≢false}
+use Rattle.std.specs.Prelude.{slice_index, ◌↔◌}
 use Rattle.rs_field.specs.code.Frame.{original_row}
 use Rattle.rs_field.specs.rows.MarkedRows.{is_marked}
+use Rattle.rs_field.specs.rows.Rows.{symbol}
+use Rattle.rs_field.specs.rows.View.{word}
+use Rattle.rs_field.specs.words.DirectSum.{direct_sum}
+use Rattle.rs_field.proofs.of_words.DirectSum.{direct_sum-same}
 use Rattle.rs_rate.specs.Configured.{rows_to_decode}
-use Rattle.rs_rate.specs.Marks.{given_marks}
-use Rattle.rs_rate.proofs.HowMany.{how_many-most}
+use Rattle.rs_rate.specs.Decoding.{is_outside}
 use Rattle.rs_rate.proofs.passes.direct.sum_rows.Goals as goal
 
-pub are_sums_cheaper-requires-clause-few : goal.are_sums_cheaper-requires-clause-few
-are_sums_cheaper-requires-clause-few g c =
-    let facts = c.requires.facts in
-    let own = c.args.tally.configuration in
-    let rows : rows_to_decode c.args.tally.configuration ≤ 2 ^ 16 = pow_mono facts.configured.few in
-    omega (
-      arith,
-      rows,
-      facts.configured.own_rows,
-      facts.missing,
-      how_many-most own.original_count
-          (λ i. not (is_marked (given_marks c.args.marks.now) (original_row own.frame i))),
-    )
+-- The test of all rows, in the number of rows of a configuration.
+all_rows : (n w size : ℕ) (equal : ℕ → ℕ → ℕ → Type 0) (outside : ℕ → Type 0) (agrees : Type 0) → n ≡ w
+    → ((p j : ℕ) → p < n → outside p → j < size / 2 → equal n p j) ↔ agrees
+    → ((p j : ℕ) → p < w → outside p → j < size / 2 → equal w p j) ↔ agrees
+all_rows n w size equal outside agrees same both =
+    subst (λ (m : ℕ). ((p j : ℕ) → p < m → outside p → j < size / 2 → equal m p j) ↔ agrees) same both
 
--- A logarithm is below 65535.
-log_mod : (l z : ℕ) → 0 < z → z < 65536 → l ≡ log z → l % 65535 ≡ log z
-log_mod l z some small is = ap (λ n. n % 65535) is ∙ mod-eq_of_lt (log_lt z some small)
+pub returns-then-agrees-clause-words : goal.returns-then-agrees-clause-words
+returns-then-agrees-clause-words g c =
+    let own = c.args.configuration in
+    let old = c.args.rows.now in
+    let mid = c.are_equal_to_sums-agrees.new.rows in
+    let base = is_marked c.args.base.now in
+    let locator : ℕ → ℕ = λ x. slice_index c.args.logarithms.now.locator.now x in
+    let tested = c.are_equal_to_sums-agrees.ensures in
+    record {
+      checked = all_rows old.shard_count (rows_to_decode own) own.shard_bytes
+          (λ n p j. word old (j / 32) (j % 32) p ≡ direct_sum n base locator (word old (j / 32) (j % 32)) p)
+          (λ p. is_outside c.args.given.now c.args.base.now p ≡ true) (c.are_equal_to_sums-agrees.result ≡ true)
+          c.requires.rows.count tested.equal;
+      summed = λ _ k s i hk hs hi none.
+          c.sum_missing.ensures.words k s i (omega (arith, hk, tested.extent.len_64, c.requires.rows.len)) hs hi none
+          ∙ direct_sum-same (rows_to_decode own) base locator (word mid k s) (word old k s)
+          (original_row own.frame i)
+          (λ x hx is. ap (λ z. symbol z s) (tested.kept k x (omega (arith, hk, c.requires.rows.len)) is));
+    }
 
-pub invariant_of-logarithms-clause-known : goal.invariant_of-logarithms-clause-known
-invariant_of-logarithms-clause-known g c = search (rules, log_mod)
+pub returns-else-agrees-clause-words : goal.returns-else-agrees-clause-words
+returns-else-agrees-clause-words g c =
+    let own = c.args.configuration in
+    let old = c.args.rows.now in
+    let base = is_marked c.args.base.now in
+    let locator : ℕ → ℕ = λ x. slice_index c.args.logarithms.now.locator.now x in
+    record {
+      checked = all_rows old.shard_count (rows_to_decode own) own.shard_bytes
+          (λ n p j. word old (j / 32) (j % 32) p ≡ direct_sum n base locator (word old (j / 32) (j % 32)) p)
+          (λ p. is_outside c.args.given.now c.args.base.now p ≡ true) (c.are_equal_to_sums-agrees.result ≡ true)
+          c.requires.rows.count c.are_equal_to_sums-agrees.ensures.equal;
+      summed = λ agreed. absurd (true≢false (sym agreed ∙ c.if-agrees.false));
+    }

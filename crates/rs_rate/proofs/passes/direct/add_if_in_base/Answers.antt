@@ -1,6 +1,6 @@
 use Rattle.std.proofs.Common.{ℕ, ◌<◌, bit_xor, subst, sym, ◌∙◌, arith}
 use Rattle.std.specs.Int.Bits.{xor_lt}
-use Rattle.rs_rate.proofs.passes.direct.add_if_given.Goals as goal
+use Rattle.rs_rate.proofs.passes.direct.add_if_in_base.Goals as goal
 
 pub factor-requires-clause-within : goal.factor-requires-clause-within
 factor-requires-clause-within g c =
