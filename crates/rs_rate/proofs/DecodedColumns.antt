@@ -35,19 +35,26 @@ use Rattle.rs_rate.proofs.Erased.{erased-given, are_erased}
 use Rattle.rs_field.proofs.of_code.Frame.{zeros_end}
 
 -- What a decode does to the rows of a configuration with k + surplus given shards.
-pub record IsDecoded (c : Configuration) (marks new : List Bool) (locator : List ℕ) (surplus : ℕ)
-    (before after : Chunks) (agrees : Bool) : Type 0 where
+pub record IsDecoded (c : Configuration) (marks new : List Bool) (surplus : ℕ) (before after : Chunks)
+    (agrees : Bool) : Type 0 where
   pub configured : IsConfigured c
   pub originals : ℕ
   pub recovery : ℕ
   pub given : HoldGiven c originals recovery (shards_by_row marks before c.shard_bytes)
   pub counted : originals + recovery ≡ c.original_count + surplus
-  pub is_locator : IsLocatorOf c.frame marks locator
-  pub restores : RestoresShards c marks locator surplus before after agrees
+  pub restores : RestoresShards c marks surplus before after agrees
   pub marked : (i : ℕ) → i < c.original_count
       → is_marked new (original_row c.frame i) ≡ not (is_marked marks (original_row c.frame i))
   pub sized : (i : ℕ) → i < c.original_count
       → IsShard c.shard_bytes (shard_in_order after c.shard_bytes (original_row c.frame i))
+
+-- The marked rows hold given shards, and the locator is that of the other rows.
+pub record HasLocator (c : Configuration) (marks : List Bool) (locator : List ℕ) (before : Chunks) : Type 0 where
+  pub configured : IsConfigured c
+  pub is_locator : IsLocatorOf c.frame marks locator
+  pub originals : ℕ
+  pub recovery : ℕ
+  pub given : HoldGiven c originals recovery (shards_by_row marks before c.shard_bytes)
 
 -- The word of column j at point x: the word of the shard that is given there, or zero.
 unfoldable pub words_given : List Bool → Chunks → ℕ → ℕ → ℕ → ℕ
@@ -140,9 +147,8 @@ module _ (marks : List Bool) (chunks : Chunks) (size : ℕ) where
             located_word-at marks locator (word_in chunks (row_len size) (j / 32) (j % 32)) x false is,
           )
 
-module _ (rate : Rate) (k r size surplus : ℕ) (marks new : List Bool) (locator : List ℕ) (before after : Chunks)
-    (agrees : Bool)
-    (d : IsDecoded (rate_configuration rate k r size) marks new locator surplus before after agrees) where
+module _ (rate : Rate) (k r size : ℕ) (marks : List Bool) (locator : List ℕ) (before : Chunks)
+    (d : HasLocator (rate_configuration rate k r size) marks locator before) where
   -- The powers of a locator's entries are the powers of the locator's sums.
   pub located_at : (x : ℕ) → x < row_count (frame_of rate k r)
       → power (slice_index locator x)
@@ -188,15 +194,16 @@ module _ (rate : Rate) (k r size surplus : ℕ) (marks new : List Bool) (locator
       (given-marked marks before size frame.recovery_from r)
 
   -- The columns of the rows that were decoded, with the coefficients of the polynomial through the located words.
-  pub are_columns : (restored : RestoresWords (rate_configuration rate k r size) marks locator surplus
-      (word_in before (row_len size)) d.restores.words agrees)
+  pub are_columns : (surplus : ℕ) (words : ℕ → ℕ → ℕ → ℕ) (agrees : Bool)
+      (restored : RestoresWords (rate_configuration rate k r size) marks locator surplus
+      (word_in before (row_len size)) words agrees)
       → AreColumns (configuration rate k r size)
       (originals_in (rate_configuration rate k r size) (shards_by_row marks before size))
       (recovery_in (rate_configuration rate k r size) (shards_by_row marks before size))
       (erasure (frame_of rate k r) marks) (words_given marks before size)
       (λ j. located_word marks locator (word_in before (row_len size) (j / 32) (j % 32)))
       (λ j. restored.coefficients (j / 32) (j % 32))
-  are_columns restored =
+  are_columns surplus words agrees restored =
       let frame = frame_of rate k r in
       let found = restored.found in
       let places = places-known (rate_configuration rate k r size) d.configured in
@@ -246,7 +253,22 @@ module _ (rate : Rate) (k r size surplus : ℕ) (marks new : List Bool) (locator
         };
   }
 
-  -- The number of given shards.
-  pub given_count : count_below k (originals_in (rate_configuration rate k r size) (shards_by_row marks before size))
-      + count_below r (recovery_in (rate_configuration rate k r size) (shards_by_row marks before size)) ≡ k + surplus
-  given_count = omega (arith, d.given.originals_counted, d.given.recovery_counted, d.counted)
+-- The number of given shards.
+pub given_count : (rate : Rate) (k r size surplus : ℕ) (marks new : List Bool) (before after : Chunks) (agrees : Bool)
+    → IsDecoded (rate_configuration rate k r size) marks new surplus before after agrees
+    → count_below k (originals_in (rate_configuration rate k r size) (shards_by_row marks before size))
+    + count_below r (recovery_in (rate_configuration rate k r size) (shards_by_row marks before size)) ≡ k + surplus
+given_count rate k r size surplus marks new before after agrees d =
+    omega (arith, d.given.originals_counted, d.given.recovery_counted, d.counted)
+
+-- The marks of all given shards, with their locator.
+pub all_given : (c : Configuration) (marks new : List Bool) (surplus : ℕ) (before after : Chunks) (agrees : Bool)
+    (locator : List ℕ) → IsDecoded c marks new surplus before after agrees → IsLocatorOf c.frame marks locator
+    → HasLocator c marks locator before
+all_given c marks new surplus before after agrees locator d is_locator = record {
+  configured = d.configured;
+  is_locator = is_locator;
+  originals = d.originals;
+  recovery = d.recovery;
+  given = d.given;
+}

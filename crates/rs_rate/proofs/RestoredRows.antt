@@ -15,26 +15,26 @@ use Rattle.rs_rate.specs.Decoding.{FindsWords}
 use Rattle.rs_rate.specs.ShardRows.{word_in, row_chunk, shard_laid_out, shard_in_order}
 
 -- Words that are equal to the found words at the same rows are found.
-finds_alike : (c : Configuration) (marks : List Bool) (locator : List ℕ) (surplus : ℕ)
+finds_alike : (c : Configuration) (marks : List Bool) (surplus : ℕ)
     (old new old_too new_too : ℕ → ℕ → ℕ → ℕ) (agrees : Bool)
     → ((k s i : ℕ) → old k s i ≡ old_too k s i) → ((k s i : ℕ) → new k s i ≡ new_too k s i)
-    → FindsWords c marks locator surplus old new agrees
-    → FindsWords c marks locator surplus old_too new_too agrees
-finds_alike c marks locator surplus old new old_too new_too agrees same_old same_new r =
-    subst (λ (f : ℕ → ℕ → ℕ → ℕ). FindsWords c marks locator surplus f new_too agrees)
+    → FindsWords c marks surplus old new agrees
+    → FindsWords c marks surplus old_too new_too agrees
+finds_alike c marks surplus old new old_too new_too agrees same_old same_new r =
+    subst (λ (f : ℕ → ℕ → ℕ → ℕ). FindsWords c marks surplus f new_too agrees)
     (fun_ext (λ k. fun_ext (λ s. fun_ext (λ i. same_old k s i))))
-    (subst (λ (f : ℕ → ℕ → ℕ → ℕ). FindsWords c marks locator surplus old f agrees)
+    (subst (λ (f : ℕ → ℕ → ℕ → ℕ). FindsWords c marks surplus old f agrees)
     (fun_ext (λ k. fun_ext (λ s. fun_ext (λ i. same_new k s i)))) r)
 
 -- The words that were found in the rows are found in the chunks of the rows.
-pub found_read : (c : Configuration) (marks : List Bool) (locator : List ℕ) (surplus n : ℕ)
+pub found_read : (c : Configuration) (marks : List Bool) (surplus n : ℕ)
     (before after : Chunks) (old new : ShardsRefMut) (agrees : Bool)
     → old.shard_len_64 ≡ n → new.shard_len_64 ≡ n → old.chunks.now ≡ before → new.chunks.now ≡ after
-    → FindsWords c marks locator surplus (word old) (word new) agrees
-    → FindsWords c marks locator surplus (word_in before n) (word_in after n) agrees
+    → FindsWords c marks surplus (word old) (word new) agrees
+    → FindsWords c marks surplus (word_in before n) (word_in after n) agrees
 unfolding cell
-found_read c marks locator surplus n before after old new agrees len len_too was is restored =
-    finds_alike c marks locator surplus (word old) (word new) (word_in before n) (word_in after n) agrees
+found_read c marks surplus n before after old new agrees len len_too was is restored =
+    finds_alike c marks surplus (word old) (word new) (word_in before n) (word_in after n) agrees
     (λ k s i. ap₂ (λ (m : ℕ) (xs : Chunks). symbol (chunk xs (i * m + k)) s) len was)
     (λ k s i. ap₂ (λ (m : ℕ) (xs : Chunks). symbol (chunk xs (i * m + k)) s) len_too is) restored
 

@@ -1,7 +1,11 @@
-use Rattle.std.proofs.Common.{◌≡◌, ℕ, ◌+◌, rules, ap, sym, ◌∙◌, true≢false}
+use Rattle.std.proofs.Common.{◌≡◌, ℕ, ◌+◌, rules, ap, sym, ◌∙◌, true≢false, arith}
 use Rattle.std.specs.Prelude.{not}
 use Rattle.rs_field.specs.code.Column.{column}
 use Rattle.rs_field.specs.rows.Layout.{row_len}
+use Rattle.rs_field.proofs.of_code.DecodeSteps.{counts_decode}
+use Rattle.rs_field.proofs.of_words.Counting.{counts_none}
+use Rattle.rs_rate.specs.Configured.{rows_to_decode}
+use Rattle.rs_rate.specs.Decoding.{restore_steps}
 use Rattle.rs_rate.specs.Marks.{given_marks}
 use Rattle.rs_rate.specs.ShardRows.{word_in}
 use Rattle.rs_rate.proofs.RestoredRows.{found_read}
@@ -18,7 +22,7 @@ returns-then-agrees-clause-shards g c =
     record {
       words = word_in mid n;
       found = found_read s
-          (given_marks c.args.marks.now) c.args.locator.now c.args.tally.surplus n c.args.chunks.now mid
+          (given_marks c.args.marks.now) c.args.tally.surplus n c.args.chunks.now mid
           c.new-rows.result c.find_words-agrees.new.rows c.find_words-agrees.result
           len (c.find_words-agrees.ensures.extent.len_64 ∙ len) c.new-rows.ensures.chunks
           (search rules) c.find_words-agrees.ensures.words;
@@ -37,9 +41,25 @@ returns-else-agrees-clause-shards g c =
     record {
       words = word_in mid n;
       found = found_read s
-          (given_marks c.args.marks.now) c.args.locator.now c.args.tally.surplus n c.args.chunks.now mid
+          (given_marks c.args.marks.now) c.args.tally.surplus n c.args.chunks.now mid
           c.new-rows.result c.find_words-agrees.new.rows c.find_words-agrees.result
           len (c.find_words-agrees.ensures.extent.len_64 ∙ len) c.new-rows.ensures.chunks
           (search rules) c.find_words-agrees.ensures.words;
       shards = λ agreed. absurd (true≢false (sym agreed ∙ c.if-agrees.false));
     }
+
+pub returns-then-agrees-clause-counts : goal.returns-then-agrees-clause-counts
+returns-then-agrees-clause-counts g c =
+    let s = c.args.tally.configuration in
+    counts_decode (rows_to_decode s) (restore_steps s c.args.tally.surplus) s.original_count c.args.steps.now
+    c.find_words-agrees.new.steps c.move_restored_tails.new.steps
+    (omega (arith, c.requires.facts.few_surplus, c.requires.facts.configured.own_rows))
+    c.find_words-agrees.ensures.counts c.move_restored_tails.ensures.counts
+
+pub returns-else-agrees-clause-counts : goal.returns-else-agrees-clause-counts
+returns-else-agrees-clause-counts g c =
+    let s = c.args.tally.configuration in
+    counts_decode (rows_to_decode s) (restore_steps s c.args.tally.surplus) 0 c.args.steps.now
+    c.find_words-agrees.new.steps c.find_words-agrees.new.steps
+    (omega (arith, c.requires.facts.few_surplus, c.requires.facts.configured.own_rows))
+    c.find_words-agrees.ensures.counts (counts_none 0 0 0 c.find_words-agrees.new.steps)
