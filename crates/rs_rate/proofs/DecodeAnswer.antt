@@ -30,20 +30,17 @@ use Rattle.rs_field.proofs.of_code.Agreement.{consistent_exactly, restored_colum
 use Rattle.rs_rate.specs.declared.values.configuration.Configuration.{Configuration}
 use Rattle.rs_rate.specs.Configured.{configuration_at, rate_configuration}
 use Rattle.rs_rate.specs.DecoderView.{state_over}
-use Rattle.rs_rate.specs.Decoding.{RestoresWords, SumsWords, located_word}
+use Rattle.rs_rate.specs.Decoding.{IsBaseOf, IsLocatorOf, RestoresWords, SumsWords, located_word}
 use Rattle.rs_rate.specs.Marks.{erasure, shards_by_row, restored_by_row, originals_in, recovery_in, HoldGiven}
 use Rattle.rs_rate.specs.ObjectLaws.{all-up_to}
 use Rattle.rs_rate.specs.SetUp.{IsSetUp}
 use Rattle.rs_rate.specs.ShardRows.{word_in, shard_laid_out, shard_in_order}
 use Rattle.rs_rate.proofs.RowMaps.{marked-at, part-in, part-out}
-use Rattle.rs_rate.proofs.DecodedColumns.{IsDecoded, are_columns, given_count, given_some, given-marked, located_at,
-  row_some}
-use Rattle.rs_rate.proofs.DecodedColumns.{words_given, words_given-at, are_direct, given_sized}
+use Rattle.rs_rate.proofs.BaseAnswer.{consistent_by_rows, summed_original}
+use Rattle.rs_rate.proofs.DecodedColumns.{IsDecoded, all_given, are_columns, given_count, given_some, given-marked}
+use Rattle.rs_rate.proofs.DecodedColumns.{located_at, row_some, words_given, given_sized}
 use Rattle.rs_rate.proofs.Erased.{erased-row}
-use Rattle.rs_rate.proofs.ShardRowsLemmas.{column-put}
-use Rattle.rs_field.proofs.of_words.DirectSum.{direct_sum-same}
 use Rattle.rs_field.proofs.of_code.AnyShards.{any_consistent}
-use Rattle.rs_field.proofs.of_code.DirectColumn.{direct_original}
 use Rattle.rs_rate.proofs.ConfiguredLemmas.{places-known}
 use Rattle.rs_rate.proofs.StateLemmas.{valid-supported}
 
@@ -104,15 +101,16 @@ AnswersOver rate c marks new before after false =
     (o r : ℕ) → HoldGiven c o r (shards_by_row marks before c.shard_bytes)
     → NoneAgrees (state_before rate c marks before) (InconsistentShards o r)
 
-module _ (rate : Rate) (k r size surplus : ℕ) (marks new : List Bool) (locator : List ℕ) (before after : Chunks)
+module _ (rate : Rate) (k r size surplus : ℕ) (marks new : List Bool) (before after : Chunks)
     (supported : supports rate k r ≡ true) where
-  module _ (agrees : Bool)
-      (d : IsDecoded (rate_configuration rate k r size) marks new locator surplus before after agrees) where
+  module _ (agrees : Bool) (d : IsDecoded (rate_configuration rate k r size) marks new surplus before after agrees)
+      (locator : List ℕ) (is_locator : IsLocatorOf (frame_of rate k r) marks locator)
+      (restored : RestoresWords (rate_configuration rate k r size) marks locator surplus
+      (word_in before (row_len size)) d.restores.words agrees) where
     -- Some message agrees exactly if the last rows are zero.
-    agrees_exactly : RestoresWords (rate_configuration rate k r size) marks locator surplus
-        (word_in before (row_len size)) d.restores.words agrees
-        → IsConsistent (state_before rate (rate_configuration rate k r size) marks before) ↔ (agrees ≡ true)
-    agrees_exactly restored =
+    agrees_exactly : IsConsistent (state_before rate (rate_configuration rate k r size) marks before)
+        ↔ (agrees ≡ true)
+    agrees_exactly =
         let checked = restored.found.checked in
         let exact = consistent_exactly (configuration rate k r size)
         (originals_in (rate_configuration rate k r size) (shards_by_row marks before size))
@@ -120,27 +118,26 @@ module _ (rate : Rate) (k r size surplus : ℕ) (marks new : List Bool) (locator
         (erasure (frame_of rate k r) marks) (words_given marks before size)
         (λ j. located_word marks locator (word_in before (row_len size) (j / 32) (j % 32)))
         (λ j. restored.coefficients (j / 32) (j % 32))
-        (are_columns rate k r size surplus marks new locator before after agrees d restored) surplus
-        (given_count rate k r size surplus marks new locator before after agrees d) in (
+        (are_columns rate k r size marks locator before
+        (all_given (rate_configuration rate k r size) marks new surplus before after agrees locator d is_locator)
+        surplus d.restores.words agrees restored) surplus
+        (given_count rate k r size surplus marks new before after agrees d) in (
           λ some. checked.0 (λ i j past below inside. exact.0 some j i inside past below),
           λ yes. exact.1 (λ j i inside past below. checked.1 yes i j past below inside),
         )
 
-  module _ (d : IsDecoded (rate_configuration rate k r size) marks new locator surplus before after true)
-      (restored : RestoresWords (rate_configuration rate k r size) marks locator surplus
-      (word_in before (row_len size)) d.restores.words true) where
     -- The restored row of a missing original holds the shard of a message that agrees.
-    restored_shard : (message : List Shard) (i : ℕ)
+    restored_shard : agrees ≡ true → (message : List Shard) (i : ℕ)
         → IsAgreeing (state_before rate (rate_configuration rate k r size) marks before) message → i < k
         → is_marked marks (original_row (frame_of rate k r) i) ≡ false
         → shard_in_order after size (original_row (frame_of rate k r) i) ≡ shard_at message i
-    restored_shard message i a inside none =
+    restored_shard agreed message i a inside none =
         shard_from_columns size (shard_in_order after size (original_row (frame_of rate k r) i)) (shard_at message i)
         (d.sized i inside)
         (a.shards.each i [] (subst (λ (n : ℕ). i < n) (sym a.shards.length_is) inside)) d.configured.even
-        (λ j hj. d.restores.shards refl i j inside hj none
+        (λ j hj. d.restores.shards agreed i j inside hj none
         ∙ in_column j hj
-        (restored.revealed refl (j / 32) (j % 32) (omega (arith, hj)) (omega arith) i inside none))
+        (restored.revealed agreed (j / 32) (j % 32) (omega (arith, hj)) (omega arith) i inside none))
       where
         below : original_row (frame_of rate k r) i < row_count (frame_of rate k r)
         below = let most = d.configured.own_rows in omega (arith, most, inside)
@@ -159,122 +156,108 @@ module _ (rate : Rate) (k r size surplus : ℕ) (marks new : List Bool) (locator
             (power (65535 - slice_index locator (original_row (frame_of rate k r) i))))
             → d.restores.words (j / 32) (j % 32) (original_row (frame_of rate k r) i) ≡ column j (shard_at message i)
         in_column j hj (added, step, is) =
-            let count = given_count rate k r size surplus marks new locator before after true d in
-            let word = d.is_locator.are_words (original_row (frame_of rate k r) i) in
+            let count = given_count rate k r size surplus marks new before after agrees d in
+            let word = is_locator.are_words (original_row (frame_of rate k r) i) in
+            let located = all_given (rate_configuration rate k r size) marks new surplus before after agrees locator d
+            is_locator in
             is ∙ restored_column (configuration rate k r size)
             (originals_in (rate_configuration rate k r size) (shards_by_row marks before size))
             (recovery_in (rate_configuration rate k r size) (shards_by_row marks before size))
             (erasure (frame_of rate k r) marks) (words_given marks before size)
             (λ n. located_word marks locator (word_in before (row_len size) (n / 32) (n % 32)))
             (λ n. restored.coefficients (n / 32) (n % 32))
-            (are_columns rate k r size surplus marks new locator before after true d restored) message added i j
+            (are_columns rate k r size marks locator before located surplus d.restores.words agrees restored) message added i j
             (slice_index locator (original_row (frame_of rate k r) i)) (omega (arith, count)) a inside hj step entry
             (omega (arith, word))
-            (located_at rate k r size surplus marks new locator before after true d
-            (original_row (frame_of rate k r) i) below)
+            (located_at rate k r size marks locator before located (original_row (frame_of rate k r) i) below)
 
-  -- The result of a decode by a polynomial, by whether its last coefficients are zero.
-  by_polynomial : (agrees : Bool)
-      (d : IsDecoded (rate_configuration rate k r size) marks new locator surplus before after agrees)
-      → RestoresWords (rate_configuration rate k r size) marks locator surplus
-      (word_in before (row_len size)) d.restores.words agrees
+  -- The result of a decode whose answer says whether some message agrees, and which then restores its missing originals.
+  by_agreement : (agrees : Bool) (d : IsDecoded (rate_configuration rate k r size) marks new surplus before after agrees)
+      → (IsConsistent (state_before rate (rate_configuration rate k r size) marks before) ↔ (agrees ≡ true))
+      → (agrees ≡ true → (message : List Shard) (i : ℕ)
+      → IsAgreeing (state_before rate (rate_configuration rate k r size) marks before) message → i < k
+      → is_marked marks (original_row (frame_of rate k r) i) ≡ false
+      → shard_in_order after size (original_row (frame_of rate k r) i) ≡ shard_at message i)
       → AnswersOver rate (rate_configuration rate k r size) marks new before after agrees
-  by_polynomial true d restored =
+  by_agreement true d exactly restores =
       let c = rate_configuration rate k r size in
       let s = state_before rate c marks before in
-      let count = given_count rate k r size surplus marks new locator before after true d in
-      let (message, agreeing) = (agrees_exactly true d restored).1 refl in
+      let count = given_count rate k r size surplus marks new before after true d in
+      let (message, agreeing) = exactly.1 refl in
       record {
         message = message;
         agrees = agreeing;
         only = λ other also. one_message (configuration rate k r size) s.originals s.recovery other message
             supported d.configured.even (omega (arith, count)) also agreeing;
         missing = restores_missing rate (rate_configuration rate k r size) marks new before after message d.marked
-            (λ i inside none. restored_shard d restored message i agreeing inside none);
+            (λ i inside none. restores refl message i agreeing inside none);
       }
-  by_polynomial false d restored = λ own other given.
-      let count = given_count rate k r size surplus marks new locator before after false d in
+  by_agreement false d exactly restores = λ own other given.
+      let s = state_before rate (rate_configuration rate k r size) marks before in
+      let frame = frame_of rate k r in
+      let count = given_count rate k r size surplus marks new before after false d in
       let some : 0 < surplus = elim (cases_eq surplus 0) [
-        | inl none ↦ absurd (true≢false
-            (sym (restored.found.checked.0
-            (λ i j past below inside. absurd (let no : ⊥ = omega (arith, none, past, below) in no)))))
+        | inl exact ↦ absurd (true≢false (sym (exactly.0
+            (any_consistent (configuration rate k r size) s.originals s.recovery supported d.configured.even
+            (given_sized marks before size d.given.sized frame.originals_from k)
+            (given_sized marks before size d.given.sized frame.recovery_from r) (omega (arith, count, exact))))))
         | inr some ↦ omega arith
       ] in
       record {
         refusal = ap₂ InconsistentShards given.originals_counted given.recovery_counted;
         surplus = omega (arith, count, some);
-        none = λ consistent. true≢false (sym ((agrees_exactly false d restored).0 consistent));
+        none = λ consistent. true≢false (sym (exactly.0 consistent));
       }
 
-  module _ (d : IsDecoded (rate_configuration rate k r size) marks new locator surplus before after true)
-      (exact : surplus ≡ 0)
-      (sums : SumsWords (rate_configuration rate k r size) marks locator (word_in before (row_len size))
-      d.restores.words) where
+  module _ (agrees : Bool) (d : IsDecoded (rate_configuration rate k r size) marks new surplus before after agrees)
+      (base : List Bool) (locator : List ℕ) (is_base : IsBaseOf (rate_configuration rate k r size) marks base)
+      (is_locator : IsLocatorOf (frame_of rate k r) base locator)
+      (sums : SumsWords (rate_configuration rate k r size) marks base locator (word_in before (row_len size))
+      d.restores.words agrees) where
+    -- Some message agrees exactly if the given rows outside the base are equal to their sums.
+    sums_exactly : IsConsistent (state_before rate (rate_configuration rate k r size) marks before) ↔ (agrees ≡ true)
+    sums_exactly =
+        let both = consistent_by_rows rate k r size d.originals d.recovery marks base locator before supported
+        d.configured d.given is_base is_locator in (
+          λ some. sums.checked.0 (both.0 some),
+          λ yes. both.1 (sums.checked.1 yes),
+        )
+
     -- The row of a missing original holds the shard of a message that agrees.
-    summed_shard : (message : List Shard) (i : ℕ)
+    summed_shard : agrees ≡ true → (message : List Shard) (i : ℕ)
         → IsAgreeing (state_before rate (rate_configuration rate k r size) marks before) message → i < k
         → is_marked marks (original_row (frame_of rate k r) i) ≡ false
         → shard_in_order after size (original_row (frame_of rate k r) i) ≡ shard_at message i
-    summed_shard message i a inside none =
+    summed_shard agreed message i a inside none =
         let frame = frame_of rate k r in
-        let count = given_count rate k r size surplus marks new locator before after true d in
         shard_from_columns size (shard_in_order after size (original_row (frame_of rate k r) i)) (shard_at message i)
         (d.sized i inside)
         (a.shards.each i [] (subst (λ (n : ℕ). i < n) (sym a.shards.length_is) inside)) d.configured.even
-        (λ j hj. d.restores.shards refl i j inside hj none
-        ∙ sums (j / 32) (j % 32) i (omega (arith, hj)) (omega arith) inside none
-        ∙ direct_sum-same (row_count frame) (is_marked marks) (λ x. slice_index locator x)
-        (word_in before (row_len size) (j / 32) (j % 32)) (words_given marks before size j) (original_row frame i)
-        (λ x hx is. sym (words_given-at marks before size j x true is
-        ∙ column-put before size x j d.configured.even hj))
-        ∙ direct_original (configuration rate k r size)
-        (originals_in (rate_configuration rate k r size) (shards_by_row marks before size))
-        (recovery_in (rate_configuration rate k r size) (shards_by_row marks before size))
-        (erasure frame marks) (λ x. slice_index locator x) (is_marked marks) (words_given marks before size)
-        message i j (are_direct rate k r size surplus marks new locator before after true d) (omega (arith, count))
-        a hj inside
-        (given-marked marks before size frame.originals_from k i inside ∙ none))
-
-    -- The result of a decode by direct sums: as many shards as originals are given, so some message agrees with them.
-    by_sums : AnswersOver rate (rate_configuration rate k r size) marks new before after true
-    by_sums =
-        let c = rate_configuration rate k r size in
-        let s = state_before rate c marks before in
-        let frame = frame_of rate k r in
-        let count = given_count rate k r size surplus marks new locator before after true d in
-        let (message, agreeing) = any_consistent (configuration rate k r size) s.originals s.recovery supported
-        d.configured.even (given_sized marks before size d.given.sized frame.originals_from k)
-        (given_sized marks before size d.given.sized frame.recovery_from r) (omega (arith, count, exact)) in
-        record {
-          message = message;
-          agrees = agreeing;
-          only = λ other also. one_message (configuration rate k r size) s.originals s.recovery other message
-              supported d.configured.even (omega (arith, count)) also agreeing;
-          missing = restores_missing rate c marks new before after message d.marked
-              (λ i inside none. summed_shard message i agreeing inside none);
-        }
+        (λ j hj. d.restores.shards agreed i j inside hj none
+        ∙ sums.summed agreed (j / 32) (j % 32) i (omega (arith, hj)) (omega arith) inside none
+        ∙ summed_original rate k r size d.originals d.recovery marks base locator before supported d.configured d.given
+        is_base is_locator message i j a inside hj none)
 
   -- The result of a decode, by the way in which the missing words were found.
-  by_answer : (agrees : Bool)
-      → IsDecoded (rate_configuration rate k r size) marks new locator surplus before after agrees
+  by_answer : (agrees : Bool) → IsDecoded (rate_configuration rate k r size) marks new surplus before after agrees
       → AnswersOver rate (rate_configuration rate k r size) marks new before after agrees
-  by_answer true d = elim d.restores.found [
-    | inl restored ↦ by_polynomial true d restored
-    | inr summed ↦ by_sums d summed.0 summed.2
-  ]
-  by_answer false d = elim d.restores.found [
-    | inl restored ↦ by_polynomial false d restored
-    | inr summed ↦ absurd (true≢false (sym summed.1))
+  by_answer agrees d = elim d.restores.found [
+    | inl restored ↦
+        by_agreement agrees d (agrees_exactly agrees d restored.0 restored.1 restored.2)
+        (restored_shard agrees d restored.0 restored.1 restored.2)
+    | inr summed ↦
+        by_agreement agrees d (sums_exactly agrees d summed.0 summed.1 summed.2 summed.3 summed.4)
+        (summed_shard agrees d summed.0 summed.1 summed.2 summed.3 summed.4)
   ]
 
 -- The result of a decode follows from what it did to the rows.
-pub decode_answers : (rate : Rate) (c : Configuration) (marks new : List Bool) (locator : List ℕ) (surplus : ℕ)
+pub decode_answers : (rate : Rate) (c : Configuration) (marks new : List Bool) (surplus : ℕ)
     (before after : Chunks) (agrees : Bool) → IsSetUp rate c
-    → IsDecoded c marks new locator surplus before after agrees → AnswersOver rate c marks new before after agrees
-decode_answers rate c marks new locator surplus before after agrees is =
-    subst (λ (x : Configuration). IsDecoded x marks new locator surplus before after agrees
+    → IsDecoded c marks new surplus before after agrees → AnswersOver rate c marks new before after agrees
+decode_answers rate c marks new surplus before after agrees is =
+    subst (λ (x : Configuration). IsDecoded x marks new surplus before after agrees
     → AnswersOver rate x marks new before after agrees) (sym is.chosen)
-    (by_answer rate c.original_count c.recovery_count c.shard_bytes surplus marks new locator before after
+    (by_answer rate c.original_count c.recovery_count c.shard_bytes surplus marks new before after
     (valid-supported (configuration_at rate c) is.valid) agrees)
 
 -- If no shard is counted, no index has a shard.

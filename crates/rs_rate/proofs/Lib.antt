@@ -11,6 +11,7 @@ pub mod AddedShards
 pub mod ResultLemmas
 pub mod Erased
 pub mod DecodedColumns
+pub mod BaseAnswer
 pub mod DecoderRows
 pub mod FrameLemmas
 pub mod RateLemmas

@@ -70,7 +70,7 @@ returns-clause-answer g c = λ rate is.
           (omega (arith, none, tally.missing, tally.surplus)) old.given)) missing.missing)
       | inr some ↦
           let made = rw tally.configuration at (c.restore-agrees.ensures.restored (omega arith)) in
-          decode_answers rate own given marks made.0 c.tally-tally.result.surplus before after c.restore-agrees.result
+          decode_answers rate own given marks c.tally-tally.result.surplus before after c.restore-agrees.result
             is
           (record {
             configured = old.configured;
@@ -78,8 +78,7 @@ returns-clause-answer g c = λ rate is.
             recovery = old.recovery_given;
             given = old.given;
             counted = tally.surplus;
-            is_locator = made.1;
-            restores = made.2;
+            restores = made;
             marked = missing.missing;
             sized = λ i inside.
                 rw (tally.configuration, c.as_slice.ensures.value) at (c.in_order_are_bytes.ensures
