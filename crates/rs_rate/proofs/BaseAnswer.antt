@@ -1,8 +1,8 @@
 -- What direct sums over a base say of the given shards: whether some message agrees with all of them, and what its missing
 -- originals are.
 use Rattle.std.proofs.Common.{◌≡◌, ℕ, ◌+◌, ◌-◌, ◌/◌, ◌%◌, ◌<◌, ◌≤◌, ◌⊎◌, List, Bool, true, false, sym, ap, ap₂, ◌∙◌}
-use Rattle.std.proofs.Common.{arith, inl, inr, subst, refl, true≢false}
-use Rattle.std.specs.Prelude.{slice_index, Some, None, is_some, not, ◌&&◌, ◌↔◌}
+use Rattle.std.proofs.Common.{arith, inl, inr, refl, true≢false}
+use Rattle.std.specs.Prelude.{slice_index, Some, is_some, not, ◌&&◌, ◌↔◌}
 use Rattle.std.proofs.lemmas.Bool.{cases_lt, cases_Bool}
 use Rattle.rs_field.specs.code.Column.{Shard, shard_at, column}
 use Rattle.rs_field.specs.code.Counts.{Rate, supports}
@@ -18,7 +18,7 @@ use Rattle.rs_field.proofs.of_words.DirectSum.{direct_sum-same}
 use Rattle.rs_field.proofs.of_code.BaseShards.{AreSums, consistent_by_sums, agrees_with_part}
 use Rattle.rs_field.proofs.of_code.DirectColumn.{direct_original}
 use Rattle.rs_rate.specs.Configured.{IsConfigured, rate_configuration}
-use Rattle.rs_rate.specs.Decoding.{is_outside, IsBaseOf, IsLocatorOf, AreEqualToSums}
+use Rattle.rs_rate.specs.Decoding.{IsBaseOf, IsLocatorOf, AreEqualToSums}
 use Rattle.rs_rate.specs.Marks.{erasure, shards_by_row, part, originals_in, recovery_in, HoldGiven}
 use Rattle.rs_rate.specs.ShardRows.{word_in, shard_laid_out}
 use Rattle.rs_rate.proofs.ConfiguredLemmas.{places-known}

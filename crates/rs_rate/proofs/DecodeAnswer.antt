@@ -2,8 +2,8 @@
 -- error if no message agrees.
 use Rattle.std.proofs.Common.{◌≡◌, ℕ, ◌-◌, ◌/◌, ◌%◌, ◌<◌, List, Bool, true, false, cond, refl, sym, ap, ap₂, ◌∙◌}
 use Rattle.std.proofs.Common.{arith, inl, inr, subst, true≢false, zero, suc}
-use Rattle.std.specs.Prelude.{slice_index, Option, Some, None, is_some, not, ◌&&◌, ◌↔◌, [], Result, Ok, Err,
-  MatchResult}
+use Rattle.std.specs.Prelude.{slice_index, Option, Some, None, is_some, not, ◌&&◌, ◌↔◌, [], Result, Ok, Err}
+use Rattle.std.specs.Prelude.{MatchResult}
 use Rattle.std.proofs.lemmas.Bool.{cases_lt, cases_eq, lt-ltb}
 use Rattle.rs_field.specs.declared.code.error.Error.{Error}
 use Rattle.rs_field.specs.declared.code.error.Error.TheVariants.{InconsistentShards}
@@ -268,7 +268,7 @@ no_shard (suc n) given i shard none inside is =
     elim (cases_eq i n) [
       | inl last ↦
           let here = ap {B = ℕ} (λ o. cond (is_some o) 1 0) (ap given (sym last) ∙ is) in omega
-            (arith, more, here, none)
+          (arith, more, here, none)
       | inr less ↦ no_shard n given i shard (omega (arith, more, none)) (omega arith) is
     ]
 

@@ -63,7 +63,7 @@ module _ (received : ℕ → Bool) (locator : ℕ → ℕ) (y : ℕ) where
         fits = fits_kept mid new step.extent before.fits;
         extent = extent_then old mid new before.extent step.extent;
         others = outside_both y (y + 1) y (y + 1) y (y + 1) old mid new before.extent before.others step.others
-          (omega arith)
+            (omega arith)
             (omega arith) (omega arith) (omega arith);
         added = λ k s hk hs.
             step.added k s (omega (arith, hk, before.extent.len_64)) hs
@@ -81,7 +81,7 @@ module _ (received : ℕ → Bool) (locator : ℕ → ℕ) (y : ℕ) where
             ∙ xor_assoc (word old k s y) (sum_below x (λ z. direct_term received locator (word old k s) y z))
             (direct_term received locator (word old k s) y x)
             ∙ ap (bit_xor (word old k s y))
-              (sym (sum_below-suc x (λ z. direct_term received locator (word old k s) y z)));
+            (sym (sum_below-suc x (λ z. direct_term received locator (word old k s) y z)));
         counts = subst (λ (n : ℕ). CountsUpTo n 0 0 a c) (sym (how_many-suc x received))
             (counts_then (how_many x received) (cond (received x) 1 0) a b c before.counts step.counts);
       })

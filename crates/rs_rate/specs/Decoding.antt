@@ -1,7 +1,6 @@
 -- The relation of the words in a decoder's rows to the words of the missing originals.
-use Rattle.std.specs.Prelude.{◌≡◌, ℕ, ◌+◌, ◌-◌, ◌*◌, ◌/◌, ◌%◌, ◌<◌, ◌≤◌, ◌↔◌, ◌⊎◌, ◌&&◌, not, if◌then◌else◌, Bool,
-  true, false, List}
-use Rattle.std.specs.Prelude.{slice_index}
+use Rattle.std.specs.Prelude.{◌≡◌, ℕ, ◌+◌, ◌-◌, ◌*◌, ◌/◌, ◌%◌, ◌<◌, ◌≤◌, ◌↔◌, ◌⊎◌, ◌&&◌, not, if◌then◌else◌}
+use Rattle.std.specs.Prelude.{Bool, true, false, List, slice_index}
 use Rattle.rs_field.specs.words.StepBounds.{transform_steps}
 use Rattle.rs_field.specs.words.Derivative.{IsDerivativeAdded}
 use Rattle.rs_field.specs.words.DirectSum.{direct_sum}

@@ -237,8 +237,19 @@ fn find_by_sums<E: Engine>(
     let base = &mut base[..row_count];
     mark_base(base, marks.given(), configuration.original_count);
     make_locator(engine, steps, entries, base, configuration.frame);
-    let logarithms = Logarithms { locator: entries, logs };
-    let agrees = sum_rows(engine, steps, rows, marks.given(), base, &logarithms, configuration);
+    let logarithms = Logarithms {
+        locator: entries,
+        logs,
+    };
+    let agrees = sum_rows(
+        engine,
+        steps,
+        rows,
+        marks.given(),
+        base,
+        &logarithms,
+        configuration,
+    );
     marks.want_missing(configuration);
     Some(agrees)
 }

@@ -162,7 +162,10 @@ fn are_equal_to_sums<E: Engine>(
         * (1 + how_many rows.old.shard_count (is_marked base.now))) 0 0 steps.old steps.new }
 {
     for y in 0..rows.len() {
-        if given[y] && !base[y] && !is_equal_to_sum(engine, steps, rows, base, logarithms, shard_bytes, y) {
+        if given[y]
+            && !base[y]
+            && !is_equal_to_sum(engine, steps, rows, base, logarithms, shard_bytes, y)
+        {
             return false;
         }
     }
@@ -233,7 +236,7 @@ fn sum_missing<E: Engine>(
         (how_many configuration.original_count
         (λ i. not (is_marked given.now (original_row configuration.frame i)))
         * (1 + how_many (rows_to_decode configuration) (is_marked base.now))) 0 0 steps.old
-            steps.new }
+        steps.new }
 {
     for i in 0..configuration.original_count {
         let row = configuration.frame.original_row(i);
@@ -269,7 +272,7 @@ fn sum_if_missing<E: Engine>(
     ensures others { SameRowsOutside y (y + 1) rows.old rows.new }
     ensures counts { CountsUpTo
         (if not (is_marked given.now y) then 1 + how_many rows.old.shard_count (is_marked base.now)
-            else 0)
+        else 0)
         0 0 steps.old steps.new }
 {
     if !given[y] {

@@ -71,7 +71,7 @@ returns-clause-answer g c = λ rate is.
       | inr some ↦
           let made = rw tally.configuration at (c.restore-agrees.ensures.restored (omega arith)) in
           decode_answers rate own given marks c.tally-tally.result.surplus before after c.restore-agrees.result
-            is
+          is
           (record {
             configured = old.configured;
             originals = old.originals_given;

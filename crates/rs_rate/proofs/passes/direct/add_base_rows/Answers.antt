@@ -15,7 +15,7 @@ loop-x-init g c =
 pub loop-x-preserved : goal.loop-x-preserved
 loop-x-preserved g c =
     one_more_added (is_marked c.args.base.now) (λ z. slice_index c.args.logarithms.now.locator.now z) c.args.y
-      c.loop-x.x
+    c.loop-x.x
     c.args.rows.now c.loop-x.rows c.add_if_in_base.new.rows c.args.steps.now c.loop-x.steps c.add_if_in_base.new.steps
     c.requires.outside c.loop-x.invariant
     (record {

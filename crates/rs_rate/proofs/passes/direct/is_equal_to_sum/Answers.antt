@@ -27,7 +27,7 @@ returns-clause-equal g c =
     (omega (arith, c.requires.len, hj, extent.len_64)))
     ∙ c.add_base_rows.ensures.sums (j / 32) (j % 32) (omega (arith, c.requires.len, hj)) (omega arith) in (
       λ equal. c.is_zero_row.ensures.1 (λ j hj.
-      read j hj ∙ ap (λ v. bit_xor v (sum j)) (equal j hj) ∙ xor_self (sum j)),
+          read j hj ∙ ap (λ v. bit_xor v (sum j)) (equal j hj) ∙ xor_self (sum j)),
       λ zero j hj. same_from_xor (word old (j / 32) (j % 32) y) (sum j)
           (sym (read j hj) ∙ c.is_zero_row.ensures.0 zero j hj),
     )

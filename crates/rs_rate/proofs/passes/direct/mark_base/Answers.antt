@@ -1,4 +1,4 @@
-use Rattle.std.proofs.Common.{◌≡◌, ℕ, ◌+◌, ◌<◌, ◌≤◌, Bool, true, false, refl, sym, ap, ◌∙◌, arith, rules}
+use Rattle.std.proofs.Common.{◌≡◌, ℕ, ◌+◌, ◌<◌, Bool, true, false, refl, sym, ap, ◌∙◌, arith}
 use Rattle.std.proofs.Common.{inl, inr, add-one, true≢false, subst, zero-add, set, length}
 use Rattle.std.proofs.lemmas.Bool.{cases_eq, cases_Bool, cases_lt, lt-ltb, ltb-true}
 use Rattle.std.proofs.lemmas.List.{get_or-set_same, get_or-set_other, get_or_past, length-set}
@@ -70,11 +70,14 @@ loop-row-preserved c =
     let more = one_more given old new c.args.count row c.loop-row.left c.if-base-row.left
     (λ p hp. get_or-set_other c.loop-row.base row p c.if-given-row.base false (λ (e : p ≡ c.loop-row.row). omega arith))
     (λ is. elim c.if-given-row.branch [
-      | then-given-row w ↦ (w.if-given-row.true, elim c.if-base-row.branch [
-        | then-base-row v ↦
-            let some = ltb-true 0 c.loop-row.left (sym w.base-is ∙ sym here ∙ is) in omega (arith, some, v.left-is)
-        | else-base-row v ↦ absurd (true≢false (sym is ∙ v.if-base-row.false))
-      ])
+      | then-given-row w ↦ (
+        w.if-given-row.true,
+        elim c.if-base-row.branch [
+          | then-base-row v ↦
+              let some = ltb-true 0 c.loop-row.left (sym w.base-is ∙ sym here ∙ is) in omega (arith, some, v.left-is)
+          | else-base-row v ↦ absurd (true≢false (sym is ∙ v.if-base-row.false))
+        ],
+      )
       | else-given-row w ↦ absurd (true≢false (sym is ∙ here ∙ w.base-is ∙ w.if-given-row.false))
     ])
     (λ is. (
