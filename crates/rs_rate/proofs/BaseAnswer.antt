@@ -1,5 +1,5 @@
--- What direct sums over a base say of the given shards: whether some message agrees with all of them, and what its missing
--- originals are.
+-- What direct sums over a base say of the given shards: whether some message agrees with all of them, and what its
+-- missing originals are.
 use Rattle.std.proofs.Common.{◌≡◌, ℕ, ◌+◌, ◌-◌, ◌/◌, ◌%◌, ◌<◌, ◌≤◌, ◌⊎◌, List, Bool, true, false, sym, ap, ap₂, ◌∙◌}
 use Rattle.std.proofs.Common.{arith, inl, inr, refl, true≢false}
 use Rattle.std.specs.Prelude.{slice_index, Some, is_some, not, ◌&&◌, ◌↔◌}
@@ -116,8 +116,8 @@ module _ (rate : Rate) (k r size originals recovery : ℕ) (marks base : List Bo
       (word_in before (row_len size) (j / 32) (j % 32)) (words_given base before size j) p
       (λ x hx is. sym (words_given-at base before size j x true is ∙ column-put before size x j configured.even hj))
 
-  -- In a part of the rows, each given row outside the base is equal to its sums if and only if the sums are the words of
-  -- each given shard outside the base.
+  -- In a part of the rows, each given row outside the base is equal to its sums if and only if the sums are the words
+  -- of each given shard outside the base.
   module _ (from n : ℕ) (fit : from + n ≤ row_count (frame_of rate k r)) where
     sums_of_part : AreEqualToSums (rate_configuration rate k r size) marks base locator (word_in before (row_len size))
         → (i : ℕ) (shard : Shard) (j : ℕ) → part (rows marks) from n i ≡ Some shard

@@ -166,13 +166,15 @@ module _ (rate : Rate) (k r size surplus : ℕ) (marks new : List Bool) (before 
             (erasure (frame_of rate k r) marks) (words_given marks before size)
             (λ n. located_word marks locator (word_in before (row_len size) (n / 32) (n % 32)))
             (λ n. restored.coefficients (n / 32) (n % 32))
-            (are_columns rate k r size marks locator before located surplus d.restores.words agrees restored) message added i j
-            (slice_index locator (original_row (frame_of rate k r) i)) (omega (arith, count)) a inside hj step entry
+            (are_columns rate k r size marks locator before located surplus d.restores.words agrees restored)
+            message added i j (slice_index locator (original_row (frame_of rate k r) i)) (omega (arith, count)) a inside hj step entry
             (omega (arith, word))
             (located_at rate k r size marks locator before located (original_row (frame_of rate k r) i) below)
 
-  -- The result of a decode whose answer says whether some message agrees, and which then restores its missing originals.
-  by_agreement : (agrees : Bool) (d : IsDecoded (rate_configuration rate k r size) marks new surplus before after agrees)
+  -- The result of a decode whose answer says whether some message agrees, and which then restores the missing originals
+  -- of this message.
+  by_agreement : (agrees : Bool)
+      (d : IsDecoded (rate_configuration rate k r size) marks new surplus before after agrees)
       → (IsConsistent (state_before rate (rate_configuration rate k r size) marks before) ↔ (agrees ≡ true))
       → (agrees ≡ true → (message : List Shard) (i : ℕ)
       → IsAgreeing (state_before rate (rate_configuration rate k r size) marks before) message → i < k

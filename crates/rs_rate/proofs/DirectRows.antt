@@ -113,8 +113,8 @@ module _ (given base : ℕ → Bool) (locator : ℕ → ℕ) (w : ℕ) where
 
   -- One more row was summed.
   pub one_more_summed : (frame : Frame) (n : ℕ) (old mid new : ShardsRefMut) (a b c : Steps)
-      → ((q : ℕ) → base q ≡ true → given q ≡ true) → RowsSummed frame n old mid a b → RowSummed (original_row frame n) mid new b c
-      → RowsSummed frame (n + 1) old new a c
+      → ((q : ℕ) → base q ≡ true → given q ≡ true) → RowsSummed frame n old mid a b
+      → RowSummed (original_row frame n) mid new b c → RowsSummed frame (n + 1) old new a c
   one_more_summed frame n old mid new a b c part before step =
       subst (λ (m : ℕ). RowsSummed frame m old new a c) (sym (add-one n)) (record {
         fits = fits_kept mid new step.extent before.fits;

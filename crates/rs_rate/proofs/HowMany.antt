@@ -62,7 +62,8 @@ how_many-rises m (suc n) has le = elim (cases_lt m (suc n)) [
   | inr past ↦ let same : m ≡ suc n = omega arith in rw same (omega arith)
 ]
 
--- The numbers with one property but not with a narrower one, and those with the narrower one, are those with the property.
+-- The numbers with one property but not with a narrower one, and those with the narrower one, are those with the
+-- first property.
 pub how_many-rest : (n : ℕ) (has narrow : ℕ → Bool) → ((i : ℕ) → narrow i ≡ true → has i ≡ true)
     → how_many n (λ i. has i && not (narrow i)) + how_many n narrow ≡ how_many n has
 how_many-rest zero has narrow part =

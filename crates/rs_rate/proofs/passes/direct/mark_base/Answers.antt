@@ -66,7 +66,8 @@ loop-row-preserved c =
     let new : ℕ → Bool = is_marked (set c.loop-row.base c.loop-row.row c.if-given-row.base) in
     let here : is_marked (set c.loop-row.base c.loop-row.row c.if-given-row.base) c.loop-row.row
     ≡ c.if-given-row.base =
-    get_or-set_same c.loop-row.base row c.if-given-row.base false (omega (arith, c.loop-row-test.true, before.length)) in
+    get_or-set_same c.loop-row.base row c.if-given-row.base false
+    (omega (arith, c.loop-row-test.true, before.length)) in
     let more = one_more given old new c.args.count row c.loop-row.left c.if-base-row.left
     (λ p hp. get_or-set_other c.loop-row.base row p c.if-given-row.base false (λ (e : p ≡ c.loop-row.row). omega arith))
     (λ is. elim c.if-given-row.branch [
