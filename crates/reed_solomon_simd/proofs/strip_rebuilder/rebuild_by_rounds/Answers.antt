@@ -9,9 +9,9 @@ use Rattle.rs_rate.specs.EncoderView.{encoder_state}
 use Rattle.reed_solomon_simd.proofs.RebuiltStrips.{IsRebuiltBelow, rebuilt-none, rebuilt-further, rebuilt-all}
 use Rattle.reed_solomon_simd.proofs.StripDecodeLemmas.{strip-refused}
 use Rattle.reed_solomon_simd.proofs.SetUp.{left-lacks, valid-even}
-use Rattle.reed_solomon_simd.proofs.strip_rebuilder.rebuild_strips.Goals.{then-left-width+in_ok-reset+in_ok-reset-2}
-use Rattle.reed_solomon_simd.proofs.strip_rebuilder.rebuild_strips.Goals.{else-left-width}
-use Rattle.reed_solomon_simd.proofs.strip_rebuilder.rebuild_strips.Goals as goal
+use Rattle.reed_solomon_simd.proofs.strip_rebuilder.rebuild_by_rounds.Goals.{then-left-width+in_ok-reset+in_ok-reset-2}
+use Rattle.reed_solomon_simd.proofs.strip_rebuilder.rebuild_by_rounds.Goals.{else-left-width}
+use Rattle.reed_solomon_simd.proofs.strip_rebuilder.rebuild_by_rounds.Goals as goal
 
 pub loop-start-init : goal.loop-start-init
 loop-start-init g c =
