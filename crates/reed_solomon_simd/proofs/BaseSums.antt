@@ -18,6 +18,7 @@ use Rattle.rs_field.specs.code.Given.{Shards, AreWithin, count_below}
 use Rattle.rs_field.specs.code.Pieces.{IsStrip}
 use Rattle.rs_field.specs.code.PieceStates.{pieces_of, state_of_pieces}
 use Rattle.rs_field.specs.rows.MarkedRows.{is_marked}
+use Rattle.rs_field.proofs.of_code.Agreement.{one_message}
 use Rattle.rs_field.proofs.of_code.AgreeingMessages.{sized-within}
 use Rattle.rs_field.proofs.of_code.AnyShards.{given_at-own, given_at-coded}
 use Rattle.rs_field.proofs.of_code.BaseShards.{agrees_with_part, summed_directly, consistent_by_base}
@@ -259,3 +260,41 @@ module _ (s : DecoderState) (is : IsDecoder default_rate s) (start end : ℕ)
             (even-strip s is start end strip)
             (λ j inside. sum.words j inside ∙ (summed-words message agrees i j inside).1 can
             (part-missing marks (frame_in s).recovery_from i t.recovery e))
+
+    -- Shards with the direct sums as their words are equal.
+    pub sums-same : (x : ℕ) (one other : Shard) → IsBaseSum marks (state_of_pieces start end s) x one
+        → IsBaseSum marks (state_of_pieces start end s) x other → one ≡ other
+    sums-same x one other first second =
+        shard_from_columns (end - start) one other first.is_shard second.is_shard (even-strip s is start end strip)
+        (λ j inside. first.words j inside ∙ sym (second.words j inside))
+
+    -- A row outside of the base has no mark, if no shard was received in it.
+    pub missing-unmarked : (x : ℕ) → shard_in_row (state_of_pieces start end s) x ≡ None → is_marked marks x ≡ false
+    missing-unmarked x none = elim (cases_Bool (is_marked marks x)) [
+      | inl is_there ↦
+          let here = base-pieces start end marks s base in
+          let some = here.received x is_there in
+          let not = ap is_some none in
+          absurd (let no : ⊥ = cc (some, not) in no)
+      | inr not ↦ not
+    ]
+
+    -- At most one message agrees with the strip.
+    pub only-message : (one other : List Shard) → IsAgreeing (state_of_pieces start end s) one
+        → IsAgreeing (state_of_pieces start end s) other → other ≡ one
+    only-message one other agrees also =
+        let t = state_of_pieces start end s in
+        let b = marked_state marks t in
+        let here = base-pieces start end marks s base in
+        let own_part = part-of marks (frame_in s).originals_from t.originals in
+        let coded_part = part-of marks (frame_in s).recovery_from t.recovery in
+        one_message t.configuration b.originals b.recovery other one supported (even-strip s is start end strip)
+        (omega (arith, here.enough))
+        (agrees_with_part t.configuration t.originals t.recovery b.originals b.recovery other own_part coded_part also).0
+        (agrees_with_part t.configuration t.originals t.recovery b.originals b.recovery one own_part coded_part agrees).0
+
+-- The row of a shard that can be rebuilt is a row of a decoder.
+pub row-inside : (s : DecoderState) → IsDecoder default_rate s → (w : ShardIndex) → CanBeRebuilt s w
+    → row_of (frame_in s) w < row_count (frame_in s)
+row-inside s is (Original i) can = let f = decoder_frame s is in omega (arith, f.originals, can.0)
+row-inside s is (Recovery i) can = let f = decoder_frame s is in omega (arith, f.recovery, can)

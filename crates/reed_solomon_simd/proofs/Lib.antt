@@ -26,6 +26,7 @@ pub mod ComparedStrips
 pub mod RebuiltStrips
 pub mod BaseLemmas
 pub mod BaseSums
+pub mod BaseMarks
 pub mod WantedLemmas
 pub mod ReceivingLemmas
 pub mod VerifyingLemmas

@@ -22,6 +22,7 @@ use crate::pieces::Pieces;
 use crate::rooms::Rooms;
 use crate::shard_index::ShardIndex;
 use crate::strip_decoder::STRIP_BYTES;
+use crate::wanted_shards::no_marks;
 use rs_field::engine::layout::row_len;
 use rs_field::engine::{Engine, Steps};
 use rs_field::error::Error;
@@ -45,7 +46,7 @@ pub(crate) fn mark_base<P: Pieces>(
 {
     let counts = received.counts();
     let row_count = counts.frame.row_count();
-    let mut marks = vec![in alloc; false; row_count]?;
+    let mut marks = no_marks(alloc, row_count)?;
     let mut found = 0;
     for row in 0..row_count {
         if piece_in_row(received, row, 0, 0).is_some() {
@@ -253,7 +254,14 @@ fn agrees_in_row<E: Engine, P: Pieces>(
         return true;
     };
     sum_piece(engine, base, received, row, start, end, sum, added);
-    summed_piece(sum, end - start) == piece
+    is_equal(summed_piece(sum, end - start), piece)
+}
+
+// Returns whether two pieces are equal.
+fn is_equal(one: &[u8], other: &[u8]) -> bool
+    ensures { IsTrue result ↔ (one.now ≡ other.now) }
+{
+    one == other
 }
 
 // Writes a strip of each wanted shard into its room, after the first `start` bytes.
