@@ -1,12 +1,12 @@
 -- What direct sums over a base of received shards tell of a strip: whether the shards are consistent, and the pieces of
 -- the shards that were not received.
 use Rattle.std.proofs.Common.{◌≡◌, ℕ, ◌+◌, ◌-◌, ◌/◌, ◌%◌, ◌<◌, ◌≤◌, ◌⊎◌, Bool, true, false, cond, List, length, take, drop}
-use Rattle.std.proofs.Common.{refl, sym, ap, ◌∙◌, subst, inl, inr, arith, All}
+use Rattle.std.proofs.Common.{refl, sym, ap, ◌∙◌, subst, inl, inr, arith, All, [], get_or}
 use Rattle.std.specs.Prelude.{Option, Some, None, is_some, ◌↔◌}
 use Rattle.std.specs.List.{between}
 use Rattle.std.specs.Option.{option_map}
 use Rattle.std.proofs.lemmas.Bool.{cases_Bool}
-use Rattle.std.proofs.lemmas.List.{length-drop, length-take-le}
+use Rattle.std.proofs.lemmas.List.{length-drop, length-take-le, length-map, get_or-map}
 use Rattle.std.proofs.lemmas.List.Elements.{All-take, All-drop}
 use Rattle.std.proofs.lemmas.Option.{none-some}
 use Rattle.rs_field.specs.code.Column.{Shard, IsShard, column, shard_at}
@@ -32,6 +32,7 @@ use Rattle.reed_solomon_simd.specs.Reconstructed.{CanBeRebuilt}
 use Rattle.reed_solomon_simd.specs.ShardNames.{shard_named}
 use Rattle.reed_solomon_simd.proofs.BaseLemmas.{decoder_frame, in_row-cases, marked_part-at, base-pieces}
 use Rattle.reed_solomon_simd.proofs.ConsistentStrips.{even-strip}
+use Rattle.reed_solomon_simd.proofs.RebuiltStrips.{named_shards, named-sized, can-pieces}
 
 -- ---- pieces
 
@@ -292,6 +293,29 @@ module _ (s : DecoderState) (is : IsDecoder default_rate s) (start end : ℕ)
         (omega (arith, here.enough))
         (agrees_with_part t.configuration t.originals t.recovery b.originals b.recovery other own_part coded_part also).0
         (agrees_with_part t.configuration t.originals t.recovery b.originals b.recovery one own_part coded_part agrees).0
+
+    -- The same for a wanted shard in a list.
+    pub wanted-at : (message : List Shard) (agrees : IsAgreeing (state_of_pieces start end s) message)
+        (wanted : List ShardIndex) (n x : ℕ) (d : ShardIndex) (piece : Shard) → All (CanBeRebuilt s) wanted
+        → n < length wanted → x ≡ row_of (frame_in s) (get_or wanted n d)
+        → ((shard : Shard) → shard_in_row (state_of_pieces start end s) x ≡ Some shard → piece ≡ shard)
+        → (shard_in_row (state_of_pieces start end s) x ≡ None
+        → IsBaseSum marks (state_of_pieces start end s) x piece)
+        → (piece ≡ get_or (named_shards message agrees.coded.0 wanted) n []) × (length piece ≡ end - start)
+    wanted-at message agrees wanted n x d piece can inside at received summed =
+        let t = state_of_pieces start end s in
+        let named = named_shards message agrees.coded.0 wanted in
+        let long = length-map wanted (shard_named message agrees.coded.0) in
+        let is_named = wanted-piece message agrees (get_or wanted n d) piece (can n d inside)
+        (λ shard e. received shard (ap (shard_in_row t) at ∙ e))
+        (λ none. subst (λ (y : ℕ). IsBaseSum marks (state_of_pieces start end s) y piece) at
+        (summed (ap (shard_in_row t) at ∙ none)))
+        ∙ sym (get_or-map (shard_named message agrees.coded.0) wanted n d [] inside) in
+        let sized = named-sized t message agrees wanted (can-pieces s start end wanted can) n []
+        (omega (arith, long, inside)) in (
+          is_named,
+          ap length is_named ∙ sized,
+        )
 
 -- The row of a shard that can be rebuilt is a row of a decoder.
 pub row-inside : (s : DecoderState) → IsDecoder default_rate s → (w : ShardIndex) → CanBeRebuilt s w

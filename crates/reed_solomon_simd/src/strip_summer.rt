@@ -106,6 +106,7 @@ pub(crate) fn sum_strips<E: Engine, P: Pieces, R: Rooms>(
     rooms: &mut R,
 ) -> Result<(), Error>
     requires set_up { IsDecoder default_rate (P.received received.now) }
+    requires enough { enough_given (P.received received.now) ≡ Ok tt }
     requires base { MarkBase (P.received received.now) marks.items }
     requires surplus { originals_given (P.received received.now)
         + recovery_given (P.received received.now)
