@@ -1,16 +1,16 @@
 -- Direct sums over a base of received shards: the shards in rows, the base, and the words of the sums.
-use Rattle.std.proofs.Common.{◌≡◌, ℕ, zero, suc, ◌+◌, ◌-◌, ◌/◌, ◌%◌, ◌<◌, ◌≤◌, ◌⊎◌, Bool, true, false, cond, List, length}
-use Rattle.std.proofs.Common.{refl, sym, ap, ap₂, ◌∙◌, subst, inl, inr, arith, bit_xor}
-use Rattle.std.specs.Prelude.{Option, Some, None, is_some, nat_le, nat_lt, ◌&&◌, slice_index, ◌↔◌}
+use Rattle.std.proofs.Common.{◌≡◌, ℕ, ◌+◌, ◌-◌, ◌<◌, ◌≤◌, ◌⊎◌, Bool, true, false, cond, List, length}
+use Rattle.std.proofs.Common.{refl, sym, ap, ap₂, ◌∙◌, subst, inl, inr, arith}
+use Rattle.std.specs.Prelude.{Option, Some, None, is_some, nat_le, nat_lt, ◌&&◌, slice_index}
 use Rattle.std.specs.List.{between}
 use Rattle.std.specs.Option.{option_map}
 use Rattle.std.proofs.lemmas.Bool.{cases_lt, cases_Bool}
 use Rattle.std.proofs.lemmas.Grind.{common_steps}
 use Rattle.std.proofs.lemmas.Option.{none-some}
 use mathlib.Core.Path.{fun_ext}
-use Rattle.rs_field.specs.code.Column.{Shard, IsShard, column, shard_at}
-use Rattle.rs_field.specs.code.Counts.{default_rate, supports}
-use Rattle.rs_field.specs.code.Decoder.{DecoderState, IsDecoder, originals_given, recovery_given}
+use Rattle.rs_field.specs.code.Column.{Shard, column}
+use Rattle.rs_field.specs.code.Counts.{default_rate}
+use Rattle.rs_field.specs.code.Decoder.{DecoderState, IsDecoder}
 use Rattle.rs_field.specs.code.DirectLaws.{entry_in, given_at, word_of, word_at, locator_at, summed_word}
 use Rattle.rs_field.specs.code.Frame.{frame_of, row_count, original_row, recovery_row}
 use Rattle.rs_field.specs.declared.code.frame.Frame.{Frame}
@@ -20,7 +20,6 @@ use Rattle.rs_field.specs.rows.MarkedRows.{is_marked}
 use Rattle.rs_field.specs.words.DirectSum.{direct_factor, direct_sum}
 use Rattle.rs_field.specs.words.Field.{product, power}
 use Rattle.rs_field.specs.words.Transform.{sum_below}
-use Rattle.rs_field.proofs.of_code.AnyShards.{given_at-own, given_at-coded}
 use Rattle.rs_field.proofs.of_code.Frame.{IsFrame}
 use Rattle.rs_field.proofs.of_code.PieceStates.{is_some-map}
 use Rattle.rs_field.proofs.of_code.RateFrames.{has_frame}

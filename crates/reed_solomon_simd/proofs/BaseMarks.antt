@@ -1,10 +1,10 @@
 -- Marking a base: the first received shards, as many as there are originals.
-use Rattle.std.proofs.Common.{◌≡◌, ◌≢◌, ℕ, ◌+◌, ◌-◌, ◌<◌, ◌≤◌, ◌⊎◌, Bool, true, false, cond, List, length, set, min, replicate}
-use Rattle.std.proofs.Common.{rules, refl, sym, ap, ap₂, ◌∙◌, inl, inr, arith, add-one}
+use Rattle.std.proofs.Common.{◌≡◌, ℕ, ◌+◌, ◌<◌, ◌≤◌, Bool, true, false, cond, List, length, set, min, replicate}
+use Rattle.std.proofs.Common.{rules, sym, ap, ap₂, ◌∙◌, inl, inr, arith, add-one}
 use Rattle.std.specs.Prelude.{Option, is_some, nat_lt, option_copied}
 use Rattle.std.specs.Borrow.{Bor}
 use Rattle.std.proofs.Math.Nat.{min-eq_left, min-eq_right}
-use Rattle.std.proofs.lemmas.Bool.{cases_lt, cases_eq, cases_Bool, lt-ltb, le-ltb}
+use Rattle.std.proofs.lemmas.Bool.{cases_lt, cases_Bool, lt-ltb, le-ltb}
 use Rattle.std.proofs.lemmas.List.{get_or-set_same, get_or-set_other, get_or-replicate, get_or_past, length-replicate}
 use Rattle.rs_field.specs.code.Column.{Shard}
 use Rattle.rs_field.specs.code.Counts.{default_rate}
@@ -14,7 +14,7 @@ use Rattle.rs_field.specs.rows.MarkedRows.{is_marked}
 use Rattle.rs_field.proofs.of_code.AnyShards.{given_at-own, given_at-coded}
 use Rattle.rs_rate.specs.Marks.{how_many}
 use Rattle.rs_rate.proofs.HowMany.{how_many-suc, how_many-same, count_below-many, many_in_frame}
-use Rattle.reed_solomon_simd.specs.Base.{frame_in, shard_in_row, marked_state, MarkBase}
+use Rattle.reed_solomon_simd.specs.Base.{frame_in, shard_in_row, marked_state}
 use Rattle.reed_solomon_simd.proofs.BaseLemmas.{decoder_frame, in_row-none, in_row-marked}
 
 -- A reference is lent exactly if there is a shard.

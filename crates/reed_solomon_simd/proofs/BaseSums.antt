@@ -1,6 +1,6 @@
 -- What direct sums over a base of received shards tell of a strip: whether the shards are consistent, and the pieces of
 -- the shards that were not received.
-use Rattle.std.proofs.Common.{◌≡◌, ℕ, ◌+◌, ◌-◌, ◌/◌, ◌%◌, ◌<◌, ◌≤◌, ◌⊎◌, Bool, true, false, cond, List, length, take, drop}
+use Rattle.std.proofs.Common.{◌≡◌, ℕ, ◌+◌, ◌-◌, ◌/◌, ◌<◌, Bool, true, false, cond, List, length, drop}
 use Rattle.std.proofs.Common.{refl, sym, ap, ◌∙◌, subst, inl, inr, arith, All, [], get_or}
 use Rattle.std.specs.Prelude.{Option, Some, None, is_some, ◌↔◌}
 use Rattle.std.specs.List.{between}
@@ -14,7 +14,7 @@ use Rattle.rs_field.specs.code.Counts.{default_rate, supports}
 use Rattle.rs_field.specs.code.Decoder.{DecoderState, IsDecoder, IsAgreeing, IsConsistent}
 use Rattle.rs_field.specs.code.DirectLaws.{IsPartOf, AreSummed}
 use Rattle.rs_field.specs.code.Frame.{row_count, original_row, recovery_row}
-use Rattle.rs_field.specs.code.Given.{Shards, AreWithin, count_below}
+use Rattle.rs_field.specs.code.Given.{Shards, AreWithin}
 use Rattle.rs_field.specs.code.Pieces.{IsStrip}
 use Rattle.rs_field.specs.code.PieceStates.{pieces_of, state_of_pieces}
 use Rattle.rs_field.specs.rows.MarkedRows.{is_marked}

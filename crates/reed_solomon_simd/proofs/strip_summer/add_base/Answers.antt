@@ -1,6 +1,6 @@
-use Rattle.std.proofs.Common.{◌≡◌, ℕ, ◌+◌, ◌-◌, ◌/◌, ◌%◌, ◌<◌, length, true, sym, ap, ap₂, ◌∙◌, arith, add-one, bit_xor}
-use Rattle.std.proofs.Common.{subst, get_or}
-use Rattle.std.specs.Prelude.{Some, is_some, slice_index}
+use Rattle.std.proofs.Common.{◌≡◌, ◌%◌, ◌<◌, length, true, sym, ap, ap₂, ◌∙◌, arith, add-one, bit_xor}
+use Rattle.std.proofs.Common.{subst}
+use Rattle.std.specs.Prelude.{is_some, slice_index}
 use Rattle.std.proofs.lemmas.List.{get_or_default}
 use Rattle.rs_field.specs.code.Decoder.{DecoderState}
 use Rattle.rs_field.specs.code.DirectLaws.{locator_at}

@@ -1,4 +1,4 @@
-use Rattle.std.proofs.Common.{rules, ℕ, refl, arith, below_more}
+use Rattle.std.proofs.Common.{ℕ, refl, arith, below_more}
 use Rattle.rs_field.specs.code.PieceStates.{state_of_pieces}
 use Rattle.reed_solomon_simd.specs.Base.{AgreesInRow}
 use Rattle.reed_solomon_simd.proofs.BaseSums.{consistent-agrees, agrees-consistent}

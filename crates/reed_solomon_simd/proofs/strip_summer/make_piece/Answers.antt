@@ -1,15 +1,12 @@
-use Rattle.std.proofs.Common.{◌≡◌, ℕ, ◌+◌, ◌-◌, ◌*◌, ◌/◌, ◌%◌, ◌<◌, ◌^◌, length, sym, ap, ap₂, ◌∙◌, subst, arith, bit_xor}
+use Rattle.std.proofs.Common.{◌≡◌, ◌-◌, ◌%◌, sym, ap, ap₂, ◌∙◌, arith, bit_xor}
 use Rattle.std.specs.Int.Bits.{xor_zero_l}
 use Rattle.std.specs.Prelude.{Option, Some}
 use Rattle.rs_field.specs.code.Column.{Shard, column}
-use Rattle.rs_field.specs.code.Decoder.{DecoderState}
-use Rattle.rs_field.specs.code.PieceStates.{state_of_pieces}
 use Rattle.rs_field.specs.rows.Layout.{row_len}
-use Rattle.rs_field.specs.words.Field.{product, power}
+use Rattle.rs_field.specs.words.Field.{product}
 use Rattle.rs_field.proofs.of_code.Columns.{shard_from_columns, column_lt}
 use Rattle.rs_field.proofs.of_words.Power.{power_zero}
 use Rattle.rs_field.proofs.of_words.Product.{product_one}
-use Rattle.rs_rate.specs.ShardRows.{shard_in_order}
 use Rattle.reed_solomon_simd.proofs.BaseSums.{in_row-sized, missing-unmarked}
 use Rattle.reed_solomon_simd.proofs.ConsistentStrips.{even-strip}
 use Rattle.reed_solomon_simd.proofs.strip_summer.make_piece.Goals as goal

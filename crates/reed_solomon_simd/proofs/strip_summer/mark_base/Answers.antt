@@ -1,8 +1,7 @@
-use Rattle.std.proofs.Common.{rules, ◌≡◌, ℕ, ◌+◌, ◌^◌, ◌<◌, ◌≤◌, Bool, List, true, false, min, set, length, sym, ap, ap₂}
-use Rattle.std.proofs.Common.{inl, inr, vec_len, ◌∙◌, arith, pow_mono, add-one, cond, subst}
+use Rattle.std.proofs.Common.{rules, ◌≡◌, ℕ, ◌+◌, ◌^◌, ◌<◌, ◌≤◌, Bool, List, true, false, min, set, length, sym, ap}
+use Rattle.std.proofs.Common.{inl, inr, vec_len, ◌∙◌, arith, pow_mono}
 use Rattle.std.proofs.Math.Nat.{min-eq_left, min-eq_right}
 use Rattle.std.specs.Prelude.{is_some, nat_lt}
-use Rattle.std.proofs.lemmas.Grind.{common_steps}
 use Rattle.std.proofs.lemmas.List.{get_or-set_other, length-replicate}
 use Rattle.std.proofs.lemmas.Bool.{cases_eq}
 use Rattle.rs_field.specs.code.Counts.{default_rate}
@@ -11,7 +10,7 @@ use Rattle.rs_field.specs.code.Frame.{frame_of, row_count}
 use Rattle.rs_field.specs.declared.code.frame.Frame.{Frame}
 use Rattle.rs_field.specs.rows.MarkedRows.{is_marked}
 use Rattle.rs_rate.specs.Marks.{how_many}
-use Rattle.rs_rate.proofs.HowMany.{how_many-zero, how_many-suc, how_many-most}
+use Rattle.rs_rate.proofs.HowMany.{how_many-zero, how_many-most}
 use Rattle.rs_rate.proofs.DecoderRows.{enough-least}
 use Rattle.reed_solomon_simd.specs.Base.{frame_in, shard_in_row}
 use Rattle.reed_solomon_simd.proofs.BaseLemmas.{decoder_frame, frame_same, some-pieces}

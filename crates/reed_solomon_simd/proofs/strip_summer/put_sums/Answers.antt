@@ -1,10 +1,9 @@
-use Rattle.std.proofs.Common.{◌≡◌, ℕ, ◌+◌, ◌-◌, ◌^◌, ◌<◌, ◌≤◌, [], ◌++◌, List, length, take, drop, get_or, refl, sym, ap}
+use Rattle.std.proofs.Common.{◌≡◌, ℕ, ◌+◌, ◌-◌, ◌^◌, ◌<◌, ◌≤◌, [], ◌++◌, length, take, drop, get_or, refl, sym, ap}
 use Rattle.std.proofs.Common.{ap₂, ◌∙◌, inl, inr, arith, pow_mono}
 use Rattle.std.proofs.lemmas.Bool.{cases_eq}
 use Rattle.rs_field.specs.code.Column.{Shard}
-use Rattle.rs_field.specs.code.Decoder.{DecoderState, IsAgreeing}
+use Rattle.rs_field.specs.code.Decoder.{DecoderState}
 use Rattle.rs_field.specs.code.Frame.{row_count}
-use Rattle.rs_field.specs.code.PieceStates.{state_of_pieces}
 use Rattle.rs_rate.specs.ShardRows.{shard_in_order}
 use Rattle.reed_solomon_simd.specs.declared.shard_index.ShardIndex.TheVariants.{Original}
 use Rattle.reed_solomon_simd.specs.Base.{frame_in, row_of}

@@ -1,4 +1,4 @@
-use Rattle.std.proofs.Common.{◌≡◌, ◌+◌, ap₂, sym, ◌∙◌, refl, inl, arith}
+use Rattle.std.proofs.Common.{ap₂, sym, ◌∙◌, refl, inl, arith}
 use Rattle.rs_field.specs.declared.code.error.Error.TheVariants.{InconsistentShards}
 use Rattle.rs_field.specs.code.Decoder.{DecoderState}
 use Rattle.rs_field.proofs.of_code.RestoredBelow.{count-pieces}
