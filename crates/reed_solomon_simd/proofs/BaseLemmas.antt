@@ -199,7 +199,7 @@ marked-pieces start end marks from given =
     marked_part-at marks from i (pieces_of start end given) (is_marked marks (from + i)) refl
     ∙ either (is_marked marks (from + i)) (given i)
     ∙ ap (option_map (λ shard. between start end shard))
-      (sym (marked_part-at marks from i given (is_marked marks (from + i)) refl)))
+    (sym (marked_part-at marks from i given (is_marked marks (from + i)) refl)))
   where
     either : (b : Bool) (o : Option Shard)
         → cond b (option_map (λ shard. between start end shard) o) None

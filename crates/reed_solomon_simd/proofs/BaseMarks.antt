@@ -65,7 +65,7 @@ module _ (s : DecoderState) (is : IsDecoder default_rate s) where
       (λ i inside. ap is_some (given_at-coded (frame_in s) k r i b.originals b.recovery f inside))
       ∙ count_below-many r b.recovery))
       ∙ how_many-same (row_count (frame_in s)) (λ x. is_some (shard_in_row b x)) (is_marked marks)
-        (λ x inside. elim (cases_Bool (is_marked marks x)) [
+      (λ x inside. elim (cases_Bool (is_marked marks x)) [
         | inl there ↦ ap is_some (in_row-marked marks s x true there) ∙ received x there ∙ sym there
         | inr not ↦ ap is_some (in_row-marked marks s x false not) ∙ sym not
       ])

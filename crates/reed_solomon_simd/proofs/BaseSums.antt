@@ -66,10 +66,12 @@ within-pieces start end n size given strip within =
 
 part-of : (marks : List Bool) (from : ℕ) (given : Shards) → IsPartOf (marked_part marks from given) given
 part-of marks from given =
-    record { entries = λ i shard e. elim (cases_Bool (is_marked marks (from + i))) [
-      | inl is ↦ sym (marked_part-at marks from i given true is) ∙ e
-      | inr not ↦ absurd (none-some shard (sym (marked_part-at marks from i given false not) ∙ e))
-    ] }
+    record {
+      entries = λ i shard e. elim (cases_Bool (is_marked marks (from + i))) [
+        | inl is ↦ sym (marked_part-at marks from i given true is) ∙ e
+        | inr not ↦ absurd (none-some shard (sym (marked_part-at marks from i given false not) ∙ e))
+      ];
+    }
 
 -- A given shard that is not in the marked part has a row that is not marked.
 part-none : (marks : List Bool) (from i : ℕ) (given : Shards) (shard : Shard) → given i ≡ Some shard
@@ -289,10 +291,12 @@ module _ (s : DecoderState) (is : IsDecoder default_rate s) (start end : ℕ)
         let here = base-pieces start end marks s base in
         let own_part = part-of marks (frame_in s).originals_from t.originals in
         let coded_part = part-of marks (frame_in s).recovery_from t.recovery in
+        let first = agrees_with_part t.configuration t.originals t.recovery b.originals b.recovery one own_part
+        coded_part agrees in
+        let second = agrees_with_part t.configuration t.originals t.recovery b.originals b.recovery other own_part
+        coded_part also in
         one_message t.configuration b.originals b.recovery other one supported (even-strip s is start end strip)
-        (omega (arith, here.enough))
-        (agrees_with_part t.configuration t.originals t.recovery b.originals b.recovery other own_part coded_part also).0
-        (agrees_with_part t.configuration t.originals t.recovery b.originals b.recovery one own_part coded_part agrees).0
+        (omega (arith, here.enough)) second.0 first.0
 
     -- The same for a wanted shard in a list.
     pub wanted-at : (message : List Shard) (agrees : IsAgreeing (state_of_pieces start end s) message)

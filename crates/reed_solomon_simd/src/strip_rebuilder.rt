@@ -27,8 +27,9 @@ use crate::strip_summer::{mark_base, sum_strips};
 use rs_field::engine::{Engine, Steps};
 use rs_field::error::Error;
 use rs_rate::rate::rounds::{encode_round, lent_originals, lent_recovery};
-use rs_rate::rate::{DefaultRateCounts, DefaultRateDecoder, DefaultRateEncoder};
-use rs_rate::rate::{RateDecoder, RateEncoder};
+use rs_rate::rate::{
+    DefaultRateCounts, DefaultRateDecoder, DefaultRateEncoder, RateDecoder, RateEncoder,
+};
 use rs_rate::{DecoderResult, EncoderResult};
 use std::alloc::Global;
 
@@ -37,7 +38,7 @@ use std::alloc::Global;
 ///
 /// # Errors
 ///
-/// - [`Error::OutOfMemory`] if the work areas cannot be allocated.
+/// - [`Error::OutOfMemory`] if the marks, the logarithms or the work areas cannot be allocated.
 /// - For each strip in order: [`Error::InconsistentShards`] if no message agrees with all received shards, and then
 ///   [`Error::OutOfMemory`] if a room cannot grow. The rooms may then hold some strips.
 pub fn rebuild_strips<E: Engine + Copy, P: Pieces, R: Rooms>(

@@ -32,10 +32,7 @@ use std::alloc::Global;
 
 // Marks the rows of the base: the first received shards, as many as there are originals. Also returns how many more shards were
 // received. Fails with `OutOfMemory`.
-pub(crate) fn mark_base<P: Pieces>(
-    alloc: Global,
-    received: &P,
-) -> Result<(Vec<bool>, usize), Error>
+pub(crate) fn mark_base<P: Pieces>(alloc: Global, received: &P) -> Result<(Vec<bool>, usize), Error>
     requires set_up { IsDecoder default_rate (P.received received.now) }
     requires enough { enough_given (P.received received.now) ≡ Ok tt }
     ensures base { IfOk result (λ made. MarkBase (P.received received.now) made.0.items) }

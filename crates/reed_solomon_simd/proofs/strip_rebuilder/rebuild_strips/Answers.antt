@@ -12,6 +12,12 @@ are_sums_cheaper-requires g c =
     let f = decoder_frame s c.requires.set_up in
     let rows : row_count (frame_in (g.P.Pieces.received c.args.received.now)) ≤ 2 ^ 16 = pow_mono f.few in
     record {
-      few = omega (arith, rows, f.recovery, count_most s.configuration.original_count s.originals,
-          count_most s.configuration.recovery_count s.recovery, c.in_ok-marks.ensures.surplus);
+      few = omega (
+        arith,
+        rows,
+        f.recovery,
+        count_most s.configuration.original_count s.originals,
+        count_most s.configuration.recovery_count s.recovery,
+        c.in_ok-marks.ensures.surplus,
+      );
     }

@@ -85,7 +85,7 @@ loop-index-preserved g c j inside =
           (g.P.Pieces.received c.args.received.now)) j c.args.row (slice_index c.args.base.now.rows.items i)))
           ∙ ap (λ m. sum_below m (λ i. base_term c.args.base.now.marks.items (state_of_pieces c.args.start c.args.end
           (g.P.Pieces.received c.args.received.now)) j c.args.row (slice_index c.args.base.now.rows.items i)))
-            (sym (add-one n))
+          (sym (add-one n))
       | in_default w ↦
           let some : is_some (shard_in_row (state_of_pieces c.args.start c.args.end
           (g.P.Pieces.received c.args.received.now)) c.index-from.result.now) ≡ true = here.received x marked in
@@ -106,6 +106,6 @@ returns g c j inside =
     omega (arith, c.loop-index-test.false, c.len-index-end.ensures, c.loop-index.auto.index-end) in
     c.loop-index.invariant j inside
     ∙ ap (λ m. sum_below m (λ i. base_term c.args.base.now.marks.items (state_of_pieces c.args.start c.args.end
-      (g.P.Pieces.received c.args.received.now)) j c.args.row (slice_index c.args.base.now.rows.items i))) ends
+    (g.P.Pieces.received c.args.received.now)) j c.args.row (slice_index c.args.base.now.rows.items i))) ends
     ∙ sym (base_sum-listed own.marks.items t own.rows.items j c.args.row here
-      (subst (λ p. ListsMarked c.args.base.now.marks.items (row_count p) c.args.base.now.rows.items) same own.listed))
+    (subst (λ p. ListsMarked c.args.base.now.marks.items (row_count p) c.args.base.now.rows.items) same own.listed))

@@ -21,8 +21,14 @@ overflow_add-original_received_count g c =
     let s : DecoderState = g.P.Pieces.received c.args.received.now in
     let held : c.loop-index.original_received_count
     ≡ count_below c.loop-index.index (g.P.Pieces.received c.args.received.now).originals = c.loop-index.invariant in
-    omega (arith, held, count_most c.loop-index.index s.originals, c.loop-index-test.true,
-    few-originals s c.requires.set_up, c.counts-original_count.ensures.originals)
+    omega (
+      arith,
+      held,
+      count_most c.loop-index.index s.originals,
+      c.loop-index-test.true,
+      few-originals s c.requires.set_up,
+      c.counts-original_count.ensures.originals,
+    )
 
 pub loop-index-preserved : goal.loop-index-preserved
 loop-index-preserved g c =
@@ -54,5 +60,13 @@ overflow_add-result g c =
     let s : DecoderState = g.P.Pieces.received c.args.received.now in
     let f = decoder_frame s c.requires.set_up in
     let rows : row_count (frame_in (g.P.Pieces.received c.args.received.now)) ≤ 2 ^ 16 = pow_mono f.few in
-    omega (arith, rows, f.originals, f.recovery, count_most s.configuration.original_count s.originals,
-    count_most s.configuration.recovery_count s.recovery, c.requires.surplus, c.counts-original_count.ensures.originals)
+    omega (
+      arith,
+      rows,
+      f.originals,
+      f.recovery,
+      count_most s.configuration.original_count s.originals,
+      count_most s.configuration.recovery_count s.recovery,
+      c.requires.surplus,
+      c.counts-original_count.ensures.originals,
+    )

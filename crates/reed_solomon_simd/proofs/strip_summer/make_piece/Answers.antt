@@ -46,7 +46,8 @@ returns-in-Some-clause-received g c shard there =
     c.finish_sum.ensures.words j inside
     ∙ c.add_times.ensures.words j (omega (arith, inside, sized.length_is))
     ∙ ap₂ bit_xor (c.clear_sum.ensures j (omega (arith, inside, c.requires.room)))
-    (ap (product (column j c.in-Some.piece.now)) power_zero ∙ product_one (column j c.in-Some.piece.now) (column_lt (c.args.end - c.args.start) c.in-Some.piece.now j sized))
+    (ap (product (column j c.in-Some.piece.now)) power_zero
+    ∙ product_one (column j c.in-Some.piece.now) (column_lt (c.args.end - c.args.start) c.in-Some.piece.now j sized))
     ∙ xor_zero_l (column j c.in-Some.piece.now))
     ∙ one
 

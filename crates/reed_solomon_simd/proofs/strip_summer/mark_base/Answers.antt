@@ -101,7 +101,8 @@ loop-row-preserved g c =
                 ∙ sym (many-passed n (λ x. is_some (shard_in_row (g.P.Pieces.received c.args.received.now) x)) none);
             received = λ x is. held.received x (sym (ap (λ (l : List Bool). is_marked l x) now) ∙ is);
             marked = ap (λ (l : List Bool). how_many (c.loop-row.row + 1) (is_marked l)) now
-                ∙ many-passed n (is_marked old) (held.past n (let e : c.loop-row.row ≤ c.loop-row.row = omega arith in e))
+                ∙ many-passed n (is_marked old)
+                (held.past n (let e : c.loop-row.row ≤ c.loop-row.row = omega arith in e))
                 ∙ held.marked ∙ ap (λ m. min m c.counts-counts.result.original_count) (sym w.found-is);
             past = λ x above. ap (λ (l : List Bool). is_marked l x) now ∙ held.past x (omega (arith, above));
           }

@@ -34,8 +34,12 @@ make_piece-requires-clause-row g c =
     ready.originals ready.recovery in
     let inside = row-inside s ready.set_up (get_or c.args.wanted.now c.loop-room.room (Original 0))
     (c.requires.can c.loop-room.room (Original 0) c.loop-room-test.true) in
-    omega (arith, inside, c.row_of-row.ensures,
-    ap (λ p. row_of p (get_or c.args.wanted.now c.loop-room.room (Original 0))) same)
+    omega (
+      arith,
+      inside,
+      c.row_of-row.ensures,
+      ap (λ p. row_of p (get_or c.args.wanted.now c.loop-room.room (Original 0))) same,
+    )
 
 pub put-requires-clause-fits : goal.put-requires-clause-fits
 put-requires-clause-fits g c =
@@ -92,7 +96,7 @@ loop-room-preserved g c =
             ap (λ (m : ℕ). get_or (g.R.Rooms.held c.put.new.self) m []) here
             ∙ c.in_ok-put.ensures.here
             ∙ ap₂ (λ (old : Shard) (m : ℕ). take c.args.start old ++ (c.summed_piece.result.now ++ drop m old)) before
-              ends
+            ends
             ∙ ap (λ (p : Shard).
             take c.args.start (get_or (g.R.Rooms.held c.args.rooms.now) n [])
             ++ (p ++ drop c.args.end (get_or (g.R.Rooms.held c.args.rooms.now) n [])))
