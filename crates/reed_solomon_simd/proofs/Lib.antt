@@ -24,6 +24,9 @@ pub mod Checking
 pub mod ConsistentStrips
 pub mod ComparedStrips
 pub mod RebuiltStrips
+pub mod BaseLemmas
+pub mod BaseSums
+pub mod BaseMarks
 pub mod WantedLemmas
 pub mod ReceivingLemmas
 pub mod VerifyingLemmas

@@ -50,3 +50,4 @@ pub use Rattle.rs_field.specs.code.CodeLaws
 pub use Rattle.rs_field.specs.code.CountLaws
 pub use Rattle.rs_rate.specs.Calls
 pub use Rattle.rs_rate.specs.Giving
+pub mod Base

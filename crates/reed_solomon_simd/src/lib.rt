@@ -34,6 +34,7 @@ pub mod strip_comparer;
 pub mod strip_decoder;
 pub mod strip_encoder;
 pub mod strip_rebuilder;
+mod strip_summer;
 pub mod verifying;
 mod wanted_shards;
 

@@ -28,9 +28,10 @@ use std::alloc::Global;
 /// which also begin at 0. All shards have the size of the first recovery shard, or of the first original if there is no
 /// recovery shard. A shard that was received cannot be wanted.
 ///
-/// The call allocates two lists of references to shards, two lists of marks, the vectors, and work areas for at most 2048
-/// bytes of each shard. It decodes strip by strip. If a recovery shard is wanted, it also encodes the originals of each
-/// strip.
+/// The call works strip by strip, with at most 2048 bytes of each shard at a time. If few shards are wanted, it sums
+/// received shards, each times a factor. Otherwise it decodes each strip, and if a recovery shard is wanted, it also encodes
+/// the originals of the strip. It allocates two lists of references to shards, three lists of marks, the vectors, and the
+/// factors' logarithms or work areas for a strip of each shard.
 ///
 /// # Errors
 ///
@@ -38,7 +39,7 @@ use std::alloc::Global;
 ///   [`ReconstructError::Refused`].
 /// - For each wanted shard in order: [`ReconstructError::WantedIndexTooLarge`] if its index is not below the number of
 ///   shards of its kind, [`ReconstructError::WantedTwice`], [`ReconstructError::WantedReceived`].
-/// - [`Error::OutOfMemory`] if the vectors or the work areas cannot be allocated.
+/// - [`Error::OutOfMemory`] if the vectors, the logarithms or the work areas cannot be allocated.
 /// - [`Error::InconsistentShards`] if no message agrees with all received shards.
 ///
 /// The order is proved, with one exception: if the check of the size finds no error, the contract allows

@@ -1,6 +1,7 @@
-//! Reconstructing wanted shards strip by strip. For each strip, the received shards are decoded. If a recovery shard is
-//! wanted, the originals are then encoded. The wanted pieces are copied into the rooms.
-ghost use Rattle.std.specs.Prelude.{◌≡◌, ◌⊎◌, ℕ, ◌+◌, ◌-◌, ◌<◌, ◌≤◌, All, true, false, List, length, map, Ok, Some, OnOk, IfErr, IsTrue, option_copied};
+//! Reconstructing wanted shards strip by strip. Few shards are rebuilt by direct sums. Otherwise the received shards of each
+//! strip are decoded. If a recovery shard is wanted, the originals are then encoded. The wanted pieces are copied into the
+//! rooms.
+ghost use Rattle.std.specs.Prelude.{◌≡◌, ◌⊎◌, ℕ, ◌+◌, ◌-◌, ◌*◌, ◌<◌, ◌≤◌, All, true, false, List, length, map, Ok, Some, OnOk, IfErr, IsTrue, option_copied};
 ghost use Rattle.std.specs.List.{list_any};
 ghost use Rattle.rs_field.specs.code.Code.{AreRecovery};
 ghost use Rattle.rs_field.specs.code.Column.{Shard, shard_at};
@@ -8,6 +9,7 @@ ghost use Rattle.rs_field.specs.code.Counts.{default_rate};
 ghost use Rattle.rs_field.specs.code.Decoder.{IsDecoder, fresh_decoder, enough_given, IsAgreeing, Restored, NoneAgrees};
 ghost use Rattle.rs_field.specs.code.Encoder.{fresh_encoder};
 ghost use Rattle.rs_field.specs.code.OneCall.{with_shards};
+ghost use Rattle.rs_field.specs.code.Frame.{row_count};
 ghost use Rattle.rs_field.specs.code.Pieces.{IsStrip, ArePut, room_length};
 ghost use Rattle.rs_field.specs.code.PieceStates.{state_of_pieces};
 ghost use Rattle.rs_rate.specs.DecoderView.{decoder_state};
@@ -21,10 +23,13 @@ use crate::pieces::Pieces;
 use crate::rooms::Rooms;
 use crate::shard_index::ShardIndex;
 use crate::strip_decoder::{STRIP_BYTES, decode_pieces};
+use crate::strip_summer::{mark_base, sum_strips};
 use rs_field::engine::{Engine, Steps};
 use rs_field::error::Error;
 use rs_rate::rate::rounds::{encode_round, lent_originals, lent_recovery};
-use rs_rate::rate::{DefaultRateDecoder, DefaultRateEncoder, RateDecoder, RateEncoder};
+use rs_rate::rate::{
+    DefaultRateCounts, DefaultRateDecoder, DefaultRateEncoder, RateDecoder, RateEncoder,
+};
 use rs_rate::{DecoderResult, EncoderResult};
 use std::alloc::Global;
 
@@ -33,10 +38,57 @@ use std::alloc::Global;
 ///
 /// # Errors
 ///
-/// - [`Error::OutOfMemory`] if the work areas cannot be allocated.
+/// - [`Error::OutOfMemory`] if the marks, the logarithms or the work areas cannot be allocated.
 /// - For each strip in order: [`Error::InconsistentShards`] if no message agrees with all received shards, and then
 ///   [`Error::OutOfMemory`] if a room cannot grow. The rooms may then hold some strips.
 pub fn rebuild_strips<E: Engine + Copy, P: Pieces, R: Rooms>(
+    alloc: Global,
+    engine: E,
+    received: &P,
+    wanted: &[ShardIndex],
+    rooms: &mut R,
+) -> Result<(), Error>
+    requires set_up { IsDecoder default_rate (P.received received.now) }
+    requires enough { enough_given (P.received received.now) ≡ Ok tt }
+    requires can { All (CanBeRebuilt (P.received received.now)) wanted.now }
+    requires number { length (R.held rooms.old) ≡ length wanted.now }
+    requires fit { All
+        (λ room. length room
+        ≡ room_length R.grows 0 (P.received received.now).configuration.shard_bytes)
+        (R.held rooms.old) }
+    ensures rebuilt { OnOk result
+        (AreReconstructed (P.received received.now) wanted.now (R.held rooms.new)) }
+    ensures refused { IfErr result
+        (λ e. NoneAgrees (P.received received.now) e ⊎ (e ≡ Error.OutOfMemory)) }
+    ensures untouched { R.grows ≡ false
+        → IfErr result (λ e. e ≡ Error.OutOfMemory → R.held rooms.new ≡ R.held rooms.old) }
+    ensures places { R.places rooms.new ≡ R.places rooms.old }
+    ensures loan { R.loan rooms.new ≡ R.loan rooms.old }
+{
+    let (marks, surplus) = mark_base(alloc, received)?;
+    if are_sums_cheaper(received.counts(), wanted.len(), surplus) {
+        return sum_strips(alloc, &engine, received, wanted, marks, surplus, rooms);
+    }
+    rebuild_by_rounds(alloc, engine, received, wanted, rooms)
+}
+
+// Returns whether direct sums rebuild shards in fewer row steps than a decode: for each wanted shard and each surplus shard, a
+// sum takes one product for each original, while a transform of the rows of a decoder takes half of their number times the
+// exponent.
+fn are_sums_cheaper(counts: DefaultRateCounts, wanted: usize, surplus: usize) -> bool
+    requires few { surplus ≤ 65536 }
+    ensures { result ≡ true
+        → 2 * ((wanted + surplus) * counts.original_count)
+        < row_count counts.frame * counts.frame.exponent }
+{
+    let row_count = counts.frame.row_count();
+    wanted <= row_count
+        && 2 * ((wanted + surplus) * counts.original_count) < row_count * counts.frame.exponent
+}
+
+// Writes wanted shards into rooms, in order, by a decode of each strip and an encode if a recovery shard is wanted. Fails as
+// `rebuild_strips` does.
+fn rebuild_by_rounds<E: Engine + Copy, P: Pieces, R: Rooms>(
     alloc: Global,
     engine: E,
     received: &P,

@@ -34,7 +34,7 @@ pub fn check_wanted(
 }
 
 // Returns `count` marks that are not set, or fails with `OutOfMemory`.
-fn no_marks(alloc: Global, count: usize) -> Result<Vec<bool>, Error>
+pub(crate) fn no_marks(alloc: Global, count: usize) -> Result<Vec<bool>, Error>
     ensures { MatchResult result (λ marks. marks.items ≡ replicate count false)
         (λ e. e ≡ Error.OutOfMemory) }
 {

@@ -4,6 +4,7 @@ use Rattle.std.proofs.Common.{ap, ap₂, ◌∙◌, arith, inl, inr, add-zero, a
 use Rattle.std.specs.Prelude.{is_some, not, ◌&&◌}
 use Rattle.std.proofs.lemmas.Bool.{cases_lt}
 use Rattle.rs_field.specs.code.Frame.{original_row, recovery_row, row_count}
+use Rattle.rs_field.specs.declared.code.frame.Frame.{Frame}
 use Rattle.rs_field.specs.code.Given.{Shards, count_below}
 use Rattle.rs_field.proofs.of_code.Frame.{IsFrame}
 use Rattle.rs_field.proofs.of_code.Given.{count_below-zero, count_below-suc}
@@ -86,7 +87,7 @@ how_many-rest (suc n) has narrow part =
     one_of_both false false part = refl
 
 -- The number of entries that have a shard.
-count_below-many : (n : ℕ) (given : Shards) → how_many n (λ i. is_some (given i)) ≡ count_below n given
+pub count_below-many : (n : ℕ) (given : Shards) → how_many n (λ i. is_some (given i)) ≡ count_below n given
 count_below-many zero given = how_many-zero (λ i. is_some (given i)) ∙ sym (count_below-zero given)
 count_below-many (suc n) given =
     how_many-suc n (λ i. is_some (given i))
@@ -116,6 +117,37 @@ how_many-gap a (suc n) b has end none =
     ∙ ap (λ c. how_many (a + n) has + cond c 1 0) (none (a + n) (omega arith) (omega arith))
     ∙ add-zero (how_many (a + n) has) ∙ how_many-gap a n (a + n) has refl (λ x from to. none x from (omega arith))
 
+-- The rows with a property are rows of originals and rows of recovery shards, if no other row has it.
+pub many_in_frame : (frame : Frame) (k r : ℕ) → IsFrame frame k r → (has : ℕ → Bool)
+    → ((p : ℕ) → (p < frame.originals_from) ⊎ (original_row frame k ≤ p)
+    → (p < frame.recovery_from) ⊎ (recovery_row frame r ≤ p) → has p ≡ false)
+    → how_many (row_count frame) has
+    ≡ how_many k (λ i. has (original_row frame i)) + how_many r (λ i. has (recovery_row frame i))
+many_in_frame frame k r f has none =
+    let w = row_count frame in
+    let from = frame.originals_from in
+    let own_end = original_row frame k in
+    let coded_end = recovery_row frame r in
+    let own = how_many-add from k has in
+    let coded = how_many-add frame.recovery_from r has in
+    let own_fit = f.originals in let coded_fit = f.recovery in let zeros = f.zeros in let follow = f.follow in
+    elim f.order [
+      | inl low ↦
+          let start = ap (λ n. how_many n has) low.0 ∙ how_many-zero has in
+          let gap = how_many-gap own_end (frame.recovery_from - own_end) frame.recovery_from has
+          (omega (arith, low.1)) (λ x above below. none x (inr above) (inl below)) in
+          let rest = how_many-gap coded_end (w - coded_end) w has (omega arith)
+          (λ x above below. none x (inr (omega (arith, low.1))) (inr above)) in
+          omega (arith, start, own, gap, coded, rest)
+      | inr high ↦
+          let start = ap (λ n. how_many n has) high.0 ∙ how_many-zero has in
+          let gap = how_many-gap coded_end (from - coded_end) from has (omega (arith, high.0, high.1))
+          (λ x above below. none x (inl below) (inr above)) in
+          let rest = how_many-gap own_end (w - own_end) w has (omega arith)
+          (λ x above below. none x (inr above) (inr (omega (arith, high.0, high.1)))) in
+          omega (arith, start, own, gap, coded, rest)
+    ]
+
 module _ (c : Configuration) (f : IsFrame c.frame c.original_count c.recovery_count) (originals recovery : ℕ)
     (rows : Shards) (given : HoldGiven c originals recovery rows) where
   -- The number of given originals.
@@ -137,29 +169,6 @@ module _ (c : Configuration) (f : IsFrame c.frame c.original_count c.recovery_co
   -- The rows that hold given shards are as many as these.
   pub many_rows : how_many (row_count c.frame) (λ p. is_some (rows p)) ≡ originals + recovery
   many_rows =
-      let has : ℕ → Bool = λ p. is_some (rows p) in
-      let w = row_count c.frame in
-      let from = c.frame.originals_from in
-      let own_end = original_row c.frame c.original_count in
-      let coded_end = recovery_row c.frame c.recovery_count in
-      let none : (p : ℕ) → (p < from) ⊎ (own_end ≤ p) → (p < c.frame.recovery_from) ⊎ (coded_end ≤ p)
-      → is_some (rows p) ≡ false = λ p not_own not_coded. ap is_some (given.placed p not_own not_coded) in
-      let own = how_many-add from c.original_count has in
-      let coded = how_many-add c.frame.recovery_from c.recovery_count has in
-      let own_fit = f.originals in let coded_fit = f.recovery in let zeros = f.zeros in let follow = f.follow in
-      elim f.order [
-        | inl low ↦
-            let start = ap (λ n. how_many n has) low.0 ∙ how_many-zero has in
-            let gap = how_many-gap own_end (c.frame.recovery_from - own_end) c.frame.recovery_from has
-            (omega (arith, low.1)) (λ x above below. none x (inr above) (inl below)) in
-            let rest = how_many-gap coded_end (w - coded_end) w has (omega arith)
-            (λ x above below. none x (inr (omega (arith, low.1))) (inr above)) in
-            omega (arith, start, own, gap, coded, rest, many_originals, many_recovery)
-        | inr high ↦
-            let start = ap (λ n. how_many n has) high.0 ∙ how_many-zero has in
-            let gap = how_many-gap coded_end (from - coded_end) from has (omega (arith, high.0, high.1))
-            (λ x above below. none x (inl below) (inr above)) in
-            let rest = how_many-gap own_end (w - own_end) w has (omega arith)
-            (λ x above below. none x (inr above) (inr (omega (arith, high.0, high.1)))) in
-            omega (arith, start, own, gap, coded, rest, many_originals, many_recovery)
-      ]
+      many_in_frame c.frame c.original_count c.recovery_count f (λ p. is_some (rows p))
+      (λ p not_own not_coded. ap is_some (given.placed p not_own not_coded))
+      ∙ ap₂ (λ (a b : ℕ). a + b) many_originals many_recovery

@@ -6,6 +6,7 @@ pub mod RestoringRows
 pub mod RowMaps
 pub mod HowMany
 pub mod ChangeLemmas
+pub mod SumLemmas
 pub mod DirectRows
 pub mod AddedShards
 pub mod ResultLemmas

@@ -15,3 +15,4 @@ pub mod RowsLaws
 pub mod Decoding
 pub mod Calls
 pub mod Giving
+pub mod Sums

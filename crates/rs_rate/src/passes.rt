@@ -6,3 +6,4 @@ pub mod encoding;
 pub mod high_encoding;
 pub mod low_encoding;
 pub mod restoring;
+pub mod sums;

@@ -4,7 +4,7 @@ pub use crate::objects::encoders::{DefaultRateEncoder, HighRateEncoder, LowRateE
 pub use crate::objects::rates::{DefaultRate, HighRate, LowRate};
 pub use crate::objects::traits::{Rate, RateDecoder, RateEncoder};
 pub use crate::objects::{giving, names, originals_alone, rounds};
-pub use crate::passes::changes;
+pub use crate::passes::{changes, sums};
 pub use crate::rows::decoder_work::DecoderWork;
 pub use crate::rows::encoder_work::EncoderWork;
 pub use crate::values::supported_counts::{DefaultRateCounts, HighRateCounts, LowRateCounts};

@@ -151,21 +151,33 @@ fn check_many(
     Ok(())
 }
 
+// Both ways, by transforms and by direct sums, with each engine. The counts of the last two cases are on the side of sums.
 #[test]
 fn many_lost_shards_come_back(rt: HostRuntime) -> Result<(), Fail> {
     let alloc = rt.alloc();
     let tables = Tables::new(alloc)?;
-    let engine = DefaultEngine::new(&tables, EngineKind::Ssse3);
+    let kinds = [
+        EngineKind::Ssse3,
+        EngineKind::Avx2,
+        EngineKind::NoSimd,
+        EngineKind::Naive,
+    ];
     for (k, r, half, shard_bytes) in [
         (10, 4, 2, 2),
         (33, 31, 15, 66),
         (20, 60, 20, 2050),
         (64, 17, 8, 64),
         (100, 30, 7, 4098),
+        (100, 30, 2, 4098),
+        (20, 60, 3, 66),
     ] {
+        let engine = DefaultEngine::new(&tables, EngineKind::Ssse3);
         let originals = drawn(alloc, k, shard_bytes)?;
         let recovery = encode_slice(alloc, k, r, &originals, engine)?;
-        check_many(&rt, alloc, &originals, &recovery, half, engine)?;
+        for kind in kinds {
+            let engine = DefaultEngine::new(&tables, kind);
+            check_many(&rt, alloc, &originals, &recovery, half, engine)?;
+        }
     }
     Ok(())
 }

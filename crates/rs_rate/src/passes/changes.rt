@@ -11,15 +11,12 @@ ghost use Rattle.rs_field.specs.rows.MarkedRows.{is_marked};
 ghost use Rattle.rs_field.specs.words.DirectSum.{direct_factor};
 ghost use Rattle.rs_field.specs.words.Field.{product, power, log};
 
-use crate::passes::decoding::make_locator;
-use crate::passes::direct::Logarithms;
-use crate::rows::shard_rows::{in_order_are_bytes, insert_at, move_tail, shard_at};
+use crate::passes::sums::{SumBase, add_times, finish_sum, summed_piece};
+use crate::rows::shard_rows::insert_at;
 use crate::values::supported_counts::DefaultRateCounts;
-use rs_field::bytes::are_words;
 use rs_field::engine::layout::row_len;
 use rs_field::engine::{Engine, GfElement, Steps};
 use rs_field::error::Error;
-use rs_field::frame::Frame;
 use std::alloc::Global;
 
 /// The most bytes of a piece that [`add_change`] takes.
@@ -44,56 +41,10 @@ pub fn change_factors<E: Engine>(
         factors.items) }
     ensures refused { IfErr result (λ e. e ≡ Error.OutOfMemory) }
 {
-    let given = original_marks(alloc, counts)?;
-    let mut locator = vec![in alloc; 0; counts.frame.row_count()]?;
-    let mut logs = vec![in alloc; 0; counts.frame.row_count()]?;
-    let locator = locator.as_mut_slice();
-    let logs = logs.as_mut_slice();
-    factors_of(
-        alloc,
-        engine,
-        steps,
-        counts,
-        given.as_slice(),
-        locator,
-        logs,
-        index,
-    )
-}
-
-// Returns the logarithms of `change_factors`. The originals' rows are marked as given. `locator` and `logs` are memory for an entry
-// for each row; the entries of `logs` are 0 before.
-fn factors_of<E: Engine>(
-    alloc: Global,
-    engine: &E,
-    steps: &mut Steps,
-    counts: DefaultRateCounts,
-    given: &[bool],
-    locator: &mut [GfElement],
-    logs: &mut [GfElement],
-    index: usize,
-) -> Result<Vec<GfElement>, Error>
-    requires inside { index < counts.original_count }
-    requires marked { length given.now ≡ row_count counts.frame }
-    requires own { (i : ℕ) → i < counts.original_count
-        → is_marked given.now (original_row counts.frame i) ≡ true }
-    requires others { (p : ℕ)
-        → (p < counts.frame.originals_from) ⊎ (original_row counts.frame counts.original_count ≤ p)
-        → is_marked given.now p ≡ false }
-    requires entries { length locator.old ≡ row_count counts.frame }
-    requires logs { length logs.old ≡ row_count counts.frame }
-    requires zeros { (z : ℕ) → slice_index logs.old z ≡ 0 }
-    ensures made { IfOk result
-        (λ factors. AreChangeFactors default_rate counts.original_count counts.recovery_count index
-        factors.items) }
-    ensures refused { IfErr result (λ e. e ≡ Error.OutOfMemory) }
-{
-    let frame = counts.frame;
-    make_locator(engine, steps, locator, given, frame);
-    locate_zero(engine, steps, logs, frame);
-    let logarithms = Logarithms { locator, logs };
-    let row = frame.original_row(index);
-    recovery_factors(alloc, &logarithms, frame, counts.recovery_count, row)
+    let marks = original_marks(alloc, counts)?;
+    let base = SumBase::new(alloc, engine, steps, counts, marks)?;
+    let row = counts.frame.original_row(index);
+    recovery_factors(alloc, &base, row)
 }
 
 // Returns marks of all rows of a decoder of these counts, of which those of the originals are set.
@@ -113,41 +64,23 @@ fn original_marks(alloc: Global, counts: DefaultRateCounts) -> Result<Vec<bool>,
     Ok(marks)
 }
 
-// Sets each entry except for entry 0 to the logarithm of its index, modulo 65535: the locator of point 0 at the other points.
-// All entries are 0 before.
-fn locate_zero<E: Engine>(engine: &E, steps: &mut Steps, logs: &mut [GfElement], frame: Frame)
-    requires few { frame.exponent ≤ 16 }
-    requires count { length logs.old ≡ row_count frame }
-    requires zeros { (z : ℕ) → slice_index logs.old z ≡ 0 }
-    ensures { (z : ℕ) → 0 < z → z < length logs.old → slice_index logs.new z % 65535 ≡ log z }
-{
-    logs[0] = 1;
-    engine.locate(steps, logs);
-}
-
 // Returns, for each recovery shard, the logarithm of the factor of row x in its row.
-fn recovery_factors(
-    alloc: Global,
-    logarithms: &Logarithms<'_>,
-    frame: Frame,
-    recovery_count: usize,
-    x: usize,
-) -> Result<Vec<GfElement>, Error>
-    requires few { frame.exponent ≤ 16 }
-    requires located { length logarithms.now.locator.now ≡ row_count frame }
-    requires known { length logarithms.now.logs.now ≡ row_count frame }
-    requires within { recovery_row frame recovery_count ≤ row_count frame }
-    requires from { x < row_count frame }
-    requires apart { (i : ℕ) → i < recovery_count → x ≢ recovery_row frame i }
-    ensures count { IfOk result (λ factors. length factors.items ≡ recovery_count) }
-    ensures factors { IfOk result (λ factors. (i : ℕ) → i < recovery_count
+fn recovery_factors(alloc: Global, base: &SumBase, x: usize) -> Result<Vec<GfElement>, Error>
+    requires from { x < row_count base.now.counts.frame }
+    requires apart { (i : ℕ) → i < base.now.counts.recovery_count
+        → x ≢ recovery_row base.now.counts.frame i }
+    ensures count { IfOk result
+        (λ factors. length factors.items ≡ base.now.counts.recovery_count) }
+    ensures factors { IfOk result (λ factors. (i : ℕ) → i < base.now.counts.recovery_count
         → slice_index factors.items i
-        ≡ direct_factor (λ z. slice_index logarithms.now.locator.now z) x (recovery_row frame i)) }
+        ≡ direct_factor (λ z. slice_index base.now.locator.items z) x
+        (recovery_row base.now.counts.frame i)) }
     ensures refused { IfErr result (λ e. e ≡ Error.OutOfMemory) }
 {
-    let mut factors = Vec::with_capacity(alloc, recovery_count)?;
-    for i in 0..recovery_count {
-        factors.push(logarithms.factor(x, frame.recovery_row(i)))?;
+    let counts = base.counts;
+    let mut factors = Vec::with_capacity(alloc, counts.recovery_count)?;
+    for i in 0..counts.recovery_count {
+        factors.push(base.factor(x, counts.frame.recovery_row(i)))?;
     }
     Ok(factors)
 }
@@ -205,9 +138,7 @@ fn add_in_rows<E: Engine>(
         ≡ bit_xor (column j piece.old) (product (column j change.now) (power log_m)) }
 {
     insert_at(row, piece, 0);
-    insert_at(added, change, 0);
-    engine.mul_add(steps, row, added, log_m);
-    move_tail(row, 0, piece.len());
-    in_order_are_bytes(row, 1, piece.len());
-    piece.copy_from_slice(shard_at(row, piece.len(), 0));
+    add_times(engine, steps, row, added, change, log_m);
+    finish_sum(row, piece.len());
+    piece.copy_from_slice(summed_piece(row, piece.len()));
 }

@@ -27,7 +27,7 @@ pub struct SupportedCounts<C: RateMarker> {
     /// The number of recovery shards.
     pub recovery_count: usize,
     /// The frame of the rate for these counts.
-    pub(crate) frame: Frame,
+    pub frame: Frame,
     code: PhantomData<C>,
     pub ghost supported: { supports C.rate original_count recovery_count ≡ true },
     pub ghost framed: { frame ≡ frame_of C.rate original_count recovery_count },

@@ -1,14 +1,67 @@
-use Rattle.rs_rate.proofs.ChangeLemmas.{is_frame_of}
+use Rattle.std.proofs.Common.{◌≡◌, ℕ, ◌^◌, ◌<◌, ◌≤◌, Bool, List, length, subst, ap, arith, pow_mono, inl, inr}
+use Rattle.std.specs.Prelude.{IfOk, slice_index}
+use Rattle.rs_field.specs.code.Frame.{row_count, recovery_row}
+use Rattle.rs_field.specs.declared.code.frame.Frame.{Frame}
+use Rattle.rs_field.specs.words.DirectSum.{direct_factor}
+use Rattle.rs_rate.specs.Decoding.{IsLocatorOf}
+use Rattle.rs_rate.proofs.ChangeLemmas.{is_frame_of, rows_apart, made_factors}
 use Rattle.rs_rate.proofs.passes.changes.change_factors.Goals as goal
 
-pub row_count-requires : goal.row_count-requires
-row_count-requires g c =
+pub original_row-row-requires : goal.original_row-row-requires
+original_row-row-requires g c =
     let f = is_frame_of c.args.counts.frame c.args.counts.original_count c.args.counts.recovery_count
     c.args.counts.framed c.args.counts.supported in
-    f.few
+    let rows : row_count c.args.counts.frame ≤ 2 ^ 16 = pow_mono f.few in
+    omega (arith, rows, f.originals, c.requires)
 
-pub row_count-requires-2 : goal.row_count-requires-2
-row_count-requires-2 g c =
+pub recovery_factors-requires-clause-from : goal.recovery_factors-requires-clause-from
+recovery_factors-requires-clause-from g c =
     let f = is_frame_of c.args.counts.frame c.args.counts.original_count c.args.counts.recovery_count
     c.args.counts.framed c.args.counts.supported in
-    f.few
+    let same : row_count c.in_ok-base.base.counts.frame ≡ row_count c.args.counts.frame =
+    ap (λ m. row_count m.frame) c.in_ok-base.ensures.made.0 in
+    omega (arith, same, f.originals, c.requires, c.original_row-row.ensures)
+
+pub recovery_factors-requires-clause-apart : goal.recovery_factors-requires-clause-apart
+recovery_factors-requires-clause-apart g c i inside same =
+    let f = is_frame_of c.args.counts.frame c.args.counts.original_count c.args.counts.recovery_count
+    c.args.counts.framed c.args.counts.supported in
+    let row = c.original_row-row.ensures in
+    let there : i < c.args.counts.recovery_count =
+    subst (λ (n : ℕ). i < n) (ap (λ m. m.recovery_count) c.in_ok-base.ensures.made.0) inside in
+    let other : recovery_row c.in_ok-base.base.counts.frame i ≡ recovery_row c.args.counts.frame i =
+    ap (λ m. recovery_row m.frame i) c.in_ok-base.ensures.made.0 in
+    elim (rows_apart c.args.counts.frame c.args.counts.original_count c.args.counts.recovery_count i f there) [
+      | inl before ↦ omega (arith, same, other, row, before)
+      | inr past ↦ omega (arith, same, other, row, past, c.requires)
+    ]
+
+pub returns-clause-made : goal.returns-clause-made
+returns-clause-made g c =
+    let base = c.in_ok-base.base in
+    let counts = c.args.counts in
+    let marks = c.in_ok-marks.marks.items in
+    let made = c.in_ok-base.ensures.made in
+    let frame : c.in_ok-base.base.counts.frame ≡ c.args.counts.frame = ap (λ m. m.frame) made.0 in
+    let number : c.in_ok-base.base.counts.recovery_count ≡ c.args.counts.recovery_count =
+    ap (λ m. m.recovery_count) made.0 in
+    made_factors (λ v. v.items) c.recovery_factors.result counts.frame counts.original_count counts.recovery_count
+    c.args.index marks base.locator.items counts.framed counts.supported c.requires c.in_ok-marks.ensures.own
+    c.in_ok-marks.ensures.others
+    (subst (λ (p : Frame). IsLocatorOf p c.in_ok-marks.marks.items c.in_ok-base.base.locator.items) frame
+    (subst (λ (m : List Bool). IsLocatorOf c.in_ok-base.base.counts.frame m c.in_ok-base.base.locator.items) made.1
+    base.located))
+    (subst (λ (n : ℕ). IfOk c.recovery_factors.result (λ f. length f.items ≡ n)) number
+    c.recovery_factors.ensures.count)
+    (subst (λ (x : ℕ). IfOk c.recovery_factors.result (λ f. (i : ℕ) → i < c.args.counts.recovery_count
+    → slice_index f.items i
+    ≡ direct_factor (λ z. slice_index c.in_ok-base.base.locator.items z) x (recovery_row c.args.counts.frame i)))
+    c.original_row-row.ensures
+    (subst (λ (p : Frame). IfOk c.recovery_factors.result (λ f. (i : ℕ) → i < c.args.counts.recovery_count
+    → slice_index f.items i
+    ≡ direct_factor (λ z. slice_index c.in_ok-base.base.locator.items z) c.original_row-row.result (recovery_row p i)))
+    frame
+    (subst (λ (n : ℕ). IfOk c.recovery_factors.result (λ f. (i : ℕ) → i < n
+    → slice_index f.items i
+    ≡ direct_factor (λ z. slice_index c.in_ok-base.base.locator.items z) c.original_row-row.result
+    (recovery_row c.in_ok-base.base.counts.frame i))) number c.recovery_factors.ensures.factors)))

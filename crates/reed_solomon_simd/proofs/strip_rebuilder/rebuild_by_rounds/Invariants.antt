@@ -6,7 +6,7 @@ use Rattle.rs_field.specs.code.OneCall.{default_of}
 use Rattle.rs_rate.specs.DecoderView.{decoder_state}
 use Rattle.rs_rate.specs.EncoderView.{encoder_state}
 use Rattle.reed_solomon_simd.proofs.RebuiltStrips.{IsRebuiltBelow}
-use Rattle.reed_solomon_simd.proofs.strip_rebuilder.rebuild_strips.Given as goal
+use Rattle.reed_solomon_simd.proofs.strip_rebuilder.rebuild_by_rounds.Given as goal
 
 -- All bytes before `start` are rebuilt. A chunk begins at `start`, or the shards end there. If bytes are left, the
 -- decoder and the encoder are ready for the next strip.

@@ -1,0 +1,257 @@
+-- Direct sums over a base of received shards: the shards in rows, the base, and the words of the sums.
+use Rattle.std.proofs.Common.{◌≡◌, ℕ, ◌+◌, ◌-◌, ◌<◌, ◌≤◌, ◌⊎◌, Bool, true, false, cond, List, length}
+use Rattle.std.proofs.Common.{refl, sym, ap, ap₂, ◌∙◌, subst, inl, inr, arith}
+use Rattle.std.specs.Prelude.{Option, Some, None, is_some, nat_le, nat_lt, ◌&&◌, slice_index}
+use Rattle.std.specs.List.{between}
+use Rattle.std.specs.Option.{option_map}
+use Rattle.std.proofs.lemmas.Bool.{cases_lt, cases_Bool}
+use Rattle.std.proofs.lemmas.Grind.{common_steps}
+use Rattle.std.proofs.lemmas.Option.{none-some}
+use mathlib.Core.Path.{fun_ext}
+use Rattle.rs_field.specs.code.Column.{Shard, column}
+use Rattle.rs_field.specs.code.Counts.{default_rate}
+use Rattle.rs_field.specs.code.Decoder.{DecoderState, IsDecoder}
+use Rattle.rs_field.specs.code.DirectLaws.{entry_in, given_at, word_of, word_at, locator_at, summed_word}
+use Rattle.rs_field.specs.code.Frame.{frame_of, row_count, original_row, recovery_row}
+use Rattle.rs_field.specs.declared.code.frame.Frame.{Frame}
+use Rattle.rs_field.specs.code.Given.{Shards, count_below}
+use Rattle.rs_field.specs.code.PieceStates.{pieces_of, state_of_pieces}
+use Rattle.rs_field.specs.rows.MarkedRows.{is_marked}
+use Rattle.rs_field.specs.words.DirectSum.{direct_factor, direct_sum}
+use Rattle.rs_field.specs.words.Field.{product, power}
+use Rattle.rs_field.specs.words.Transform.{sum_below}
+use Rattle.rs_field.proofs.of_code.Frame.{IsFrame}
+use Rattle.rs_field.proofs.of_code.PieceStates.{is_some-map}
+use Rattle.rs_field.proofs.of_code.RateFrames.{has_frame}
+use Rattle.rs_field.proofs.of_code.RestoredBelow.{count-pieces}
+use Rattle.rs_field.proofs.of_words.Combination.{sum_below-same}
+use Rattle.rs_rate.specs.Sums.{AreMarksOf, ListsMarked}
+use Rattle.rs_rate.proofs.StateLemmas.{valid-supported}
+use Rattle.reed_solomon_simd.specs.Base.{frame_in, shard_in_row, marked_part, marked_state, MarkBase, base_sum}
+
+-- ---- the shards in rows
+
+-- The frame of a decoder.
+pub decoder_frame : (s : DecoderState) → IsDecoder default_rate s
+    → IsFrame (frame_in s) s.configuration.original_count s.configuration.recovery_count
+decoder_frame s is =
+    has_frame s.configuration.rate s.configuration.original_count s.configuration.recovery_count
+    (valid-supported s.configuration is.valid)
+
+-- The frame of counts is that of a decoder of these counts.
+pub frame_same : (frame : Frame) (k r : ℕ) (s : DecoderState) → IsDecoder default_rate s
+    → frame ≡ frame_of default_rate k r → k ≡ s.configuration.original_count → r ≡ s.configuration.recovery_count
+    → frame ≡ frame_in s
+frame_same frame k r s is framed own other =
+    framed ∙ ap₂ (frame_of default_rate) own other
+    ∙ ap (λ rate. frame_of rate s.configuration.original_count s.configuration.recovery_count) (sym is.of_rate)
+
+-- What holds of a frame and counts holds of equal ones.
+pub at_counts : (P : Frame → ℕ → ℕ → Type 0) (frame other : Frame) (k l r t : ℕ) → frame ≡ other → k ≡ l → r ≡ t
+    → P frame k r → P other l t
+at_counts P frame other k l r t same own coded holds =
+    subst (λ (p : Frame). P p l t) same
+    (subst (λ (n : ℕ). P frame n t) own (subst (λ (n : ℕ). P frame k n) coded holds))
+
+-- A row among those of a map has the entry of the map.
+pub entry-inside : (from n x : ℕ) (given : Shards) (other : Option Shard) → from ≤ x → x < from + n
+    → entry_in from n given other x ≡ given (x - from)
+unfolding entry_in
+entry-inside from n x given other above below = grind (arith, common_steps)
+
+pub entry-outside : (from n x : ℕ) (given : Shards) (other : Option Shard) → (x < from) ⊎ (from + n ≤ x)
+    → entry_in from n given other x ≡ other
+unfolding entry_in
+entry-outside from n x given other outside = grind (arith, common_steps)
+
+-- A row is among those of a map, or it is not.
+pub inside-or : (from n x : ℕ) → ((from ≤ x) × (x < from + n)) ⊎ ((x < from) ⊎ (from + n ≤ x))
+inside-or from n x = elim (cases_lt x from) [
+  | inl before ↦ inr (inl before)
+  | inr above ↦ elim (cases_lt x (from + n)) [ inl below ↦ inl (above, below) | inr past ↦ inr (inr past) ]
+]
+
+-- The same for equal numbers.
+pub outside-same : (x a b n m : ℕ) → a ≡ b → n ≡ m → (x < a) ⊎ (a + n ≤ x) → (x < b) ⊎ (b + m ≤ x)
+outside-same x a b n m from same (inl before) = inl (omega arith)
+outside-same x a b n m from same (inr past) = inr (omega arith)
+
+-- The shard in a row, from its place among the originals and the recovery shards.
+in_row-is : (s : DecoderState) (x : ℕ)
+    → shard_in_row s x ≡ entry_in (frame_in s).originals_from s.configuration.original_count s.originals
+    (entry_in (frame_in s).recovery_from s.configuration.recovery_count s.recovery None x) x
+unfolding given_at
+in_row-is s x = refl
+
+-- A row that is neither that of an original nor that of a recovery shard has no shard.
+pub in_row-none : (s : DecoderState) (x : ℕ)
+    → (x < (frame_in s).originals_from) ⊎ (original_row (frame_in s) s.configuration.original_count ≤ x)
+    → (x < (frame_in s).recovery_from) ⊎ (recovery_row (frame_in s) s.configuration.recovery_count ≤ x)
+    → shard_in_row s x ≡ None
+in_row-none s x not_own not_coded =
+    let p = frame_in s in
+    in_row-is s x
+    ∙ entry-outside p.originals_from s.configuration.original_count x s.originals _ not_own
+    ∙ entry-outside p.recovery_from s.configuration.recovery_count x s.recovery None not_coded
+
+-- A shard in a row is an original or a recovery shard.
+pub in_row-cases : (s : DecoderState) (x : ℕ) (shard : Shard) → shard_in_row s x ≡ Some shard
+    → ((i : ℕ) × (i < s.configuration.original_count) × (x ≡ original_row (frame_in s) i)
+    × (s.originals i ≡ Some shard))
+    ⊎ ((i : ℕ) × (i < s.configuration.recovery_count) × (x ≡ recovery_row (frame_in s) i)
+    × (s.recovery i ≡ Some shard))
+in_row-cases s x shard is =
+    let p = frame_in s in let k = s.configuration.original_count in let r = s.configuration.recovery_count in
+    elim (inside-or (frame_in s).originals_from k x) [
+      | inl own ↦ inl (
+        x - p.originals_from,
+        omega (arith, own.0, own.1),
+        omega (arith, own.0),
+        (sym (entry-inside p.originals_from k x s.originals _ own.0 own.1) ∙ sym (in_row-is s x) ∙ is),
+      )
+      | inr not_own ↦
+          let rest = sym (entry-outside p.originals_from k x s.originals _ not_own) ∙ sym (in_row-is s x) ∙ is in
+          elim (inside-or (frame_in s).recovery_from r x) [
+            | inl coded ↦ inr (
+              x - p.recovery_from,
+              omega (arith, coded.0, coded.1),
+              omega (arith, coded.0),
+              (sym (entry-inside p.recovery_from r x s.recovery None coded.0 coded.1) ∙ rest),
+            )
+            | inr not_coded ↦
+                absurd (none-some shard (sym (entry-outside p.recovery_from r x s.recovery None not_coded) ∙ rest))
+          ]
+    ]
+
+-- The piece in a row is a piece of the shard in the row.
+pub in_row-pieces : (start end : ℕ) (s : DecoderState) (x : ℕ)
+    → shard_in_row (state_of_pieces start end s) x ≡ option_map (λ shard. between start end shard) (shard_in_row s x)
+unfolding given_at entry_in
+in_row-pieces start end s x =
+    let p = frame_in s in
+    by_tests (nat_le p.originals_from x && nat_lt x (p.originals_from + s.configuration.original_count))
+    (nat_le p.recovery_from x && nat_lt x (p.recovery_from + s.configuration.recovery_count))
+    (s.originals (x - p.originals_from)) (s.recovery (x - p.recovery_from))
+  where
+    by_tests : (own coded : Bool) (o c : Option Shard)
+        → cond own (option_map (λ shard. between start end shard) o)
+        (cond coded (option_map (λ shard. between start end shard) c) None)
+        ≡ option_map (λ shard. between start end shard) (cond own o (cond coded c None))
+    by_tests true coded o c = refl
+    by_tests false true o c = refl
+    by_tests false false o c = refl
+
+-- There is a piece in a row exactly if there is a shard.
+pub some-pieces : (start end : ℕ) (s : DecoderState) (x : ℕ)
+    → is_some (shard_in_row (state_of_pieces start end s) x) ≡ is_some (shard_in_row s x)
+some-pieces start end s x = ap is_some (in_row-pieces start end s x) ∙ is_some-map start end (shard_in_row s x)
+
+-- ---- the base
+
+-- The marked part of a map has the entries whose rows are marked.
+pub marked_part-at : (marks : List Bool) (from i : ℕ) (given : Shards) (b : Bool) → is_marked marks (from + i) ≡ b
+    → marked_part marks from given i ≡ cond b (given i) None
+unfolding marked_part
+marked_part-at marks from i given b is = ap (λ (c : Bool). cond c (given i) None) is
+
+entry-marked : (marks : List Bool) (from n x : ℕ) (given : Shards) (other part : Option Shard) (b : Bool)
+    → is_marked marks x ≡ b → part ≡ cond b other None
+    → entry_in from n (marked_part marks from given) part x ≡ cond b (entry_in from n given other x) None
+entry-marked marks from n x given other part b is rest = elim (inside-or from n x) [
+  | inl inside ↦
+      let back : from + (x - from) ≡ x = omega (arith, inside.0) in
+      entry-inside from n x (marked_part marks from given) part inside.0 inside.1
+      ∙ marked_part-at marks from (x - from) given b (ap (is_marked marks) back ∙ is)
+      ∙ ap (λ (o : Option Shard). cond b o None) (sym (entry-inside from n x given other inside.0 inside.1))
+  | inr outside ↦
+      entry-outside from n x (marked_part marks from given) part outside ∙ rest
+      ∙ ap (λ (o : Option Shard). cond b o None) (sym (entry-outside from n x given other outside))
+]
+
+-- The base has the shards of the marked rows in these rows.
+pub in_row-marked : (marks : List Bool) (s : DecoderState) (x : ℕ) (b : Bool) → is_marked marks x ≡ b
+    → shard_in_row (marked_state marks s) x ≡ cond b (shard_in_row s x) None
+in_row-marked marks s x b is =
+    let p = frame_in s in let k = s.configuration.original_count in let r = s.configuration.recovery_count in
+    in_row-is (marked_state marks s) x
+    ∙ entry-marked marks p.originals_from k x s.originals (entry_in p.recovery_from r s.recovery None x) _ b is
+    (entry-marked marks p.recovery_from r x s.recovery None None b is (nothing_there b))
+    ∙ ap (λ (o : Option Shard). cond b o None) (sym (in_row-is s x))
+  where
+    nothing_there : (c : Bool) → ◌≡◌ {A = Option Shard} None (cond c None None)
+    nothing_there true = refl
+    nothing_there false = refl
+
+-- Exactly the rows of the shards of the base are marked.
+pub base_marks : (marks : List Bool) (s : DecoderState) → MarkBase s marks
+    → AreMarksOf (frame_in s) s.configuration.original_count s.configuration.recovery_count
+    (marked_state marks s).originals (marked_state marks s).recovery marks
+base_marks marks s base x inside = elim (cases_Bool (is_marked marks x)) [
+  | inl is ↦ is ∙ sym (ap is_some (in_row-marked marks s x true is) ∙ base.received x is)
+  | inr not ↦ not ∙ sym (ap is_some (in_row-marked marks s x false not))
+]
+
+-- The marked part of pieces are the pieces of the marked part.
+marked-pieces : (start end : ℕ) (marks : List Bool) (from : ℕ) (given : Shards)
+    → marked_part marks from (pieces_of start end given) ≡ pieces_of start end (marked_part marks from given)
+marked-pieces start end marks from given =
+    fun_ext (λ i.
+    marked_part-at marks from i (pieces_of start end given) (is_marked marks (from + i)) refl
+    ∙ either (is_marked marks (from + i)) (given i)
+    ∙ ap (option_map (λ shard. between start end shard))
+    (sym (marked_part-at marks from i given (is_marked marks (from + i)) refl)))
+  where
+    either : (b : Bool) (o : Option Shard)
+        → cond b (option_map (λ shard. between start end shard) o) None
+        ≡ option_map (λ shard. between start end shard) (cond b o None)
+    either true o = refl
+    either false o = refl
+
+-- Marks of a base mark a base of the pieces in a strip.
+pub base-pieces : (start end : ℕ) (marks : List Bool) (s : DecoderState) → MarkBase s marks
+    → MarkBase (state_of_pieces start end s) marks
+base-pieces start end marks s base =
+    let p = frame_in s in record {
+      count = base.count;
+      received = λ x is. some-pieces start end s x ∙ base.received x is;
+      enough =
+          ap₂ (λ (a b : Shards).
+          count_below s.configuration.original_count a + count_below s.configuration.recovery_count b)
+          (marked-pieces start end marks p.originals_from s.originals)
+          (marked-pieces start end marks p.recovery_from s.recovery)
+          ∙ ap₂ (λ (a b : ℕ). a + b)
+          (count-pieces start end s.configuration.original_count (marked_part marks p.originals_from s.originals))
+          (count-pieces start end s.configuration.recovery_count (marked_part marks p.recovery_from s.recovery))
+          ∙ base.enough;
+    }
+
+-- ---- the sums
+
+-- The term of row x in the direct sum at row y, for word j.
+pub base_term : List Bool → DecoderState → ℕ → ℕ → ℕ → ℕ
+base_term marks s j y x =
+    let b = marked_state marks s in
+    product (word_at (frame_in s) s.configuration.original_count s.configuration.recovery_count b.originals b.recovery
+    j x)
+    (power (direct_factor (locator_at (frame_in s) s.configuration.original_count s.configuration.recovery_count
+    b.originals b.recovery) x y))
+
+-- The term of a marked row is the word of its shard times its factor.
+pub term-of : (marks : List Bool) (s : DecoderState) (j y x log_m : ℕ) (shard : Shard) → is_marked marks x ≡ true
+    → shard_in_row s x ≡ Some shard
+    → log_m ≡ direct_factor (locator_at (frame_in s) s.configuration.original_count s.configuration.recovery_count
+    (marked_state marks s).originals (marked_state marks s).recovery) x y
+    → product (column j shard) (power log_m) ≡ base_term marks s j y x
+unfolding base_term word_at word_of
+term-of marks s j y x log_m shard is there factor =
+    ap₂ (λ w l. product w (power l)) (sym (ap (word_of j) (in_row-marked marks s x true is ∙ there))) factor
+
+-- The direct sum is the sum of the terms of the rows in a list of the marked rows.
+pub base_sum-listed : (marks : List Bool) (s : DecoderState) (rows : List ℕ) (j y : ℕ) → MarkBase s marks
+    → ListsMarked marks (row_count (frame_in s)) rows
+    → base_sum marks s j y ≡ sum_below (length rows) (λ i. base_term marks s j y (slice_index rows i))
+unfolding summed_word direct_sum base_term
+base_sum-listed marks s rows j y base lists =
+    sum_below-same (row_count (frame_in s)) _ (λ x. cond (is_marked marks x) (base_term marks s j y x) 0)
+    (λ x inside. ap (λ (b : Bool). cond b (base_term marks s j y x) 0) (sym (base_marks marks s base x inside)))
+    ∙ sym (lists.sums (base_term marks s j y))

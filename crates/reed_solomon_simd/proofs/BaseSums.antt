@@ -1,0 +1,328 @@
+-- What direct sums over a base of received shards tell of a strip: whether the shards are consistent, and the pieces of
+-- the shards that were not received.
+use Rattle.std.proofs.Common.{◌≡◌, ℕ, ◌+◌, ◌-◌, ◌/◌, ◌<◌, Bool, true, false, cond, List, length, drop}
+use Rattle.std.proofs.Common.{refl, sym, ap, ◌∙◌, subst, inl, inr, arith, All, [], get_or}
+use Rattle.std.specs.Prelude.{Option, Some, None, is_some, ◌↔◌}
+use Rattle.std.specs.List.{between}
+use Rattle.std.specs.Option.{option_map}
+use Rattle.std.proofs.lemmas.Bool.{cases_Bool}
+use Rattle.std.proofs.lemmas.List.{length-drop, length-take-le, length-map, get_or-map}
+use Rattle.std.proofs.lemmas.List.Elements.{All-take, All-drop}
+use Rattle.std.proofs.lemmas.Option.{none-some}
+use Rattle.rs_field.specs.code.Column.{Shard, IsShard, column, shard_at}
+use Rattle.rs_field.specs.code.Counts.{default_rate, supports}
+use Rattle.rs_field.specs.code.Decoder.{DecoderState, IsDecoder, IsAgreeing, IsConsistent}
+use Rattle.rs_field.specs.code.DirectLaws.{IsPartOf, AreSummed}
+use Rattle.rs_field.specs.code.Frame.{row_count, original_row, recovery_row}
+use Rattle.rs_field.specs.code.Given.{Shards, AreWithin}
+use Rattle.rs_field.specs.code.Pieces.{IsStrip}
+use Rattle.rs_field.specs.code.PieceStates.{pieces_of, state_of_pieces}
+use Rattle.rs_field.specs.rows.MarkedRows.{is_marked}
+use Rattle.rs_field.proofs.of_code.Agreement.{one_message}
+use Rattle.rs_field.proofs.of_code.AgreeingMessages.{sized-within}
+use Rattle.rs_field.proofs.of_code.AnyShards.{given_at-own, given_at-coded}
+use Rattle.rs_field.proofs.of_code.BaseShards.{agrees_with_part, summed_directly, consistent_by_base}
+use Rattle.rs_field.proofs.of_code.Columns.{shard_from_columns, shard_in}
+use Rattle.rs_rate.proofs.StateLemmas.{valid-supported}
+use Rattle.reed_solomon_simd.specs.declared.shard_index.ShardIndex.{ShardIndex}
+use Rattle.reed_solomon_simd.specs.declared.shard_index.ShardIndex.TheVariants.{Original, Recovery}
+use Rattle.reed_solomon_simd.specs.Base.{frame_in, row_of, shard_in_row, marked_part, marked_state, MarkBase}
+use Rattle.reed_solomon_simd.specs.Base.{base_sum, IsBaseSum, AgreesInRow}
+use Rattle.reed_solomon_simd.specs.Reconstructed.{CanBeRebuilt}
+use Rattle.reed_solomon_simd.specs.ShardNames.{shard_named}
+use Rattle.reed_solomon_simd.proofs.BaseLemmas.{decoder_frame, in_row-cases, marked_part-at, base-pieces}
+use Rattle.reed_solomon_simd.proofs.ConsistentStrips.{even-strip}
+use Rattle.reed_solomon_simd.proofs.RebuiltStrips.{named_shards, named-sized, can-pieces}
+
+-- ---- pieces
+
+-- A piece of a shard is a shard of the size of the piece.
+piece-cut : (start end size : ℕ) (shard : Shard) → IsStrip start end size → IsShard size shard
+    → IsShard (end - start) (between start end shard)
+piece-cut start end size shard strip is =
+    let left = length-drop start shard in
+    record {
+      length_is = length-take-le (end - start) (drop start shard) (omega (arith, left, is.length_is, strip.inside));
+      bytes = All-take (λ b. b < 256) (end - start) (drop start shard) (All-drop (λ b. b < 256) start shard is.bytes);
+    }
+
+-- The pieces of given shards have the size of a piece, and the indexes of the shards.
+pub within-pieces : (start end n size : ℕ) (given : Shards) → IsStrip start end size → AreWithin n size given
+    → AreWithin n (end - start) (pieces_of start end given)
+within-pieces start end n size given strip within =
+    record {
+      none_past = λ i past. ap (option_map (λ s. between start end s)) (within.none_past i past);
+      sized = λ i piece e. of_option (given i) piece (within.sized i) e;
+    }
+  where
+    of_option : (o : Option Shard) (piece : Shard) → ((shard : Shard) → o ≡ Some shard → IsShard size shard)
+        → option_map (λ s. between start end s) o ≡ Some piece → IsShard (end - start) piece
+    of_option None piece sized e = absurd (none-some piece e)
+    of_option (Some shard) piece sized e =
+        let same : between start end shard ≡ piece = cc in
+        subst (IsShard (end - start)) same (piece-cut start end size shard strip (sized shard refl))
+
+-- ---- the marked part of a map
+
+part-of : (marks : List Bool) (from : ℕ) (given : Shards) → IsPartOf (marked_part marks from given) given
+part-of marks from given =
+    record {
+      entries = λ i shard e. elim (cases_Bool (is_marked marks (from + i))) [
+        | inl is ↦ sym (marked_part-at marks from i given true is) ∙ e
+        | inr not ↦ absurd (none-some shard (sym (marked_part-at marks from i given false not) ∙ e))
+      ];
+    }
+
+-- A given shard that is not in the marked part has a row that is not marked.
+part-none : (marks : List Bool) (from i : ℕ) (given : Shards) (shard : Shard) → given i ≡ Some shard
+    → is_some (marked_part marks from given i) ≡ false → is_marked marks (from + i) ≡ false
+part-none marks from i given shard e none = elim (cases_Bool (is_marked marks (from + i))) [
+  | inl is ↦
+      let there : is_some (marked_part marks from given i) ≡ true =
+      ap is_some (marked_part-at marks from i given true is ∙ e) in
+      absurd (let no : ⊥ = cc in no)
+  | inr not ↦ not
+]
+
+-- A shard whose row is not marked is not in the marked part.
+part-unmarked : (marks : List Bool) (from i : ℕ) (given : Shards) → is_marked marks (from + i) ≡ false
+    → is_some (marked_part marks from given i) ≡ false
+part-unmarked marks from i given not = ap is_some (marked_part-at marks from i given false not)
+
+-- A shard that is not given is not in the marked part.
+part-missing : (marks : List Bool) (from i : ℕ) (given : Shards) → given i ≡ None
+    → is_some (marked_part marks from given i) ≡ false
+part-missing marks from i given none =
+    ap is_some (marked_part-at marks from i given (is_marked marks (from + i)) refl
+    ∙ ap (λ (o : Option Shard). cond (is_marked marks (from + i)) o None) none)
+    ∙ either (is_marked marks (from + i))
+  where
+    either : (b : Bool) → is_some (let o : Option Shard = cond b None None in o) ≡ false
+    either true = refl
+    either false = refl
+
+-- The shards of the marked part are within the bounds of the given ones.
+within-part : (marks : List Bool) (from n size : ℕ) (given : Shards) → AreWithin n size given
+    → AreWithin n size (marked_part marks from given)
+within-part marks from n size given within = record {
+  none_past = λ i past.
+      marked_part-at marks from i given (is_marked marks (from + i)) refl
+      ∙ ap (λ (o : Option Shard). cond (is_marked marks (from + i)) o None) (within.none_past i past)
+      ∙ either (is_marked marks (from + i));
+  sized = λ i shard e. let part = part-of marks from given in within.sized i shard (part.entries i shard e);
+}
+  where
+    either : (b : Bool) → ◌≡◌ {A = Option Shard} (cond b None None) None
+    either true = refl
+    either false = refl
+
+module _ (s : DecoderState) (is : IsDecoder default_rate s) (start end : ℕ)
+    (strip : IsStrip start end s.configuration.shard_bytes) where
+  supported : supports s.configuration.rate s.configuration.original_count s.configuration.recovery_count ≡ true
+  supported = valid-supported s.configuration is.valid
+
+  own_within : AreWithin s.configuration.original_count (end - start) (state_of_pieces start end s).originals
+  own_within =
+      within-pieces start end s.configuration.original_count s.configuration.shard_bytes s.originals strip
+      is.originals_within
+
+  coded_within : AreWithin s.configuration.recovery_count (end - start) (state_of_pieces start end s).recovery
+  coded_within =
+      within-pieces start end s.configuration.recovery_count s.configuration.shard_bytes s.recovery strip
+      is.recovery_within
+
+  -- A piece in a row has the size of a piece.
+  pub in_row-sized : (x : ℕ) (piece : Shard) → shard_in_row (state_of_pieces start end s) x ≡ Some piece
+      → IsShard (end - start) piece
+  in_row-sized x piece there = elim (in_row-cases (state_of_pieces start end s) x piece there) [
+    | inl own ↦ own_within.sized own.0 piece own.3
+    | inr coded ↦ coded_within.sized coded.0 piece coded.3
+  ]
+
+  module _ (marks : List Bool) (base : MarkBase s marks) where
+    decided : IsConsistent (state_of_pieces start end s)
+        ↔ AreSummed (state_of_pieces start end s).configuration (state_of_pieces start end s).originals
+        (state_of_pieces start end s).recovery (marked_state marks (state_of_pieces start end s)).originals
+        (marked_state marks (state_of_pieces start end s)).recovery
+    decided =
+        let t = state_of_pieces start end s in
+        let here = base-pieces start end marks s base in
+        consistent_by_base t.configuration t.originals t.recovery (marked_state marks t).originals
+        (marked_state marks t).recovery supported (even-strip s is start end strip) own_within coded_within
+        (part-of marks (frame_in s).originals_from t.originals) (part-of marks (frame_in s).recovery_from t.recovery)
+        here.enough
+
+    -- If some message agrees with the strip, the pieces outside of the base are the direct sums.
+    pub consistent-agrees : IsConsistent (state_of_pieces start end s) → (x : ℕ)
+        → AgreesInRow marks (state_of_pieces start end s) x
+    consistent-agrees consistent x piece there not =
+        let t = state_of_pieces start end s in
+        let summed = decided.0 consistent in
+        record {
+          is_shard = in_row-sized x piece there;
+          words = λ j inside. elim (in_row-cases (state_of_pieces start end s) x piece there) [
+            | inl own ↦
+                sym (summed.own own.0 piece j own.3
+                (part-unmarked marks (frame_in s).originals_from own.0 t.originals
+                (sym (ap (is_marked marks) own.2) ∙ not)) inside)
+                ∙ ap (base_sum marks t j) (sym own.2)
+            | inr coded ↦
+                sym (summed.coded coded.0 piece j coded.3
+                (part-unmarked marks (frame_in s).recovery_from coded.0 t.recovery
+                (sym (ap (is_marked marks) coded.2) ∙ not)) inside)
+                ∙ ap (base_sum marks t j) (sym coded.2)
+          ];
+        }
+
+    -- If all pieces outside of the base are the direct sums, some message agrees with the strip.
+    pub agrees-consistent : ((x : ℕ) → x < row_count (frame_in s) → AgreesInRow marks (state_of_pieces start end s) x)
+        → IsConsistent (state_of_pieces start end s)
+    agrees-consistent each =
+        let t = state_of_pieces start end s in
+        let k = s.configuration.original_count in let r = s.configuration.recovery_count in
+        let f = decoder_frame s is in
+        let own_sized = sized-within k (end - start) t.originals own_within in
+        let coded_sized = sized-within r (end - start) t.recovery coded_within in
+        decided.1 (record {
+          own = λ i piece j e none inside.
+              let below = (own_sized.each i piece e).0 in
+              let sum = each (original_row (frame_in s) i) (omega (arith, f.originals, below)) piece
+              (given_at-own (frame_in s) k r i t.originals t.recovery below ∙ e)
+              (part-none marks (frame_in s).originals_from i t.originals piece e none) in
+              sym (sum.words j inside);
+          coded = λ i piece j e none inside.
+              let below = (coded_sized.each i piece e).0 in
+              let sum = each (recovery_row (frame_in s) i) (omega (arith, f.recovery, below)) piece
+              (given_at-coded (frame_in s) k r i t.originals t.recovery f below ∙ e)
+              (part-none marks (frame_in s).recovery_from i t.recovery piece e none) in
+              sym (sum.words j inside);
+        })
+
+    -- Each missing word of a message that agrees with the strip is the direct sum.
+    summed-words : (message : List Shard) (agrees : IsAgreeing (state_of_pieces start end s) message) (i j : ℕ)
+        → j < (end - start) / 2
+        → (i < s.configuration.original_count
+        → is_some ((marked_state marks (state_of_pieces start end s)).originals i) ≡ false
+        → base_sum marks (state_of_pieces start end s) j (original_row (frame_in s) i)
+        ≡ column j (shard_at message i))
+        × (i < s.configuration.recovery_count
+        → is_some ((marked_state marks (state_of_pieces start end s)).recovery i) ≡ false
+        → base_sum marks (state_of_pieces start end s) j (recovery_row (frame_in s) i)
+        ≡ column j (shard_at agrees.coded.0 i))
+    summed-words message agrees i j inside =
+        let t = state_of_pieces start end s in
+        let b = marked_state marks t in
+        let here = base-pieces start end marks s base in
+        let part = agrees_with_part t.configuration t.originals t.recovery b.originals b.recovery message
+        (part-of marks (frame_in s).originals_from t.originals) (part-of marks (frame_in s).recovery_from t.recovery)
+        agrees in
+        let sums = summed_directly t.configuration b.originals b.recovery message i j supported
+        (within-part marks (frame_in s).originals_from s.configuration.original_count (end - start) t.originals
+        own_within)
+        (within-part marks (frame_in s).recovery_from s.configuration.recovery_count (end - start) t.recovery
+        coded_within)
+        (omega (arith, here.enough)) part.0 inside in (
+          sums.0,
+          λ below none. sums.1 below none ∙ ap (λ (all : List Shard). column j (shard_at all i)) part.1,
+        )
+
+    -- A piece is that of a wanted shard, if it is the received piece in its row, or else the direct sum.
+    pub wanted-piece : (message : List Shard) (agrees : IsAgreeing (state_of_pieces start end s) message)
+        (w : ShardIndex) (piece : Shard) → CanBeRebuilt s w
+        → ((shard : Shard) → shard_in_row (state_of_pieces start end s) (row_of (frame_in s) w) ≡ Some shard
+        → piece ≡ shard)
+        → (shard_in_row (state_of_pieces start end s) (row_of (frame_in s) w) ≡ None
+        → IsBaseSum marks (state_of_pieces start end s) (row_of (frame_in s) w) piece)
+        → piece ≡ shard_named message agrees.coded.0 w
+    wanted-piece message agrees (Original i) piece can received summed =
+        let t = state_of_pieces start end s in
+        let missing : pieces_of start end s.originals i ≡ None = ap (option_map (λ x. between start end x)) can.1 in
+        let sum = summed (given_at-own (frame_in s) s.configuration.original_count s.configuration.recovery_count i
+        t.originals t.recovery can.0 ∙ missing) in
+        shard_from_columns (end - start) piece (shard_at message i) sum.is_shard
+        (shard_in s.configuration.original_count (end - start) message agrees.shards i can.0)
+        (even-strip s is start end strip)
+        (λ j inside. sum.words j inside ∙ (summed-words message agrees i j inside).0 can.0
+        (part-missing marks (frame_in s).originals_from i t.originals missing))
+    wanted-piece message agrees (Recovery i) piece can received summed =
+        by_option ((state_of_pieces start end s).recovery i) refl
+      where
+        by_option : (o : Option Shard) → (state_of_pieces start end s).recovery i ≡ o
+            → piece ≡ shard_at agrees.coded.0 i
+        by_option (Some shard) e =
+            let t = state_of_pieces start end s in
+            received shard (given_at-coded (frame_in s) s.configuration.original_count s.configuration.recovery_count i
+            t.originals t.recovery (decoder_frame s is) can ∙ e)
+            ∙ sym (agrees.coded.2 i shard e)
+        by_option None e =
+            let t = state_of_pieces start end s in
+            let sum = summed (given_at-coded (frame_in s) s.configuration.original_count s.configuration.recovery_count
+            i t.originals t.recovery (decoder_frame s is) can ∙ e) in
+            shard_from_columns (end - start) piece (shard_at agrees.coded.0 i) sum.is_shard
+            (shard_in s.configuration.recovery_count (end - start) agrees.coded.0 agrees.coded.1.shards i can)
+            (even-strip s is start end strip)
+            (λ j inside. sum.words j inside ∙ (summed-words message agrees i j inside).1 can
+            (part-missing marks (frame_in s).recovery_from i t.recovery e))
+
+    -- Shards with the direct sums as their words are equal.
+    pub sums-same : (x : ℕ) (one other : Shard) → IsBaseSum marks (state_of_pieces start end s) x one
+        → IsBaseSum marks (state_of_pieces start end s) x other → one ≡ other
+    sums-same x one other first second =
+        shard_from_columns (end - start) one other first.is_shard second.is_shard (even-strip s is start end strip)
+        (λ j inside. first.words j inside ∙ sym (second.words j inside))
+
+    -- A row outside of the base has no mark, if no shard was received in it.
+    pub missing-unmarked : (x : ℕ) → shard_in_row (state_of_pieces start end s) x ≡ None → is_marked marks x ≡ false
+    missing-unmarked x none = elim (cases_Bool (is_marked marks x)) [
+      | inl is_there ↦
+          let here = base-pieces start end marks s base in
+          let some = here.received x is_there in
+          let not = ap is_some none in
+          absurd (let no : ⊥ = cc (some, not) in no)
+      | inr not ↦ not
+    ]
+
+    -- At most one message agrees with the strip.
+    pub only-message : (one other : List Shard) → IsAgreeing (state_of_pieces start end s) one
+        → IsAgreeing (state_of_pieces start end s) other → other ≡ one
+    only-message one other agrees also =
+        let t = state_of_pieces start end s in
+        let b = marked_state marks t in
+        let here = base-pieces start end marks s base in
+        let own_part = part-of marks (frame_in s).originals_from t.originals in
+        let coded_part = part-of marks (frame_in s).recovery_from t.recovery in
+        let first = agrees_with_part t.configuration t.originals t.recovery b.originals b.recovery one own_part
+        coded_part agrees in
+        let second = agrees_with_part t.configuration t.originals t.recovery b.originals b.recovery other own_part
+        coded_part also in
+        one_message t.configuration b.originals b.recovery other one supported (even-strip s is start end strip)
+        (omega (arith, here.enough)) second.0 first.0
+
+    -- The same for a wanted shard in a list.
+    pub wanted-at : (message : List Shard) (agrees : IsAgreeing (state_of_pieces start end s) message)
+        (wanted : List ShardIndex) (n x : ℕ) (d : ShardIndex) (piece : Shard) → All (CanBeRebuilt s) wanted
+        → n < length wanted → x ≡ row_of (frame_in s) (get_or wanted n d)
+        → ((shard : Shard) → shard_in_row (state_of_pieces start end s) x ≡ Some shard → piece ≡ shard)
+        → (shard_in_row (state_of_pieces start end s) x ≡ None
+        → IsBaseSum marks (state_of_pieces start end s) x piece)
+        → (piece ≡ get_or (named_shards message agrees.coded.0 wanted) n []) × (length piece ≡ end - start)
+    wanted-at message agrees wanted n x d piece can inside at received summed =
+        let t = state_of_pieces start end s in
+        let named = named_shards message agrees.coded.0 wanted in
+        let long = length-map wanted (shard_named message agrees.coded.0) in
+        let is_named = wanted-piece message agrees (get_or wanted n d) piece (can n d inside)
+        (λ shard e. received shard (ap (shard_in_row t) at ∙ e))
+        (λ none. subst (λ (y : ℕ). IsBaseSum marks (state_of_pieces start end s) y piece) at
+        (summed (ap (shard_in_row t) at ∙ none)))
+        ∙ sym (get_or-map (shard_named message agrees.coded.0) wanted n d [] inside) in
+        let sized = named-sized t message agrees wanted (can-pieces s start end wanted can) n []
+        (omega (arith, long, inside)) in (
+          is_named,
+          ap length is_named ∙ sized,
+        )
+
+-- The row of a shard that can be rebuilt is a row of a decoder.
+pub row-inside : (s : DecoderState) → IsDecoder default_rate s → (w : ShardIndex) → CanBeRebuilt s w
+    → row_of (frame_in s) w < row_count (frame_in s)
+row-inside s is (Original i) can = let f = decoder_frame s is in omega (arith, f.originals, can.0)
+row-inside s is (Recovery i) can = let f = decoder_frame s is in omega (arith, f.recovery, can)

@@ -1,0 +1,14 @@
+use Rattle.std.proofs.Common.{◌≡◌, ℕ, ◌-◌, ◌/◌, ◌<◌}
+use Rattle.std.specs.Prelude.{slice_index}
+use Rattle.rs_field.specs.code.PieceStates.{state_of_pieces}
+use Rattle.rs_field.specs.words.Transform.{sum_below}
+use Rattle.rs_rate.specs.Sums.{sum_word}
+use Rattle.reed_solomon_simd.proofs.BaseLemmas.{base_term}
+use Rattle.reed_solomon_simd.proofs.strip_summer.add_base.Given as goal
+
+-- The terms of the rows before the index were added.
+abbrev pub invariant-loop-index : goal.invariant-loop-index
+invariant-loop-index g l =
+    (j : ℕ) → j < (l.end - l.start) / 2 → sum_word l.sum j
+    ≡ sum_below l.index (λ n. base_term l.base.marks.items
+    (state_of_pieces l.start l.end (g.P.Pieces.received l.received)) j l.row (slice_index l.base.rows.items n))

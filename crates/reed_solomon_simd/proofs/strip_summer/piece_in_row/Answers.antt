@@ -1,0 +1,52 @@
+use Rattle.std.proofs.Common.{◌≡◌, sym, ap, ◌∙◌, arith}
+use Rattle.rs_field.specs.code.Decoder.{DecoderState}
+use Rattle.rs_field.specs.code.Frame.{recovery_row, original_row}
+use Rattle.rs_field.specs.code.PieceStates.{state_of_pieces}
+use Rattle.rs_field.proofs.of_code.AnyShards.{given_at-own, given_at-coded}
+use Rattle.reed_solomon_simd.specs.Base.{frame_in, shard_in_row}
+use Rattle.reed_solomon_simd.proofs.BaseLemmas.{decoder_frame, frame_same, outside-same, in_row-none}
+use Rattle.reed_solomon_simd.proofs.strip_summer.piece_in_row.Goals as goal
+
+pub returns-in-Some : goal.returns-in-Some
+returns-in-Some g c =
+    let s : DecoderState = g.P.Pieces.received c.args.received.now in
+    let t : DecoderState = state_of_pieces c.args.start c.args.end s in
+    let counts = c.counts-counts.result in
+    let same = frame_same counts.frame counts.original_count counts.recovery_count s c.requires.set_up counts.framed
+    c.counts-counts.ensures.originals c.counts-counts.ensures.recovery in
+    let there = c.in-Some.ensures in
+    let at : c.args.row ≡ original_row (frame_in s) c.in-Some.index =
+    there.1 ∙ ap (λ p. original_row p c.in-Some.index) same in
+    c.original_piece.ensures
+    ∙ sym (ap (shard_in_row t) at
+    ∙ given_at-own (frame_in s) s.configuration.original_count s.configuration.recovery_count c.in-Some.index
+    t.originals t.recovery (omega (arith, there.0, c.counts-counts.ensures.originals)))
+
+pub returns-in-Some-index_of : goal.returns-in-Some-index_of
+returns-in-Some-index_of g c =
+    let s : DecoderState = g.P.Pieces.received c.args.received.now in
+    let t : DecoderState = state_of_pieces c.args.start c.args.end s in
+    let counts = c.counts-counts.result in
+    let same = frame_same counts.frame counts.original_count counts.recovery_count s c.requires.set_up counts.framed
+    c.counts-counts.ensures.originals c.counts-counts.ensures.recovery in
+    let there = c.in-Some-index_of.ensures in
+    let at : c.args.row ≡ recovery_row (frame_in s) c.in-Some-index_of.index =
+    there.1 ∙ ap (λ p. recovery_row p c.in-Some-index_of.index) same in
+    c.recovery_piece.ensures
+    ∙ sym (ap (shard_in_row t) at
+    ∙ given_at-coded (frame_in s) s.configuration.original_count s.configuration.recovery_count
+    c.in-Some-index_of.index t.originals t.recovery (decoder_frame s c.requires.set_up)
+    (omega (arith, there.0, c.counts-counts.ensures.recovery)))
+
+pub returns : goal.returns
+returns g c =
+    let s : DecoderState = g.P.Pieces.received c.args.received.now in
+    let t : DecoderState = state_of_pieces c.args.start c.args.end s in
+    let counts = c.counts-counts.result in
+    let same = frame_same counts.frame counts.original_count counts.recovery_count s c.requires.set_up counts.framed
+    c.counts-counts.ensures.originals c.counts-counts.ensures.recovery in
+    sym (in_row-none t c.args.row
+    (outside-same c.args.row _ (frame_in s).originals_from _ s.configuration.original_count
+    (ap (λ p. p.originals_from) same) c.counts-counts.ensures.originals c.in_default.ensures)
+    (outside-same c.args.row _ (frame_in s).recovery_from _ s.configuration.recovery_count
+    (ap (λ p. p.recovery_from) same) c.counts-counts.ensures.recovery c.in_default-index_of.ensures))

@@ -1,0 +1,132 @@
+use Rattle.std.proofs.Common.{◌≡◌, ℕ, ◌+◌, ◌-◌, ◌^◌, ◌<◌, ◌≤◌, [], ◌++◌, length, take, drop, get_or, refl, sym, ap}
+use Rattle.std.proofs.Common.{ap₂, ◌∙◌, inl, inr, arith, pow_mono}
+use Rattle.std.proofs.lemmas.Bool.{cases_eq}
+use Rattle.rs_field.specs.code.Column.{Shard}
+use Rattle.rs_field.specs.code.Decoder.{DecoderState}
+use Rattle.rs_field.specs.code.Frame.{row_count}
+use Rattle.rs_rate.specs.ShardRows.{shard_in_order}
+use Rattle.reed_solomon_simd.specs.declared.shard_index.ShardIndex.TheVariants.{Original}
+use Rattle.reed_solomon_simd.specs.Base.{frame_in, row_of}
+use Rattle.reed_solomon_simd.proofs.BaseLemmas.{decoder_frame, frame_same}
+use Rattle.reed_solomon_simd.proofs.BaseSums.{wanted-at, only-message, row-inside}
+use Rattle.reed_solomon_simd.proofs.RebuiltStrips.{named_shards}
+use Rattle.reed_solomon_simd.proofs.strip_summer.put_sums.Goals as goal
+
+pub row_of-row-requires : goal.row_of-row-requires
+row_of-row-requires g c =
+    let s : DecoderState = g.P.Pieces.received c.args.received.now in
+    let ready = c.requires.ready in
+    let counts = c.args.base.now.counts in
+    let same = frame_same counts.frame counts.original_count counts.recovery_count s ready.set_up counts.framed
+    ready.originals ready.recovery in
+    let f = decoder_frame s ready.set_up in
+    let rows : row_count (frame_in (g.P.Pieces.received c.args.received.now)) ≤ 2 ^ 16 = pow_mono f.few in
+    let inside = row-inside s ready.set_up (get_or c.args.wanted.now c.loop-room.room (Original 0))
+    (c.requires.can c.loop-room.room (Original 0) c.loop-room-test.true) in
+    omega (arith, rows, inside, ap (λ p. row_of p (get_or c.args.wanted.now c.loop-room.room (Original 0))) same)
+
+pub make_piece-requires-clause-row : goal.make_piece-requires-clause-row
+make_piece-requires-clause-row g c =
+    let s : DecoderState = g.P.Pieces.received c.args.received.now in
+    let ready = c.requires.ready in
+    let counts = c.args.base.now.counts in
+    let same = frame_same counts.frame counts.original_count counts.recovery_count s ready.set_up counts.framed
+    ready.originals ready.recovery in
+    let inside = row-inside s ready.set_up (get_or c.args.wanted.now c.loop-room.room (Original 0))
+    (c.requires.can c.loop-room.room (Original 0) c.loop-room-test.true) in
+    omega (
+      arith,
+      inside,
+      c.row_of-row.ensures,
+      ap (λ p. row_of p (get_or c.args.wanted.now c.loop-room.room (Original 0))) same,
+    )
+
+pub put-requires-clause-fits : goal.put-requires-clause-fits
+put-requires-clause-fits g c =
+    let s : DecoderState = g.P.Pieces.received c.args.received.now in
+    let ready = c.requires.ready in
+    let own = c.args.base.now in
+    let counts = own.counts in
+    let same = frame_same counts.frame counts.original_count counts.recovery_count s ready.set_up counts.framed
+    ready.originals ready.recovery in
+    let held = c.loop-room.invariant in
+    let n : ℕ = c.loop-room.room in
+    let (message, agrees) = c.requires.consistent in
+    let piece = wanted-at s ready.set_up c.args.start c.args.end ready.strip own.marks.items ready.marked message agrees
+    c.args.wanted.now n c.row_of-row.result (Original 0)
+    (shard_in_order c.make_piece.new.sum (c.args.end - c.args.start) 0) c.requires.can c.loop-room-test.true
+    (c.row_of-row.ensures ∙ ap (λ p. row_of p (get_or c.args.wanted.now c.loop-room.room (Original 0))) same)
+    c.make_piece.ensures.received c.make_piece.ensures.summed in
+    let long : length c.summed_piece.result.now ≡ c.args.end - c.args.start =
+    ap length c.summed_piece.ensures ∙ piece.1 in
+    let inside : c.loop-room.room < length (g.R.Rooms.held c.args.rooms.now) =
+    omega (arith, c.requires.number, c.loop-room-test.true) in (
+      s.configuration.shard_bytes,
+      omega (arith, long, ready.strip.order, ready.strip.inside),
+      ap length (held.others n (let e : c.loop-room.room ≤ c.loop-room.room = omega arith in e))
+          ∙ c.requires.fit n [] inside,
+    )
+
+pub loop-room-preserved : goal.loop-room-preserved
+loop-room-preserved g c =
+    let s : DecoderState = g.P.Pieces.received c.args.received.now in
+    let ready = c.requires.ready in
+    let own = c.args.base.now in
+    let counts = own.counts in
+    let same = frame_same counts.frame counts.original_count counts.recovery_count s ready.set_up counts.framed
+    ready.originals ready.recovery in
+    let held = c.loop-room.invariant in
+    let n : ℕ = c.loop-room.room in
+    let before : get_or (g.R.Rooms.held c.loop-room.rooms) c.loop-room.room []
+    ≡ get_or (g.R.Rooms.held c.args.rooms.now) c.loop-room.room [] =
+    held.others n (omega arith) in
+    record {
+      number = c.in_ok-put.ensures.number ∙ held.number;
+      put = λ message agrees i h. elim (cases_eq i n) [
+        | inl here ↦
+            let piece = wanted-at s ready.set_up c.args.start c.args.end ready.strip own.marks.items ready.marked
+            message agrees c.args.wanted.now n c.row_of-row.result (Original 0)
+            (shard_in_order c.make_piece.new.sum (c.args.end - c.args.start) 0) c.requires.can c.loop-room-test.true
+            (c.row_of-row.ensures ∙ ap (λ p. row_of p (get_or c.args.wanted.now c.loop-room.room (Original 0))) same)
+            c.make_piece.ensures.received c.make_piece.ensures.summed in
+            let long : length c.summed_piece.result.now ≡ c.args.end - c.args.start =
+            ap length c.summed_piece.ensures ∙ piece.1 in
+            let ends : c.args.start + length c.summed_piece.result.now ≡ c.args.end =
+            omega (arith, long, ready.strip.order) in
+            ap (λ (m : ℕ). get_or (g.R.Rooms.held c.put.new.self) m []) here
+            ∙ c.in_ok-put.ensures.here
+            ∙ ap₂ (λ (old : Shard) (m : ℕ). take c.args.start old ++ (c.summed_piece.result.now ++ drop m old)) before
+            ends
+            ∙ ap (λ (p : Shard).
+            take c.args.start (get_or (g.R.Rooms.held c.args.rooms.now) n [])
+            ++ (p ++ drop c.args.end (get_or (g.R.Rooms.held c.args.rooms.now) n [])))
+            (c.summed_piece.ensures ∙ piece.0)
+            ∙ ap (λ (m : ℕ). take c.args.start (get_or (g.R.Rooms.held c.args.rooms.now) m [])
+            ++ (get_or (named_shards message agrees.coded.0 c.args.wanted.now) m []
+            ++ drop c.args.end (get_or (g.R.Rooms.held c.args.rooms.now) m [])))
+            (sym here)
+        | inr other ↦ c.in_ok-put.ensures.others i other ∙ held.put message agrees i (omega (arith, h, other))
+      ];
+      others = λ i h. c.in_ok-put.ensures.others i (λ here. let e : i ≡ n = here in omega (arith, h, e))
+          ∙ held.others i (omega (arith, h));
+      places = c.in_ok-put.ensures.places ∙ held.places;
+      loan = c.in_ok-put.ensures.loan ∙ held.loan;
+    }
+
+pub returns-clause-put : goal.returns-clause-put
+returns-clause-put g c =
+    let s : DecoderState = g.P.Pieces.received c.args.received.now in
+    let ready = c.requires.ready in
+    let held = c.loop-room.invariant in
+    let (message, agrees) = c.requires.consistent in (
+      named_shards message agrees.coded.0 c.args.wanted.now,
+      record {
+        message = message;
+        agrees = agrees;
+        only = λ other also.
+            only-message s ready.set_up c.args.start c.args.end ready.strip c.args.base.now.marks.items ready.marked
+            message other agrees also;
+        named = refl;
+      },
+      (held.number, λ i h. held.put message agrees i (omega (arith, h, c.requires.number, c.loop-room-test.false))),
+    )

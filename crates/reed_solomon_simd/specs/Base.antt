@@ -1,0 +1,71 @@
+-- The base of direct sums: received shards in marked rows, over which the words of all other shards are summed.
+use Rattle.std.specs.Prelude.{◌≡◌, ℕ, ◌+◌, ◌/◌, ◌<◌, Bool, true, false, List, length, Option, Some, None, is_some}
+use Rattle.std.specs.Prelude.{if◌then◌else◌}
+use Rattle.rs_field.specs.declared.code.frame.Frame.{Frame}
+use Rattle.rs_field.specs.code.Column.{Shard, IsShard, column}
+use Rattle.rs_field.specs.code.Counts.{default_rate}
+use Rattle.rs_field.specs.code.Decoder.{DecoderState, IsDecoder, originals_given, recovery_given}
+use Rattle.rs_field.specs.code.DirectLaws.{given_at, summed_word}
+use Rattle.rs_field.specs.code.Frame.{frame_of, row_count, original_row, recovery_row}
+use Rattle.rs_field.specs.code.Given.{Shards}
+use Rattle.rs_field.specs.code.Pieces.{IsStrip}
+use Rattle.rs_field.specs.rows.MarkedRows.{is_marked}
+use Rattle.rs_rate.specs.declared.passes.sums.SumBase.{SumBase}
+use Rattle.reed_solomon_simd.specs.declared.shard_index.ShardIndex.{ShardIndex}
+use Rattle.reed_solomon_simd.specs.declared.shard_index.ShardIndex.TheVariants.{Original, Recovery}
+
+-- the frame of the counts of a decoder
+abbrev pub frame_in : DecoderState → Frame
+frame_in s = frame_of s.configuration.rate s.configuration.original_count s.configuration.recovery_count
+
+-- the row of a shard
+abbrev pub row_of : Frame → ShardIndex → ℕ
+row_of frame (Original i) = original_row frame i
+row_of frame (Recovery i) = recovery_row frame i
+
+-- the shard that was received in a row, if there is one
+abbrev pub shard_in_row : DecoderState → ℕ → Option Shard
+shard_in_row s x =
+    given_at (frame_in s) s.configuration.original_count s.configuration.recovery_count s.originals s.recovery x
+
+-- the shards with marked rows, of a map in which the shard with the index i has the row from + i
+unfoldable pub marked_part : List Bool → ℕ → Shards → Shards
+marked_part marks from given i = if is_marked marks (from + i) then given i else None
+
+-- the received shards with marked rows
+abbrev pub marked_state : List Bool → DecoderState → DecoderState
+marked_state marks s =
+    record s {
+      originals = marked_part marks (frame_in s).originals_from s.originals;
+      recovery = marked_part marks (frame_in s).recovery_from s.recovery;
+    }
+
+-- marks of rows mark a base: as many received shards as there are originals
+pub record MarkBase (s : DecoderState) (marks : List Bool) : Type 0 where
+  pub count : length marks ≡ row_count (frame_in s)
+  pub received : (x : ℕ) → is_marked marks x ≡ true → is_some (shard_in_row s x) ≡ true
+  pub enough : originals_given (marked_state marks s) + recovery_given (marked_state marks s)
+      ≡ s.configuration.original_count
+
+-- the conditions of summing a strip of the received shards: the marks of the base mark a base of them
+pub record CanSum (s : DecoderState) (base : SumBase) (start end : ℕ) : Type 0 where
+  pub set_up : IsDecoder default_rate s
+  pub originals : base.counts.original_count ≡ s.configuration.original_count
+  pub recovery : base.counts.recovery_count ≡ s.configuration.recovery_count
+  pub marked : MarkBase s base.marks.items
+  pub strip : IsStrip start end s.configuration.shard_bytes
+
+-- the direct sum over the base for word j of the shard in a row
+abbrev pub base_sum : List Bool → DecoderState → ℕ → ℕ → ℕ
+base_sum marks s j x =
+    let base = marked_state marks s in summed_word base.configuration base.originals base.recovery j x
+
+-- a shard has the direct sums over the base as its words
+pub record IsBaseSum (marks : List Bool) (s : DecoderState) (x : ℕ) (shard : Shard) : Type 0 where
+  pub is_shard : IsShard s.configuration.shard_bytes shard
+  pub words : (j : ℕ) → j < s.configuration.shard_bytes / 2 → column j shard ≡ base_sum marks s j x
+
+-- the shard that was received in a row outside of the base, if there is one, has the direct sums as its words
+abbrev pub AgreesInRow : List Bool → DecoderState → ℕ → Type 0
+AgreesInRow marks s x =
+    (shard : Shard) → shard_in_row s x ≡ Some shard → is_marked marks x ≡ false → IsBaseSum marks s x shard

@@ -1,0 +1,399 @@
+//! Reconstructing few wanted shards strip by strip, by direct sums. As many received shards as there are originals are the
+//! base. Each word of a wanted shard is the sum of the words of the base, each times a factor.
+ghost use Rattle.std.specs.Prelude.{◌≡◌, ◌⊎◌, ◌↔◌, ℕ, ◌+◌, ◌-◌, ◌/◌, ◌^◌, ◌<◌, ◌≤◌, All, true, false, List};
+ghost use Rattle.std.specs.Prelude.{length, Ok, Some, None, MatchOption, IsTrue, OnOk, IfOk, IfErr, option_copied};
+ghost use Rattle.rs_field.specs.code.Column.{Shard};
+ghost use Rattle.rs_field.specs.code.Counts.{default_rate};
+ghost use Rattle.rs_field.specs.code.Decoder.{IsDecoder, enough_given, originals_given, recovery_given};
+ghost use Rattle.rs_field.specs.code.Decoder.{IsAgreeing, IsConsistent, NoneAgrees};
+ghost use Rattle.rs_field.specs.code.Frame.{row_count};
+ghost use Rattle.rs_field.specs.code.Pieces.{ArePut, room_length};
+ghost use Rattle.rs_field.specs.code.PieceStates.{state_of_pieces};
+ghost use Rattle.rs_field.specs.rows.Layout.{row_len};
+ghost use Rattle.rs_field.specs.rows.MarkedRows.{is_marked};
+ghost use Rattle.rs_rate.specs.ShardRows.{shard_in_order};
+ghost use Rattle.rs_rate.specs.Sums.{sum_word};
+ghost use Rattle.reed_solomon_simd.specs.Base.{frame_in, row_of, shard_in_row, MarkBase, CanSum};
+ghost use Rattle.reed_solomon_simd.specs.Base.{base_sum, IsBaseSum, AgreesInRow};
+ghost use Rattle.reed_solomon_simd.specs.Reconstructed.{AreReconstructed, CanBeRebuilt};
+ghost use Rattle.reed_solomon_simd.specs.ShardNames.{shard_named};
+
+use crate::pieces::Pieces;
+use crate::rooms::Rooms;
+use crate::shard_index::ShardIndex;
+use crate::strip_decoder::STRIP_BYTES;
+use crate::wanted_shards::no_marks;
+use rs_field::engine::layout::row_len;
+use rs_field::engine::{Engine, Steps};
+use rs_field::error::Error;
+use rs_field::frame::Frame;
+use rs_rate::rate::sums::{SumBase, add_times, clear_sum, finish_sum, summed_piece};
+use std::alloc::Global;
+
+// Marks the rows of the base: the first received shards, as many as there are originals. Also returns how many more shards were
+// received. Fails with `OutOfMemory`.
+pub(crate) fn mark_base<P: Pieces>(alloc: Global, received: &P) -> Result<(Vec<bool>, usize), Error>
+    requires set_up { IsDecoder default_rate (P.received received.now) }
+    requires enough { enough_given (P.received received.now) ≡ Ok tt }
+    ensures base { IfOk result (λ made. MarkBase (P.received received.now) made.0.items) }
+    ensures surplus { IfOk result (λ made.
+        originals_given (P.received received.now) + recovery_given (P.received received.now)
+        ≡ (P.received received.now).configuration.original_count + made.1) }
+    ensures refused { IfErr result (λ e. e ≡ Error.OutOfMemory) }
+{
+    let counts = received.counts();
+    let row_count = counts.frame.row_count();
+    let mut marks = no_marks(alloc, row_count)?;
+    let mut found = 0;
+    for row in 0..row_count {
+        if piece_in_row(received, row, 0, 0).is_some() {
+            marks[row] = found < counts.original_count;
+            found += 1;
+        }
+    }
+    Ok((marks, found - counts.original_count))
+}
+
+// Returns a piece of the shard that was received in a row, or `None` if there is none.
+fn piece_in_row<P: Pieces>(received: &P, row: usize, start: usize, end: usize) -> Option<&[u8]>
+    requires set_up { IsDecoder default_rate (P.received received.now) }
+    requires order { start ≤ end }
+    requires inside { end ≤ (P.received received.now).configuration.shard_bytes }
+    ensures { option_copied result
+        ≡ shard_in_row (state_of_pieces start end (P.received received.now)) row }
+{
+    let counts = received.counts();
+    let frame = counts.frame;
+    if let Some(index) = index_of(row, frame.originals_from, counts.original_count) {
+        return received.original_piece(index, start, end);
+    }
+    if let Some(index) = index_of(row, frame.recovery_from, counts.recovery_count) {
+        return received.recovery_piece(index, start, end);
+    }
+    None
+}
+
+// Returns the index of the shard in a row, or `None` if the row is not among the `count` rows from row `from` on.
+fn index_of(row: usize, from: usize, count: usize) -> Option<usize>
+    ensures { MatchOption result ((row < from) ⊎ (from + count ≤ row))
+        (λ i. (i < count) × (row ≡ from + i)) }
+{
+    if from <= row && row - from < count {
+        Some(row - from)
+    } else {
+        None
+    }
+}
+
+/// Writes wanted shards into rooms, in order, by direct sums over the base whose rows are marked. `surplus` is the number of
+/// received shards that are not in the base.
+///
+/// # Errors
+///
+/// - [`Error::OutOfMemory`] if the factors cannot be allocated.
+/// - For each strip in order: [`Error::InconsistentShards`] if no message agrees with all received shards, and then
+///   [`Error::OutOfMemory`] if a room cannot grow. The rooms may then hold some strips.
+pub(crate) fn sum_strips<E: Engine, P: Pieces, R: Rooms>(
+    alloc: Global,
+    engine: &E,
+    received: &P,
+    wanted: &[ShardIndex],
+    marks: Vec<bool>,
+    surplus: usize,
+    rooms: &mut R,
+) -> Result<(), Error>
+    requires set_up { IsDecoder default_rate (P.received received.now) }
+    requires enough { enough_given (P.received received.now) ≡ Ok tt }
+    requires base { MarkBase (P.received received.now) marks.items }
+    requires surplus { originals_given (P.received received.now)
+        + recovery_given (P.received received.now)
+        ≡ (P.received received.now).configuration.original_count + surplus }
+    requires can { All (CanBeRebuilt (P.received received.now)) wanted.now }
+    requires number { length (R.held rooms.old) ≡ length wanted.now }
+    requires fit { All
+        (λ room. length room
+        ≡ room_length R.grows 0 (P.received received.now).configuration.shard_bytes)
+        (R.held rooms.old) }
+    ensures rebuilt { OnOk result
+        (AreReconstructed (P.received received.now) wanted.now (R.held rooms.new)) }
+    ensures refused { IfErr result
+        (λ e. NoneAgrees (P.received received.now) e ⊎ (e ≡ Error.OutOfMemory)) }
+    ensures untouched { R.grows ≡ false
+        → IfErr result (λ e. e ≡ Error.OutOfMemory → R.held rooms.new ≡ R.held rooms.old) }
+    ensures places { R.places rooms.new ≡ R.places rooms.old }
+    ensures loan { R.loan rooms.new ≡ R.loan rooms.old }
+{
+    let counts = received.counts();
+    let base = SumBase::new(alloc, engine, &mut Steps::new(), counts, marks)?;
+    let shard_bytes = received.shard_bytes();
+    let width = STRIP_BYTES.min(shard_bytes);
+    let mut start = 0;
+    while start < shard_bytes {
+        let end = start + width.min(shard_bytes - start);
+        sum_strip(engine, &base, received, wanted, surplus, start, end, rooms)?;
+        start = end;
+    }
+    Ok(())
+}
+
+// Sums one strip of the wanted shards, and writes it into the rooms.
+fn sum_strip<E: Engine, P: Pieces, R: Rooms>(
+    engine: &E,
+    base: &SumBase,
+    received: &P,
+    wanted: &[ShardIndex],
+    surplus: usize,
+    start: usize,
+    end: usize,
+    rooms: &mut R,
+) -> Result<(), Error>
+    requires ready { CanSum (P.received received.now) base.now start end }
+    requires surplus { originals_given (P.received received.now)
+        + recovery_given (P.received received.now)
+        ≡ (P.received received.now).configuration.original_count + surplus }
+    requires few { end - start ≤ 2048 }
+    requires can { All (CanBeRebuilt (P.received received.now)) wanted.now }
+    requires number { length (R.held rooms.old) ≡ length wanted.now }
+    requires fit { All
+        (λ room. length room
+        ≡ room_length R.grows start (P.received received.now).configuration.shard_bytes)
+        (R.held rooms.old) }
+    ensures put { OnOk result ((made : List Shard)
+        × AreReconstructed (state_of_pieces start end (P.received received.now)) wanted.now made
+        × ArePut start end made (R.held rooms.old) (R.held rooms.new)) }
+    ensures refused { IfErr result
+        (λ e. NoneAgrees (state_of_pieces start end (P.received received.now)) e
+        ⊎ ((R.grows ≡ true) × (e ≡ Error.OutOfMemory))) }
+    ensures places { R.places rooms.new ≡ R.places rooms.old }
+    ensures loan { R.loan rooms.new ≡ R.loan rooms.old }
+{
+    let len = row_len(end - start);
+    let mut sum = [[0; 64]; STRIP_BYTES / 64];
+    let mut added = [[0; 64]; STRIP_BYTES / 64];
+    let sum = &mut sum[..len];
+    let added = &mut added[..len];
+    if surplus > 0 && !agree_in_strip(engine, base, received, start, end, sum, added) {
+        return Err(inconsistent(received, surplus));
+    }
+    put_sums(
+        engine, base, received, wanted, start, end, sum, added, rooms,
+    )
+}
+
+// Returns the error of received shards with which no message agrees. There are `surplus` more shards than originals.
+fn inconsistent<P: Pieces>(received: &P, surplus: usize) -> Error
+    requires set_up { IsDecoder default_rate (P.received received.now) }
+    requires surplus { originals_given (P.received received.now)
+        + recovery_given (P.received received.now)
+        ≡ (P.received received.now).configuration.original_count + surplus }
+    ensures { result
+        ≡ Error.InconsistentShards (originals_given (P.received received.now))
+        (recovery_given (P.received received.now)) }
+{
+    let original_count = received.counts().original_count;
+    let mut original_received_count = 0;
+    for index in 0..original_count {
+        if received.original_piece(index, 0, 0).is_some() {
+            original_received_count += 1;
+        }
+    }
+    Error::InconsistentShards {
+        original_received_count,
+        recovery_received_count: original_count + surplus - original_received_count,
+    }
+}
+
+// Returns whether some message agrees with a strip of all received shards: each shard outside of the base is the direct sum.
+fn agree_in_strip<E: Engine, P: Pieces>(
+    engine: &E,
+    base: &SumBase,
+    received: &P,
+    start: usize,
+    end: usize,
+    sum: &mut [[u8; 64]],
+    added: &mut [[u8; 64]],
+) -> bool
+    requires ready { CanSum (P.received received.now) base.now start end }
+    requires room { length sum.old ≡ row_len (end - start) }
+    requires other_room { length added.old ≡ row_len (end - start) }
+    ensures { IsTrue result
+        ↔ IsConsistent (state_of_pieces start end (P.received received.now)) }
+{
+    for row in 0..base.marks.len() {
+        if !agrees_in_row(engine, base, received, row, start, end, sum, added) {
+            return false;
+        }
+    }
+    true
+}
+
+// Returns whether a strip of the shard that was received in a row, if there is one outside of the base, is the direct sum.
+fn agrees_in_row<E: Engine, P: Pieces>(
+    engine: &E,
+    base: &SumBase,
+    received: &P,
+    row: usize,
+    start: usize,
+    end: usize,
+    sum: &mut [[u8; 64]],
+    added: &mut [[u8; 64]],
+) -> bool
+    requires ready { CanSum (P.received received.now) base.now start end }
+    requires row { row < row_count (frame_in (P.received received.now)) }
+    requires room { length sum.old ≡ row_len (end - start) }
+    requires other_room { length added.old ≡ row_len (end - start) }
+    ensures { IsTrue result ↔ AgreesInRow base.now.marks.items
+        (state_of_pieces start end (P.received received.now)) row }
+{
+    if base.marks[row] {
+        return true;
+    }
+    let Some(piece) = piece_in_row(received, row, start, end) else {
+        return true;
+    };
+    sum_piece(engine, base, received, row, start, end, sum, added);
+    is_equal(summed_piece(sum, end - start), piece)
+}
+
+// Returns whether two pieces are equal.
+fn is_equal(one: &[u8], other: &[u8]) -> bool
+    ensures { IsTrue result ↔ (one.now ≡ other.now) }
+{
+    one == other
+}
+
+// Writes a strip of each wanted shard into its room, after the first `start` bytes.
+fn put_sums<E: Engine, P: Pieces, R: Rooms>(
+    engine: &E,
+    base: &SumBase,
+    received: &P,
+    wanted: &[ShardIndex],
+    start: usize,
+    end: usize,
+    sum: &mut [[u8; 64]],
+    added: &mut [[u8; 64]],
+    rooms: &mut R,
+) -> Result<(), Error>
+    requires ready { CanSum (P.received received.now) base.now start end }
+    requires consistent { IsConsistent (state_of_pieces start end (P.received received.now)) }
+    requires room { length sum.old ≡ row_len (end - start) }
+    requires other_room { length added.old ≡ row_len (end - start) }
+    requires can { All (CanBeRebuilt (P.received received.now)) wanted.now }
+    requires number { length (R.held rooms.old) ≡ length wanted.now }
+    requires fit { All
+        (λ room. length room
+        ≡ room_length R.grows start (P.received received.now).configuration.shard_bytes)
+        (R.held rooms.old) }
+    ensures put { OnOk result ((made : List Shard)
+        × AreReconstructed (state_of_pieces start end (P.received received.now)) wanted.now made
+        × ArePut start end made (R.held rooms.old) (R.held rooms.new)) }
+    ensures refused { IfErr result (λ e. (R.grows ≡ true) × (e ≡ Error.OutOfMemory)) }
+    ensures places { R.places rooms.new ≡ R.places rooms.old }
+    ensures loan { R.loan rooms.new ≡ R.loan rooms.old }
+{
+    for room in 0..wanted.len() {
+        let row = row_of(base.counts.frame, wanted[room]);
+        make_piece(engine, base, received, row, start, end, sum, added);
+        rooms.put(room, start, summed_piece(sum, end - start))?;
+    }
+    Ok(())
+}
+
+// Returns the row of a shard.
+fn row_of(frame: Frame, shard: ShardIndex) -> usize
+    requires { row_of frame shard < 2 ^ 64 }
+    ensures { result ≡ row_of frame shard }
+{
+    match shard {
+        ShardIndex::Original(index) => frame.original_row(index),
+        ShardIndex::Recovery(index) => frame.recovery_row(index),
+    }
+}
+
+// Sets a sum to a strip of the shard in a row: the received one, or else the direct sum.
+fn make_piece<E: Engine, P: Pieces>(
+    engine: &E,
+    base: &SumBase,
+    received: &P,
+    row: usize,
+    start: usize,
+    end: usize,
+    sum: &mut [[u8; 64]],
+    added: &mut [[u8; 64]],
+)
+    requires ready { CanSum (P.received received.now) base.now start end }
+    requires row { row < row_count (frame_in (P.received received.now)) }
+    requires room { length sum.old ≡ row_len (end - start) }
+    requires other_room { length added.old ≡ row_len (end - start) }
+    ensures received { (shard : Shard)
+        → shard_in_row (state_of_pieces start end (P.received received.now)) row ≡ Some shard
+        → shard_in_order sum.new (end - start) 0 ≡ shard }
+    ensures summed { shard_in_row (state_of_pieces start end (P.received received.now)) row ≡ None
+        → IsBaseSum base.now.marks.items
+        (state_of_pieces start end (P.received received.now)) row
+        (shard_in_order sum.new (end - start) 0) }
+{
+    if let Some(piece) = piece_in_row(received, row, start, end) {
+        clear_sum(sum);
+        add_times(engine, &mut Steps::new(), sum, added, piece, 0);
+        finish_sum(sum, end - start);
+        return;
+    }
+    sum_piece(engine, base, received, row, start, end, sum, added);
+}
+
+// Sets a sum to the direct sum over a strip of the base, for a row outside of the base.
+fn sum_piece<E: Engine, P: Pieces>(
+    engine: &E,
+    base: &SumBase,
+    received: &P,
+    row: usize,
+    start: usize,
+    end: usize,
+    sum: &mut [[u8; 64]],
+    added: &mut [[u8; 64]],
+)
+    requires ready { CanSum (P.received received.now) base.now start end }
+    requires row { row < row_count (frame_in (P.received received.now)) }
+    requires outside { is_marked base.now.marks.items row ≡ false }
+    requires room { length sum.old ≡ row_len (end - start) }
+    requires other_room { length added.old ≡ row_len (end - start) }
+    ensures { IsBaseSum base.now.marks.items
+        (state_of_pieces start end (P.received received.now)) row
+        (shard_in_order sum.new (end - start) 0) }
+{
+    clear_sum(sum);
+    add_base(engine, base, received, row, start, end, sum, added);
+    finish_sum(sum, end - start);
+}
+
+// Adds the direct sum over a strip of the base, for a row outside of the base, to a sum whose words are 0.
+fn add_base<E: Engine, P: Pieces>(
+    engine: &E,
+    base: &SumBase,
+    received: &P,
+    row: usize,
+    start: usize,
+    end: usize,
+    sum: &mut [[u8; 64]],
+    added: &mut [[u8; 64]],
+)
+    requires ready { CanSum (P.received received.now) base.now start end }
+    requires row { row < row_count (frame_in (P.received received.now)) }
+    requires outside { is_marked base.now.marks.items row ≡ false }
+    requires room { length sum.old ≡ row_len (end - start) }
+    requires other_room { length added.old ≡ row_len (end - start) }
+    requires zeros { (j : ℕ) → j < (end - start) / 2 → sum_word sum.old j ≡ 0 }
+    ensures { (j : ℕ) → j < (end - start) / 2
+        → sum_word sum.new j
+        ≡ base_sum base.now.marks.items
+        (state_of_pieces start end (P.received received.now)) j row }
+{
+    for index in 0..base.rows.len() {
+        let from = base.rows[index];
+        if let Some(piece) = piece_in_row(received, from, start, end) {
+            let log_m = base.factor(from, row);
+            add_times(engine, &mut Steps::new(), sum, added, piece, log_m);
+        }
+    }
+}
