@@ -23,7 +23,7 @@ pub mod pieces;
 pub mod received_shards;
 pub mod receiving;
 mod reconstruct_error;
-mod reconstructing;
+pub mod reconstructing;
 pub mod restoring;
 mod room_error;
 pub mod rooms;
