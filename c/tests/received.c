@@ -74,8 +74,8 @@ static uint32_t verified(const struct message *m, const struct received *a, stru
 
 /* Reconstructs the shards of the order from place `from` on, and compares them, or the unchanged rooms if the call fails. */
 static uint32_t reconstructed(const struct message *m, const struct received *a, size_t from, struct rs_fault *fault) {
-    struct rs_wanted wanted[24];
-    struct rs_room rooms[24];
+    struct rs_wanted wanted[24] = {{RS_ORIGINAL, 0}};
+    struct rs_room rooms[24] = {{NULL, 0}};
     size_t count = 0;
     uint32_t answer;
     for (size_t i = from; i < m->k + m->r; i++, count++) {
