@@ -34,6 +34,7 @@ pub mod strip_comparer;
 pub mod strip_decoder;
 pub mod strip_encoder;
 pub mod strip_rebuilder;
+mod updating;
 pub mod verifying;
 mod wanted_shards;
 
@@ -89,6 +90,7 @@ pub use rs_field::error::Error;
 /// ```
 pub use shard_index::ShardIndex;
 pub use slices::{decode_slice, encode_slice};
+pub use updating::update_into;
 pub use verifying::verify;
 /// The results of a round, and iterators over them. They lend shards and copy nothing.
 ///

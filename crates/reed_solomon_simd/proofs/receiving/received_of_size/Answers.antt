@@ -1,4 +1,4 @@
-use Rattle.std.proofs.Common.{rules, refl}
+use Rattle.std.proofs.Common.{rules}
 use Rattle.reed_solomon_simd.specs.ReceivedState.{received_state}
 use Rattle.rs_rate.proofs.Giving.{no-calls, reached-ok, reached-err}
 use Rattle.rs_rate.proofs.OneCall.{both-ok, both-err}

@@ -1,4 +1,4 @@
-use Rattle.std.proofs.Common.{rules, ◌≡◌, List, [], map, length, All, ap, subst, ◌∙◌, sym, arith}
+use Rattle.std.proofs.Common.{◌≡◌, List, [], map, length, All, ap, subst, ◌∙◌, sym, arith}
 use Rattle.std.proofs.lemmas.List.{length-map, get_or-map}
 use Rattle.rs_field.specs.code.Column.{Shard}
 use Rattle.rs_field.specs.code.Decoder.{DecoderState}

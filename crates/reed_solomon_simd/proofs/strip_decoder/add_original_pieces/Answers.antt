@@ -1,5 +1,4 @@
-use Rattle.std.proofs.Common.{◌≡◌, ◌-◌, ◌<◌, ◌≤◌, ℕ, Some, sym, ap, ◌∙◌, arith, length}
-use Rattle.rs_field.specs.code.Column.{Shard}
+use Rattle.std.proofs.Common.{◌≡◌, ◌<◌, ◌≤◌, ℕ, Some, sym, ap, ◌∙◌, arith}
 use Rattle.rs_field.specs.code.Configuration.{Configuration}
 use Rattle.rs_field.specs.code.Counts.{default_rate}
 use Rattle.rs_field.specs.code.Decoder.{DecoderState}

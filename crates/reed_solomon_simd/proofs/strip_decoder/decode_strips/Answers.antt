@@ -1,12 +1,9 @@
-use Rattle.std.proofs.Common.{rules, ◌≡◌, ℕ, ◌+◌, ◌-◌, ◌<◌, List, Err, sym, ap, subst, ◌∙◌, refl, inl, inr, arith}
+use Rattle.std.proofs.Common.{rules, ◌≡◌, ℕ, ◌+◌, ◌-◌, ◌<◌, Err, ap, subst, ◌∙◌, refl, arith}
 use Rattle.std.proofs.Math.Nat.{min-eq_right}
-use Rattle.rs_field.specs.code.Column.{Shard}
 use Rattle.rs_field.specs.code.Decoder.{DecoderState}
 use Rattle.rs_field.specs.code.Counts.{default_rate}
-use Rattle.rs_field.specs.code.Pieces.{IsStrip}
-use Rattle.rs_field.specs.code.PieceStates.{HoldRestored}
 use Rattle.rs_field.proofs.of_code.Pieces.{is_strip}
-use Rattle.rs_field.proofs.of_code.RestoredBelow.{IsRestoredBelow, restored-further}
+use Rattle.rs_field.proofs.of_code.RestoredBelow.{IsRestoredBelow}
 use Rattle.rs_rate.specs.DecoderView.{decoder_state}
 use Rattle.reed_solomon_simd.proofs.ReceivedLaws.{strips-restored}
 use Rattle.reed_solomon_simd.proofs.StripDecodeLemmas.{strip-restored, strip-refused}
