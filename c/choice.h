@@ -15,6 +15,7 @@ struct build {
     __typeof__(rs_decode_shards) *decode_shards;
     __typeof__(rs_verify) *verify;
     __typeof__(rs_reconstruct) *reconstruct;
+    __typeof__(rs_update) *update;
 };
 
 #define PROVED(level)                                      \
@@ -24,10 +25,11 @@ struct build {
     __typeof__(rs_encode_shards) rs_encode_shards_##level; \
     __typeof__(rs_decode_shards) rs_decode_shards_##level; \
     __typeof__(rs_verify) rs_verify_##level;               \
-    __typeof__(rs_reconstruct) rs_reconstruct_##level
+    __typeof__(rs_reconstruct) rs_reconstruct_##level;     \
+    __typeof__(rs_update) rs_update_##level
 #define BUILD(level)                                                                                                            \
     {rs_tables_make_##level,   rs_encode_##level, rs_decode_##level,     rs_encode_shards_##level, rs_decode_shards_##level, \
-     rs_verify_##level, rs_reconstruct_##level}
+     rs_verify_##level,        rs_reconstruct_##level, rs_update_##level}
 
 /* These calls have nothing to gain from newer instructions. */
 __typeof__(rs_supports) rs_supports_v1;

@@ -160,6 +160,16 @@ uint32_t rs_reconstruct(const struct rs_tables *tables, size_t original_count, s
                                                         arrays[2].entries, rooms_number, to));
 }
 
+uint32_t rs_update(const struct rs_tables *tables, size_t original_count, size_t recovery_count, size_t index, const uint8_t *before,
+                   size_t before_length, const uint8_t *after, size_t after_length, const struct rs_room *recovery, size_t recovery_number,
+                   struct rs_fault *fault) {
+    struct array array = {recovery, recovery_number, sizeof *recovery, NULL};
+    struct rs_fault unread, *to = fault ? fault : &unread;
+    if (!shielded(&array, 1, to)) return RS_OUT_OF_MEMORY;
+    return unshielded(&array, 1, fitting()->update(tables, original_count, recovery_count, index, at(before, before_length), before_length,
+                                                   at(after, after_length), after_length, array.entries, recovery_number, to));
+}
+
 size_t rs_fault_text(const struct rs_fault *fault, char *text, size_t text_length) {
     size_t most = text_length ? text_length - 1 : 0;
     size_t length = rs_fault_text_v1(fault, at(text, most), most);

@@ -16,7 +16,8 @@
  *
  * Beside its rows, rs_encode takes a list of 16 bytes for each original. rs_decode takes a list of 8 bytes for each original.
  * rs_decode_shards, rs_verify and rs_reconstruct take two lists of references to shards, 24 bytes for each of the k + r shards.
- * rs_reconstruct also takes 16 bytes for each wanted shard, and 1 byte for each of the k + r shards. A decode without recovery shards
+ * rs_reconstruct also takes 16 bytes for each wanted shard, and 1 byte for each of the k + r shards. rs_update takes 2 bytes for each
+ * recovery shard, and 5 bytes for each row of a decode. A decode without recovery shards
  * takes no memory. If an entry of an array of shards or rooms has NULL as its pointer, the call makes a copy of this array, and fails with
  * RS_OUT_OF_MEMORY before all other checks if it cannot allocate the copy.
  *
@@ -32,9 +33,9 @@
  *     thread, no signal handler, no other process and no device. Nobody else reads memory that the call writes. Memory that a call
  *     writes overlaps no other memory that was passed to it.
  *   - Memory that a call reads is initialised: the shards that a call gets (in rs_decode, those that the marks say are there), the
- *     marks of rs_decode, arrays, the fault that rs_fault_text gets, and tables.
+ *     marks of rs_decode, the recovery shards of rs_update, arrays, the fault that rs_fault_text gets, and tables.
  *     Memory that a call only writes need not be initialised: the tables of rs_tables_make, recovery shards of an encode, the places
- *     of lost shards in rs_decode, the memory that rooms point to, texts, work memory, and *fault.
+ *     of lost shards in rs_decode, the memory that the rooms of other calls than rs_update point to, texts, work memory, and *fault.
  *   - Nobody but rs_tables_make writes to tables that rs_tables_make has filled. The last thing that rs_tables_make writes is a stamp.
  *     Other memory that is passed as tables must not hold this stamp by chance. Memory full of zeros doesn't hold it.
  *   - A program that links its own allocator instead of c/heap.c must provide all three functions of c/heap.c: rattle_alloc,
@@ -126,7 +127,7 @@ size_t rs_tables_bytes(void);
 uint32_t rs_supports(size_t original_count, size_t recovery_count);
 
 /* Four calls encode and decode: rs_encode, rs_decode, rs_encode_shards and rs_decode_shards. rs_verify checks received shards, and
- * rs_reconstruct makes wanted shards from received ones. All six return RS_OK or the number of the fault. They write the number and its values to *fault. If they return RS_OK, they write zeros to *fault. If they fail, they write
+ * rs_reconstruct makes wanted shards from received ones. rs_update updates recovery shards. All seven return RS_OK or the number of the fault. They write the number and its values to *fault. If they return RS_OK, they write zeros to *fault. If they fail, they write
  * nothing but *fault. The comment of each call lists its faults in the order in which the call checks for them. This order is proved,
  * except for the place of RS_OUT_OF_MEMORY: the contracts allow it at any place after the checks of the counts, of the lengths of buffers
  * and of the size of the first shard that the call looks at.
@@ -288,6 +289,24 @@ uint32_t rs_reconstruct(const struct rs_tables *tables, size_t original_count, s
                         const struct rs_shard *recovery, size_t recovery_number,
                         const struct rs_wanted *wanted, size_t wanted_number,
                         const struct rs_room *rooms, size_t rooms_number, struct rs_fault *fault);
+
+/* Updates recovery shards after the original with this index has changed. before is the original before the change, and after is the
+ * original after it. The other originals are not needed. The array recovery holds one room for each recovery shard, in order of index. Before
+ * the call, the rooms hold the recovery shards of the message with the original before the change. After it, they hold those of the message
+ * with the changed original.
+ *
+ * Faults, in order:
+ *   - RS_UNSUPPORTED_SHARD_COUNT
+ *   - RS_INVALID_SHARD_SIZE if before_length is zero or odd
+ *   - RS_INVALID_ORIGINAL_SHARD_INDEX
+ *   - RS_DIFFERENT_SHARD_SIZE if after_length isn't before_length; third: 1
+ *   - RS_WRONG_NUMBER_OF_ROOMS
+ *   - RS_WRONG_LENGTH for the first room that isn't as long as the original
+ *   - RS_OUT_OF_MEMORY for the factors of the recovery shards */
+uint32_t rs_update(const struct rs_tables *tables, size_t original_count, size_t recovery_count, size_t index,
+                   const uint8_t *before, size_t before_length,
+                   const uint8_t *after, size_t after_length,
+                   const struct rs_room *recovery, size_t recovery_number, struct rs_fault *fault);
 
 /* Five calls take all their memory from work memory: work_length bytes from the address work on, which the caller passes. Each of them does
  * what the call does that has the same name without _with_work, and requests no memory from malloc or from the program's allocator. If

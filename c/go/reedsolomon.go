@@ -35,6 +35,18 @@ static uint32_t over_marks(const struct rs_tables *tables, size_t k, size_t r, s
     free(names);
     return answer;
 }
+
+// Recovery shards in a buffer, one after the other, after an original has changed.
+static uint32_t update_buffer(const struct rs_tables *tables, size_t k, size_t r, size_t index, const uint8_t *before, size_t before_length,
+                              const uint8_t *after, size_t after_length, uint8_t *recovery, struct rs_fault *fault) {
+    struct rs_room *rooms = malloc(r * sizeof *rooms);
+    uint32_t answer = RS_OUT_OF_MEMORY;
+    *fault = (struct rs_fault){RS_OUT_OF_MEMORY, 0, 0, 0};
+    for (size_t i = 0; rooms && i < r; i++) rooms[i] = (struct rs_room){recovery + i * before_length, before_length};
+    if (rooms) answer = rs_update(tables, k, r, index, before, before_length, after, after_length, rooms, r, fault);
+    free(rooms);
+    return answer;
+}
 */
 import "C"
 
@@ -225,6 +237,25 @@ func (c *Code) Reconstruct(shardBytes int, originals, recovery, marks, wanted []
 		}
 	}
 	return c.overMarks(shardBytes, originals, recovery, marks, wanted)
+}
+
+// Update updates the recovery shards after the original with this index has changed from before to after. In recovery, shard i begins at
+// byte i * len(before). The other originals are not needed. Nothing is copied.
+func (c *Code) Update(index int, before, after, recovery []byte) error {
+	if wanted := c.recovery * len(before); len(recovery) != wanted {
+		return &Fault{Number: WrongLength, First: uint64(wanted), Second: uint64(len(recovery)), Third: 1}
+	}
+	at, err := made()
+	if err != nil {
+		return err
+	}
+	var fault C.struct_rs_fault
+	number := C.update_buffer(at, C.size_t(c.originals), C.size_t(c.recovery), C.size_t(index), start(before), C.size_t(len(before)),
+		start(after), C.size_t(len(after)), start(recovery), &fault)
+	runtime.KeepAlive(before)
+	runtime.KeepAlive(after)
+	runtime.KeepAlive(recovery)
+	return failed(number, &fault)
 }
 
 // EncodeShards returns the recovery shards of originals that lie anywhere. cgo allows no arrays of pointers to Go memory, so this call copies

@@ -55,6 +55,15 @@ func round(t *testing.T, random *rand.Rand, k, r, size int) {
 	if !bytes.Equal(damaged, originals) || !bytes.Equal(recovery, whole) {
 		t.Fatal("other shards are reconstructed")
 	}
+	index, after := random.Intn(k), make([]byte, size)
+	random.Read(after)
+	if err := code.Update(index, append([]byte{}, damaged[index*size:(index+1)*size]...), after, recovery); err != nil {
+		t.Fatal(err)
+	}
+	copy(damaged[index*size:], after)
+	if err := code.Encode(size, damaged, whole); err != nil || !bytes.Equal(recovery, whole) {
+		t.Fatal("an update makes other recovery shards than an encode")
+	}
 	damaged[0]++
 	if err := code.Verify(size, damaged, recovery, bytes.Repeat([]byte{1}, k+r)); number(err) != InconsistentShards {
 		t.Fatal(err)
@@ -141,6 +150,12 @@ func TestFaults(t *testing.T) {
 	}
 	if err := code.Reconstruct(4, make([]byte, 12), make([]byte, 8), []byte{1, 1, 1, 0, 1}, []byte{0, 0, 0, 0, 1}); number(err) != WantedReceived ||
 		err.Error() != "wanted shard was received: recovery shard 1" {
+		t.Error(err)
+	}
+	if err := code.Update(3, []byte("ab"), []byte("cd"), make([]byte, 4)); number(err) != InvalidOriginalShardIndex {
+		t.Error(err)
+	}
+	if err := code.Update(0, []byte("ab"), []byte("cd"), make([]byte, 5)); number(err) != WrongLength {
 		t.Error(err)
 	}
 	if InconsistentShards.String() != "RS_INCONSISTENT_SHARDS" || ShardBytes(35, 3) != 12 || ShardBytes(-1, 3) != 0 || !Supports(3, 2) {

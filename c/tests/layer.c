@@ -105,6 +105,13 @@ static uint32_t answered(unsigned level, const void *first, const void *second, 
         record(0, o, on, sizeof *o), record(1, q, qn, sizeof *q), record(2, to, tn, sizeof *to);                                           \
         got.wanted = w, got.wanted_number = wn;                                                                                            \
         return answered(number, o, q, to, fault);                                                                                          \
+    }                                                                                                                                      \
+    uint32_t rs_update_##level(const struct rs_tables *tables, size_t k, size_t r, size_t index, const uint8_t *b, size_t bl,              \
+                               const uint8_t *a, size_t al, const struct rs_room *q, size_t qn, struct rs_fault *fault) {                  \
+        if (!tables || k != 3 || r != 2 || index != 1) wrong("an update passes other numbers");                                            \
+        record(2, q, qn, sizeof *q);                                                                                                       \
+        got.lengths[0] = bl, got.lengths[1] = al;                                                                                          \
+        return answered(number, b, a, q, fault);                                                                                           \
     }
 
 RECORDER(v1, 1)
@@ -246,13 +253,20 @@ static void over_received(void) {
     if (rs_verify(tables, 3, 2, NULL, 0, NULL, 0, NULL) != ANSWER || got.lengths[0] || got.lengths[1] ||
         rs_reconstruct(tables, 3, 2, NULL, 0, NULL, 0, NULL, 0, NULL, 0, NULL) != ANSWER || got.lengths[2] || got.wanted_number)
         wrong("empty arrays of received shards");
+    if (rs_update(tables, 3, 2, 1, &byte, 1, (const uint8_t *)own, 2, q, 2, &fault) != ANSWER || got.level != level || got.first != &byte ||
+        got.second != own || got.third != q || got.lengths[0] != 1 || got.lengths[1] != 2 || got.lengths[2] != 2 || got.fault != &fault)
+        wrong("rs_update passes something else");
     own[1].bytes = NULL, own[1].length = 0, q[1].bytes = NULL, q[1].length = 0;
     if (rs_verify(tables, 3, 2, own, 2, other, 2, &fault) != ANSWER || got.first == own || got.second != other ||
         rs_reconstruct(tables, 3, 2, own, 2, other, 2, wanted, 2, q, 2, &fault) != ANSWER || got.first == own || got.second != other ||
         got.third == q || got.wanted != wanted)
         wrong("NULL in arrays of received shards");
     if (own[1].bytes || q[1].bytes || blocks) wrong("a copy of received shards is kept");
+    if (rs_update(tables, 3, 2, 1, NULL, 0, NULL, 0, q, 2, NULL) != ANSWER || got.third == q || got.lengths[0] || blocks)
+        wrong("NULL in an array of an update");
     refuses = true;
+    if (rs_update(tables, 3, 2, 1, &byte, 1, &byte, 1, q, 2, &fault) != RS_OUT_OF_MEMORY || fault.number != RS_OUT_OF_MEMORY)
+        wrong("no memory for a copy in an update");
     if (rs_verify(tables, 3, 2, own, 2, other, 2, NULL) != RS_OUT_OF_MEMORY ||
         rs_reconstruct(tables, 3, 2, other, 2, other, 2, wanted, 2, q, 2, &fault) != RS_OUT_OF_MEMORY || fault.number != RS_OUT_OF_MEMORY)
         wrong("no memory for a copy of received shards");

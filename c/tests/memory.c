@@ -13,7 +13,7 @@ struct tried {
 };
 
 /* How many requests for memory the calls make. */
-enum { TABLES = 6, ENCODE = 2, ENCODE_SHARDS = 1, DECODE = 4, DECODE_SHARDS = 5, RECONSTRUCT = 9, VERIFY = 3, VERIFY_FEWER = 5 };
+enum { TABLES = 6, ENCODE = 2, ENCODE_SHARDS = 1, DECODE = 4, DECODE_SHARDS = 5, RECONSTRUCT = 9, VERIFY = 3, VERIFY_FEWER = 5, UPDATE = 4 };
 /* With surplus shards, a decode restores to vectors first: the list of them, and each vector. */
 enum { LIST = 1 };
 
@@ -134,6 +134,18 @@ static uint32_t reconstruct(void) {
     struct rs_room to[2] = {{recovery, size}, {originals + 2 * size, size}};
     struct rs_fault fault;
     uint32_t answer = rs_reconstruct(tables, 3, 2, own, 2, &other, 1, wanted, 2, to, 2, &fault);
+    return answer == fault.number ? answer : 99;
+}
+
+/* Original 1 changes to another one and, in the next call, back. */
+static uint32_t update(void) {
+    static const uint8_t other[LONGEST] = {1, 2, 3};
+    static bool is_changed;
+    const uint8_t *own = originals + size;
+    struct rs_room to[2] = {{recovery, size}, {recovery + size, size}};
+    struct rs_fault fault;
+    uint32_t answer = rs_update(tables, 3, 2, 1, is_changed ? other : own, size, is_changed ? own : other, size, to, 2, &fault);
+    if (!answer) is_changed = !is_changed;
     return answer == fault.number ? answer : 99;
 }
 
@@ -312,6 +324,8 @@ static void messages(void) {
     memset(recovery, 1, size);
     memset(originals + 2 * size, 1, size);
     each("rs_reconstruct", reconstruct, recovery, sizeof recovery, RECONSTRUCT);
+    each("rs_update", update, recovery, sizeof recovery, UPDATE);
+    each("rs_update back", update, recovery, sizeof recovery, UPDATE);
     each("rs_verify", verify_whole, originals, sizeof originals, VERIFY);
     each("rs_verify without an original", verify_two, originals, sizeof originals, VERIFY_FEWER);
 }

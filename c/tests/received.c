@@ -1,4 +1,4 @@
-/* Calls over received shards that write no lost originals: rs_verify and rs_reconstruct. Words: `rounds SEED COUNT`; `refusals`. */
+/* rs_verify, rs_reconstruct and rs_update. Words: `rounds SEED COUNT`; `refusals`. */
 #include "reed_solomon_simd.h"
 
 #include <stdio.h>
@@ -95,8 +95,26 @@ static uint32_t reconstructed(const struct message *m, const struct received *a,
     return answer;
 }
 
+/* An original changes. Its recovery shards are updated, and compared with those that an encode makes. */
+static void update(struct message *m, uint64_t *state) {
+    size_t index = drawn(state) % m->k, length = m->r * m->size;
+    uint8_t *original = m->shards + index * m->size, *recovery = m->shards + m->k * m->size;
+    uint8_t *before = memcpy(room(m->size), original, m->size), *updated = memcpy(room(length), recovery, length);
+    struct rs_room rooms[12] = {{NULL, 0}};
+    struct rs_fault fault = {99, 99, 99, 99};
+    for (size_t i = 0; i < m->size; i++) original[i] = (uint8_t)(drawn(state) >> 24);
+    for (size_t i = 0; i < m->r; i++) rooms[i].bytes = updated + i * m->size, rooms[i].length = m->size;
+    if (rs_update(tables, m->k, m->r, index, before, m->size, original, m->size, rooms, m->r, &fault) || !told(&fault, RS_OK, 0, 0, 0))
+        wrong("an update fails");
+    if (rs_encode(tables, m->k, m->r, m->size, m->shards, m->k * m->size, recovery, length, NULL)) wrong("an encode fails");
+    if (memcmp(updated, recovery, length)) wrong("an update makes other recovery shards than an encode");
+    free(before);
+    free(updated);
+}
+
 static void round_of(uint64_t *state) {
     struct message m = made(state);
+    update(&m, state);
     size_t count = m.k + drawn(state) % (m.r + 1), from = count + drawn(state) % (m.k + m.r - count + 1);
     struct received a = first_of(&m, count);
     struct rs_fault fault = {99, 99, 99, 99};
@@ -139,6 +157,16 @@ static void unwanted(const struct rs_wanted *wanted, size_t count, size_t places
     if (rs_fault_text(&fault, got, sizeof got) != strlen(text) || strcmp(got, text)) wrong("another text");
 }
 
+/* An update fails with this fault, and changes nothing. */
+static void not_updated(size_t k, size_t r, size_t index, size_t before, size_t after, size_t places, uint32_t number, size_t first,
+                        size_t second, size_t third) {
+    struct rs_fault fault = {99, 99, 99, 99};
+    if (rs_update(tables, k, r, index, bytes, before, bytes + 4, after, rooms, places, &fault) != number ||
+        !told(&fault, number, first, second, third) ||
+        rs_update(tables, k, r, index, bytes, before, bytes + 4, after, rooms, places, NULL) != number)
+        wrong("an update fails with another fault");
+}
+
 static void refusals(void) {
     const struct rs_wanted large[2] = {{RS_RECOVERY, 0}, {RS_ORIGINAL, 3}}, larger = {RS_RECOVERY, 2}, twice[3] = {{1, 1}, {1, 0}, {7, 1}},
                            taken = {RS_ORIGINAL, 2}, both[2] = {{RS_RECOVERY, 0}, {RS_RECOVERY, 1}}, twice_original[2] = {{0, 0}, {0, 0}};
@@ -172,7 +200,14 @@ static void refusals(void) {
     unwanted(both, 2, 1, RS_WRONG_NUMBER_OF_ROOMS, 2, 1, 0, "wrong number of rooms: expected 2, got 1");
     unwanted(both, 2, 2, RS_WRONG_LENGTH, 4, 2, 1, "wrong length: expected 4 bytes, got 2 bytes");
     if (rs_reconstruct(tables, 3, 2, own, 3, NULL, 0, NULL, 0, NULL, 0, NULL)) wrong("nothing is wanted, and it is refused");
+    not_updated(3, 0, 7, 3, 4, 0, RS_UNSUPPORTED_SHARD_COUNT, 3, 0, 0);
+    not_updated(3, 2, 7, 3, 4, 0, RS_INVALID_SHARD_SIZE, 3, 0, 0);
+    not_updated(3, 2, 3, 4, 2, 0, RS_INVALID_ORIGINAL_SHARD_INDEX, 3, 3, 0);
+    not_updated(3, 2, 2, 4, 2, 0, RS_DIFFERENT_SHARD_SIZE, 4, 2, 1);
+    not_updated(3, 2, 2, 4, 4, 3, RS_WRONG_NUMBER_OF_ROOMS, 2, 3, 0);
+    not_updated(3, 2, 2, 4, 4, 2, RS_WRONG_LENGTH, 4, 2, 1);
     tables = (struct rs_tables *)&unmade;
+    not_updated(3, 2, 2, 4, 4, 2, RS_TABLES_NOT_MADE, 0, 0, 0);
     refused(3, 2, own, 3, other, 1, RS_TABLES_NOT_MADE, 0, 0, 0);
     if (memcmp(before, bytes, sizeof bytes)) wrong("a call that fails has written");
     puts("received: refusals");

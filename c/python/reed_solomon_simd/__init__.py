@@ -1,7 +1,8 @@
 """Reed-Solomon erasure codes over GF(2^16).
 
 `encode` turns k originals of one even size into recovery shards. `decode` takes any k of all these shards, and returns the missing originals.
-`reconstruct` returns the lost shards that you name, also recovery shards. `verify` checks whether shards belong to one message.
+`reconstruct` returns the lost shards that you name, also recovery shards. `verify` checks whether shards belong to one message. `update`
+updates the recovery shards if one original changes.
 Shards are objects with a contiguous buffer: bytes, bytearray, memoryview, array.array or a NumPy array. They are read where they are, and
 no call copies them. Results are new bytearrays, or are written into buffers that the caller passes as `into`.
 
@@ -13,7 +14,7 @@ import os
 import threading
 from typing import Any, Dict, List, Mapping, Optional, Sequence, Tuple
 
-__all__ = ["Error", "decode", "encode", "reconstruct", "shard_bytes", "supports", "verify", "version"]
+__all__ = ["Error", "decode", "encode", "reconstruct", "shard_bytes", "supports", "update", "verify", "version"]
 
 # An object with a contiguous buffer. Python has no type for it before 3.12.
 Buffer = Any
@@ -59,6 +60,7 @@ def _library() -> ctypes.CDLL:
     library.rs_decode_shards.argtypes = [pointer, size, size, pointer, size, pointer, size, pointer, size, fault]
     library.rs_verify.argtypes = [pointer, size, size, pointer, size, pointer, size, fault]
     library.rs_reconstruct.argtypes = [pointer, size, size, pointer, size, pointer, size, pointer, size, pointer, size, fault]
+    library.rs_update.argtypes = [pointer, size, size, size, pointer, size, pointer, size, pointer, size, fault]
     library.rs_fault_text.argtypes = [fault, ctypes.c_char_p, size]
     library.rs_fault_text.restype = size
     library.rs_status_name.argtypes = [ctypes.c_uint32]
@@ -245,3 +247,17 @@ def reconstruct(original_count: int, recovery_count: int, originals: Mapping[int
     if fault.number:
         raise Error(fault)
     return list(into)
+
+
+def update(original_count: int, recovery_count: int, index: int, before: Buffer, after: Buffer, recovery: Sequence[Buffer]) -> None:
+    """Updates the recovery shards in writable buffers after the original with this index has changed from `before` to `after`.
+
+    `recovery` has all recovery shards, in order of index. The other originals are not needed.
+    """
+    _check_counts(original_count, recovery_count)
+    fault, tables = _Fault(), _made_tables()
+    with _Views() as views:
+        rooms = (_Bytes * len(recovery))(*[_Bytes(*views.of(room, WRITABLE)) for room in recovery])
+        _c.rs_update(tables, original_count, recovery_count, _index(index), *views.of(before), *views.of(after), rooms, len(rooms), fault)
+    if fault.number:
+        raise Error(fault)

@@ -70,6 +70,10 @@ class Wrapper(unittest.TestCase):
             lost = [[i for i in order[count:] if i < k], [i - k for i in order[count:] if i >= k]]
             wanted = [shards[i] for i in lost[0]] + [shards[k + i] for i in lost[1]]
             rs.verify(k, r, given, other)
+            index, after = random.randrange(k), random.randbytes(size)
+            updated = [bytearray(shard) for shard in shards[k:]]
+            rs.update(k, r, index, shards[index], after, updated)
+            self.assertEqual(updated, rs.encode(shards[:index] + [after] + shards[index + 1:k], r))
             self.assertEqual(rs.reconstruct(k, r, given, other, *lost), wanted)
             rooms = [bytearray(size) for _ in wanted]
             made = rs.reconstruct(k, r, given, other, *lost, into=rooms)
@@ -87,6 +91,9 @@ class Wrapper(unittest.TestCase):
             rs.verify(3, 2, dict(enumerate(data)), {1: numpy.frombuffer(recovery[1], dtype=numpy.uint8)})
             rs.reconstruct(3, 2, {0: data[0], 2: data[2]}, {0: recovery[0]}, [1], [], into=[room])
             self.assertTrue((room == data[1]).all())
+            rooms = [numpy.frombuffer(shard, dtype=numpy.uint16).copy() for shard in recovery]
+            rs.update(3, 2, 0, data[0], data[1], rooms)
+            self.assertEqual([shard.tobytes() for shard in rooms], [bytes(shard) for shard in rs.encode([data[1], data[1], data[2]], 2)])
 
     def test_no_copies(self):
         """The library reads and writes the caller's memory: what it is passed has the addresses of the buffers."""
@@ -122,6 +129,8 @@ class Wrapper(unittest.TestCase):
             (lambda: rs.decode(1, 1, {0: b"ab"}, {0: b"cd"}), "RS_INCONSISTENT_SHARDS", (1, 1, 0)),
             (lambda: rs.verify(3, 2, {}, {}), "RS_NOT_ENOUGH_SHARDS", (3, 0, 0)),
             (lambda: rs.verify(1, 1, {0: b"ab"}, {0: b"cd"}), "RS_INCONSISTENT_SHARDS", (1, 1, 0)),
+            (lambda: rs.update(1, 1, 1, b"ab", b"cd", [bytearray(2)]), "RS_INVALID_ORIGINAL_SHARD_INDEX", (1, 1, 0)),
+            (lambda: rs.update(1, 1, 0, b"ab", b"abcd", [bytearray(2)]), "RS_DIFFERENT_SHARD_SIZE", (2, 4, 1)),
             (lambda: rs.reconstruct(1, 1, {0: b"ab"}, {}, [0], []), "RS_WANTED_RECEIVED", (0, 0, 0)),
             (lambda: rs.reconstruct(1, 2, {0: b"ab"}, {}, [], [1, 1]), "RS_WANTED_TWICE", (1, 1, 0)),
             (lambda: rs.reconstruct(1, 2, {0: b"ab"}, {}, [], [2]), "RS_WANTED_INDEX_TOO_LARGE", (2, 2, 1)),

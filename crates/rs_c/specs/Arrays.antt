@@ -29,7 +29,9 @@ use Rattle.reed_solomon_simd.specs.declared.shard_index.ShardIndex.{ShardIndex}
 use Rattle.reed_solomon_simd.specs.Reconstructed.{ReconstructsInto}
 use Rattle.reed_solomon_simd.specs.Verified.{OneVerifies}
 use Rattle.rs_c.specs.Faults.{named}
-use Rattle.rs_c.specs.Places.{place_of_other, placed_refusal, placed_reconstruct}
+use Rattle.reed_solomon_simd.specs.declared.room_error.RoomError.{RoomError}
+use Rattle.reed_solomon_simd.specs.Updated.{UpdatesInto}
+use Rattle.rs_c.specs.Places.{place_of_other, placed, placed_refusal, placed_reconstruct}
 use Rattle.rs_c.specs.declared.layouts.RsShard.{RsShard}
 use Rattle.rs_c.specs.declared.layouts.RsWanted.{RsWanted}
 
@@ -113,3 +115,10 @@ abbrev pub ReconstructsArrays : ℕ → ℕ → Items → Items → List ShardIn
 ReconstructsArrays k r originals recovery wanted old new answer =
     (made : Result (Unit {0}) ReconstructError) × ReconstructsInto k r originals recovery wanted old new made
     × (answer ≡ result_map_both (λ u. u) (placed_reconstruct (shards_in originals ++ shards_in recovery) old) made)
+
+-- the result of updating recovery shards in arrays, and the bytes of the rooms: those of `update_into`. If the new
+-- original has another size, the place of the fault is 1. The fault of a room of another size says its place
+abbrev pub UpdatesArrays : ℕ → ℕ → ℕ → Shard → Shard → List (List ℕ) → List (List ℕ) → Result (Unit {0}) Fault → Type 0
+UpdatesArrays k r index before after old new answer =
+    (updated : Result (Unit {0}) RoomError) × UpdatesInto k r index before after old new updated
+    × (answer ≡ result_map_both (λ u. u) (placed (before ∷ after ∷ []) old) updated)

@@ -18,6 +18,7 @@ mod tables;
 #[cfg(test)]
 mod tests;
 mod text;
+mod updating;
 mod verifying;
 mod writing;
 
@@ -29,7 +30,7 @@ ghost use Rattle.rs_c.specs.Faults.{numbers, fault_of};
 ghost use Rattle.rs_c.specs.Answers.{EncodesBuffer, DecodesBuffer, marked_number, WantsNoMemory};
 ghost use Rattle.rs_c.specs.Arrays.{shards_of, items_of, bytes_in, KeepsRooms};
 ghost use Rattle.rs_c.specs.Arrays.{EncodesArrays, DecodesArrays, VerifiesArrays};
-ghost use Rattle.rs_c.specs.Arrays.{ReconstructsArrays, wanted_of};
+ghost use Rattle.rs_c.specs.Arrays.{ReconstructsArrays, UpdatesArrays, wanted_of};
 ghost use Rattle.rs_c.specs.Texts.{fault_with, text_with, WritesText};
 
 use decoding::{decode_arrays, decode_buffer};
@@ -41,6 +42,7 @@ use reconstructing::reconstruct_arrays;
 use rs_rate::rate::DefaultRateCounts;
 use std::alloc::Global;
 use tables::{RsTables, fill};
+use updating::update_arrays;
 use verifying::verify_arrays;
 
 /// Fills the tables and returns 0. If memory cannot be allocated, it returns 1, which is `RS_OUT_OF_MEMORY`, and leaves
@@ -320,6 +322,50 @@ pub extern "C" fn rs_reconstruct(
             recovery,
             wanted,
             rooms,
+        ),
+        None => Err(Fault::TablesNotMade),
+    };
+    *fault = RsFault::of(answer);
+    fault.number
+}
+
+/// Updates the recovery shards in rooms after the original with this index has changed from `before` to `after`. The
+/// rooms can be anywhere in memory. Fills `fault`, and returns its number, which is 0 after a success.
+///
+/// The call fails, in this order, if the tables were not made, and with the errors of `update_into` for this change and
+/// these rooms. If the call fails, it writes nothing but the fault.
+#[unsafe(no_mangle)]
+pub extern "C" fn rs_update(
+    alloc: Global,
+    tables: &RsTables,
+    original_count: usize,
+    recovery_count: usize,
+    index: usize,
+    before: &[u8],
+    after: &[u8],
+    recovery: &mut [&mut [u8]],
+    fault: &mut RsFault,
+) -> u32
+    requires stamped { AreStamped tables.now → AreTables tables.now }
+    ensures not_made { ¬ AreStamped tables.now
+        → (fault.new ≡ numbers 15 0 0 0) × (bytes_in recovery.new ≡ bytes_in recovery.old) }
+    ensures answer { AreStamped tables.now
+        → (answer : Result (Unit {0}) FaultOf) × (fault.new ≡ fault_of answer)
+        × UpdatesArrays original_count recovery_count index before.now after.now
+        (bytes_in recovery.old) (bytes_in recovery.new) answer }
+    ensures kept { KeepsRooms recovery.old recovery.new }
+    ensures returns_number { result ≡ fault.new.number }
+{
+    let answer = match engine_over(tables) {
+        Some(engine) => update_arrays(
+            alloc,
+            engine,
+            original_count,
+            recovery_count,
+            index,
+            before,
+            after,
+            recovery,
         ),
         None => Err(Fault::TablesNotMade),
     };

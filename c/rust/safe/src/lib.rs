@@ -2,7 +2,7 @@
 //!
 //! [`encode`] turns k originals of one even size into recovery shards. [`decode`] takes any k of all these shards, and returns the missing
 //! originals. [`reconstruct`] returns the lost shards that you name, also recovery shards. [`verify`] checks whether shards belong to one
-//! message. [`encode_into`], [`decode_into`] and [`reconstruct_into`] write the results into buffers of the caller. Shards are read where they
+//! message. [`update`] updates recovery shards if one original changes. [`encode_into`], [`decode_into`] and [`reconstruct_into`] write the results into buffers of the caller. Shards are read where they
 //! are.
 //!
 //! The first call makes the tables of the code, which takes 9 to 30 ms and 8.8 MB of memory. Any number of threads can make calls.
@@ -239,4 +239,22 @@ pub fn reconstruct<O: AsRef<[u8]>, T: AsRef<[u8]>>(
     let mut made = vec![vec![0; first.map_or(0, <[u8]>::len)]; if possible { wanted.len() } else { 0 }];
     reconstruct_into(original_count, recovery_count, originals, recovery, wanted, &mut made)?;
     Ok(made)
+}
+
+/// Updates recovery shards after the original with this index has changed from `before` to `after`. `recovery` has all recovery shards, in
+/// order of index. The other originals are not needed.
+pub fn update<R: AsMut<[u8]>>(
+    original_count: usize, recovery_count: usize, index: usize, before: &[u8], after: &[u8], recovery: &mut [R],
+) -> Result<(), Error> {
+    let tables = tables()?;
+    let rooms = rooms(recovery);
+    let mut fault = sys::rs_fault::default();
+    // SAFETY: all pointers are those of slices that live during the call, and the recovery shards are borrowed for it alone.
+    unsafe {
+        sys::rs_update(
+            tables, original_count, recovery_count, index, before.as_ptr(), before.len(), after.as_ptr(), after.len(), rooms.as_ptr(),
+            rooms.len(), &mut fault,
+        );
+    }
+    answer(fault)
 }

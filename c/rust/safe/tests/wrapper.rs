@@ -1,6 +1,7 @@
 //! Rounds through the C library, its faults, and threads.
 use reed_solomon_simd_c::{
-    decode, decode_into, encode, encode_into, reconstruct, reconstruct_into, shard_bytes, supports, verify, Error, ShardIndex,
+    decode, decode_into, encode, encode_into, reconstruct, reconstruct_into, shard_bytes, supports, update, verify, Error,
+    ShardIndex,
 };
 use std::collections::BTreeMap;
 
@@ -24,6 +25,12 @@ fn round(state: &mut u64) {
     decode_into(k, r, &given, &other, &mut rooms).unwrap();
     assert!(rooms.iter().eq(wanted.values()));
     verify(k, r, &given, &other).unwrap();
+    let (index, after) = (drawn(state) % k, vec![drawn(state) as u8; size]);
+    let mut updated = recovery.clone();
+    update(k, r, index, &originals[index], &after, &mut updated).unwrap();
+    let mut changed = originals.clone();
+    changed[index] = after;
+    assert_eq!(updated, encode(k, r, &changed).unwrap());
     let first = ShardIndex::Original(*wanted.keys().next().unwrap());
     let mut names = vec![first];
     let mut lost = vec![wanted.values().next().unwrap().clone()];
@@ -79,6 +86,7 @@ fn faults() {
     assert_eq!(said(decode(1, 1, &some, &[(0, b"cd")])).1, "RS_INCONSISTENT_SHARDS");
     assert_eq!(said(decode(1, 1, &[(9, b"ab")], &some)).1, "RS_INVALID_ORIGINAL_SHARD_INDEX");
     assert_eq!(decode(1, 1, &some, &none).unwrap(), BTreeMap::new());
+    assert_eq!(said(update(1, 1, 0, b"ab", b"abcd", &mut [[0u8; 2]])).2, [2, 4, 1]);
     assert_eq!(said(verify(1, 1, &some, &[(0, b"cd")])).1, "RS_INCONSISTENT_SHARDS");
     assert_eq!(said(verify(1, 1, &none, &none)).2, [1, 0, 0]);
     let name = "RS_WANTED_INDEX_TOO_LARGE";

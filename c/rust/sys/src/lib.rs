@@ -102,6 +102,10 @@ extern "C" {
         recovery: *const rs_shard, recovery_number: usize, wanted: *const rs_wanted, wanted_number: usize,
         rooms: *const rs_room, rooms_number: usize, fault: *mut rs_fault,
     ) -> u32;
+    pub fn rs_update(
+        tables: *const rs_tables, original_count: usize, recovery_count: usize, index: usize, before: *const u8, before_length: usize,
+        after: *const u8, after_length: usize, recovery: *const rs_room, recovery_number: usize, fault: *mut rs_fault,
+    ) -> u32;
     pub fn rs_work_bytes(original_count: usize, recovery_count: usize, shard_bytes: usize, restored: usize) -> usize;
     pub fn rs_tables_work_bytes() -> usize;
     pub fn rs_tables_make_with_work(tables: *mut rs_tables, work: *mut c_void, work_length: usize) -> u32;
