@@ -290,7 +290,8 @@ static void texts(void) {
         wrong("a text of an earlier version");
 #endif
     if (strcmp(rs_status_name(RS_OK), "RS_OK") || strcmp(rs_status_name(RS_TABLES_NOT_MADE), "RS_TABLES_NOT_MADE") ||
-        strcmp(rs_status_name(RS_WANTED_RECEIVED), "RS_WANTED_RECEIVED") || strcmp(rs_status_name(RS_WANTED_RECEIVED + 1), "unknown") || strcmp(rs_status_name(UINT32_MAX), "unknown"))
+        strcmp(rs_status_name(RS_WANTED_RECEIVED), "RS_WANTED_RECEIVED") ||
+        strcmp(rs_status_name(RS_WANTED_RECEIVED + 1), "unknown") || strcmp(rs_status_name(UINT32_MAX), "unknown"))
         wrong("the names of numbers");
 }
 

@@ -548,7 +548,8 @@ static void names_and_sizes(void) {
     NAMED(RS_TOO_FEW_ORIGINAL_SHARDS); NAMED(RS_TOO_MANY_ORIGINAL_SHARDS); NAMED(RS_NOT_ENOUGH_SHARDS); NAMED(RS_INVALID_ORIGINAL_SHARD_INDEX);
     NAMED(RS_INVALID_RECOVERY_SHARD_INDEX); NAMED(RS_DUPLICATE_ORIGINAL_SHARD_INDEX); NAMED(RS_DUPLICATE_RECOVERY_SHARD_INDEX);
     NAMED(RS_INCONSISTENT_SHARDS); NAMED(RS_WRONG_LENGTH); NAMED(RS_WRONG_NUMBER_OF_ROOMS); NAMED(RS_TABLES_NOT_MADE);
-    if (strcmp(rs_status_name(16), "unknown") || rs_shard_bytes(0, 3) != 2 || rs_shard_bytes(35, 3) != 12 || rs_shard_bytes(SIZE_MAX, 1) ||
+    NAMED(RS_WANTED_INDEX_TOO_LARGE); NAMED(RS_WANTED_TWICE); NAMED(RS_WANTED_RECEIVED);
+    if (strcmp(rs_status_name(19), "unknown") || rs_shard_bytes(0, 3) != 2 || rs_shard_bytes(35, 3) != 12 || rs_shard_bytes(SIZE_MAX, 1) ||
         rs_tables_bytes() != sizeof *tables)
         wrong("a name or a size");
 }
