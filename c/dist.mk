@@ -14,7 +14,7 @@ export CC AR LD OBJCOPY CPPFLAGS CFLAGS LDFLAGS
 
 all: c/out/libreed_solomon_simd.a
 
-c/out/libreed_solomon_simd.a: $(wildcard $(TARGET)/*.s) $(wildcard c/*.c) include/reed_solomon_simd.h c/exports.map c/link
+c/out/libreed_solomon_simd.a: $(wildcard $(TARGET)/*.s) $(wildcard c/*.c c/*.h) include/reed_solomon_simd.h c/exports.map c/link
 	@test -n "$(BUILDS)" || { echo "this release has no code for $(TARGET)" >&2; exit 1; }
 	mkdir -p $(PARTS)
 	for build in $(BUILDS); do $(CC) -c -o $(PARTS)/$$build.o $(TARGET)/$$build.s || exit 1; done
@@ -22,6 +22,7 @@ c/out/libreed_solomon_simd.a: $(wildcard $(TARGET)/*.s) $(wildcard c/*.c) includ
 
 check: all
 	$(TEST) -o c/out/test c/tests/test.c c/out/libreed_solomon_simd.a -lpthread $(LDFLAGS)
+	$(TEST) -o c/out/received c/tests/received.c c/out/libreed_solomon_simd.a $(LDFLAGS)
 	$(TEST) -o c/out/memory c/tests/memory.c c/out/libreed_solomon_simd.a $(LDFLAGS)
 	$(TEST) -o c/out/work c/tests/work.c c/out/libreed_solomon_simd.a -lpthread $(LDFLAGS)
 	$(CC) -std=c11 -Iinclude $(CFLAGS) -o c/out/layer c/tests/layer.c $(LDFLAGS)
@@ -32,6 +33,8 @@ check: all
 	$(RUN) c/out/test refusals
 	$(RUN) c/out/test rounds 1 500
 	$(RUN) c/out/test threads
+	$(RUN) c/out/received refusals
+	$(RUN) c/out/received rounds 1 500
 	$(RUN) c/out/memory
 	$(RUN) c/out/work few
 

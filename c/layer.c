@@ -1,11 +1,7 @@
 /* The calls of the header. Each call allows what the proved calls do not: NULL where the length is 0, and NULL as the fault. Then it makes
-   the proved call of the same name, from the build of the library that fits the processor.
+   the proved call of the same name, from the build of the library that fits the processor. */
+#include "choice.h"
 
-   A library for x86-64 holds three builds: for x86-64, for x86-64-v2 and for x86-64-v3. c/build gives the calls of each build names of
-   their own, for example rs_encode_v3. A library for arm64 holds one build, rs_encode_v1. This file is compiled for the oldest processor. */
-#include "reed_solomon_simd.h"
-
-#include <stdatomic.h>
 #include <stdbool.h>
 #include <string.h>
 
@@ -15,86 +11,6 @@ struct tried {
     void *at;
 } rs_alloc(size_t size, size_t align);
 void rs_dealloc(void *at);
-
-/* The proved calls of one build. Each has the type of the call of the header. */
-struct build {
-    __typeof__(rs_tables_make) *tables_make;
-    __typeof__(rs_encode) *encode;
-    __typeof__(rs_decode) *decode;
-    __typeof__(rs_encode_shards) *encode_shards;
-    __typeof__(rs_decode_shards) *decode_shards;
-};
-
-#define PROVED(level)                                      \
-    __typeof__(rs_tables_make) rs_tables_make_##level;     \
-    __typeof__(rs_encode) rs_encode_##level;               \
-    __typeof__(rs_decode) rs_decode_##level;               \
-    __typeof__(rs_encode_shards) rs_encode_shards_##level; \
-    __typeof__(rs_decode_shards) rs_decode_shards_##level
-#define BUILD(level) \
-    {rs_tables_make_##level, rs_encode_##level, rs_decode_##level, rs_encode_shards_##level, rs_decode_shards_##level}
-
-/* These calls have nothing to gain from newer instructions. */
-__typeof__(rs_supports) rs_supports_v1;
-__typeof__(rs_version) rs_version_v1;
-size_t rs_fault_text_v1(const struct rs_fault *fault, uint8_t *text, size_t text_length);
-
-PROVED(v1);
-
-#ifdef __x86_64__
-#include <cpuid.h>
-
-PROVED(v2);
-PROVED(v3);
-static const struct build builds[] = {BUILD(v1), BUILD(v2), BUILD(v3)};
-
-/* What cpuid and xgetbv say of the processor and the system: registers of cpuid 1, 7 and 0x80000001, and the register XCR0. */
-struct processor {
-    unsigned ecx1, ebx7, extended_ecx, states;
-};
-
-/* Every processor of x86-64 has cpuid 1 and 0x80000001, and some have no cpuid 7. */
-static struct processor asked(void) {
-    struct processor told = {0, 0, 0, 0};
-    unsigned a, b, c, d;
-    __cpuid(1, a, b, told.ecx1, d);
-    __cpuid(0x80000001, a, b, told.extended_ecx, d);
-    if (__get_cpuid_count(7, 0, &a, &b, &c, &d)) told.ebx7 = b;
-    if (told.ecx1 & bit_OSXSAVE) __asm__("xgetbv" : "=a"(told.states), "=d"(d) : "c"(0));
-    return told;
-}
-
-/* The level of x86-64 that the processor and the system have: 1, 2 or 3, as the x86-64 ABI lists its features. Beside its instructions,
-   level 3 needs a system that keeps the registers of AVX. */
-static unsigned level_of(struct processor told) {
-    const unsigned ecx1_v2 = bit_SSE3 | bit_SSSE3 | bit_CMPXCHG16B | bit_SSE4_1 | bit_SSE4_2 | bit_POPCNT;
-    const unsigned ecx1_v3 = bit_FMA | bit_MOVBE | bit_OSXSAVE | bit_AVX | bit_F16C;
-    const unsigned ebx7_v3 = bit_BMI | bit_AVX2 | bit_BMI2;
-    const unsigned registers = 6; /* SSE and AVX */
-    if ((told.ecx1 & ecx1_v2) != ecx1_v2 || !(told.extended_ecx & bit_LAHF_LM)) return 1;
-    if ((told.ecx1 & ecx1_v3) != ecx1_v3 || (told.ebx7 & ebx7_v3) != ebx7_v3) return 2;
-    return (told.extended_ecx & bit_ABM) && (told.states & registers) == registers ? 3 : 2;
-}
-#ifndef RS_LEVEL
-#define RS_LEVEL level_of(asked())
-#endif
-#else
-static const struct build builds[] = {BUILD(v1)};
-#define RS_LEVEL 1
-#endif
-
-/* The build that fits the processor, or NULL before the first call. */
-static _Atomic(const struct build *) found;
-
-/* Finds the build that fits. If several threads do so at once, all find the same one. A test compiles this file with RS_LEVEL, the number of
-   the build that it wants. */
-static const struct build *fitting(void) {
-    const struct build *now = atomic_load_explicit(&found, memory_order_relaxed);
-    if (now) return now;
-    now = &builds[RS_LEVEL - 1];
-    atomic_store_explicit(&found, now, memory_order_relaxed);
-    return now;
-}
 
 /* The proved calls take no NULL. A pointer to nothing becomes a pointer to this object, of which no byte is read or written. */
 static _Alignas(16) unsigned char nowhere[16];
@@ -136,28 +52,24 @@ static bool copied(struct array *array) {
     return true;
 }
 
-/* A call over arrays, of which some may be empty or have NULL: an encode over two arrays, or a decode over three. */
-static uint32_t shielded(const struct rs_tables *tables, size_t original_count, size_t recovery_count, struct array *arrays, size_t number,
-                         struct rs_fault *fault) {
-    const struct build *build = fitting();
-    const void *entries[3];
-    struct rs_fault unread, *to = fault ? fault : &unread;
-    uint32_t answer = RS_OUT_OF_MEMORY;
-    bool ok = true;
-    for (size_t i = 0; i < number; i++) {
-        if (ok && arrays[i].number && has_nothing(arrays[i].entries, arrays[i].number, arrays[i].size)) ok = copied(&arrays[i]);
-        entries[i] = arrays[i].copy ? arrays[i].copy : at(arrays[i].entries, arrays[i].number);
-    }
-    if (!ok)
-        *to = (struct rs_fault){RS_OUT_OF_MEMORY, 0, 0, 0};
-    else if (number == 2)
-        answer = build->encode_shards(tables, original_count, recovery_count, entries[0], arrays[0].number, entries[1], arrays[1].number, to);
-    else
-        answer = build->decode_shards(tables, original_count, recovery_count, entries[0], arrays[0].number, entries[1], arrays[1].number,
-                                      entries[2], arrays[2].number, to);
+/* Gives back the copies of arrays, and returns what the call has returned. */
+static uint32_t unshielded(struct array *arrays, size_t number, uint32_t answer) {
     for (size_t i = 0; i < number; i++)
         if (arrays[i].copy) rs_dealloc(arrays[i].copy);
     return answer;
+}
+
+/* Makes arrays that the proved calls take from arrays of which some may be empty or have NULL. Returns false, and writes the fault, if there
+   is no memory. */
+static bool shielded(struct array *arrays, size_t number, struct rs_fault *to) {
+    bool ok = true;
+    for (size_t i = 0; i < number; i++) {
+        if (ok && arrays[i].number && has_nothing(arrays[i].entries, arrays[i].number, arrays[i].size)) ok = copied(&arrays[i]);
+        arrays[i].entries = arrays[i].copy ? arrays[i].copy : at(arrays[i].entries, arrays[i].number);
+    }
+    if (ok) return true;
+    *to = (struct rs_fault){unshielded(arrays, number, RS_OUT_OF_MEMORY), 0, 0, 0};
+    return false;
 }
 
 uint32_t rs_tables_make(struct rs_tables *tables) {
@@ -200,7 +112,10 @@ uint32_t rs_encode_shards(const struct rs_tables *tables, size_t original_count,
     if (!build || !fault || has_nothing(originals, originals_number, sizeof *originals) ||
         has_nothing(recovery, recovery_number, sizeof *recovery)) {
         struct array arrays[] = {{originals, originals_number, sizeof *originals, NULL}, {recovery, recovery_number, sizeof *recovery, NULL}};
-        return shielded(tables, original_count, recovery_count, arrays, 2, fault);
+        struct rs_fault unread, *to = fault ? fault : &unread;
+        if (!shielded(arrays, 2, to)) return RS_OUT_OF_MEMORY;
+        return unshielded(arrays, 2, fitting()->encode_shards(tables, original_count, recovery_count, arrays[0].entries, originals_number,
+                                                              arrays[1].entries, recovery_number, to));
     }
     return build->encode_shards(tables, original_count, recovery_count, originals, originals_number, recovery, recovery_number, fault);
 }
@@ -214,10 +129,45 @@ uint32_t rs_decode_shards(const struct rs_tables *tables, size_t original_count,
         struct array arrays[] = {{originals, originals_number, sizeof *originals, NULL},
                                  {recovery, recovery_number, sizeof *recovery, NULL},
                                  {restored, restored_number, sizeof *restored, NULL}};
-        return shielded(tables, original_count, recovery_count, arrays, 3, fault);
+        struct rs_fault unread, *to = fault ? fault : &unread;
+        if (!shielded(arrays, 3, to)) return RS_OUT_OF_MEMORY;
+        return unshielded(arrays, 3, fitting()->decode_shards(tables, original_count, recovery_count, arrays[0].entries, originals_number,
+                                                              arrays[1].entries, recovery_number, arrays[2].entries, restored_number, to));
     }
     return build->decode_shards(tables, original_count, recovery_count, originals, originals_number, recovery, recovery_number, restored,
                                 restored_number, fault);
+}
+
+uint32_t rs_verify(const struct rs_tables *tables, size_t original_count, size_t recovery_count, const struct rs_shard *originals,
+                   size_t originals_number, const struct rs_shard *recovery, size_t recovery_number, struct rs_fault *fault) {
+    struct array arrays[] = {{originals, originals_number, sizeof *originals, NULL}, {recovery, recovery_number, sizeof *recovery, NULL}};
+    struct rs_fault unread, *to = fault ? fault : &unread;
+    if (!shielded(arrays, 2, to)) return RS_OUT_OF_MEMORY;
+    return unshielded(arrays, 2, fitting()->verify(tables, original_count, recovery_count, arrays[0].entries, originals_number,
+                                                   arrays[1].entries, recovery_number, to));
+}
+
+uint32_t rs_reconstruct(const struct rs_tables *tables, size_t original_count, size_t recovery_count, const struct rs_shard *originals,
+                        size_t originals_number, const struct rs_shard *recovery, size_t recovery_number, const struct rs_wanted *wanted,
+                        size_t wanted_number, const struct rs_room *rooms, size_t rooms_number, struct rs_fault *fault) {
+    struct array arrays[] = {{originals, originals_number, sizeof *originals, NULL},
+                             {recovery, recovery_number, sizeof *recovery, NULL},
+                             {rooms, rooms_number, sizeof *rooms, NULL}};
+    struct rs_fault unread, *to = fault ? fault : &unread;
+    if (!shielded(arrays, 3, to)) return RS_OUT_OF_MEMORY;
+    return unshielded(arrays, 3, fitting()->reconstruct(tables, original_count, recovery_count, arrays[0].entries, originals_number,
+                                                        arrays[1].entries, recovery_number, at(wanted, wanted_number), wanted_number,
+                                                        arrays[2].entries, rooms_number, to));
+}
+
+uint32_t rs_update(const struct rs_tables *tables, size_t original_count, size_t recovery_count, size_t index, const uint8_t *before,
+                   size_t before_length, const uint8_t *after, size_t after_length, const struct rs_room *recovery, size_t recovery_number,
+                   struct rs_fault *fault) {
+    struct array array = {recovery, recovery_number, sizeof *recovery, NULL};
+    struct rs_fault unread, *to = fault ? fault : &unread;
+    if (!shielded(&array, 1, to)) return RS_OUT_OF_MEMORY;
+    return unshielded(&array, 1, fitting()->update(tables, original_count, recovery_count, index, at(before, before_length), before_length,
+                                                   at(after, after_length), after_length, array.entries, recovery_number, to));
 }
 
 size_t rs_fault_text(const struct rs_fault *fault, char *text, size_t text_length) {
@@ -240,7 +190,8 @@ const char *rs_status_name(uint32_t number) {
                                         "RS_DIFFERENT_SHARD_SIZE", "RS_TOO_FEW_ORIGINAL_SHARDS", "RS_TOO_MANY_ORIGINAL_SHARDS",
                                         "RS_NOT_ENOUGH_SHARDS", "RS_INVALID_ORIGINAL_SHARD_INDEX", "RS_INVALID_RECOVERY_SHARD_INDEX",
                                         "RS_DUPLICATE_ORIGINAL_SHARD_INDEX", "RS_DUPLICATE_RECOVERY_SHARD_INDEX",
-                                        "RS_INCONSISTENT_SHARDS", "RS_WRONG_LENGTH", "RS_WRONG_NUMBER_OF_ROOMS", "RS_TABLES_NOT_MADE"};
+                                        "RS_INCONSISTENT_SHARDS", "RS_WRONG_LENGTH", "RS_WRONG_NUMBER_OF_ROOMS", "RS_TABLES_NOT_MADE",
+                                        "RS_WANTED_INDEX_TOO_LARGE", "RS_WANTED_TWICE", "RS_WANTED_RECEIVED"};
     return number < sizeof names / sizeof *names ? names[number] : "unknown";
 }
 

@@ -14,13 +14,15 @@
  * AVX2). At its first call, it asks the processor and the system which of them they can run, and all calls use the newest of these. All
  * builds write the same bytes, and tables that one build filled serve the others. On arm64, the library holds one build.
  *
- * Beside its rows, rs_encode takes a list of 16 bytes for each original. rs_decode takes a list of 8 bytes for each original, and
- * rs_decode_shards takes two lists of references to shards, 24 bytes for each of the k + r shards. A decode without recovery shards
+ * Beside its rows, rs_encode takes a list of 16 bytes for each original. rs_decode takes a list of 8 bytes for each original.
+ * rs_decode_shards, rs_verify and rs_reconstruct take two lists of references to shards, 24 bytes for each of the k + r shards.
+ * rs_reconstruct also takes 16 bytes for each wanted shard, and 1 byte for each of the k + r shards. rs_update takes 2 bytes for each
+ * recovery shard, and 5 bytes for each row of a decode. A decode without recovery shards
  * takes no memory. If an entry of an array of shards or rooms has NULL as its pointer, the call makes a copy of this array, and fails with
  * RS_OUT_OF_MEMORY before all other checks if it cannot allocate the copy.
  *
  * Calls allocate their memory by malloc, or by an allocator of the program. A program that must not allocate uses the calls whose names
- * end in _with_work: they take all their memory from work memory, which the caller passes.
+ * end in _with_work, for rs_tables_make and the four calls that encode or decode: they take all their memory from work memory, which the caller passes.
  *
  * The caller must keep these rules. Nothing checks them:
  *   - Pointers: each pointer points to as many bytes or entries as the length that belongs to it says, and is aligned for its type. If
@@ -31,9 +33,9 @@
  *     thread, no signal handler, no other process and no device. Nobody else reads memory that the call writes. Memory that a call
  *     writes overlaps no other memory that was passed to it.
  *   - Memory that a call reads is initialised: the shards that a call gets (in rs_decode, those that the marks say are there), the
- *     marks of rs_decode, arrays, the fault that rs_fault_text gets, and tables.
+ *     marks of rs_decode, the recovery shards of rs_update, arrays, the fault that rs_fault_text gets, and tables.
  *     Memory that a call only writes need not be initialised: the tables of rs_tables_make, recovery shards of an encode, the places
- *     of lost shards in rs_decode, the memory that rooms point to, texts, work memory, and *fault.
+ *     of lost shards in rs_decode, the memory that the rooms of other calls than rs_update point to, texts, work memory, and *fault.
  *   - Nobody but rs_tables_make writes to tables that rs_tables_make has filled. The last thing that rs_tables_make writes is a stamp.
  *     Other memory that is passed as tables must not hold this stamp by chance. Memory full of zeros doesn't hold it.
  *   - A program that links its own allocator instead of c/heap.c must provide all three functions of c/heap.c: rattle_alloc,
@@ -83,7 +85,11 @@ enum rs_status {
                                             SIZE_MAX, second: the length that it has, third: which buffer it is (0 for originals, 1 for
                                             recovery, 2 for marks), or the place of the room in its array, counted from 0 */
     RS_WRONG_NUMBER_OF_ROOMS = 14,       /* first: how many shards the call has to write, second: how many rooms there are */
-    RS_TABLES_NOT_MADE = 15              /* the tables don't carry the stamp that rs_tables_make writes last */
+    RS_TABLES_NOT_MADE = 15,             /* the tables don't carry the stamp that rs_tables_make writes last */
+    RS_WANTED_INDEX_TOO_LARGE = 16,      /* a wanted shard doesn't exist; first: the number of shards of its kind, second: its index,
+                                            third: its kind, RS_ORIGINAL or RS_RECOVERY */
+    RS_WANTED_TWICE = 17,                /* a shard is wanted twice; first: its index, second: its kind */
+    RS_WANTED_RECEIVED = 18              /* a wanted shard was received; first: its index, second: its kind */
 };
 
 /* Describes why a call failed. number is a number of enum rs_status. The comment of this number says what first, second and third hold.
@@ -120,8 +126,8 @@ size_t rs_tables_bytes(void);
 /* Returns 1 if the library supports these counts, else 0. */
 uint32_t rs_supports(size_t original_count, size_t recovery_count);
 
-/* Four calls encode and decode: rs_encode, rs_decode, rs_encode_shards and rs_decode_shards. They return RS_OK or the number of the
- * fault. They write the number and its values to *fault. If they return RS_OK, they write zeros to *fault. If they fail, they write
+/* Four calls encode and decode: rs_encode, rs_decode, rs_encode_shards and rs_decode_shards. rs_verify checks received shards, and
+ * rs_reconstruct makes wanted shards from received ones. rs_update updates recovery shards. All seven return RS_OK or the number of the fault. They write the number and its values to *fault. If they return RS_OK, they write zeros to *fault. If they fail, they write
  * nothing but *fault. The comment of each call lists its faults in the order in which the call checks for them. This order is proved,
  * except for the place of RS_OUT_OF_MEMORY: the contracts allow it at any place after the checks of the counts, of the lengths of buffers
  * and of the size of the first shard that the call looks at.
@@ -234,6 +240,73 @@ uint32_t rs_decode_shards(const struct rs_tables *tables, size_t original_count,
                           const struct rs_shard *originals, size_t originals_number,
                           const struct rs_shard *recovery, size_t recovery_number,
                           const struct rs_room *restored, size_t restored_number, struct rs_fault *fault);
+
+/* Checks whether the received shards belong to one message. It returns RS_OK if there is a message that agrees with all of them. If exactly
+ * original_count shards were received, there always is one, so the call cannot notice damage. If t more were received, and at least one but
+ * at most t of all received shards are damaged, it returns RS_INCONSISTENT_SHARDS.
+ *
+ * The arrays are those of rs_decode_shards, in any order. The size of all shards is that of the first recovery shard, or if there is none,
+ * that of the first original. The call writes nothing but *fault.
+ *
+ * Faults, in order:
+ *   - RS_UNSUPPORTED_SHARD_COUNT
+ *   - RS_NOT_ENOUGH_SHARDS if there is no shard
+ *   - RS_INVALID_SHARD_SIZE
+ *   - RS_OUT_OF_MEMORY if the rows for the whole shards would take more than SIZE_MAX bytes, or if the lists of references cannot be
+ *     allocated
+ *   - For each original in order: RS_INVALID_ORIGINAL_SHARD_INDEX, RS_DUPLICATE_ORIGINAL_SHARD_INDEX or RS_DIFFERENT_SHARD_SIZE.
+ *   - For each recovery shard in order: RS_INVALID_RECOVERY_SHARD_INDEX, RS_DUPLICATE_RECOVERY_SHARD_INDEX or RS_DIFFERENT_SHARD_SIZE.
+ *   - RS_NOT_ENOUGH_SHARDS if there are fewer than original_count shards
+ *   - RS_OUT_OF_MEMORY for the rows
+ *   - RS_INCONSISTENT_SHARDS */
+uint32_t rs_verify(const struct rs_tables *tables, size_t original_count, size_t recovery_count,
+                   const struct rs_shard *originals, size_t originals_number,
+                   const struct rs_shard *recovery, size_t recovery_number, struct rs_fault *fault);
+
+/* The kinds of shards. Any other number as the kind of a wanted shard means a recovery shard, too. */
+enum rs_kind { RS_ORIGINAL = 0, RS_RECOVERY = 1 };
+
+/* The name of a wanted shard: its kind, and its index among the shards of this kind. */
+struct rs_wanted {
+    size_t kind, index;
+};
+
+/* Reconstructs the wanted shards of a message from the received shards, and writes them into rooms, in the order of the array wanted. A
+ * wanted shard is an original or a recovery shard that was not received. The array rooms holds one room for each wanted shard. The
+ * received shards are passed as to rs_verify. If there are more than original_count of them, the call checks that all of them belong to one
+ * message.
+ *
+ * Faults, in order:
+ *   - The faults of rs_verify up to and including RS_NOT_ENOUGH_SHARDS, in its order. The call also fails with RS_OUT_OF_MEMORY if the
+ *     lists of the wanted shards cannot be allocated.
+ *   - For each wanted shard in order: RS_WANTED_INDEX_TOO_LARGE, RS_WANTED_TWICE or RS_WANTED_RECEIVED.
+ *   - RS_WRONG_NUMBER_OF_ROOMS
+ *   - RS_WRONG_LENGTH for the first room that isn't as long as a shard
+ *   - RS_OUT_OF_MEMORY for the rows, and for the wanted shards if there are more than original_count shards
+ *   - RS_INCONSISTENT_SHARDS */
+uint32_t rs_reconstruct(const struct rs_tables *tables, size_t original_count, size_t recovery_count,
+                        const struct rs_shard *originals, size_t originals_number,
+                        const struct rs_shard *recovery, size_t recovery_number,
+                        const struct rs_wanted *wanted, size_t wanted_number,
+                        const struct rs_room *rooms, size_t rooms_number, struct rs_fault *fault);
+
+/* Updates recovery shards after the original with this index has changed. before is the original before the change, and after is the
+ * original after it. The other originals are not needed. The array recovery holds one room for each recovery shard, in order of index. Before
+ * the call, the rooms hold the recovery shards of the message with the original before the change. After it, they hold those of the message
+ * with the changed original.
+ *
+ * Faults, in order:
+ *   - RS_UNSUPPORTED_SHARD_COUNT
+ *   - RS_INVALID_SHARD_SIZE if before_length is zero or odd
+ *   - RS_INVALID_ORIGINAL_SHARD_INDEX
+ *   - RS_DIFFERENT_SHARD_SIZE if after_length isn't before_length; third: 1
+ *   - RS_WRONG_NUMBER_OF_ROOMS
+ *   - RS_WRONG_LENGTH for the first room that isn't as long as the original
+ *   - RS_OUT_OF_MEMORY for the factors of the recovery shards */
+uint32_t rs_update(const struct rs_tables *tables, size_t original_count, size_t recovery_count, size_t index,
+                   const uint8_t *before, size_t before_length,
+                   const uint8_t *after, size_t after_length,
+                   const struct rs_room *recovery, size_t recovery_number, struct rs_fault *fault);
 
 /* Five calls take all their memory from work memory: work_length bytes from the address work on, which the caller passes. Each of them does
  * what the call does that has the same name without _with_work, and requests no memory from malloc or from the program's allocator. If

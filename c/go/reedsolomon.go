@@ -8,6 +8,45 @@ package reedsolomon
 #cgo pkg-config: reed_solomon_simd
 #include <reed_solomon_simd.h>
 #include <stdlib.h>
+
+// The shards of buffers whose marks say which are there and which are wanted. wanted is NULL for a verification. The arrays are made in
+// memory of C, since Go passes no arrays of pointers.
+static uint32_t over_marks(const struct rs_tables *tables, size_t k, size_t r, size_t size, uint8_t *originals, uint8_t *recovery,
+                           const uint8_t *marks, const uint8_t *wanted, struct rs_fault *fault) {
+    struct rs_shard *shards = malloc((k + r) * sizeof *shards), *other;
+    struct rs_room *rooms = malloc((k + r) * sizeof *rooms);
+    struct rs_wanted *names = malloc((k + r) * sizeof *names);
+    size_t counts[2] = {0, 0}, count = 0;
+    uint32_t answer = RS_OUT_OF_MEMORY;
+    *fault = (struct rs_fault){RS_OUT_OF_MEMORY, 0, 0, 0};
+    if (shards && rooms && names) {
+        other = shards + k;
+        for (size_t i = 0; i < k + r; i++) {
+            size_t kind = i >= k, index = kind ? i - k : i;
+            uint8_t *at = (kind ? recovery : originals) + index * size;
+            if (marks[i]) (kind ? other : shards)[counts[kind]++] = (struct rs_shard){index, at, size};
+            if (wanted && wanted[i]) rooms[count] = (struct rs_room){at, size}, names[count++] = (struct rs_wanted){kind, index};
+        }
+        answer = wanted ? rs_reconstruct(tables, k, r, shards, counts[0], other, counts[1], names, count, rooms, count, fault)
+                        : rs_verify(tables, k, r, shards, counts[0], other, counts[1], fault);
+    }
+    free(shards);
+    free(rooms);
+    free(names);
+    return answer;
+}
+
+// Recovery shards in a buffer, one after the other, after an original has changed.
+static uint32_t update_buffer(const struct rs_tables *tables, size_t k, size_t r, size_t index, const uint8_t *before, size_t before_length,
+                              const uint8_t *after, size_t after_length, uint8_t *recovery, struct rs_fault *fault) {
+    struct rs_room *rooms = malloc(r * sizeof *rooms);
+    uint32_t answer = RS_OUT_OF_MEMORY;
+    *fault = (struct rs_fault){RS_OUT_OF_MEMORY, 0, 0, 0};
+    for (size_t i = 0; rooms && i < r; i++) rooms[i] = (struct rs_room){recovery + i * before_length, before_length};
+    if (rooms) answer = rs_update(tables, k, r, index, before, before_length, after, after_length, rooms, r, fault);
+    free(rooms);
+    return answer;
+}
 */
 import "C"
 
@@ -37,6 +76,9 @@ const (
 	InconsistentShards          Status = C.RS_INCONSISTENT_SHARDS
 	WrongLength                 Status = C.RS_WRONG_LENGTH
 	WrongNumberOfRooms          Status = C.RS_WRONG_NUMBER_OF_ROOMS
+	WantedIndexTooLarge         Status = C.RS_WANTED_INDEX_TOO_LARGE
+	WantedTwice                 Status = C.RS_WANTED_TWICE
+	WantedReceived              Status = C.RS_WANTED_RECEIVED
 )
 
 // String returns the name of the number in C, for example RS_WRONG_LENGTH.
@@ -142,6 +184,77 @@ func (c *Code) Decode(shardBytes int, originals, recovery, marks []byte) error {
 	runtime.KeepAlive(originals)
 	runtime.KeepAlive(recovery)
 	runtime.KeepAlive(marks)
+	return failed(number, &fault)
+}
+
+// checkLengths fails with WrongLength for the first buffer that does not have the length of the counts.
+func (c *Code) checkLengths(shardBytes int, originals, recovery, marks []byte) error {
+	wanted := []int{c.originals * shardBytes, c.recovery * shardBytes, c.originals + c.recovery}
+	for place, got := range []int{len(originals), len(recovery), len(marks)} {
+		if shardBytes < 0 || got != wanted[place] {
+			return &Fault{Number: WrongLength, First: uint64(wanted[place]), Second: uint64(got), Third: uint64(place)}
+		}
+	}
+	return nil
+}
+
+func (c *Code) overMarks(shardBytes int, originals, recovery, marks, wanted []byte) error {
+	if err := c.checkLengths(shardBytes, originals, recovery, marks); err != nil {
+		return err
+	}
+	at, err := made()
+	if err != nil {
+		return err
+	}
+	var fault C.struct_rs_fault
+	number := C.over_marks(at, C.size_t(c.originals), C.size_t(c.recovery), C.size_t(shardBytes), start(originals), start(recovery),
+		start(marks), start(wanted), &fault)
+	runtime.KeepAlive(originals)
+	runtime.KeepAlive(recovery)
+	return failed(number, &fault)
+}
+
+// Verify checks that the shards whose mark is not 0 belong to one message. The arguments are those of Decode. If they do not, it fails with
+// InconsistentShards. With as many shards as originals, no damage can be noticed. Nothing is copied.
+func (c *Code) Verify(shardBytes int, originals, recovery, marks []byte) error {
+	return c.overMarks(shardBytes, originals, recovery, marks, nil)
+}
+
+// Reconstruct writes the shards whose byte in wanted is not 0 to their places in originals and recovery. The other arguments are those of
+// Decode. wanted has a byte for each shard, as marks does. It fails with WantedReceived for a wanted shard whose mark is not 0. Nothing is
+// copied.
+func (c *Code) Reconstruct(shardBytes int, originals, recovery, marks, wanted []byte) error {
+	if err := c.checkLengths(shardBytes, originals, recovery, wanted); err != nil {
+		return err
+	}
+	for i := 0; i < len(marks) && i < len(wanted); i++ {
+		if marks[i] != 0 && wanted[i] != 0 {
+			fault := &Fault{Number: WantedReceived, First: uint64(i)}
+			if i >= c.originals {
+				fault.First, fault.Second = uint64(i-c.originals), C.RS_RECOVERY
+			}
+			return fault
+		}
+	}
+	return c.overMarks(shardBytes, originals, recovery, marks, wanted)
+}
+
+// Update updates the recovery shards after the original with this index has changed from before to after. In recovery, shard i begins at
+// byte i * len(before). The other originals are not needed. Nothing is copied.
+func (c *Code) Update(index int, before, after, recovery []byte) error {
+	if wanted := c.recovery * len(before); len(recovery) != wanted {
+		return &Fault{Number: WrongLength, First: uint64(wanted), Second: uint64(len(recovery)), Third: 1}
+	}
+	at, err := made()
+	if err != nil {
+		return err
+	}
+	var fault C.struct_rs_fault
+	number := C.update_buffer(at, C.size_t(c.originals), C.size_t(c.recovery), C.size_t(index), start(before), C.size_t(len(before)),
+		start(after), C.size_t(len(after)), start(recovery), &fault)
+	runtime.KeepAlive(before)
+	runtime.KeepAlive(after)
+	runtime.KeepAlive(recovery)
 	return failed(number, &fault)
 }
 

@@ -33,6 +33,41 @@ func round(t *testing.T, random *rand.Rand, k, r, size int) {
 	if !bytes.Equal(damaged, originals) {
 		t.Fatal("other bytes come back")
 	}
+	wanted, whole := make([]byte, k+r), append([]byte{}, recovery...)
+	for i := range wanted {
+		wanted[i] = 1 - marks[i]
+	}
+	if r > lost {
+		wanted[k], marks[k] = 1, 0
+		copy(recovery[:size], bytes.Repeat([]byte{'?'}, size))
+	}
+	if err := code.Verify(size, damaged, recovery, marks); err != nil {
+		t.Fatal(err)
+	}
+	for i := 0; i < k; i++ {
+		if wanted[i] != 0 {
+			copy(damaged[i*size:(i+1)*size], bytes.Repeat([]byte{'?'}, size))
+		}
+	}
+	if err := code.Reconstruct(size, damaged, recovery, marks, wanted); err != nil {
+		t.Fatal(err)
+	}
+	if !bytes.Equal(damaged, originals) || !bytes.Equal(recovery, whole) {
+		t.Fatal("other shards are reconstructed")
+	}
+	index, after := random.Intn(k), make([]byte, size)
+	random.Read(after)
+	if err := code.Update(index, append([]byte{}, damaged[index*size:(index+1)*size]...), after, recovery); err != nil {
+		t.Fatal(err)
+	}
+	copy(damaged[index*size:], after)
+	if err := code.Encode(size, damaged, whole); err != nil || !bytes.Equal(recovery, whole) {
+		t.Fatal("an update makes other recovery shards than an encode")
+	}
+	damaged[0]++
+	if err := code.Verify(size, damaged, recovery, bytes.Repeat([]byte{1}, k+r)); number(err) != InconsistentShards {
+		t.Fatal(err)
+	}
 }
 
 func TestRounds(t *testing.T) {
@@ -105,6 +140,22 @@ func TestFaults(t *testing.T) {
 		t.Error(err)
 	}
 	if err := code.DecodeShards([][]byte{nil}, nil); number(err) != WrongLength {
+		t.Error(err)
+	}
+	if err := code.Verify(4, make([]byte, 12), make([]byte, 8), []byte{1, 0, 0, 1, 0}); number(err) != NotEnoughShards {
+		t.Error(err)
+	}
+	if err := code.Verify(4, make([]byte, 12), nil, make([]byte, 5)); number(err) != WrongLength {
+		t.Error(err)
+	}
+	if err := code.Reconstruct(4, make([]byte, 12), make([]byte, 8), []byte{1, 1, 1, 0, 1}, []byte{0, 0, 0, 0, 1}); number(err) != WantedReceived ||
+		err.Error() != "wanted shard was received: recovery shard 1" {
+		t.Error(err)
+	}
+	if err := code.Update(3, []byte("ab"), []byte("cd"), make([]byte, 4)); number(err) != InvalidOriginalShardIndex {
+		t.Error(err)
+	}
+	if err := code.Update(0, []byte("ab"), []byte("cd"), make([]byte, 5)); number(err) != WrongLength {
 		t.Error(err)
 	}
 	if InconsistentShards.String() != "RS_INCONSISTENT_SHARDS" || ShardBytes(35, 3) != 12 || ShardBytes(-1, 3) != 0 || !Supports(3, 2) {

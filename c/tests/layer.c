@@ -16,6 +16,8 @@ static struct {
     const void *first, *second, *third;
     size_t lengths[3];
     struct rs_bytes entries[3][2];
+    const struct rs_wanted *wanted;
+    size_t wanted_number;
     struct rs_fault *fault;
 } got;
 
@@ -89,6 +91,27 @@ static uint32_t answered(unsigned level, const void *first, const void *second, 
         if (!tables || k != 3 || r != 2) wrong("a decode of shards passes other numbers");                                                 \
         record(0, o, on, sizeof *o), record(1, q, qn, sizeof *q), record(2, to, tn, sizeof *to);                                           \
         return answered(number, o, q, to, fault);                                                                                          \
+    }                                                                                                                                      \
+    uint32_t rs_verify_##level(const struct rs_tables *tables, size_t k, size_t r, const struct rs_shard *o, size_t on,                    \
+                               const struct rs_shard *q, size_t qn, struct rs_fault *fault) {                                              \
+        if (!tables || k != 3 || r != 2) wrong("a verification passes other numbers");                                                     \
+        record(0, o, on, sizeof *o), record(1, q, qn, sizeof *q);                                                                          \
+        return answered(number, o, q, q, fault);                                                                                           \
+    }                                                                                                                                      \
+    uint32_t rs_reconstruct_##level(const struct rs_tables *tables, size_t k, size_t r, const struct rs_shard *o, size_t on,               \
+                                    const struct rs_shard *q, size_t qn, const struct rs_wanted *w, size_t wn, const struct rs_room *to,   \
+                                    size_t tn, struct rs_fault *fault) {                                                                   \
+        if (!tables || k != 3 || r != 2 || !w) wrong("a reconstruction passes other numbers");                                             \
+        record(0, o, on, sizeof *o), record(1, q, qn, sizeof *q), record(2, to, tn, sizeof *to);                                           \
+        got.wanted = w, got.wanted_number = wn;                                                                                            \
+        return answered(number, o, q, to, fault);                                                                                          \
+    }                                                                                                                                      \
+    uint32_t rs_update_##level(const struct rs_tables *tables, size_t k, size_t r, size_t index, const uint8_t *b, size_t bl,              \
+                               const uint8_t *a, size_t al, const struct rs_room *q, size_t qn, struct rs_fault *fault) {                  \
+        if (!tables || k != 3 || r != 2 || index != 1) wrong("an update passes other numbers");                                            \
+        record(2, q, qn, sizeof *q);                                                                                                       \
+        got.lengths[0] = bl, got.lengths[1] = al;                                                                                          \
+        return answered(number, b, a, q, fault);                                                                                           \
     }
 
 RECORDER(v1, 1)
@@ -212,6 +235,44 @@ static void over_arrays(void) {
     if (blocks) wrong("a copy is kept after a refusal");
 }
 
+/* The calls over received shards that write no lost originals: with NULL in arrays and without. */
+static void over_received(void) {
+    static uint8_t byte;
+    struct rs_room q[2] = {{&byte, 1}, {&byte, 1}};
+    struct rs_shard own[2] = {{5, &byte, 1}, {6, &byte, 1}}, other[2] = {{7, &byte, 1}, {8, &byte, 1}};
+    const struct rs_wanted wanted[2] = {{RS_ORIGINAL, 1}, {RS_RECOVERY, 0}};
+    struct rs_fault fault;
+    unsigned level = (unsigned)(fitting() - builds) + 1;
+    if (rs_verify(tables, 3, 2, own, 2, other, 1, &fault) != ANSWER || got.level != level || got.first != own || got.second != other ||
+        got.lengths[0] != 2 || got.lengths[1] != 1 || got.fault != &fault)
+        wrong("rs_verify passes something else");
+    if (rs_reconstruct(tables, 3, 2, own, 2, other, 1, wanted, 2, q, 2, &fault) != ANSWER || got.level != level || got.first != own ||
+        got.second != other || got.third != q || got.wanted != wanted || got.wanted_number != 2 || got.lengths[0] != 2 ||
+        got.lengths[1] != 1 || got.lengths[2] != 2 || got.fault != &fault)
+        wrong("rs_reconstruct passes something else");
+    if (rs_verify(tables, 3, 2, NULL, 0, NULL, 0, NULL) != ANSWER || got.lengths[0] || got.lengths[1] ||
+        rs_reconstruct(tables, 3, 2, NULL, 0, NULL, 0, NULL, 0, NULL, 0, NULL) != ANSWER || got.lengths[2] || got.wanted_number)
+        wrong("empty arrays of received shards");
+    if (rs_update(tables, 3, 2, 1, &byte, 1, (const uint8_t *)own, 2, q, 2, &fault) != ANSWER || got.level != level || got.first != &byte ||
+        got.second != own || got.third != q || got.lengths[0] != 1 || got.lengths[1] != 2 || got.lengths[2] != 2 || got.fault != &fault)
+        wrong("rs_update passes something else");
+    own[1].bytes = NULL, own[1].length = 0, q[1].bytes = NULL, q[1].length = 0;
+    if (rs_verify(tables, 3, 2, own, 2, other, 2, &fault) != ANSWER || got.first == own || got.second != other ||
+        rs_reconstruct(tables, 3, 2, own, 2, other, 2, wanted, 2, q, 2, &fault) != ANSWER || got.first == own || got.second != other ||
+        got.third == q || got.wanted != wanted)
+        wrong("NULL in arrays of received shards");
+    if (own[1].bytes || q[1].bytes || blocks) wrong("a copy of received shards is kept");
+    if (rs_update(tables, 3, 2, 1, NULL, 0, NULL, 0, q, 2, NULL) != ANSWER || got.third == q || got.lengths[0] || blocks)
+        wrong("NULL in an array of an update");
+    refuses = true;
+    if (rs_update(tables, 3, 2, 1, &byte, 1, &byte, 1, q, 2, &fault) != RS_OUT_OF_MEMORY || fault.number != RS_OUT_OF_MEMORY)
+        wrong("no memory for a copy in an update");
+    if (rs_verify(tables, 3, 2, own, 2, other, 2, NULL) != RS_OUT_OF_MEMORY ||
+        rs_reconstruct(tables, 3, 2, other, 2, other, 2, wanted, 2, q, 2, &fault) != RS_OUT_OF_MEMORY || fault.number != RS_OUT_OF_MEMORY)
+        wrong("no memory for a copy of received shards");
+    refuses = false;
+}
+
 static void texts(void) {
     const struct rs_fault fault = {ANSWER, 0, 0, 0};
     char text[8];
@@ -229,7 +290,8 @@ static void texts(void) {
         wrong("a text of an earlier version");
 #endif
     if (strcmp(rs_status_name(RS_OK), "RS_OK") || strcmp(rs_status_name(RS_TABLES_NOT_MADE), "RS_TABLES_NOT_MADE") ||
-        strcmp(rs_status_name(16), "unknown") || strcmp(rs_status_name(UINT32_MAX), "unknown"))
+        strcmp(rs_status_name(RS_WANTED_RECEIVED), "RS_WANTED_RECEIVED") ||
+        strcmp(rs_status_name(RS_WANTED_RECEIVED + 1), "unknown") || strcmp(rs_status_name(UINT32_MAX), "unknown"))
         wrong("the names of numbers");
 }
 
@@ -253,6 +315,7 @@ int main(void) {
     levels();
     over_buffers();
     over_arrays();
+    over_received();
     texts();
     sizes();
     free(tables);

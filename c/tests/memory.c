@@ -13,7 +13,7 @@ struct tried {
 };
 
 /* How many requests for memory the calls make. */
-enum { TABLES = 6, ENCODE = 2, ENCODE_SHARDS = 1, DECODE = 4, DECODE_SHARDS = 5 };
+enum { TABLES = 6, ENCODE = 2, ENCODE_SHARDS = 1, DECODE = 4, DECODE_SHARDS = 5, RECONSTRUCT = 9, VERIFY = 3, VERIFY_FEWER = 5, UPDATE = 4 };
 /* With surplus shards, a decode restores to vectors first: the list of them, and each vector. */
 enum { LIST = 1 };
 
@@ -125,6 +125,45 @@ static uint32_t decode_shards_surplus(void) {
     struct rs_fault fault;
     uint32_t answer = rs_decode_shards(tables, 3, 2, own, 2, other, 2, &to, 1, &fault);
     return answer == fault.number ? answer : 99;
+}
+
+/* An original and a recovery shard are lost. */
+static uint32_t reconstruct(void) {
+    struct rs_shard own[2] = {{0, originals, size}, {1, originals + size, size}}, other = {1, recovery + size, size};
+    struct rs_wanted wanted[2] = {{RS_RECOVERY, 0}, {RS_ORIGINAL, 2}};
+    struct rs_room to[2] = {{recovery, size}, {originals + 2 * size, size}};
+    struct rs_fault fault;
+    uint32_t answer = rs_reconstruct(tables, 3, 2, own, 2, &other, 1, wanted, 2, to, 2, &fault);
+    return answer == fault.number ? answer : 99;
+}
+
+/* Original 1 changes to another one and, in the next call, back. */
+static uint32_t update(void) {
+    static const uint8_t other[LONGEST] = {1, 2, 3};
+    static bool is_changed;
+    const uint8_t *own = originals + size;
+    struct rs_room to[2] = {{recovery, size}, {recovery + size, size}};
+    struct rs_fault fault;
+    uint32_t answer = rs_update(tables, 3, 2, 1, is_changed ? other : own, size, is_changed ? own : other, size, to, 2, &fault);
+    if (!answer) is_changed = !is_changed;
+    return answer == fault.number ? answer : 99;
+}
+
+/* Checks the originals that come, and both recovery shards. */
+static uint32_t verify(size_t count) {
+    struct rs_shard own[3] = {{1, originals + size, size}, {2, originals + 2 * size, size}, {0, originals, size}};
+    struct rs_shard other[2] = {{1, recovery + size, size}, {0, recovery, size}};
+    struct rs_fault fault;
+    uint32_t answer = rs_verify(tables, 3, 2, own, count, other, 2, &fault);
+    return answer == fault.number ? answer : 99;
+}
+
+static uint32_t verify_whole(void) {
+    return verify(3);
+}
+
+static uint32_t verify_two(void) {
+    return verify(2);
 }
 
 /* Nothing is lost and no recovery shard comes: no memory is wanted. */
@@ -282,6 +321,13 @@ static void messages(void) {
         for (size_t n = 0; n < 3 * size; n++)
             if (originals[n] != 7) wrong("not what was encoded");
     }
+    memset(recovery, 1, size);
+    memset(originals + 2 * size, 1, size);
+    each("rs_reconstruct", reconstruct, recovery, sizeof recovery, RECONSTRUCT);
+    each("rs_update", update, recovery, sizeof recovery, UPDATE);
+    each("rs_update back", update, recovery, sizeof recovery, UPDATE);
+    each("rs_verify", verify_whole, originals, sizeof originals, VERIFY);
+    each("rs_verify without an original", verify_two, originals, sizeof originals, VERIFY_FEWER);
 }
 
 int main(void) {

@@ -344,8 +344,9 @@ static void texts(void) {
     static const struct rs_fault faults[] = {{0, 0, 0, 0},  {1, 0, 0, 0},  {2, 70000, 7, 0}, {3, 5, 0, 0},  {4, 64, 66, 9},
                                              {5, 3, 1, 0},  {6, 3, 0, 0},  {7, 9, 4, 2},     {8, 3, 8, 0},  {9, 2, 6, 0},
                                              {10, 1, 0, 0}, {11, 4, 0, 0}, {12, 3, 2, 0},    {13, 12, 11, 2}, {14, 2, 3, 0},
-                                             {15, 1, 1, 1}, {16, 1, 1, 1},  {UINT32_MAX, 1, 1, 1},
-                                             {7, SIZE_MAX, SIZE_MAX, SIZE_MAX}, {8, 0, 10, 0}};
+                                             {15, 1, 1, 1}, {19, 1, 1, 1},  {UINT32_MAX, 1, 1, 1},
+                                             {7, SIZE_MAX, SIZE_MAX, SIZE_MAX}, {8, 0, 10, 0},
+                                             {16, 3, 5, 0}, {16, SIZE_MAX, SIZE_MAX, 1}, {17, 4, 1, 0}, {18, 2, 0, 0}};
     static const char *const wanted[] = {
         "",
         "out of memory",
@@ -366,7 +367,11 @@ static void texts(void) {
         "",
         "",
         "not enough shards: 18446744073709551615 original + 18446744073709551615 recovery < 18446744073709551615 original_count",
-        "invalid original shard index: 10 >= original_count 0"};
+        "invalid original shard index: 10 >= original_count 0",
+        "wanted index too large: original 5, count 3",
+        "wanted index too large: recovery shard 18446744073709551615, count 18446744073709551615",
+        "shard wanted twice: recovery shard 4",
+        "wanted shard was received: original 2"};
     for (size_t i = 0; i < sizeof faults / sizeof *faults; i++)
         for (size_t length = 0; length < 130; length++) {
             char text[130];
@@ -543,7 +548,8 @@ static void names_and_sizes(void) {
     NAMED(RS_TOO_FEW_ORIGINAL_SHARDS); NAMED(RS_TOO_MANY_ORIGINAL_SHARDS); NAMED(RS_NOT_ENOUGH_SHARDS); NAMED(RS_INVALID_ORIGINAL_SHARD_INDEX);
     NAMED(RS_INVALID_RECOVERY_SHARD_INDEX); NAMED(RS_DUPLICATE_ORIGINAL_SHARD_INDEX); NAMED(RS_DUPLICATE_RECOVERY_SHARD_INDEX);
     NAMED(RS_INCONSISTENT_SHARDS); NAMED(RS_WRONG_LENGTH); NAMED(RS_WRONG_NUMBER_OF_ROOMS); NAMED(RS_TABLES_NOT_MADE);
-    if (strcmp(rs_status_name(16), "unknown") || rs_shard_bytes(0, 3) != 2 || rs_shard_bytes(35, 3) != 12 || rs_shard_bytes(SIZE_MAX, 1) ||
+    NAMED(RS_WANTED_INDEX_TOO_LARGE); NAMED(RS_WANTED_TWICE); NAMED(RS_WANTED_RECEIVED);
+    if (strcmp(rs_status_name(19), "unknown") || rs_shard_bytes(0, 3) != 2 || rs_shard_bytes(35, 3) != 12 || rs_shard_bytes(SIZE_MAX, 1) ||
         rs_tables_bytes() != sizeof *tables)
         wrong("a name or a size");
 }

@@ -1,6 +1,8 @@
 """Reed-Solomon erasure codes over GF(2^16).
 
 `encode` turns k originals of one even size into recovery shards. `decode` takes any k of all these shards, and returns the missing originals.
+`reconstruct` returns the lost shards that you name, also recovery shards. `verify` checks whether shards belong to one message. `update`
+updates the recovery shards if one original changes.
 Shards are objects with a contiguous buffer: bytes, bytearray, memoryview, array.array or a NumPy array. They are read where they are, and
 no call copies them. Results are new bytearrays, or are written into buffers that the caller passes as `into`.
 
@@ -12,7 +14,7 @@ import os
 import threading
 from typing import Any, Dict, List, Mapping, Optional, Sequence, Tuple
 
-__all__ = ["Error", "decode", "encode", "shard_bytes", "supports", "version"]
+__all__ = ["Error", "decode", "encode", "reconstruct", "shard_bytes", "supports", "update", "verify", "version"]
 
 # An object with a contiguous buffer. Python has no type for it before 3.12.
 Buffer = Any
@@ -42,6 +44,10 @@ class _Shard(ctypes.Structure):
     _fields_ = [("index", ctypes.c_size_t), ("bytes", ctypes.c_void_p), ("length", ctypes.c_size_t)]
 
 
+class _Wanted(ctypes.Structure):
+    _fields_ = [("kind", ctypes.c_size_t), ("index", ctypes.c_size_t)]
+
+
 def _library() -> ctypes.CDLL:
     own = os.path.join(os.path.dirname(os.path.abspath(__file__)), "libreed_solomon_simd.so.1")
     library = ctypes.CDLL(own if os.path.exists(own) else "libreed_solomon_simd.so.1")
@@ -52,6 +58,9 @@ def _library() -> ctypes.CDLL:
     library.rs_supports.argtypes = [size, size]
     library.rs_encode_shards.argtypes = [pointer, size, size, pointer, size, pointer, size, fault]
     library.rs_decode_shards.argtypes = [pointer, size, size, pointer, size, pointer, size, pointer, size, fault]
+    library.rs_verify.argtypes = [pointer, size, size, pointer, size, pointer, size, fault]
+    library.rs_reconstruct.argtypes = [pointer, size, size, pointer, size, pointer, size, pointer, size, pointer, size, fault]
+    library.rs_update.argtypes = [pointer, size, size, size, pointer, size, pointer, size, pointer, size, fault]
     library.rs_fault_text.argtypes = [fault, ctypes.c_char_p, size]
     library.rs_fault_text.restype = size
     library.rs_status_name.argtypes = [ctypes.c_uint32]
@@ -127,6 +136,11 @@ def _index(index: int) -> int:
     return index
 
 
+def _check_counts(original_count: int, recovery_count: int) -> None:
+    if min(original_count, recovery_count) < 0:
+        raise ValueError(f"a count is negative: {original_count}, {recovery_count}")
+
+
 def _length(buffer: Buffer) -> int:
     return memoryview(buffer).nbytes
 
@@ -178,8 +192,7 @@ def decode(original_count: int, recovery_count: int, originals: Mapping[int, Buf
     `originals` and `recovery` are the shards that are there, by their index. Recovery shards have indexes of their own, which begin at 0. If
     `into` is given, it has one writable buffer for the index of each missing original. The call writes into these buffers and returns them.
     """
-    if min(original_count, recovery_count) < 0:
-        raise ValueError(f"a count is negative: {original_count}, {recovery_count}")
+    _check_counts(original_count, recovery_count)
     missing = [i for i in range(original_count if supports(original_count, recovery_count) else 0) if i not in originals]
     if into is None:
         size = _length(next(iter(recovery.values()))) if recovery and len(originals) + len(recovery) >= original_count else 0
@@ -194,3 +207,57 @@ def decode(original_count: int, recovery_count: int, originals: Mapping[int, Buf
     if fault.number:
         raise Error(fault)
     return dict(into)
+
+
+def verify(original_count: int, recovery_count: int, originals: Mapping[int, Buffer], recovery: Mapping[int, Buffer]) -> None:
+    """Checks that shards belong to one message, and raises Error with the name RS_INCONSISTENT_SHARDS if they do not.
+
+    `originals` and `recovery` are the shards that are there, by their index. With exactly original_count shards, no damage can be noticed.
+    """
+    _check_counts(original_count, recovery_count)
+    fault, tables = _Fault(), _made_tables()
+    with _Views() as views:
+        given, other = views.shards(originals), views.shards(recovery)
+        _c.rs_verify(tables, original_count, recovery_count, given, len(given), other, len(other), fault)
+    if fault.number:
+        raise Error(fault)
+
+
+def reconstruct(original_count: int, recovery_count: int, originals: Mapping[int, Buffer], recovery: Mapping[int, Buffer],
+                wanted_originals: Sequence[int], wanted_recovery: Sequence[int], into: Optional[Sequence[Buffer]] = None) -> List[Buffer]:
+    """Returns the wanted shards: first the originals with the indexes wanted_originals, then the recovery shards with the indexes wanted_recovery.
+
+    `originals` and `recovery` are the shards that are there, by their index. A shard that is there cannot be wanted. If `into` is given, it has
+    one writable buffer for each wanted shard. The call writes into these buffers and returns them.
+    """
+    _check_counts(original_count, recovery_count)
+    names = [_Wanted(0, _index(i)) for i in wanted_originals] + [_Wanted(1, _index(i)) for i in wanted_recovery]
+    if into is None:
+        given_shards = [*recovery.values(), *originals.values()]
+        enough = len(given_shards) >= original_count and supports(original_count, recovery_count)
+        possible = enough and len(names) <= original_count + recovery_count
+        into = [bytearray(_length(given_shards[0])) for _ in (names if possible else ())]
+    fault, tables = _Fault(), _made_tables()
+    with _Views() as views:
+        given, other = views.shards(originals), views.shards(recovery)
+        rooms = (_Bytes * len(into))(*[_Bytes(*views.of(room, WRITABLE)) for room in into])
+        wanted = (_Wanted * len(names))(*names)
+        _c.rs_reconstruct(tables, original_count, recovery_count, given, len(given), other, len(other), wanted, len(wanted), rooms, len(rooms),
+                          fault)
+    if fault.number:
+        raise Error(fault)
+    return list(into)
+
+
+def update(original_count: int, recovery_count: int, index: int, before: Buffer, after: Buffer, recovery: Sequence[Buffer]) -> None:
+    """Updates the recovery shards in writable buffers after the original with this index has changed from `before` to `after`.
+
+    `recovery` has all recovery shards, in order of index. The other originals are not needed.
+    """
+    _check_counts(original_count, recovery_count)
+    fault, tables = _Fault(), _made_tables()
+    with _Views() as views:
+        rooms = (_Bytes * len(recovery))(*[_Bytes(*views.of(room, WRITABLE)) for room in recovery])
+        _c.rs_update(tables, original_count, recovery_count, _index(index), *views.of(before), *views.of(after), rooms, len(rooms), fault)
+    if fault.number:
+        raise Error(fault)

@@ -57,6 +57,44 @@ class Wrapper(unittest.TestCase):
         with self.assertRaises((BufferError, ValueError)):
             rs.encode([bytes(256)], 1, into=[data[0]])
 
+    def test_received(self):
+        """verify and reconstruct, over bytes and over NumPy arrays, into new buffers and into those of the caller."""
+        for _ in range(100):
+            k, r, size = random.randrange(1, 12), random.randrange(1, 12), 2 * random.randrange(1, 100)
+            shards = [random.randbytes(size) for _ in range(k)]
+            shards += [bytes(shard) for shard in rs.encode(shards, r)]
+            order = random.sample(range(k + r), k + r)
+            count = random.randrange(k, k + r + 1)
+            given = {i: shards[i] for i in order[:count] if i < k}
+            other = {i - k: memoryview(shards[i]) for i in order[:count] if i >= k}
+            lost = [[i for i in order[count:] if i < k], [i - k for i in order[count:] if i >= k]]
+            wanted = [shards[i] for i in lost[0]] + [shards[k + i] for i in lost[1]]
+            rs.verify(k, r, given, other)
+            index, after = random.randrange(k), random.randbytes(size)
+            updated = [bytearray(shard) for shard in shards[k:]]
+            rs.update(k, r, index, shards[index], after, updated)
+            self.assertEqual(updated, rs.encode(shards[:index] + [after] + shards[index + 1:k], r))
+            self.assertEqual(rs.reconstruct(k, r, given, other, *lost), wanted)
+            rooms = [bytearray(size) for _ in wanted]
+            made = rs.reconstruct(k, r, given, other, *lost, into=rooms)
+            self.assertTrue(rooms == wanted and all(a is b for a, b in zip(made, rooms)))
+            if count > k and given:
+                i = next(iter(given))
+                damaged = {**given, i: bytes(b ^ 255 for b in given[i])}
+                for call in lambda: rs.verify(k, r, damaged, other), lambda: rs.reconstruct(k, r, damaged, other, *lost):
+                    with self.assertRaisesRegex(rs.Error, "inconsistent"):
+                        call()
+        if numpy is not None:
+            data = numpy.frombuffer(random.randbytes(3 * 64), dtype=numpy.uint16).reshape(3, 32)
+            recovery = rs.encode(list(data), 2)
+            room = numpy.zeros(32, dtype=numpy.uint16)
+            rs.verify(3, 2, dict(enumerate(data)), {1: numpy.frombuffer(recovery[1], dtype=numpy.uint8)})
+            rs.reconstruct(3, 2, {0: data[0], 2: data[2]}, {0: recovery[0]}, [1], [], into=[room])
+            self.assertTrue((room == data[1]).all())
+            rooms = [numpy.frombuffer(shard, dtype=numpy.uint16).copy() for shard in recovery]
+            rs.update(3, 2, 0, data[0], data[1], rooms)
+            self.assertEqual([shard.tobytes() for shard in rooms], [bytes(shard) for shard in rs.encode([data[1], data[1], data[2]], 2)])
+
     def test_no_copies(self):
         """The library reads and writes the caller's memory: what it is passed has the addresses of the buffers."""
         originals, rooms = [bytearray(range(64)) for _ in range(3)], [bytearray(64), bytearray(64)]
@@ -89,6 +127,15 @@ class Wrapper(unittest.TestCase):
             (lambda: rs.decode(1 << 60, 2, {}, {0: b"ab"}), "RS_UNSUPPORTED_SHARD_COUNT", (1 << 60, 2, 0)),
             (lambda: rs.decode(3, 2, {7: b"abcd"}, {0: b"abcd", 1: b"abcd"}), "RS_INVALID_ORIGINAL_SHARD_INDEX", (3, 7, 0)),
             (lambda: rs.decode(1, 1, {0: b"ab"}, {0: b"cd"}), "RS_INCONSISTENT_SHARDS", (1, 1, 0)),
+            (lambda: rs.verify(3, 2, {}, {}), "RS_NOT_ENOUGH_SHARDS", (3, 0, 0)),
+            (lambda: rs.verify(1, 1, {0: b"ab"}, {0: b"cd"}), "RS_INCONSISTENT_SHARDS", (1, 1, 0)),
+            (lambda: rs.update(1, 1, 1, b"ab", b"cd", [bytearray(2)]), "RS_INVALID_ORIGINAL_SHARD_INDEX", (1, 1, 0)),
+            (lambda: rs.update(1, 1, 0, b"ab", b"abcd", [bytearray(2)]), "RS_DIFFERENT_SHARD_SIZE", (2, 4, 1)),
+            (lambda: rs.reconstruct(1, 1, {0: b"ab"}, {}, [0], []), "RS_WANTED_RECEIVED", (0, 0, 0)),
+            (lambda: rs.reconstruct(1, 2, {0: b"ab"}, {}, [], [1, 1]), "RS_WANTED_TWICE", (1, 1, 0)),
+            (lambda: rs.reconstruct(1, 2, {0: b"ab"}, {}, [], [2]), "RS_WANTED_INDEX_TOO_LARGE", (2, 2, 1)),
+            (lambda: rs.reconstruct(1, 2, {0: b"ab"}, {}, [], [1], into=[]), "RS_WRONG_NUMBER_OF_ROOMS", (1, 0, 0)),
+            (lambda: rs.reconstruct(1, 2, {0: b"ab"}, {}, [], [1], into=[bytearray(4)]), "RS_WRONG_LENGTH", (2, 4, 0)),
         ):
             with self.assertRaises(rs.Error) as caught:
                 call()

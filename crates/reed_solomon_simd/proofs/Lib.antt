@@ -31,6 +31,7 @@ pub mod WantedLemmas
 pub mod ReceivingLemmas
 pub mod VerifyingLemmas
 pub mod ReconstructLemmas
+pub mod UpdateLemmas
 pub use Rattle.rs_field.proofs.of_code.Given
 pub use Rattle.rs_field.proofs.of_code.Listed
 pub use Rattle.rs_field.proofs.of_code.Entries

@@ -1,7 +1,23 @@
 -- From the checks and the rebuilt shards to the result of `reconstruct`.
-use Rattle.std.proofs.Common.{◌≡◌, ℕ, ◌<◌, List, [], length, All, replicate, Option, Some, None, Result, Ok, Err, false,
-  refl}
-use Rattle.std.proofs.Common.{sym, ap, ◌∙◌, subst, inl, inr}
+use Rattle.std.proofs.Common.{
+  ◌≡◌,
+  ℕ,
+  ◌<◌,
+  List,
+  [],
+  length,
+  All,
+  replicate,
+  Option,
+  Some,
+  None,
+  Result,
+  Ok,
+  Err,
+  false,
+  refl,
+}
+use Rattle.std.proofs.Common.{ap, ◌∙◌, subst, inl, inr}
 use Rattle.std.specs.Prelude.{◌⊎◌, MatchResult, IsOk}
 use Rattle.std.specs.Result.{result_map_both}
 use Rattle.std.proofs.lemmas.List.{length-replicate, get_or-replicate}
@@ -16,7 +32,7 @@ use Rattle.reed_solomon_simd.specs.declared.reconstruct_error.ReconstructError.{
 use Rattle.reed_solomon_simd.specs.declared.reconstruct_error.ReconstructError.TheVariants.{Refused}
 use Rattle.reed_solomon_simd.specs.declared.shard_index.ShardIndex.{ShardIndex}
 use Rattle.reed_solomon_simd.specs.Reconstructed.{AreReconstructed, wanted_outcome, ready_outcome, ReconstructAnswers}
-use Rattle.reed_solomon_simd.specs.Reconstructed.{OneReconstructs}
+use Rattle.reed_solomon_simd.specs.Reconstructed.{OneReconstructs, Reconstructs, ReconstructsInto, WritesShards}
 use Rattle.reed_solomon_simd.specs.Verified.{received_size, receiving_opening, receiving_outcome, IsReceiving}
 use Rattle.reed_solomon_simd.proofs.VerifyingLemmas.{receiving-outcome, receiving-opened}
 
@@ -48,85 +64,86 @@ module _ (k r : ℕ) (originals recovery : Items) (wanted : List ShardIndex)
       let same : e ≡ OutOfMemory = cc in
       inr (lacks.0, ap (λ (x : Error). Err (Refused x)) same)
 
-  module _ (s : DecoderState) (is : IsReceiving k r originals recovery (Ok s)) where
-    -- The result of reconstructing from the decoder is the result of one call.
-    reconstructs-led : (result : Result (List Shard) ReconstructError)
-        → ReconstructAnswers s wanted (fit s.configuration.shard_bytes) result
-        → OneReconstructs k r originals recovery wanted fit result
-    reconstructs-led result answers =
-        inl (subst (λ (o : Result DecoderState Error).
-        MatchResult o (λ s. ReconstructAnswers s wanted (fit s.configuration.shard_bytes) result)
-        (λ f. result ≡ Err (Refused f))) (receiving-outcome k r originals recovery s is) answers)
+  -- The result of reconstructing from the decoder to which the received shards were added is the result of one call.
+  pub reconstructs-given : (s : DecoderState) → IsReceiving k r originals recovery (Ok s)
+      → (result : Result (List Shard) ReconstructError)
+      → Reconstructs s wanted (fit s.configuration.shard_bytes) result
+      → OneReconstructs k r originals recovery wanted fit result
+  reconstructs-given s is result (inl answers) =
+      inl (subst (λ (o : Result DecoderState Error).
+      MatchResult o (λ s. ReconstructAnswers s wanted (fit s.configuration.shard_bytes) result)
+      (λ f. result ≡ Err (Refused f))) (receiving-outcome k r originals recovery s is) answers)
+  reconstructs-given s is result (inr lacks) = inr (receiving-opened k r originals recovery s is, lacks)
 
-    -- `OutOfMemory` is a result of one call.
-    reconstructs-short : OneReconstructs k r originals recovery wanted fit (Err (Refused OutOfMemory))
-    reconstructs-short = inr (receiving-opened k r originals recovery s is, refl)
+  -- `OutOfMemory` after the received shards were collected is a result of one call.
+  pub reconstructs-lacking : (s : DecoderState) → IsReceiving k r originals recovery (Ok s) → (e : Error)
+      → e ≡ OutOfMemory → OneReconstructs k r originals recovery wanted fit (Err (Refused e))
+  reconstructs-lacking s is e lacks =
+      reconstructs-given s is (Err (Refused e)) (inr (ap (λ (x : Error). Err (Refused x)) lacks))
 
-    -- `OutOfMemory` of the check of the wanted shards is a result of one call.
-    pub reconstructs-lacking : (e : ReconstructError)
-        → ◌≡◌ {A = Result (Unit {0}) ReconstructError} (Err e) (Err (Refused OutOfMemory))
-        → OneReconstructs k r originals recovery wanted fit (Err e)
-    reconstructs-lacking e lacks =
-        let same : e ≡ Refused OutOfMemory = cc in
-        subst (λ (x : ReconstructError). OneReconstructs k r originals recovery wanted fit (Err x)) (sym same)
-        reconstructs-short
+-- If `reconstruct_into` fails, the rooms are unchanged.
+pub into-kept : (k r : ℕ) (originals recovery : Items) (wanted : List ShardIndex) (old new : List (List ℕ))
+    (e : ReconstructError) (answer : Result (Unit {0}) ReconstructError) → answer ≡ Err e
+    → ReconstructsInto k r originals recovery wanted old new answer → new ≡ old
+into-kept k r originals recovery wanted old new e answer failed into = by_made into.0 into.2
+  where
+    by_made : (made : Result (List Shard) ReconstructError) → WritesShards made old new answer → new ≡ old
+    by_made (Ok shards) does = let done = does.0 in absurd (let no : ⊥ = cc in no)
+    by_made (Err f) does = does.1
 
-    -- The result for an outcome of the checks.
-    by_ready : (result : Result (List Shard) ReconstructError) (o : Result (Unit {0}) ReconstructError)
-        → o ≡ ready_outcome s wanted (fit s.configuration.shard_bytes)
-        → MatchResult o (λ _. MatchResult result (AreReconstructed s wanted)
-        (λ e. (f : Error) × NoneAgrees s f × (e ≡ Refused f))) (λ e. result ≡ Err e)
-        → OneReconstructs k r originals recovery wanted fit result
-    by_ready result o ready says =
-        reconstructs-led result
-        (subst (λ (o : Result (Unit {0}) ReconstructError).
-        MatchResult o (λ _. MatchResult result (AreReconstructed s wanted)
-        (λ e. (f : Error) × NoneAgrees s f × (e ≡ Refused f))) (λ e. result ≡ Err e)) ready says)
+module _ (s : DecoderState) (wanted : List ShardIndex) (fit : Result (Unit {0}) ReconstructError) where
+  -- `OutOfMemory` of the check of the wanted shards is a result of reconstructing.
+  pub rebuilds-lacking : (e : ReconstructError)
+      → ◌≡◌ {A = Result (Unit {0}) ReconstructError} (Err e) (Err (Refused OutOfMemory))
+      → Reconstructs s wanted fit (Err e)
+  rebuilds-lacking e lacks = let same : e ≡ Refused OutOfMemory = cc in inr (ap Err same)
 
-    -- The outcome of the checks, from the outcome of the check for enough shards.
-    abbrev after_enough : Result (Unit {0}) Error → Result (Unit {0}) ReconstructError
-    after_enough enough =
-        result_and_then (λ _. result_and_then (λ _. fit s.configuration.shard_bytes) (wanted_outcome s [] wanted))
-        (result_map_both (λ u. u) Refused enough)
+  -- The result for an outcome of the checks.
+  by_ready : (result : Result (List Shard) ReconstructError) (o : Result (Unit {0}) ReconstructError)
+      → o ≡ ready_outcome s wanted fit
+      → MatchResult o (λ _. MatchResult result (AreReconstructed s wanted)
+      (λ e. (f : Error) × NoneAgrees s f × (e ≡ Refused f))) (λ e. result ≡ Err e)
+      → Reconstructs s wanted fit result
+  by_ready result o ready says =
+      inl (subst (λ (o : Result (Unit {0}) ReconstructError).
+      MatchResult o (λ _. MatchResult result (AreReconstructed s wanted)
+      (λ e. (f : Error) × NoneAgrees s f × (e ≡ Refused f))) (λ e. result ≡ Err e)) ready says)
 
-    -- The error of too few shards is a result of one call.
-    pub reconstructs-few : (e : Error) → Err e ≡ enough_given s
-        → OneReconstructs k r originals recovery wanted fit (Err (Refused e))
-    reconstructs-few e few = by_ready (Err (Refused e)) (Err (Refused e)) (ap after_enough few) refl
+  -- The outcome of the checks, from the outcome of the check for enough shards.
+  abbrev after_enough : Result (Unit {0}) Error → Result (Unit {0}) ReconstructError
+  after_enough enough =
+      result_and_then (λ _. result_and_then (λ _. fit) (wanted_outcome s [] wanted))
+      (result_map_both (λ u. u) Refused enough)
 
-    module _ (enough : Ok tt ≡ enough_given s) where
-      -- The error of a wanted shard is a result of one call.
-      pub reconstructs-unwanted : (e : ReconstructError) → Err e ≡ wanted_outcome s [] wanted
-          → OneReconstructs k r originals recovery wanted fit (Err e)
-      reconstructs-unwanted e refused =
-          by_ready (Err e) (Err e)
-          (ap (result_and_then (λ (u : Unit {0}). fit s.configuration.shard_bytes)) refused ∙ ap after_enough enough)
-            refl
+  -- The error of too few shards is a result of reconstructing.
+  pub rebuilds-few : (e : Error) → Err e ≡ enough_given s → Reconstructs s wanted fit (Err (Refused e))
+  rebuilds-few e few = by_ready (Err (Refused e)) (Err (Refused e)) (ap after_enough few) refl
 
-      module _ (can : Ok tt ≡ wanted_outcome s [] wanted) where
-        -- The error of the rooms is a result of one call.
-        pub reconstructs-misfit : (e : ReconstructError) → Err e ≡ fit s.configuration.shard_bytes
-            → OneReconstructs k r originals recovery wanted fit (Err e)
-        reconstructs-misfit e refused =
-            by_ready (Err e) (Err e)
-            (refused ∙ ap (result_and_then (λ (u : Unit {0}). fit s.configuration.shard_bytes)) can
-            ∙ ap after_enough enough) refl
+  module _ (enough : Ok tt ≡ enough_given s) where
+    -- The error of a wanted shard is a result of reconstructing.
+    pub rebuilds-unwanted : (e : ReconstructError) → Err e ≡ wanted_outcome s [] wanted
+        → Reconstructs s wanted fit (Err e)
+    rebuilds-unwanted e refused =
+        by_ready (Err e) (Err e)
+        (ap (result_and_then (λ (u : Unit {0}). fit)) refused ∙ ap after_enough enough) refl
 
-        -- Rebuilt shards, or the error of rebuilding them, are a result of one call.
-        pub reconstructs-made : Ok tt ≡ fit s.configuration.shard_bytes → (result : Result (List Shard) Error)
-            → MatchResult result (AreReconstructed s wanted) (λ e. NoneAgrees s e ⊎ (e ≡ OutOfMemory))
-            → OneReconstructs k r originals recovery wanted fit (result_map_both (λ x. x) Refused result)
-        reconstructs-made fits (Ok shards) made =
-            by_ready (Ok shards) (Ok tt)
-            (fits ∙ ap (result_and_then (λ (u : Unit {0}). fit s.configuration.shard_bytes)) can
-            ∙ ap after_enough enough) made
-        reconstructs-made fits (Err e) (inl none) =
-            by_ready (Err (Refused e)) (Ok tt)
-            (fits ∙ ap (result_and_then (λ (u : Unit {0}). fit s.configuration.shard_bytes)) can
-            ∙ ap after_enough enough) (e, none, refl)
-        reconstructs-made fits (Err e) (inr lacks) =
-            subst (λ (x : Error). OneReconstructs k r originals recovery wanted fit (Err (Refused x))) (sym lacks)
-            reconstructs-short
+    module _ (can : Ok tt ≡ wanted_outcome s [] wanted) where
+      -- The outcome of the checks is that of the rooms.
+      by_fit : (o : Result (Unit {0}) ReconstructError) → o ≡ fit → o ≡ ready_outcome s wanted fit
+      by_fit o is = is ∙ ap (result_and_then (λ (u : Unit {0}). fit)) can ∙ ap after_enough enough
+
+      -- The error of the rooms is a result of reconstructing.
+      pub rebuilds-misfit : (e : ReconstructError) → Err e ≡ fit → Reconstructs s wanted fit (Err e)
+      rebuilds-misfit e refused = by_ready (Err e) (Err e) (by_fit (Err e) refused) refl
+
+      -- Rebuilt shards, or the error of rebuilding them, are a result of reconstructing.
+      pub rebuilds-made : Ok tt ≡ fit → (result : Result (List Shard) Error)
+          → MatchResult result (AreReconstructed s wanted) (λ e. NoneAgrees s e ⊎ (e ≡ OutOfMemory))
+          → Reconstructs s wanted fit (result_map_both (λ x. x) Refused result)
+      rebuilds-made fits (Ok shards) made = by_ready (Ok shards) (Ok tt) (by_fit (Ok tt) fits) made
+      rebuilds-made fits (Err e) (inl none) =
+          by_ready (Err (Refused e)) (Ok tt) (by_fit (Ok tt) fits) (e, none, refl)
+      rebuilds-made fits (Err e) (inr lacks) = inr (ap (λ (x : Error). Err (Refused x)) lacks)
 
 -- As many shards of zeros as are wanted, each of the size.
 abbrev pub zeros : ℕ → ℕ → List Shard

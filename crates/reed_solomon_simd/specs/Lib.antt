@@ -39,6 +39,7 @@ pub mod ShardNames
 pub mod ReconstructTexts
 pub mod Reconstructed
 pub mod WantedMarks
+pub mod Updated
 pub mod LentState
 pub mod Checked
 pub mod EncoderObject

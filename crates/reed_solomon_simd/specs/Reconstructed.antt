@@ -11,8 +11,10 @@ use Rattle.rs_field.specs.code.Given.{Shards}
 use Rattle.rs_field.specs.code.OneCall.{Items}
 use Rattle.rs_field.specs.code.Outcome.{result_and_then}
 use Rattle.reed_solomon_simd.specs.declared.reconstruct_error.ReconstructError.{ReconstructError}
-use Rattle.reed_solomon_simd.specs.declared.reconstruct_error.ReconstructError.TheVariants.{Refused,
-  WantedIndexTooLarge}
+use Rattle.reed_solomon_simd.specs.declared.reconstruct_error.ReconstructError.TheVariants.{
+  Refused,
+  WantedIndexTooLarge,
+}
 use Rattle.reed_solomon_simd.specs.declared.reconstruct_error.ReconstructError.TheVariants.{WantedTwice, WantedReceived}
 use Rattle.reed_solomon_simd.specs.declared.reconstruct_error.ReconstructError.TheVariants.{WrongNumberOfRooms}
 use Rattle.reed_solomon_simd.specs.declared.reconstruct_error.ReconstructError.TheVariants.{WrongLength}
@@ -90,6 +92,11 @@ ReconstructAnswers s wanted fit result =
     (λ _. MatchResult result (AreReconstructed s wanted) (λ e. (f : Error) × NoneAgrees s f × (e ≡ Refused f)))
     (λ e. result ≡ Err e)
 
+-- what reconstructing from the shards of a decoder returns, or `OutOfMemory`
+abbrev pub Reconstructs : DecoderState → List ShardIndex → Result (Unit {0}) ReconstructError
+    → Result (List Shard) ReconstructError → Type 0
+Reconstructs s wanted fit result = ReconstructAnswers s wanted fit result ⊎ (result ≡ Err (Refused OutOfMemory))
+
 -- the relation of received shards to the wanted ones: the error of collecting the received shards, what reconstructing
 -- from them returns, or `OutOfMemory`; `fit` is the outcome of checking rooms for a size
 abbrev pub OneReconstructs : ℕ → ℕ → Items → Items → List ShardIndex → (ℕ → Result (Unit {0}) ReconstructError)
@@ -99,6 +106,20 @@ OneReconstructs k r originals recovery wanted fit result =
     (λ s. ReconstructAnswers s wanted (fit s.configuration.shard_bytes) result) (λ e. result ≡ Err (Refused e))
     ⊎ (IsOk (receiving_opening k r (received_size originals recovery)) × (result ≡ Err (Refused OutOfMemory)))
 
+-- a call succeeds and its rooms hold these shards, or it returns the error and its rooms are unchanged
+abbrev pub WritesShards : Result (List Shard) ReconstructError → List (List ℕ) → List (List ℕ)
+    → Result (Unit {0}) ReconstructError → Type 0
+WritesShards made old new answer =
+    MatchResult made (λ shards. (answer ≡ Ok tt) × (new ≡ shards)) (λ e. (answer ≡ Err e) × (new ≡ old))
+
+-- the result of reconstructing from the shards of a decoder into rooms: the wanted shards, in order
+abbrev pub ReconstructsReceived : DecoderState → List ShardIndex → List (List ℕ) → List (List ℕ)
+    → Result (Unit {0}) ReconstructError → Type 0
+ReconstructsReceived s wanted old new answer =
+    (made : Result (List Shard) ReconstructError)
+    × Reconstructs s wanted (rooms_outcome (length wanted) old s.configuration.shard_bytes) made
+    × WritesShards made old new answer
+
 -- the result of `reconstruct_into`: the wanted shards, written into the rooms in order, or an error with unchanged
 -- rooms
 abbrev pub ReconstructsInto : ℕ → ℕ → Items → Items → List ShardIndex → List (List ℕ) → List (List ℕ)
@@ -106,4 +127,4 @@ abbrev pub ReconstructsInto : ℕ → ℕ → Items → Items → List ShardInde
 ReconstructsInto k r originals recovery wanted old new answer =
     (made : Result (List Shard) ReconstructError)
     × OneReconstructs k r originals recovery wanted (rooms_outcome (length wanted) old) made
-    × MatchResult made (λ shards. (answer ≡ Ok tt) × (new ≡ shards)) (λ e. (answer ≡ Err e) × (new ≡ old))
+    × WritesShards made old new answer

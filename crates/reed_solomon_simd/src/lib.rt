@@ -23,7 +23,7 @@ pub mod pieces;
 pub mod received_shards;
 pub mod receiving;
 mod reconstruct_error;
-mod reconstructing;
+pub mod reconstructing;
 pub mod restoring;
 mod room_error;
 pub mod rooms;
@@ -35,6 +35,7 @@ pub mod strip_decoder;
 pub mod strip_encoder;
 pub mod strip_rebuilder;
 mod strip_summer;
+mod updating;
 pub mod verifying;
 mod wanted_shards;
 
@@ -90,6 +91,7 @@ pub use rs_field::error::Error;
 /// ```
 pub use shard_index::ShardIndex;
 pub use slices::{decode_slice, encode_slice};
+pub use updating::update_into;
 pub use verifying::verify;
 /// The results of a round, and iterators over them. They lend shards and copy nothing.
 ///

@@ -7,7 +7,7 @@ ghost use Rattle.rs_field.specs.code.OneCall.{Items, with_originals, with_recove
 ghost use Rattle.rs_rate.specs.Calls.{Calls, BeginsWithItems};
 ghost use Rattle.rs_rate.specs.Giving.{Reaches, IsDecoding};
 ghost use Rattle.reed_solomon_simd.specs.ReceivedState.{received_state};
-ghost use Rattle.reed_solomon_simd.specs.Verified.{IsReceiving, first_size};
+ghost use Rattle.reed_solomon_simd.specs.Verified.{IsReceiving, first_size, received_size};
 
 use crate::received_shards::ReceivedShards;
 use rs_field::error::Error;
@@ -87,7 +87,40 @@ pub fn received_in_slices<'a>(
         (map (λ item. (item.0, item.1.now)) recovery.now)
         (result_map_both received_state (λ e. e) result) }
 {
-    let Some(shard_bytes) = size_in_slices(original, recovery) else {
+    let shard_bytes = size_in_slices(original, recovery);
+    let own = original.iter().map(|item| *item);
+    let other = recovery.iter().map(|item| *item);
+    received_of_size(alloc, counts, shard_bytes, own, other)
+}
+
+/// Returns all received shards. `shard_bytes` is the size of the first recovery shard, or if there is none, that of the
+/// first original, or `None` if there is no shard.
+///
+/// # Errors
+///
+/// Those of [`received_in_slices`]. After an error, neither iterator is called again.
+pub fn received_of_size<'a, O, R>(
+    alloc: Global,
+    counts: DefaultRateCounts,
+    shard_bytes: Option<usize>,
+    own: O,
+    other: R,
+) -> Result<ReceivedShards<'a>, Error>
+where
+    O: Iterator<Item = (usize, &'a [u8])> + Drop,
+    R: Iterator<Item = (usize, &'a [u8])> + Drop,
+    requires can { O.can_next own }
+    requires ends { IsFinite (O.remaining own) }
+    requires can_other { R.can_next other }
+    requires other_ends { IsFinite (R.remaining other) }
+    ensures { (calls : Calls O.next_gives own) × (further : Calls R.next_gives other)
+        × ((originals recoveries : Items)
+        → BeginsWithItems originals calls → BeginsWithItems recoveries further
+        → shard_bytes ≡ received_size originals recoveries
+        → IsReceiving counts.original_count counts.recovery_count originals recoveries
+        (result_map_both received_state (λ e. e) result)) }
+{
+    let Some(shard_bytes) = shard_bytes else {
         return Err(Error::NotEnoughShards {
             original_count: counts.original_count,
             original_received_count: 0,
@@ -95,8 +128,6 @@ pub fn received_in_slices<'a>(
         });
     };
     let mut received: ReceivedShards<'a> = ReceivedShards::new(alloc, counts, shard_bytes)?;
-    let own = original.iter().map(|item| *item);
-    let other = recovery.iter().map(|item| *item);
     add_originals(&mut received, own)?;
     add_recovery(&mut received, other)?;
     Ok(received)

@@ -4,12 +4,15 @@ ghost use Rattle.std.specs.Result.{result_map_both};
 ghost use Rattle.rs_field.specs.code.Counts.{default_rate};
 ghost use Rattle.rs_field.specs.code.Decoder.{IsDecoder, enough_given, originals_given, recovery_given, NoneAgrees};
 ghost use Rattle.rs_field.specs.code.OneCall.{collected_shards};
-ghost use Rattle.reed_solomon_simd.specs.Reconstructed.{AreReconstructed, CanBeRebuilt, OneReconstructs, ReconstructsInto};
+ghost use Rattle.reed_solomon_simd.specs.ReceivedState.{received_state};
+ghost use Rattle.reed_solomon_simd.specs.Reconstructed.{AreReconstructed, CanBeRebuilt, OneReconstructs};
+ghost use Rattle.reed_solomon_simd.specs.Reconstructed.{ReconstructsInto, ReconstructsReceived};
 ghost use Rattle.reed_solomon_simd.specs.Rooms.{bytes_in, loans_of};
 
 use crate::Error;
 use crate::lent_originals::empty_vectors;
 use crate::pieces::Pieces;
+use crate::received_shards::ReceivedShards;
 use crate::receiving::received_in_slices;
 use crate::reconstruct_error::ReconstructError;
 use crate::restoring::fill_rooms;
@@ -127,14 +130,42 @@ pub fn reconstruct_into<E: Engine + Copy>(
 {
     let counts = DefaultRateCounts::new(original_count, recovery_count)?;
     let received = received_in_slices(alloc, counts, original, recovery)?;
+    reconstruct_received(alloc, &received, wanted, engine, rooms)
+}
+
+/// Writes the wanted shards of the message to which the received shards belong into rooms, in the order of `wanted`. If
+/// there are more shards than originals, the wanted shards are reconstructed into vectors first, because a later strip
+/// may show that no message agrees with all received shards.
+///
+/// # Errors
+///
+/// - [`ReconstructError::Refused`] with [`Error::NotEnoughShards`] if there are fewer shards than originals.
+/// - For each wanted shard in order: [`ReconstructError::WantedIndexTooLarge`], [`ReconstructError::WantedTwice`],
+///   [`ReconstructError::WantedReceived`].
+/// - [`ReconstructError::WrongNumberOfRooms`] if there are not as many rooms as wanted shards.
+/// - [`ReconstructError::WrongLength`] for the first room that does not have the size of the shards.
+/// - [`ReconstructError::Refused`] with [`Error::InconsistentShards`] if no message agrees with all received shards.
+///
+/// The contract allows [`Error::OutOfMemory`] instead of any result. After an error the rooms hold what they held.
+pub fn reconstruct_received<E: Engine + Copy>(
+    alloc: Global,
+    received: &ReceivedShards<'_>,
+    wanted: &[ShardIndex],
+    engine: E,
+    rooms: &mut [&mut [u8]],
+) -> Result<(), ReconstructError>
+    ensures answer { ReconstructsReceived (received_state received.now) wanted.now
+        (bytes_in rooms.old) (bytes_in rooms.new) result }
+    ensures kept { loans_of rooms.new ≡ loans_of rooms.old }
+{
     let surplus = received.surplus()?;
-    check_wanted(alloc, &received, wanted)?;
+    check_wanted(alloc, received, wanted)?;
     check_rooms(wanted.len(), received.shard_bytes, rooms)?;
     if surplus == 0 {
-        rebuild_lent(alloc, engine, &received, wanted, rooms)?;
+        rebuild_lent(alloc, engine, received, wanted, rooms)?;
         return Ok(());
     }
-    let vectors = rebuild_vectors(alloc, engine, &received, wanted)?;
+    let vectors = rebuild_vectors(alloc, engine, received, wanted)?;
     fill_rooms(vectors.as_slice(), received.shard_bytes, rooms);
     Ok(())
 }

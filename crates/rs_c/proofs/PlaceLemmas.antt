@@ -1,6 +1,6 @@
 -- Lemmas about the place of the first shard of another size.
 use Rattle.std.proofs.Common.{◌≡◌, ℕ, ◌+◌, ◌<◌, Bool, cond, List, [], ◌∷◌, ◌++◌, length, map, drop, get_or, refl}
-use Rattle.std.proofs.Common.{ap, ◌∙◌, inl, inr, arith}
+use Rattle.std.proofs.Common.{ap, ap₂, sym, ◌∙◌, inl, inr, arith}
 use Rattle.std.proofs.lemmas.Bool.{cases_eq, eq-eqb, ne_eqb}
 use Rattle.std.proofs.lemmas.List.{drop_more}
 use Rattle.rs_field.specs.code.Column.{Shard}
@@ -57,3 +57,9 @@ bytes_of array = map (λ shard. shard.bytes.now) array
 pub bytes-shards : (array : List RsShard) → shards_in (items_of array) ≡ bytes_of array
 bytes-shards [] = refl
 bytes-shards (shard ∷ shards) = ap (λ (others : List Shard). shard.bytes.now ∷ others) (bytes-shards shards)
+
+-- The same of two arrays, one after the other.
+pub both-shards : (first second : List RsShard)
+    → bytes_of first ++ bytes_of second ≡ shards_in (items_of first) ++ shards_in (items_of second)
+both-shards first second =
+    ap₂ (λ (l m : List Shard). l ++ m) (sym (bytes-shards first)) (sym (bytes-shards second))

@@ -1,6 +1,20 @@
 -- Shards anywhere in memory, and rooms for the shards that a call writes.
-use Rattle.std.specs.Prelude.{◌≡◌, ℕ, ◌==◌, List, [], ◌∷◌, ◌++◌, length, map, if◌then◌else◌, Result, Ok, Err,
-  MatchResult}
+use Rattle.std.specs.Prelude.{
+  ◌≡◌,
+  ℕ,
+  ◌==◌,
+  List,
+  [],
+  ◌∷◌,
+  ◌++◌,
+  length,
+  map,
+  if◌then◌else◌,
+  Result,
+  Ok,
+  Err,
+  MatchResult,
+}
 use Rattle.std.specs.Borrow.{Bor, MutBor}
 use Rattle.rs_field.specs.declared.code.error.Error.{Error}
 use Rattle.rs_field.specs.code.Column.{Shard}
@@ -9,8 +23,17 @@ use Rattle.rs_field.specs.code.Given.{Shards, Lists}
 use Rattle.rs_field.specs.code.OneCall.{Items, OneEncodeAnswers, OneDecodeAnswers}
 use Rattle.rs_c.specs.declared.fault.Fault.{Fault}
 use Rattle.rs_c.specs.declared.fault.Fault.TheVariants.{WrongLength, WrongNumberOfRooms}
-use Rattle.rs_c.specs.Places.{place_of_other, placed_refusal}
+use Rattle.std.specs.Result.{result_map_both}
+use Rattle.reed_solomon_simd.specs.declared.reconstruct_error.ReconstructError.{ReconstructError}
+use Rattle.reed_solomon_simd.specs.declared.shard_index.ShardIndex.{ShardIndex}
+use Rattle.reed_solomon_simd.specs.Reconstructed.{ReconstructsInto}
+use Rattle.reed_solomon_simd.specs.Verified.{OneVerifies}
+use Rattle.rs_c.specs.Faults.{named}
+use Rattle.reed_solomon_simd.specs.declared.room_error.RoomError.{RoomError}
+use Rattle.reed_solomon_simd.specs.Updated.{UpdatesInto}
+use Rattle.rs_c.specs.Places.{place_of_other, placed, placed_refusal, placed_reconstruct}
 use Rattle.rs_c.specs.declared.layouts.RsShard.{RsShard}
+use Rattle.rs_c.specs.declared.layouts.RsWanted.{RsWanted}
 
 -- the shards to which the references of an array point
 abbrev pub shards_of : List (Bor Shard) → List Shard
@@ -73,3 +96,29 @@ DecodesArrays k r originals recovery old new answer =
     × MatchResult decoded
     (λ restored. (items : Items) × Lists restored items × Fills (shards_in items) old new answer)
     (λ e. (answer ≡ Err (placed_refusal (shards_in originals ++ shards_in recovery) e)) × (new ≡ old))
+
+-- the names of wanted shards
+abbrev pub wanted_of : List RsWanted → List ShardIndex
+wanted_of array = map (λ shard. named shard.kind shard.index) array
+
+-- the result of verifying arrays: the result of `verify` for these shards. The fault of a shard of another size says
+-- its place: the places of recovery shards come after those of the originals
+abbrev pub VerifiesArrays : ℕ → ℕ → Items → Items → Result (Unit {0}) Fault → Type 0
+VerifiesArrays k r originals recovery answer =
+    (verified : Result (Unit {0}) Error) × OneVerifies k r originals recovery verified
+    × (answer ≡ result_map_both (λ u. u) (placed_refusal (shards_in originals ++ shards_in recovery)) verified)
+
+-- the result of reconstructing over arrays, and the bytes of the rooms: those of `reconstruct_into` for these shards.
+-- The fault of a shard or a room of another size says its place
+abbrev pub ReconstructsArrays : ℕ → ℕ → Items → Items → List ShardIndex → List (List ℕ) → List (List ℕ)
+    → Result (Unit {0}) Fault → Type 0
+ReconstructsArrays k r originals recovery wanted old new answer =
+    (made : Result (Unit {0}) ReconstructError) × ReconstructsInto k r originals recovery wanted old new made
+    × (answer ≡ result_map_both (λ u. u) (placed_reconstruct (shards_in originals ++ shards_in recovery) old) made)
+
+-- the result of updating recovery shards in arrays, and the bytes of the rooms: those of `update_into`. If the new
+-- original has another size, the place of the fault is 1. The fault of a room of another size says its place
+abbrev pub UpdatesArrays : ℕ → ℕ → ℕ → Shard → Shard → List (List ℕ) → List (List ℕ) → Result (Unit {0}) Fault → Type 0
+UpdatesArrays k r index before after old new answer =
+    (updated : Result (Unit {0}) RoomError) × UpdatesInto k r index before after old new updated
+    × (answer ≡ result_map_both (λ u. u) (placed (before ∷ after ∷ []) old) updated)

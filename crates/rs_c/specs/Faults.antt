@@ -1,5 +1,5 @@
 -- The numbers of faults.
-use Rattle.std.specs.Prelude.{ℕ, Result, Ok, Err}
+use Rattle.std.specs.Prelude.{ℕ, ◌==◌, if◌then◌else◌, Result, Ok, Err}
 use Rattle.std.specs.Result.{result_map_both}
 use Rattle.rs_field.specs.declared.code.error.Error.{Error}
 use Rattle.rs_field.specs.declared.code.error.Error.TheVariants.{OutOfMemory, UnsupportedShardCount, InvalidShardSize}
@@ -9,7 +9,11 @@ use Rattle.rs_field.specs.declared.code.error.Error.TheVariants.{InvalidOriginal
 use Rattle.rs_field.specs.declared.code.error.Error.TheVariants.{DuplicateOriginalShardIndex}
 use Rattle.rs_field.specs.declared.code.error.Error.TheVariants.{DuplicateRecoveryShardIndex, InconsistentShards}
 use Rattle.rs_c.specs.declared.fault.Fault.{Fault}
+use Rattle.reed_solomon_simd.specs.declared.shard_index.ShardIndex.{ShardIndex}
+use Rattle.reed_solomon_simd.specs.declared.shard_index.ShardIndex.TheVariants.{Original, Recovery}
+use Rattle.reed_solomon_simd.specs.ShardNames.{index_of}
 use Rattle.rs_c.specs.declared.fault.Fault.TheVariants.{Refused, WrongLength, WrongNumberOfRooms, TablesNotMade}
+use Rattle.rs_c.specs.declared.fault.Fault.TheVariants.{WantedIndexTooLarge, WantedTwice, WantedReceived}
 use Rattle.rs_c.specs.declared.fault.Fault.TheVariants.{DifferentShardSize as different_size}
 use Rattle.rs_c.specs.declared.fault.RsFault.{RsFault}
 
@@ -35,6 +39,15 @@ numbers_of (DuplicateRecoveryShardIndex index) = numbers 11 index 0 0
 numbers_of (InconsistentShards original_received_count recovery_received_count) =
     numbers 12 original_received_count recovery_received_count 0
 
+-- the number of the kind of a shard
+abbrev pub kind_of : ShardIndex → ℕ
+kind_of (Original i) = 0
+kind_of (Recovery i) = 1
+
+-- the shard with the number of its kind and its index. Each number but 0 means a recovery shard
+abbrev pub named : ℕ → ℕ → ShardIndex
+named kind index = if kind == 0 then Original index else Recovery index
+
 -- the number and the values of a result: zeros for a success
 abbrev pub fault_of : Result (Unit {0}) Fault → RsFault
 fault_of (Ok _) = numbers 0 0 0 0
@@ -43,6 +56,9 @@ fault_of (Err (different_size shard_bytes got place)) = numbers 4 shard_bytes go
 fault_of (Err (WrongLength wanted got place)) = numbers 13 wanted got place
 fault_of (Err (WrongNumberOfRooms wanted got)) = numbers 14 wanted got 0
 fault_of (Err TablesNotMade) = numbers 15 0 0 0
+fault_of (Err (WantedIndexTooLarge wanted count)) = numbers 16 count (index_of wanted) (kind_of wanted)
+fault_of (Err (WantedTwice wanted)) = numbers 17 (index_of wanted) (kind_of wanted) 0
+fault_of (Err (WantedReceived wanted)) = numbers 18 (index_of wanted) (kind_of wanted) 0
 
 -- a result of the library, whose error becomes a fault
 abbrev pub as_fault : {T : Type 0} → Result T Error → Result T Fault

@@ -1,5 +1,20 @@
 -- The texts of faults.
-use Rattle.std.specs.Prelude.{◌≡◌, ℕ, ◌==◌, List, [], ◌++◌, length, take, drop, Option, Some, None, if◌then◌else◌}
+use Rattle.std.specs.Prelude.{
+  ◌≡◌,
+  ℕ,
+  ◌==◌,
+  List,
+  [],
+  ◌++◌,
+  length,
+  take,
+  drop,
+  Option,
+  Some,
+  None,
+  nat_le,
+  if◌then◌else◌,
+}
 use Rattle.std.specs.Option.{option_map}
 use Rattle.rs_field.specs.declared.code.error.Error.{Error}
 use Rattle.rs_field.specs.declared.code.error.Error.TheVariants.{OutOfMemory, UnsupportedShardCount, InvalidShardSize}
@@ -10,7 +25,9 @@ use Rattle.rs_field.specs.declared.code.error.Error.TheVariants.{DuplicateOrigin
 use Rattle.rs_field.specs.declared.code.error.Error.TheVariants.{DuplicateRecoveryShardIndex, InconsistentShards}
 use Rattle.rs_c.specs.declared.fault.Fault.{Fault}
 use Rattle.rs_c.specs.declared.fault.Fault.TheVariants.{Refused, WrongLength, WrongNumberOfRooms, TablesNotMade}
+use Rattle.rs_c.specs.declared.fault.Fault.TheVariants.{WantedIndexTooLarge, WantedTwice, WantedReceived}
 use Rattle.rs_c.specs.declared.fault.RsFault.{RsFault}
+use Rattle.rs_c.specs.Faults.{named}
 use Rattle.rs_c.specs.FaultTexts.{text_of}
 
 -- the error about a decoder's shards that has these numbers, if there is one
@@ -35,10 +52,19 @@ refusal_with fault =
     else if fault.number == 7 then Some (NotEnoughShards fault.first fault.second fault.third)
     else shard_refusal_with fault
 
+-- the fault about a wanted shard that has these numbers, if there is one
+abbrev pub wanted_fault_with : RsFault → Option Fault
+wanted_fault_with fault =
+    if fault.number == 16 then Some (WantedIndexTooLarge (named fault.third fault.second) fault.first)
+    else if fault.number == 17 then Some (WantedTwice (named fault.second fault.first))
+    else if fault.number == 18 then Some (WantedReceived (named fault.second fault.first))
+    else None
+
 -- the fault that has these numbers, if there is one
 abbrev pub fault_with : RsFault → Option Fault
 fault_with fault =
-    if fault.number == 13 then Some (WrongLength fault.first fault.second fault.third)
+    if nat_le 16 fault.number then wanted_fault_with fault
+    else if fault.number == 13 then Some (WrongLength fault.first fault.second fault.third)
     else if fault.number == 14 then Some (WrongNumberOfRooms fault.first fault.second)
     else if fault.number == 15 then Some TablesNotMade
     else option_map Refused (refusal_with fault)

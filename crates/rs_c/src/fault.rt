@@ -1,4 +1,5 @@
 //! The reasons why a call from C fails, and their numbers.
+use reed_solomon_simd::ShardIndex;
 use rs_field::error::Error;
 
 /// The reason why a call failed.
@@ -37,6 +38,23 @@ pub enum Fault {
     },
     /// The tables do not have the stamp that `rs_tables_make` writes.
     TablesNotMade,
+    /// The index of a wanted shard is not below the number of shards of its kind.
+    WantedIndexTooLarge {
+        /// The wanted shard.
+        wanted: ShardIndex,
+        /// The number of shards of its kind.
+        count: usize,
+    },
+    /// A shard is wanted twice.
+    WantedTwice {
+        /// The wanted shard.
+        wanted: ShardIndex,
+    },
+    /// A wanted shard was received.
+    WantedReceived {
+        /// The wanted shard.
+        wanted: ShardIndex,
+    },
 }
 
 /// Converts an error of the library into a fault.
@@ -55,7 +73,7 @@ impl From<Error> for Fault {
 #[repr(C)]
 #[derive(Clone, Copy, Debug, PartialEq, Eq, Hash)]
 pub struct RsFault {
-    /// The number of the fault, from 1 to 15, or 0 if there is none.
+    /// The number of the fault, from 1 to 18, or 0 if there is none.
     pub number: u32,
     /// The first value of the fault: a count, an index, or a size in bytes. It is 0 if the fault has no values.
     pub first: usize,
@@ -67,7 +85,8 @@ pub struct RsFault {
 
 impl RsFault {
     ghost use Rattle.std.specs.Prelude.{◌≡◌, Err};
-    ghost use Rattle.rs_c.specs.Faults.{fault_of, numbers, numbers_of};
+    ghost use Rattle.reed_solomon_simd.specs.ShardNames.{index_of};
+    ghost use Rattle.rs_c.specs.Faults.{fault_of, kind_of, numbers, numbers_of};
 
     // Makes a fault of its number and three values.
     fn new(number: u32, first: usize, second: usize, third: usize) -> RsFault
@@ -98,6 +117,28 @@ impl RsFault {
             Err(Fault::WrongLength { wanted, got, place }) => RsFault::new(13, wanted, got, place),
             Err(Fault::WrongNumberOfRooms { wanted, got }) => RsFault::new(14, wanted, got, 0),
             Err(Fault::TablesNotMade) => RsFault::new(15, 0, 0, 0),
+            Err(Fault::WantedIndexTooLarge { wanted, count }) => {
+                let (kind, index) = RsFault::name_of(wanted);
+                RsFault::new(16, count, index, kind)
+            }
+            Err(Fault::WantedTwice { wanted }) => {
+                let (kind, index) = RsFault::name_of(wanted);
+                RsFault::new(17, index, kind, 0)
+            }
+            Err(Fault::WantedReceived { wanted }) => {
+                let (kind, index) = RsFault::name_of(wanted);
+                RsFault::new(18, index, kind, 0)
+            }
+        }
+    }
+
+    // Returns the kind of a shard, 0 for an original and 1 for a recovery shard, and its index.
+    fn name_of(shard: ShardIndex) -> (usize, usize)
+        ensures { (result.0 ≡ kind_of shard) × (result.1 ≡ index_of shard) }
+    {
+        match shard {
+            ShardIndex::Original(index) => (0, index),
+            ShardIndex::Recovery(index) => (1, index),
         }
     }
 

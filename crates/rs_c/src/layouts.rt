@@ -1,8 +1,10 @@
-//! The two ways in which shards lie in memory: one after the other in a buffer, or anywhere.
+//! The two ways in which shards lie in memory, one after the other in a buffer or anywhere, and their names.
 ghost use Rattle.std.specs.Prelude.{◌≡◌, ◌*◌, length};
 ghost use Rattle.std.specs.Iterator.{YieldsFirstRef, item_count};
 ghost use Rattle.rs_c.specs.Buffers.{shards_in_buffer};
+ghost use Rattle.rs_c.specs.Faults.{named};
 
+use reed_solomon_simd::ShardIndex;
 use std::marker::Model;
 
 /// An iterator over the shards of a buffer, which lie one after the other.
@@ -68,4 +70,24 @@ pub struct RsShard<'a> {
     pub index: usize,
     /// The bytes of the shard.
     pub bytes: &'a [u8],
+}
+
+/// The name of a wanted shard. It is `struct rs_wanted` of the header.
+#[repr(C)]
+#[derive(Clone, Copy, Debug, PartialEq, Eq, Hash)]
+pub struct RsWanted {
+    /// 0 for an original, and any other number for a recovery shard.
+    pub kind: usize,
+    /// The index of the shard among the shards of its kind.
+    pub index: usize,
+}
+
+/// Returns the name of a shard with this index. The kind is 0 for an original, and any other number for a recovery shard.
+pub fn named(kind: usize, index: usize) -> ShardIndex
+    ensures { result ≡ named kind index }
+{
+    if kind == 0 {
+        return ShardIndex::Original(index);
+    }
+    ShardIndex::Recovery(index)
 }

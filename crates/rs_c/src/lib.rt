@@ -12,10 +12,14 @@ mod lanes;
 mod layouts;
 mod marked_buffers;
 mod places;
+mod receiving;
+mod reconstructing;
 mod tables;
 #[cfg(test)]
 mod tests;
 mod text;
+mod updating;
+mod verifying;
 mod writing;
 
 ghost use Rattle.std.specs.Prelude.{◌≡◌, ◌≢◌, ◌↔◌, true, drop, length, Result};
@@ -25,17 +29,21 @@ ghost use Rattle.rs_c.specs.Tables.{AreStamped, AreTables};
 ghost use Rattle.rs_c.specs.Faults.{numbers, fault_of};
 ghost use Rattle.rs_c.specs.Answers.{EncodesBuffer, DecodesBuffer, marked_number, WantsNoMemory};
 ghost use Rattle.rs_c.specs.Arrays.{shards_of, items_of, bytes_in, KeepsRooms};
-ghost use Rattle.rs_c.specs.Arrays.{EncodesArrays, DecodesArrays};
+ghost use Rattle.rs_c.specs.Arrays.{EncodesArrays, DecodesArrays, VerifiesArrays};
+ghost use Rattle.rs_c.specs.Arrays.{ReconstructsArrays, UpdatesArrays, wanted_of};
 ghost use Rattle.rs_c.specs.Texts.{fault_with, text_with, WritesText};
 
 use decoding::{decode_arrays, decode_buffer};
 use encoding::{encode_arrays, encode_buffer};
 use engine::engine_over;
 use fault::{Fault, RsFault};
-use layouts::RsShard;
+use layouts::{RsShard, RsWanted};
+use reconstructing::reconstruct_arrays;
 use rs_rate::rate::DefaultRateCounts;
 use std::alloc::Global;
 use tables::{RsTables, fill};
+use updating::update_arrays;
+use verifying::verify_arrays;
 
 /// Fills the tables and returns 0. If memory cannot be allocated, it returns 1, which is `RS_OUT_OF_MEMORY`, and leaves
 /// the tables as they were.
@@ -230,6 +238,134 @@ pub extern "C" fn rs_decode_shards(
             originals,
             recovery,
             restored,
+        ),
+        None => Err(Fault::TablesNotMade),
+    };
+    *fault = RsFault::of(answer);
+    fault.number
+}
+
+/// Checks that the received shards belong to one message. The shards can be anywhere in memory. The shard size is that of
+/// the first recovery shard, or of the first original if there is no recovery shard. Fills `fault`, and returns its
+/// number, which is 0 if they do.
+///
+/// The call fails, in this order, if the tables were not made, and with the errors of `verify` for these shards.
+#[unsafe(no_mangle)]
+pub extern "C" fn rs_verify(
+    alloc: Global,
+    tables: &RsTables,
+    original_count: usize,
+    recovery_count: usize,
+    originals: &[RsShard<'_>],
+    recovery: &[RsShard<'_>],
+    fault: &mut RsFault,
+) -> u32
+    requires stamped { AreStamped tables.now → AreTables tables.now }
+    ensures not_made { ¬ AreStamped tables.now → fault.new ≡ numbers 15 0 0 0 }
+    ensures answer { AreStamped tables.now
+        → (answer : Result (Unit {0}) FaultOf) × (fault.new ≡ fault_of answer)
+        × VerifiesArrays original_count recovery_count
+        (items_of originals.now) (items_of recovery.now) answer }
+    ensures returns_number { result ≡ fault.new.number }
+{
+    let answer = match engine_over(tables) {
+        Some(engine) => verify_arrays(
+            alloc,
+            engine,
+            original_count,
+            recovery_count,
+            originals,
+            recovery,
+        ),
+        None => Err(Fault::TablesNotMade),
+    };
+    *fault = RsFault::of(answer);
+    fault.number
+}
+
+/// Reconstructs the wanted shards from the received shards, and writes them into rooms, in the order of `wanted`. The
+/// shards and the rooms can be anywhere in memory. The shard size is that of the first recovery shard, or of the first
+/// original if there is no recovery shard. Fills `fault`, and returns its number, which is 0 after a success.
+///
+/// The call fails, in this order, if the tables were not made, and with the errors of `reconstruct_into` for these
+/// shards. If the call fails, it writes nothing but the fault.
+#[unsafe(no_mangle)]
+pub extern "C" fn rs_reconstruct(
+    alloc: Global,
+    tables: &RsTables,
+    original_count: usize,
+    recovery_count: usize,
+    originals: &[RsShard<'_>],
+    recovery: &[RsShard<'_>],
+    wanted: &[RsWanted],
+    rooms: &mut [&mut [u8]],
+    fault: &mut RsFault,
+) -> u32
+    requires stamped { AreStamped tables.now → AreTables tables.now }
+    ensures not_made { ¬ AreStamped tables.now
+        → (fault.new ≡ numbers 15 0 0 0) × (bytes_in rooms.new ≡ bytes_in rooms.old) }
+    ensures answer { AreStamped tables.now
+        → (answer : Result (Unit {0}) FaultOf) × (fault.new ≡ fault_of answer)
+        × ReconstructsArrays original_count recovery_count
+        (items_of originals.now) (items_of recovery.now) (wanted_of wanted.now)
+        (bytes_in rooms.old) (bytes_in rooms.new) answer }
+    ensures kept { KeepsRooms rooms.old rooms.new }
+    ensures returns_number { result ≡ fault.new.number }
+{
+    let answer = match engine_over(tables) {
+        Some(engine) => reconstruct_arrays(
+            alloc,
+            engine,
+            original_count,
+            recovery_count,
+            originals,
+            recovery,
+            wanted,
+            rooms,
+        ),
+        None => Err(Fault::TablesNotMade),
+    };
+    *fault = RsFault::of(answer);
+    fault.number
+}
+
+/// Updates the recovery shards in rooms after the original with this index has changed from `before` to `after`. The
+/// rooms can be anywhere in memory. Fills `fault`, and returns its number, which is 0 after a success.
+///
+/// The call fails, in this order, if the tables were not made, and with the errors of `update_into` for this change and
+/// these rooms. If the call fails, it writes nothing but the fault.
+#[unsafe(no_mangle)]
+pub extern "C" fn rs_update(
+    alloc: Global,
+    tables: &RsTables,
+    original_count: usize,
+    recovery_count: usize,
+    index: usize,
+    before: &[u8],
+    after: &[u8],
+    recovery: &mut [&mut [u8]],
+    fault: &mut RsFault,
+) -> u32
+    requires stamped { AreStamped tables.now → AreTables tables.now }
+    ensures not_made { ¬ AreStamped tables.now
+        → (fault.new ≡ numbers 15 0 0 0) × (bytes_in recovery.new ≡ bytes_in recovery.old) }
+    ensures answer { AreStamped tables.now
+        → (answer : Result (Unit {0}) FaultOf) × (fault.new ≡ fault_of answer)
+        × UpdatesArrays original_count recovery_count index before.now after.now
+        (bytes_in recovery.old) (bytes_in recovery.new) answer }
+    ensures kept { KeepsRooms recovery.old recovery.new }
+    ensures returns_number { result ≡ fault.new.number }
+{
+    let answer = match engine_over(tables) {
+        Some(engine) => update_arrays(
+            alloc,
+            engine,
+            original_count,
+            recovery_count,
+            index,
+            before,
+            after,
+            recovery,
         ),
         None => Err(Fault::TablesNotMade),
     };

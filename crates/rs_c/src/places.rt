@@ -1,11 +1,11 @@
 //! The places of shards and rooms in arrays, for faults that name them.
 ghost use Rattle.std.specs.Prelude.{◌≡◌, ◌+◌, ◌^◌, ◌<◌, ◌≤◌, ◌++◌, length, map};
 ghost use Rattle.rs_c.specs.Arrays.{bytes_in};
-ghost use Rattle.rs_c.specs.Places.{place_of_other, placed};
+ghost use Rattle.rs_c.specs.Places.{place_of_other, placed, placed_reconstruct};
 
 use crate::fault::Fault;
 use crate::layouts::RsShard;
-use reed_solomon_simd::RoomError;
+use reed_solomon_simd::{ReconstructError, RoomError};
 use rs_field::error::Error;
 
 /// An entry of an array: a shard, or a room for one.
@@ -73,6 +73,33 @@ pub fn placed_fault<T: Entry>(
             place: find_other(rooms, wanted),
         },
     }
+}
+
+/// Returns the fault of an error of a call that reconstructs wanted shards. `first` and `second` are the arrays of
+/// received shards, in the order in which the call checks them. `rooms` is the array of rooms.
+pub fn placed_reconstruct_fault<T: Entry>(
+    error: ReconstructError,
+    first: &[T],
+    second: &[T],
+    rooms: &[&mut [u8]],
+) -> Fault
+    requires few { length first.now + length second.now < 2 ^ 64 }
+    ensures { result ≡ placed_reconstruct
+        (map T.bytes first.now ++ map T.bytes second.now) (bytes_in rooms.now) error }
+{
+    let other = match error {
+        ReconstructError::WantedIndexTooLarge { wanted, count } => {
+            return Fault::WantedIndexTooLarge { wanted, count };
+        }
+        ReconstructError::WantedTwice { wanted } => return Fault::WantedTwice { wanted },
+        ReconstructError::WantedReceived { wanted } => return Fault::WantedReceived { wanted },
+        ReconstructError::Refused(refusal) => RoomError::Refused(refusal),
+        ReconstructError::WrongNumberOfRooms { wanted, got } => {
+            RoomError::WrongNumberOfRooms { wanted, got }
+        }
+        ReconstructError::WrongLength { wanted, got } => RoomError::WrongLength { wanted, got },
+    };
+    placed_fault(other, first, second, rooms)
 }
 
 // Returns the place of the first entry of two arrays that does not have `size` bytes. The places of the second array come

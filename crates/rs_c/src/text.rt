@@ -2,10 +2,12 @@
 ghost use Rattle.std.specs.Prelude.{◌≡◌};
 ghost use Rattle.rs_field.specs.code.Texts.{text_of as refusal_text};
 ghost use Rattle.rs_c.specs.FaultTexts.{text_of};
-ghost use Rattle.rs_c.specs.Texts.{shard_refusal_with, refusal_with, fault_with, text_with, WritesText};
+ghost use Rattle.rs_c.specs.Texts.{shard_refusal_with, refusal_with, wanted_fault_with, fault_with, text_with, WritesText};
 
 use crate::fault::{Fault, RsFault};
+use crate::layouts::named;
 use crate::writing::{write_one, write_three, write_two, write_words};
+use reed_solomon_simd::ShardIndex;
 use rs_field::error::Error;
 
 // Returns the fault that has these numbers, or `None` if there is none.
@@ -13,6 +15,9 @@ fn read(fault: RsFault) -> Option<Fault>
     ensures { result ≡ fault_with fault }
 {
     let (first, second) = (fault.first, fault.second);
+    if fault.number >= 16 {
+        return read_wanted(fault);
+    }
     match fault.number {
         13 => Some(Fault::WrongLength {
             wanted: first,
@@ -28,6 +33,25 @@ fn read(fault: RsFault) -> Option<Fault>
             Some(error) => Some(Fault::Refused(error)),
             None => None,
         },
+    }
+}
+
+// Returns the fault about a wanted shard that has these numbers, or `None` if there is none.
+fn read_wanted(fault: RsFault) -> Option<Fault>
+    ensures { result ≡ wanted_fault_with fault }
+{
+    match fault.number {
+        16 => Some(Fault::WantedIndexTooLarge {
+            wanted: named(fault.third, fault.second),
+            count: fault.first,
+        }),
+        17 => Some(Fault::WantedTwice {
+            wanted: named(fault.second, fault.first),
+        }),
+        18 => Some(Fault::WantedReceived {
+            wanted: named(fault.second, fault.first),
+        }),
+        _ => None,
     }
 }
 
@@ -205,6 +229,72 @@ fn write_fault(fault: Fault, room: &mut [u8]) -> usize
             room,
             "tables not made: rs_tables_make has not filled them",
         ),
+        Fault::WantedIndexTooLarge { wanted, count } => write_too_large(wanted, count, room),
+        Fault::WantedTwice { wanted } => write_twice(wanted, room),
+        Fault::WantedReceived { wanted } => write_received(wanted, room),
+    }
+}
+
+// Writes the text of the fault of a wanted index that is too large, as much of it as fits, and returns the length of the
+// whole text.
+fn write_too_large(wanted: ShardIndex, count: usize, room: &mut [u8]) -> usize
+    ensures { WritesText (text_of (Fault.WantedIndexTooLarge wanted count))
+        room.old room.new result }
+{
+    let count = (", count ", count);
+    match wanted {
+        ShardIndex::Original(index) => {
+            write_two(
+                room,
+                ("wanted index too large: original ", index),
+                count,
+                "",
+            )
+        }
+        ShardIndex::Recovery(index) => {
+            write_two(
+                room,
+                ("wanted index too large: recovery shard ", index),
+                count,
+                "",
+            )
+        }
+    }
+}
+
+// Writes the text of the fault of a shard that is wanted twice, as much of it as fits, and returns the length of the whole
+// text.
+fn write_twice(wanted: ShardIndex, room: &mut [u8]) -> usize
+    ensures { WritesText (text_of (Fault.WantedTwice wanted)) room.old room.new result }
+{
+    match wanted {
+        ShardIndex::Original(index) => write_one(
+            room,
+            ("shard wanted twice: original ", index),
+            "",
+        ),
+        ShardIndex::Recovery(index) => {
+            write_one(room, ("shard wanted twice: recovery shard ", index), "")
+        }
+    }
+}
+
+// Writes the text of the fault of a wanted shard that was received, as much of it as fits, and returns the length of the
+// whole text.
+fn write_received(wanted: ShardIndex, room: &mut [u8]) -> usize
+    ensures { WritesText (text_of (Fault.WantedReceived wanted)) room.old room.new result }
+{
+    match wanted {
+        ShardIndex::Original(index) => {
+            write_one(room, ("wanted shard was received: original ", index), "")
+        }
+        ShardIndex::Recovery(index) => {
+            write_one(
+                room,
+                ("wanted shard was received: recovery shard ", index),
+                "",
+            )
+        }
     }
 }
 

@@ -7,7 +7,8 @@ use reed_solomon_simd::engine::{
 use reed_solomon_simd::rate::DefaultRateCounts;
 use reed_solomon_simd::{
     Error, ReconstructError, ReedSolomonDecoder, ReedSolomonEncoder, ShardIndex, decode,
-    decode_into, encode, encode_into, encode_slice, reconstruct, reconstruct_into, verify,
+    decode_into, encode, encode_into, encode_slice, reconstruct, reconstruct_into, update_into,
+    verify,
 };
 use rs_callers::walking::restored_copies;
 use std::str::FromStr;
@@ -51,6 +52,21 @@ fn recovery_shards_are_written_into_arrays(rt: HostRuntime) -> Result<(), Fail> 
     encode_into(alloc, 3, 2, &original, &mut recovery, engine)?;
     drop(recovery);
     assert_eq!(rt; (first, second), ([3, 0], [5, 0]));
+    Ok(())
+}
+
+#[test]
+fn an_original_changes(rt: HostRuntime) -> Result<(), Fail> {
+    let alloc = rt.alloc();
+    let tables = Tables::new(alloc)?;
+    let engine = DefaultEngine::new(&tables, EngineKind::Ssse3);
+    let (mut first, mut second) = ([3, 0], [5, 0]);
+    let mut recovery: Vec<&mut [u8]> = Vec::new(alloc);
+    recovery.push(&mut first)?;
+    recovery.push(&mut second)?;
+    update_into(alloc, 3, 2, 1, &[0, 0], &[7, 1], &mut recovery, engine)?;
+    drop(recovery);
+    assert_eq!(rt; (first, second), ([198, 2], [199, 3]));
     Ok(())
 }
 

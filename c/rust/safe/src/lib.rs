@@ -1,7 +1,9 @@
 //! Reed-Solomon erasure codes over GF(2^16), by the C library `reed_solomon_simd`.
 //!
 //! [`encode`] turns k originals of one even size into recovery shards. [`decode`] takes any k of all these shards, and returns the missing
-//! originals. [`encode_into`] and [`decode_into`] write the results into buffers of the caller. Shards are read where they are.
+//! originals. [`reconstruct`] returns the lost shards that you name, also recovery shards. [`verify`] checks whether shards belong to one
+//! message. [`update`] updates recovery shards if one original changes. [`encode_into`], [`decode_into`] and [`reconstruct_into`] write the results into buffers of the caller. Shards are read where they
+//! are.
 //!
 //! The first call makes the tables of the code, which takes 9 to 30 ms and 8.8 MB of memory. Any number of threads can make calls.
 use reed_solomon_simd_c_sys as sys;
@@ -175,4 +177,84 @@ pub fn decode<O: AsRef<[u8]>, T: AsRef<[u8]>>(
     let mut restored = vec![vec![0; size]; if enough { missing.len() } else { 0 }];
     decode_into(original_count, recovery_count, originals, recovery, &mut restored)?;
     Ok(missing.into_iter().zip(restored).collect())
+}
+
+/// Checks that shards belong to one message. Each shard has its index, as in [`decode_into`]. If they do not, the error is
+/// `RS_INCONSISTENT_SHARDS`. With exactly `original_count` shards, no damage can be noticed.
+pub fn verify<O: AsRef<[u8]>, T: AsRef<[u8]>>(
+    original_count: usize, recovery_count: usize, originals: &[(usize, O)], recovery: &[(usize, T)],
+) -> Result<(), Error> {
+    let tables = tables()?;
+    let (given, other) = (shards(originals), shards(recovery));
+    let mut fault = sys::rs_fault::default();
+    // SAFETY: all pointers are those of slices that live during the call, which writes nothing but the fault.
+    unsafe {
+        sys::rs_verify(
+            tables, original_count, recovery_count, given.as_ptr(), given.len(), other.as_ptr(), other.len(), &mut fault,
+        );
+    }
+    answer(fault)
+}
+
+/// The kind and the index of a shard.
+#[derive(Clone, Copy, Debug, PartialEq, Eq, Hash)]
+pub enum ShardIndex {
+    /// An original.
+    Original(usize),
+    /// A recovery shard.
+    Recovery(usize),
+}
+
+/// Reconstructs the wanted shards, and writes them into `rooms`, which has one buffer of the size of a shard for each, in the order of
+/// `wanted`. The shards that are there are passed as in [`decode_into`]. A shard that is there cannot be wanted.
+pub fn reconstruct_into<O: AsRef<[u8]>, T: AsRef<[u8]>, R: AsMut<[u8]>>(
+    original_count: usize, recovery_count: usize, originals: &[(usize, O)], recovery: &[(usize, T)], wanted: &[ShardIndex],
+    into: &mut [R],
+) -> Result<(), Error> {
+    let tables = tables()?;
+    let (given, other, rooms) = (shards(originals), shards(recovery), rooms(into));
+    let name = |shard: &ShardIndex| match *shard {
+        ShardIndex::Original(index) => sys::rs_wanted { kind: sys::RS_ORIGINAL, index },
+        ShardIndex::Recovery(index) => sys::rs_wanted { kind: sys::RS_RECOVERY, index },
+    };
+    let names: Vec<_> = wanted.iter().map(name).collect();
+    let mut fault = sys::rs_fault::default();
+    // SAFETY: all pointers are those of slices that live during the call, and the buffers for results are borrowed for it alone.
+    unsafe {
+        sys::rs_reconstruct(
+            tables, original_count, recovery_count, given.as_ptr(), given.len(), other.as_ptr(), other.len(), names.as_ptr(),
+            names.len(), rooms.as_ptr(), rooms.len(), &mut fault,
+        );
+    }
+    answer(fault)
+}
+
+/// Returns the wanted shards, in the order of `wanted`.
+pub fn reconstruct<O: AsRef<[u8]>, T: AsRef<[u8]>>(
+    original_count: usize, recovery_count: usize, originals: &[(usize, O)], recovery: &[(usize, T)], wanted: &[ShardIndex],
+) -> Result<Vec<Vec<u8>>, Error> {
+    let first = recovery.first().map(|(_, shard)| shard.as_ref()).or(originals.first().map(|(_, shard)| shard.as_ref()));
+    let enough = originals.len() + recovery.len() >= original_count && supports(original_count, recovery_count);
+    let possible = enough && wanted.len() <= original_count + recovery_count;
+    let mut made = vec![vec![0; first.map_or(0, <[u8]>::len)]; if possible { wanted.len() } else { 0 }];
+    reconstruct_into(original_count, recovery_count, originals, recovery, wanted, &mut made)?;
+    Ok(made)
+}
+
+/// Updates recovery shards after the original with this index has changed from `before` to `after`. `recovery` has all recovery shards, in
+/// order of index. The other originals are not needed.
+pub fn update<R: AsMut<[u8]>>(
+    original_count: usize, recovery_count: usize, index: usize, before: &[u8], after: &[u8], recovery: &mut [R],
+) -> Result<(), Error> {
+    let tables = tables()?;
+    let rooms = rooms(recovery);
+    let mut fault = sys::rs_fault::default();
+    // SAFETY: all pointers are those of slices that live during the call, and the recovery shards are borrowed for it alone.
+    unsafe {
+        sys::rs_update(
+            tables, original_count, recovery_count, index, before.as_ptr(), before.len(), after.as_ptr(), after.len(), rooms.as_ptr(),
+            rooms.len(), &mut fault,
+        );
+    }
+    answer(fault)
 }

@@ -1,5 +1,8 @@
 //! Rounds through the C library, its faults, and threads.
-use reed_solomon_simd_c::{decode, decode_into, encode, encode_into, shard_bytes, supports, Error};
+use reed_solomon_simd_c::{
+    decode, decode_into, encode, encode_into, reconstruct, reconstruct_into, shard_bytes, supports, update, verify, Error,
+    ShardIndex,
+};
 use std::collections::BTreeMap;
 
 fn drawn(state: &mut u64) -> usize {
@@ -21,6 +24,24 @@ fn round(state: &mut u64) {
     let mut rooms = vec![vec![0; size]; lost];
     decode_into(k, r, &given, &other, &mut rooms).unwrap();
     assert!(rooms.iter().eq(wanted.values()));
+    verify(k, r, &given, &other).unwrap();
+    let (index, after) = (drawn(state) % k, vec![drawn(state) as u8; size]);
+    let mut updated = recovery.clone();
+    update(k, r, index, &originals[index], &after, &mut updated).unwrap();
+    let mut changed = originals.clone();
+    changed[index] = after;
+    assert_eq!(updated, encode(k, r, &changed).unwrap());
+    let first = ShardIndex::Original(*wanted.keys().next().unwrap());
+    let mut names = vec![first];
+    let mut lost = vec![wanted.values().next().unwrap().clone()];
+    if other.len() < r {
+        names.insert(0, ShardIndex::Recovery(0));
+        lost.insert(0, recovery[0].clone());
+    }
+    assert_eq!(reconstruct(k, r, &given, &other, &names).unwrap(), lost);
+    let mut rooms = vec![vec![0; size]; lost.len()];
+    reconstruct_into(k, r, &given, &other, &names, &mut rooms).unwrap();
+    assert_eq!(rooms, lost);
 }
 
 #[test]
@@ -65,6 +86,15 @@ fn faults() {
     assert_eq!(said(decode(1, 1, &some, &[(0, b"cd")])).1, "RS_INCONSISTENT_SHARDS");
     assert_eq!(said(decode(1, 1, &[(9, b"ab")], &some)).1, "RS_INVALID_ORIGINAL_SHARD_INDEX");
     assert_eq!(decode(1, 1, &some, &none).unwrap(), BTreeMap::new());
+    assert_eq!(said(update(1, 1, 0, b"ab", b"abcd", &mut [[0u8; 2]])).2, [2, 4, 1]);
+    assert_eq!(said(verify(1, 1, &some, &[(0, b"cd")])).1, "RS_INCONSISTENT_SHARDS");
+    assert_eq!(said(verify(1, 1, &none, &none)).2, [1, 0, 0]);
+    let name = "RS_WANTED_INDEX_TOO_LARGE";
+    assert_eq!(
+        said(reconstruct(1, 1, &some, &none, &[ShardIndex::Recovery(7)])),
+        ("wanted index too large: recovery shard 7, count 1".into(), name, [1, 7, 1])
+    );
+    assert_eq!(said(reconstruct(1, 1, &some, &none, &[ShardIndex::Original(0)])).1, "RS_WANTED_RECEIVED");
     assert!(supports(10, 4) && !supports(0, 4));
     assert_eq!((shard_bytes(35, 3), shard_bytes(5, 0)), (Some(12), None));
 }

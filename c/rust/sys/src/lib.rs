@@ -20,6 +20,11 @@ pub const RS_INCONSISTENT_SHARDS: u32 = 12;
 pub const RS_WRONG_LENGTH: u32 = 13;
 pub const RS_WRONG_NUMBER_OF_ROOMS: u32 = 14;
 pub const RS_TABLES_NOT_MADE: u32 = 15;
+pub const RS_WANTED_INDEX_TOO_LARGE: u32 = 16;
+pub const RS_WANTED_TWICE: u32 = 17;
+pub const RS_WANTED_RECEIVED: u32 = 18;
+pub const RS_ORIGINAL: usize = 0;
+pub const RS_RECOVERY: usize = 1;
 
 #[repr(C)]
 #[derive(Clone, Copy, Debug, Default, PartialEq, Eq)]
@@ -60,6 +65,13 @@ pub struct rs_shard {
     pub length: usize,
 }
 
+#[repr(C)]
+#[derive(Clone, Copy, Debug)]
+pub struct rs_wanted {
+    pub kind: usize,
+    pub index: usize,
+}
+
 extern "C" {
     pub fn rs_tables_make(tables: *mut rs_tables) -> u32;
     pub fn rs_tables_bytes() -> usize;
@@ -80,6 +92,19 @@ extern "C" {
     pub fn rs_decode_shards(
         tables: *const rs_tables, original_count: usize, recovery_count: usize, originals: *const rs_shard, originals_number: usize,
         recovery: *const rs_shard, recovery_number: usize, restored: *const rs_room, restored_number: usize, fault: *mut rs_fault,
+    ) -> u32;
+    pub fn rs_verify(
+        tables: *const rs_tables, original_count: usize, recovery_count: usize, originals: *const rs_shard, originals_number: usize,
+        recovery: *const rs_shard, recovery_number: usize, fault: *mut rs_fault,
+    ) -> u32;
+    pub fn rs_reconstruct(
+        tables: *const rs_tables, original_count: usize, recovery_count: usize, originals: *const rs_shard, originals_number: usize,
+        recovery: *const rs_shard, recovery_number: usize, wanted: *const rs_wanted, wanted_number: usize,
+        rooms: *const rs_room, rooms_number: usize, fault: *mut rs_fault,
+    ) -> u32;
+    pub fn rs_update(
+        tables: *const rs_tables, original_count: usize, recovery_count: usize, index: usize, before: *const u8, before_length: usize,
+        after: *const u8, after_length: usize, recovery: *const rs_room, recovery_number: usize, fault: *mut rs_fault,
     ) -> u32;
     pub fn rs_work_bytes(original_count: usize, recovery_count: usize, shard_bytes: usize, restored: usize) -> usize;
     pub fn rs_tables_work_bytes() -> usize;

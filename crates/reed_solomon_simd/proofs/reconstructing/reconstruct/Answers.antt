@@ -5,9 +5,8 @@ use Rattle.reed_solomon_simd.specs.declared.reconstruct_error.ReconstructError.{
 use Rattle.reed_solomon_simd.specs.Reconstructed.{OneReconstructs}
 use Rattle.reed_solomon_simd.specs.ReceivedState.{received_state}
 use Rattle.reed_solomon_simd.specs.Reconstructed.{wanted_outcome}
-use Rattle.reed_solomon_simd.proofs.ReconstructLemmas.{reconstructs-uncounted, reconstructs-refused,
-  reconstructs-lacking}
-use Rattle.reed_solomon_simd.proofs.ReconstructLemmas.{reconstructs-few, reconstructs-unwanted, reconstructs-made}
+use Rattle.reed_solomon_simd.proofs.ReconstructLemmas.{reconstructs-uncounted, reconstructs-refused, reconstructs-given}
+use Rattle.reed_solomon_simd.proofs.ReconstructLemmas.{rebuilds-lacking, rebuilds-few, rebuilds-unwanted, rebuilds-made}
 use Rattle.reed_solomon_simd.proofs.ReconstructLemmas.{was-checked}
 use Rattle.reed_solomon_simd.proofs.reconstructing.reconstruct.Goals as goal
 
@@ -41,8 +40,8 @@ returns-in_err-surplus g c =
     let own = lent c.args.original.now in let other = lent c.args.recovery.now in
     let s = received_state c.in_ok-received.received in
     let is = rw (c.in_ok-counts.ensures.0, c.in_ok-counts.ensures.1) at c.in_ok-received.ensures in
-    let led = reconstructs-few k r own other c.args.wanted.now no_rooms s is c.in_err-surplus.field-0.0
-    c.in_err-surplus.ensures.answer in
+    let led = reconstructs-given k r own other c.args.wanted.now no_rooms s is _
+    (rebuilds-few s c.args.wanted.now (Ok tt) c.in_err-surplus.field-0.0 c.in_err-surplus.ensures.answer) in
     search rules
 
 pub returns-in_err-check_wanted : goal.returns-in_err-check_wanted
@@ -54,11 +53,11 @@ returns-in_err-check_wanted g c =
     let e = c.in_err-check_wanted.field-0.0 in
     let led : OneReconstructs c.args.original_count c.args.recovery_count (lent c.args.original.now)
     (lent c.args.recovery.now) c.args.wanted.now no_rooms (Err c.in_err-check_wanted.field-0.0) =
-    elim c.in_err-check_wanted.ensures.answer [
-      | inl same ↦ reconstructs-unwanted k r own other c.args.wanted.now no_rooms s is c.in_ok-surplus.ensures.answer e
-          same
-      | inr lacks ↦ reconstructs-lacking k r own other c.args.wanted.now no_rooms s is e lacks
-    ] in
+    reconstructs-given k r own other c.args.wanted.now no_rooms s is (Err e)
+    (elim c.in_err-check_wanted.ensures.answer [
+      | inl same ↦ rebuilds-unwanted s c.args.wanted.now (Ok tt) c.in_ok-surplus.ensures.answer e same
+      | inr lacks ↦ rebuilds-lacking s c.args.wanted.now (Ok tt) e lacks
+    ]) in
     search rules
 
 pub returns-in_err-vectors : goal.returns-in_err-vectors
@@ -68,8 +67,9 @@ returns-in_err-vectors g c =
     let s = received_state c.in_ok-received.received in
     let is = rw (c.in_ok-counts.ensures.0, c.in_ok-counts.ensures.1) at c.in_ok-received.ensures in
     let can = was-checked (wanted_outcome s [] c.args.wanted.now) _ c.in_ok-check_wanted.ensures.answer in
-    let led = reconstructs-made k r own other c.args.wanted.now no_rooms s is c.in_ok-surplus.ensures.answer can refl
-    (Err c.in_err-vectors.field-0.0) c.in_err-vectors.ensures in
+    let led = reconstructs-given k r own other c.args.wanted.now no_rooms s is _
+    (rebuilds-made s c.args.wanted.now (Ok tt) c.in_ok-surplus.ensures.answer can refl
+    (Err c.in_err-vectors.field-0.0) c.in_err-vectors.ensures) in
     search rules
 
 pub returns : goal.returns
@@ -79,5 +79,6 @@ returns g c =
     let s = received_state c.in_ok-received.received in
     let is = rw (c.in_ok-counts.ensures.0, c.in_ok-counts.ensures.1) at c.in_ok-received.ensures in
     let can = was-checked (wanted_outcome s [] c.args.wanted.now) _ c.in_ok-check_wanted.ensures.answer in
-    reconstructs-made k r own other c.args.wanted.now no_rooms s is c.in_ok-surplus.ensures.answer can refl
-    (Ok (map (λ v. v.items) c.in_ok-vectors.vectors.items)) c.in_ok-vectors.ensures
+    reconstructs-given k r own other c.args.wanted.now no_rooms s is _
+    (rebuilds-made s c.args.wanted.now (Ok tt) c.in_ok-surplus.ensures.answer can refl
+    (Ok (map (λ v. v.items) c.in_ok-vectors.vectors.items)) c.in_ok-vectors.ensures)

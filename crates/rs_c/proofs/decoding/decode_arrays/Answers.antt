@@ -3,7 +3,7 @@ use Rattle.rs_field.specs.code.Column.{Shard}
 use Rattle.rs_field.specs.code.OneCall.{Items}
 use Rattle.rs_c.specs.Arrays.{items_of, shards_in, bytes_in}
 use Rattle.rs_c.specs.Places.{placed}
-use Rattle.rs_c.proofs.PlaceLemmas.{bytes_of, bytes-shards}
+use Rattle.rs_c.proofs.PlaceLemmas.{bytes_of, both-shards}
 use Rattle.rs_c.proofs.RoomFaults.{decodes-told, decodes-kept, keeps-rooms, told}
 use Rattle.rs_c.proofs.decoding.decode_arrays.Goals as goal
 
@@ -22,9 +22,7 @@ returns-in-Err-clause-answer c =
     c.placed_fault.ensures in
     let given : bytes_of c.args.originals.now ++ bytes_of c.args.recovery.now
     ≡ shards_in (items_of c.args.originals.now) ++ shards_in (items_of c.args.recovery.now) =
-    ap₂ (λ (l m : List Shard). l ++ m) (sym (bytes-shards c.args.originals.now))
-      (sym (bytes-shards c.args.recovery.now))
-    in
+    both-shards c.args.originals.now c.args.recovery.now in
     decodes-told k r own other old new c.restore_arrays-answer.result (Err c.placed_fault.result)
     (ap Err (is ∙ ap₂ (λ (l rooms : List Shard). placed l rooms c.in-Err.error) given same)
     ∙ sym (ap (told (shards_in own ++ shards_in other) old) c.in-Err.is)) answers

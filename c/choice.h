@@ -1,0 +1,94 @@
+/* The builds of the library, and the choice of the one that fits the processor. c/layer.c includes this file.
+
+   A library for x86-64 holds three builds: for x86-64, for x86-64-v2 and for x86-64-v3. c/build gives the calls of each build names of
+   their own, for example rs_encode_v3. A library for arm64 holds one build, rs_encode_v1. This file is compiled for the oldest processor. */
+#include "reed_solomon_simd.h"
+
+#include <stdatomic.h>
+
+/* The proved calls of one build. Each has the type of the call of the header. */
+struct build {
+    __typeof__(rs_tables_make) *tables_make;
+    __typeof__(rs_encode) *encode;
+    __typeof__(rs_decode) *decode;
+    __typeof__(rs_encode_shards) *encode_shards;
+    __typeof__(rs_decode_shards) *decode_shards;
+    __typeof__(rs_verify) *verify;
+    __typeof__(rs_reconstruct) *reconstruct;
+    __typeof__(rs_update) *update;
+};
+
+#define PROVED(level)                                      \
+    __typeof__(rs_tables_make) rs_tables_make_##level;     \
+    __typeof__(rs_encode) rs_encode_##level;               \
+    __typeof__(rs_decode) rs_decode_##level;               \
+    __typeof__(rs_encode_shards) rs_encode_shards_##level; \
+    __typeof__(rs_decode_shards) rs_decode_shards_##level; \
+    __typeof__(rs_verify) rs_verify_##level;               \
+    __typeof__(rs_reconstruct) rs_reconstruct_##level;     \
+    __typeof__(rs_update) rs_update_##level
+#define BUILD(level)                                                                                                            \
+    {rs_tables_make_##level,   rs_encode_##level, rs_decode_##level,     rs_encode_shards_##level, rs_decode_shards_##level, \
+     rs_verify_##level,        rs_reconstruct_##level, rs_update_##level}
+
+/* These calls have nothing to gain from newer instructions. */
+__typeof__(rs_supports) rs_supports_v1;
+__typeof__(rs_version) rs_version_v1;
+size_t rs_fault_text_v1(const struct rs_fault *fault, uint8_t *text, size_t text_length);
+
+PROVED(v1);
+
+#ifdef __x86_64__
+#include <cpuid.h>
+
+PROVED(v2);
+PROVED(v3);
+static const struct build builds[] = {BUILD(v1), BUILD(v2), BUILD(v3)};
+
+/* What cpuid and xgetbv say of the processor and the system: registers of cpuid 1, 7 and 0x80000001, and the register XCR0. */
+struct processor {
+    unsigned ecx1, ebx7, extended_ecx, states;
+};
+
+/* Every processor of x86-64 has cpuid 1 and 0x80000001, and some have no cpuid 7. */
+static struct processor asked(void) {
+    struct processor told = {0, 0, 0, 0};
+    unsigned a, b, c, d;
+    __cpuid(1, a, b, told.ecx1, d);
+    __cpuid(0x80000001, a, b, told.extended_ecx, d);
+    if (__get_cpuid_count(7, 0, &a, &b, &c, &d)) told.ebx7 = b;
+    if (told.ecx1 & bit_OSXSAVE) __asm__("xgetbv" : "=a"(told.states), "=d"(d) : "c"(0));
+    return told;
+}
+
+/* The level of x86-64 that the processor and the system have: 1, 2 or 3, as the x86-64 ABI lists its features. Beside its instructions,
+   level 3 needs a system that keeps the registers of AVX. */
+static unsigned level_of(struct processor told) {
+    const unsigned ecx1_v2 = bit_SSE3 | bit_SSSE3 | bit_CMPXCHG16B | bit_SSE4_1 | bit_SSE4_2 | bit_POPCNT;
+    const unsigned ecx1_v3 = bit_FMA | bit_MOVBE | bit_OSXSAVE | bit_AVX | bit_F16C;
+    const unsigned ebx7_v3 = bit_BMI | bit_AVX2 | bit_BMI2;
+    const unsigned registers = 6; /* SSE and AVX */
+    if ((told.ecx1 & ecx1_v2) != ecx1_v2 || !(told.extended_ecx & bit_LAHF_LM)) return 1;
+    if ((told.ecx1 & ecx1_v3) != ecx1_v3 || (told.ebx7 & ebx7_v3) != ebx7_v3) return 2;
+    return (told.extended_ecx & bit_ABM) && (told.states & registers) == registers ? 3 : 2;
+}
+#ifndef RS_LEVEL
+#define RS_LEVEL level_of(asked())
+#endif
+#else
+static const struct build builds[] = {BUILD(v1)};
+#define RS_LEVEL 1
+#endif
+
+/* The build that fits the processor, or NULL before the first call. */
+static _Atomic(const struct build *) found;
+
+/* Finds the build that fits. If several threads do so at once, all find the same one. A test compiles this file with RS_LEVEL, the number of
+   the build that it wants. */
+static const struct build *fitting(void) {
+    const struct build *now = atomic_load_explicit(&found, memory_order_relaxed);
+    if (now) return now;
+    now = &builds[RS_LEVEL - 1];
+    atomic_store_explicit(&found, now, memory_order_relaxed);
+    return now;
+}

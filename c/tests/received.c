@@ -1,0 +1,229 @@
+/* rs_verify, rs_reconstruct and rs_update. Words: `rounds SEED COUNT`; `refusals`. */
+#include "reed_solomon_simd.h"
+
+#include <stdio.h>
+#include <stdlib.h>
+#include <string.h>
+
+static struct rs_tables *tables;
+
+static void wrong(const char *what) {
+    printf("received: %s\n", what);
+    exit(1);
+}
+
+static void *room(size_t size) {
+    void *at = malloc(size ? size : 1);
+    if (!at) wrong("no memory for the test");
+    return at;
+}
+
+static uint64_t drawn(uint64_t *state) {
+    uint64_t x = *state;
+    x ^= x << 13;
+    x ^= x >> 7;
+    x ^= x << 17;
+    return *state = x;
+}
+
+static int told(const struct rs_fault *fault, uint32_t number, size_t first, size_t second, size_t third) {
+    return fault->number == number && fault->first == first && fault->second == second && fault->third == third;
+}
+
+/* A message of k originals and r recovery shards, one after the other, and an order of these shards. */
+struct message {
+    size_t k, r, size;
+    uint8_t *shards;
+    size_t *order;
+};
+
+static struct message made(uint64_t *state) {
+    struct message m = {1 + drawn(state) % 12, 1 + drawn(state) % 12, 2 + 2 * (drawn(state) % 40), NULL, NULL};
+    if (drawn(state) % 8 == 0) m.size += 4096;
+    m.shards = room((m.k + m.r) * m.size);
+    m.order = room((m.k + m.r) * sizeof *m.order);
+    for (size_t i = 0; i < m.k * m.size; i++) m.shards[i] = (uint8_t)(drawn(state) >> 24);
+    for (size_t i = 0; i < m.k + m.r; i++) {
+        size_t other = drawn(state) % (i + 1);
+        m.order[i] = m.order[other];
+        m.order[other] = i;
+    }
+    if (rs_encode(tables, m.k, m.r, m.size, m.shards, m.k * m.size, m.shards + m.k * m.size, m.r * m.size, NULL)) wrong("an encode fails");
+    return m;
+}
+
+/* Shards that were received: the first ones of the order. */
+struct received {
+    struct rs_shard shards[2][12];
+    size_t counts[2];
+};
+
+static struct received first_of(const struct message *m, size_t count) {
+    struct received received = {.counts = {0, 0}};
+    for (size_t i = 0; i < count; i++) {
+        size_t place = m->order[i], kind = place >= m->k;
+        struct rs_shard shard = {kind ? place - m->k : place, m->shards + place * m->size, m->size};
+        received.shards[kind][received.counts[kind]++] = shard;
+    }
+    return received;
+}
+
+static uint32_t verified(const struct message *m, const struct received *a, struct rs_fault *fault) {
+    return rs_verify(tables, m->k, m->r, a->shards[0], a->counts[0], a->shards[1], a->counts[1], fault);
+}
+
+/* Reconstructs the shards of the order from place `from` on, and compares them, or the unchanged rooms if the call fails. */
+static uint32_t reconstructed(const struct message *m, const struct received *a, size_t from, struct rs_fault *fault) {
+    struct rs_wanted wanted[24] = {{RS_ORIGINAL, 0}};
+    struct rs_room rooms[24] = {{NULL, 0}};
+    size_t count = 0;
+    uint32_t answer;
+    for (size_t i = from; i < m->k + m->r; i++, count++) {
+        size_t place = m->order[i], kind = place >= m->k;
+        wanted[count].kind = kind ? RS_RECOVERY : RS_ORIGINAL;
+        wanted[count].index = kind ? place - m->k : place;
+        rooms[count].bytes = memset(room(m->size), '#', m->size);
+        rooms[count].length = m->size;
+    }
+    answer = rs_reconstruct(tables, m->k, m->r, a->shards[0], a->counts[0], a->shards[1], a->counts[1], wanted, count, rooms, count, fault);
+    for (size_t i = 0; i < count; i++) {
+        if (!answer && memcmp(rooms[i].bytes, m->shards + m->order[from + i] * m->size, m->size)) wrong("another shard is reconstructed");
+        for (size_t j = 0; answer && j < m->size; j++)
+            if (rooms[i].bytes[j] != '#') wrong("a call that fails has written");
+        free(rooms[i].bytes);
+    }
+    return answer;
+}
+
+/* An original changes. Its recovery shards are updated, and compared with those that an encode makes. */
+static void update(struct message *m, uint64_t *state) {
+    size_t index = drawn(state) % m->k, length = m->r * m->size;
+    uint8_t *original = m->shards + index * m->size, *recovery = m->shards + m->k * m->size;
+    uint8_t *before = memcpy(room(m->size), original, m->size), *updated = memcpy(room(length), recovery, length);
+    struct rs_room rooms[12] = {{NULL, 0}};
+    struct rs_fault fault = {99, 99, 99, 99};
+    for (size_t i = 0; i < m->size; i++) original[i] = (uint8_t)(drawn(state) >> 24);
+    for (size_t i = 0; i < m->r; i++) rooms[i].bytes = updated + i * m->size, rooms[i].length = m->size;
+    if (rs_update(tables, m->k, m->r, index, before, m->size, original, m->size, rooms, m->r, &fault) || !told(&fault, RS_OK, 0, 0, 0))
+        wrong("an update fails");
+    if (rs_encode(tables, m->k, m->r, m->size, m->shards, m->k * m->size, recovery, length, NULL)) wrong("an encode fails");
+    if (memcmp(updated, recovery, length)) wrong("an update makes other recovery shards than an encode");
+    free(before);
+    free(updated);
+}
+
+static void round_of(uint64_t *state) {
+    struct message m = made(state);
+    update(&m, state);
+    size_t count = m.k + drawn(state) % (m.r + 1), from = count + drawn(state) % (m.k + m.r - count + 1);
+    struct received a = first_of(&m, count);
+    struct rs_fault fault = {99, 99, 99, 99};
+    if (verified(&m, &a, &fault) || !told(&fault, RS_OK, 0, 0, 0)) wrong("shards of one message are refused");
+    if (reconstructed(&m, &a, from, &fault) || !told(&fault, RS_OK, 0, 0, 0)) wrong("wanted shards aren't reconstructed");
+    if (count > m.k) {
+        uint8_t *damaged = m.shards + m.order[drawn(state) % count] * m.size + drawn(state) % m.size;
+        *damaged ^= (uint8_t)(1 + drawn(state) % 255);
+        if (verified(&m, &a, &fault) != RS_INCONSISTENT_SHARDS || !told(&fault, RS_INCONSISTENT_SHARDS, a.counts[0], a.counts[1], 0) ||
+            reconstructed(&m, &a, from, &fault) != RS_INCONSISTENT_SHARDS || reconstructed(&m, &a, from, NULL) != RS_INCONSISTENT_SHARDS)
+            wrong("a damaged shard isn't noticed");
+    }
+    free(m.shards);
+    free(m.order);
+}
+
+/* The shards that the refusals below pass: three originals and two recovery shards of four bytes, and one of six. */
+static uint8_t bytes[28];
+static struct rs_shard own[4], other[3];
+static struct rs_room rooms[3];
+
+/* Both calls over these numbers of shards fail with this fault, and write nothing. */
+static void refused(size_t k, size_t r, const struct rs_shard *o, size_t on, const struct rs_shard *q, size_t qn, uint32_t number,
+                    size_t first, size_t second, size_t third) {
+    const struct rs_wanted wanted = {RS_RECOVERY, 1};
+    struct rs_fault fault = {99, 99, 99, 99}, again = fault;
+    if (rs_verify(tables, k, r, o, on, q, qn, &fault) != number || !told(&fault, number, first, second, third)) wrong("a verification fails with another fault");
+    if (rs_reconstruct(tables, k, r, o, on, q, qn, &wanted, 1, rooms, 1, &again) != number || !told(&again, number, first, second, third))
+        wrong("a reconstruction fails with another fault");
+}
+
+/* A reconstruction from all originals fails with this fault. */
+static void unwanted(const struct rs_wanted *wanted, size_t count, size_t places, uint32_t number, size_t first, size_t second, size_t third,
+                     const char *text) {
+    struct rs_fault fault = {99, 99, 99, 99};
+    char got[128];
+    if (rs_reconstruct(tables, 3, 2, own, 3, NULL, 0, wanted, count, rooms, places, &fault) != number ||
+        !told(&fault, number, first, second, third))
+        wrong("wanted shards are refused with another fault");
+    if (rs_fault_text(&fault, got, sizeof got) != strlen(text) || strcmp(got, text)) wrong("another text");
+}
+
+/* An update fails with this fault, and changes nothing. */
+static void not_updated(size_t k, size_t r, size_t index, size_t before, size_t after, size_t places, uint32_t number, size_t first,
+                        size_t second, size_t third) {
+    struct rs_fault fault = {99, 99, 99, 99};
+    if (rs_update(tables, k, r, index, bytes, before, bytes + 4, after, rooms, places, &fault) != number ||
+        !told(&fault, number, first, second, third) ||
+        rs_update(tables, k, r, index, bytes, before, bytes + 4, after, rooms, places, NULL) != number)
+        wrong("an update fails with another fault");
+}
+
+static void refusals(void) {
+    const struct rs_wanted large[2] = {{RS_RECOVERY, 0}, {RS_ORIGINAL, 3}}, larger = {RS_RECOVERY, 2}, twice[3] = {{1, 1}, {1, 0}, {7, 1}},
+                           taken = {RS_ORIGINAL, 2}, both[2] = {{RS_RECOVERY, 0}, {RS_RECOVERY, 1}}, twice_original[2] = {{0, 0}, {0, 0}};
+    static const struct rs_tables unmade;
+    uint8_t before[28];
+    for (size_t i = 0; i < sizeof bytes; i++) bytes[i] = (uint8_t)(i * 7);
+    if (rs_encode(tables, 3, 2, 4, bytes, 12, bytes + 12, 8, NULL)) wrong("an encode fails");
+    for (size_t i = 0; i < 3; i++) own[i] = (struct rs_shard){i, bytes + 4 * i, 4};
+    for (size_t i = 0; i < 2; i++) other[i] = (struct rs_shard){i, bytes + 12 + 4 * i, 4};
+    own[3] = (struct rs_shard){1, bytes, 6};
+    other[2] = (struct rs_shard){0, bytes, 3};
+    for (size_t i = 0; i < 3; i++) rooms[i] = (struct rs_room){bytes + 20 + 2 * (i ? i + 1 : 0), i ? 2 : 4};
+    memcpy(before, bytes, sizeof bytes);
+    refused(0, 2, own, 3, other, 2, RS_UNSUPPORTED_SHARD_COUNT, 0, 2, 0);
+    refused(3, 2, NULL, 0, NULL, 0, RS_NOT_ENOUGH_SHARDS, 3, 0, 0);
+    refused(3, 2, own, 3, other + 2, 1, RS_INVALID_SHARD_SIZE, 3, 0, 0);
+    refused(2, 2, own, 3, other, 1, RS_INVALID_ORIGINAL_SHARD_INDEX, 2, 2, 0);
+    refused(3, 1, own, 2, other, 2, RS_INVALID_RECOVERY_SHARD_INDEX, 1, 1, 0);
+    refused(3, 2, own + 1, 3, other, 0, RS_DUPLICATE_ORIGINAL_SHARD_INDEX, 1, 0, 0);
+    refused(3, 2, own + 2, 2, other, 0, RS_DIFFERENT_SHARD_SIZE, 4, 6, 1);
+    refused(3, 2, own, 1, other, 1, RS_NOT_ENOUGH_SHARDS, 3, 1, 1);
+    other[1].index = 0;
+    refused(3, 2, own, 1, other, 2, RS_DUPLICATE_RECOVERY_SHARD_INDEX, 0, 0, 0);
+    other[1].index = 1, other[1].length = 2;
+    refused(3, 2, own, 2, other, 2, RS_DIFFERENT_SHARD_SIZE, 4, 2, 3);
+    unwanted(large, 2, 2, RS_WANTED_INDEX_TOO_LARGE, 3, 3, RS_ORIGINAL, "wanted index too large: original 3, count 3");
+    unwanted(&larger, 1, 0, RS_WANTED_INDEX_TOO_LARGE, 2, 2, RS_RECOVERY, "wanted index too large: recovery shard 2, count 2");
+    unwanted(twice, 3, 3, RS_WANTED_TWICE, 1, RS_RECOVERY, 0, "shard wanted twice: recovery shard 1");
+    unwanted(&taken, 1, 1, RS_WANTED_RECEIVED, 2, RS_ORIGINAL, 0, "wanted shard was received: original 2");
+    unwanted(twice_original, 2, 2, RS_WANTED_RECEIVED, 0, RS_ORIGINAL, 0, "wanted shard was received: original 0");
+    unwanted(both, 2, 1, RS_WRONG_NUMBER_OF_ROOMS, 2, 1, 0, "wrong number of rooms: expected 2, got 1");
+    unwanted(both, 2, 2, RS_WRONG_LENGTH, 4, 2, 1, "wrong length: expected 4 bytes, got 2 bytes");
+    if (rs_reconstruct(tables, 3, 2, own, 3, NULL, 0, NULL, 0, NULL, 0, NULL)) wrong("nothing is wanted, and it is refused");
+    not_updated(3, 0, 7, 3, 4, 0, RS_UNSUPPORTED_SHARD_COUNT, 3, 0, 0);
+    not_updated(3, 2, 7, 3, 4, 0, RS_INVALID_SHARD_SIZE, 3, 0, 0);
+    not_updated(3, 2, 3, 4, 2, 0, RS_INVALID_ORIGINAL_SHARD_INDEX, 3, 3, 0);
+    not_updated(3, 2, 2, 4, 2, 0, RS_DIFFERENT_SHARD_SIZE, 4, 2, 1);
+    not_updated(3, 2, 2, 4, 4, 3, RS_WRONG_NUMBER_OF_ROOMS, 2, 3, 0);
+    not_updated(3, 2, 2, 4, 4, 2, RS_WRONG_LENGTH, 4, 2, 1);
+    tables = (struct rs_tables *)&unmade;
+    not_updated(3, 2, 2, 4, 4, 2, RS_TABLES_NOT_MADE, 0, 0, 0);
+    refused(3, 2, own, 3, other, 1, RS_TABLES_NOT_MADE, 0, 0, 0);
+    if (memcmp(before, bytes, sizeof bytes)) wrong("a call that fails has written");
+    puts("received: refusals");
+}
+
+int main(int count, char **words) {
+    struct rs_tables *at = tables = room(sizeof *tables);
+    if (rs_tables_make(tables)) wrong("no memory for the tables");
+    if (count == 4 && !strcmp(words[1], "rounds")) {
+        uint64_t state = strtoull(words[2], NULL, 10);
+        for (unsigned long n = strtoul(words[3], NULL, 10); n > 0; n--) round_of(&state);
+        puts("received: rounds");
+    } else if (count == 2 && !strcmp(words[1], "refusals"))
+        refusals();
+    else
+        wrong("no such words");
+    free(at);
+    return 0;
+}

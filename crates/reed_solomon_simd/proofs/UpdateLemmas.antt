@@ -1,0 +1,342 @@
+-- How the change of an original is added to recovery shards, piece by piece.
+use Rattle.std.proofs.Common.{◌≡◌, ℕ, ◌+◌, ◌-◌, ◌*◌, ◌/◌, ◌%◌, ◌<◌, ◌≤◌, ◌⊎◌, List, [], ◌++◌, length, take, drop}
+use Rattle.std.proofs.Common.{min, bit_xor}
+use Rattle.std.proofs.Common.{All, MutBor, get_or, set, append_assoc, refl, sym, ap, ap₂, subst, ◌∙◌, inl, inr, arith}
+use Rattle.std.specs.Prelude.{slice_index}
+use borrow.Rule.Slice.PartMut.{put_mid}
+use Rattle.std.specs.List.{between}
+use Rattle.std.proofs.lemmas.Slice.{take-put_mid, drop-put_mid}
+use Rattle.std.proofs.lemmas.Bool.{cases_lt}
+use Rattle.std.proofs.lemmas.List.{get_or_past, length-append, length-take-le, length-drop, drop-drop}
+use Rattle.std.proofs.lemmas.List.{take-append-drop, map-set, get_or-set_same, get_or-set_other, length-map}
+use Rattle.std.proofs.Math.Seq.{take-append_seam, drop-append_seam}
+use Rattle.rs_field.specs.words.Field.{product, power}
+use Rattle.rs_field.specs.code.Column.{Shard, IsShard, shard_at, column, chunk_words}
+use Rattle.rs_field.specs.code.Pieces.{IsStrip}
+use Rattle.rs_field.proofs.of_code.Columns.{column-at, columns-at, byte_lt, shards_from_columns}
+use Rattle.rs_field.proofs.of_code.Pieces.{column-head, column-rest, column-piece}
+use Rattle.rs_field.proofs.of_words.Packed.{sum_of_bytes}
+use Rattle.std.specs.Prelude.{Result, Ok, Err, MatchResult, true, false}
+use Rattle.std.specs.Result.{result_map_both}
+use Rattle.std.proofs.lemmas.List.{get_or_default}
+use Rattle.rs_field.specs.declared.code.error.Error.{Error}
+use Rattle.rs_field.specs.declared.code.error.Error.TheVariants.{UnsupportedShardCount, OutOfMemory}
+use Rattle.rs_field.specs.code.Code.{AreRecovery}
+use Rattle.rs_field.specs.code.Counts.{default_rate, supports}
+use Rattle.rs_field.specs.code.OneCall.{default_of}
+use Rattle.rs_field.specs.code.OneChange.{AreChangeFactors}
+use Rattle.rs_field.specs.code.Outcome.{result_and_then}
+use Rattle.rs_field.proofs.of_code.MadeShards.{has_recovery}
+use Rattle.reed_solomon_simd.specs.declared.room_error.RoomError.{RoomError}
+use Rattle.reed_solomon_simd.specs.declared.room_error.RoomError.TheVariants.{Refused}
+use Rattle.reed_solomon_simd.specs.Into.{rooms_fit}
+use Rattle.reed_solomon_simd.specs.Rooms.{bytes_in}
+use Rattle.reed_solomon_simd.specs.Updated.{IsChanged, UpdatesShards, UpdatesInto, change_outcome, update_outcome}
+use Rattle.reed_solomon_simd.proofs.ReconstructLemmas.{zeros}
+
+-- If each byte of a shard is the XOR of two bytes, each word is the XOR of two words.
+pub column-xor : (size j : ℕ) (s t u : Shard) → IsShard size s → IsShard size t → length u ≡ size
+    → ((i : ℕ) → i < size → slice_index u i ≡ bit_xor (slice_index s i) (slice_index t i))
+    → column j u ≡ bit_xor (column j s) (column j t)
+column-xor size j s t u hs ht hu bytes =
+    let q : ℕ = j / 32 in let i : ℕ = j % 32 in
+    let parts : j ≡ j / 32 * 32 + j % 32 = omega arith in
+    let own : length s ≡ size = hs.length_is in let other : length t ≡ size = ht.length_is in
+    let words_s : chunk_words u (j / 32 * 64) ≡ chunk_words s (j / 32 * 64) =
+    ap (λ (n : ℕ). min 64 (n - j / 32 * 64) / 2) (hu ∙ sym own) in
+    let words_t : chunk_words u (j / 32 * 64) ≡ chunk_words t (j / 32 * 64) =
+    ap (λ (n : ℕ). min 64 (n - j / 32 * 64) / 2) (hu ∙ sym other) in
+    let high : ℕ = q * 64 + i + chunk_words u (q * 64) in
+    ap (λ (c : ℕ). column c u) parts
+    ∙ column-at q i u (omega arith)
+    ∙ ap₂ (λ (x y : ℕ). x + 256 * y) (each (q * 64 + i)) (each high)
+    ∙ sum_of_bytes (slice_index s (q * 64 + i)) (slice_index s high) (slice_index t (q * 64 + i)) (slice_index t high)
+    (byte_lt size s hs (q * 64 + i)) (byte_lt size t ht (q * 64 + i))
+    ∙ ap₂ bit_xor
+    (ap (λ (w : ℕ). slice_index s (q * 64 + i) + 256 * slice_index s (q * 64 + i + w)) words_s
+    ∙ sym (column-at q i s (omega arith)) ∙ ap (λ (c : ℕ). column c s) (sym parts))
+    (ap (λ (w : ℕ). slice_index t (q * 64 + i) + 256 * slice_index t (q * 64 + i + w)) words_t
+    ∙ sym (column-at q i t (omega arith)) ∙ ap (λ (c : ℕ). column c t) (sym parts))
+  where
+    each : (n : ℕ) → slice_index u n ≡ bit_xor (slice_index s n) (slice_index t n)
+    each n = elim (cases_lt n size) [
+      | inl inside ↦ bytes n inside
+      | inr past ↦
+          get_or_past u n 0 (omega (arith, past, hu))
+          ∙ sym (ap₂ bit_xor (get_or_past s n 0 (let l = hs.length_is in omega (arith, past, l)))
+          (get_or_past t n 0 (let l = ht.length_is in omega (arith, past, l))))
+    ]
+
+-- The first `start` bytes of a shard are changed, and the others are those of the shard before.
+pub record IsChangedBelow (start : ℕ) (old new : Shard) (log : ℕ) (before now : Shard) : Type 0 where
+  pub length_is : length now ≡ length before
+  pub inside : start ≤ length before
+  pub begins : (start % 64 ≡ 0) ⊎ (start ≡ length before)
+  pub below : (j : ℕ) → j < start / 2
+      → column j now ≡ bit_xor (column j before) (product (bit_xor (column j old) (column j new)) (power log))
+  pub above : drop start now ≡ drop start before
+
+-- No byte is changed at the start.
+pub changed-none : (old new : Shard) (log : ℕ) (before : Shard) → IsChangedBelow 0 old new log before before
+changed-none old new log before =
+    record {
+      length_is = refl;
+      inside = omega arith;
+      begins = inl refl;
+      below = λ j h. let no : ⊥ = omega (arith, h) in absurd no;
+      above = refl;
+    }
+
+-- The bytes of a piece of a shard.
+pub length-piece : (start end : ℕ) (s : Shard) → end ≤ length s → length (between start end s) ≡ end - start
+length-piece start end s within =
+    let rest = length-drop start s in length-take-le (end - start) (drop start s) (omega (arith, rest, within))
+
+-- A shard whose bytes from `start` up to `end` are replaced.
+pub put-piece : (start width end : ℕ) (s piece : Shard) → start + width ≡ end → start ≤ length s
+    → length piece ≡ width → put_mid start width s piece ≡ take start s ++ (piece ++ drop end s)
+put-piece start width end s piece ends within sized =
+    sym (take-append-drop end (put_mid start width s piece))
+    ∙ ap₂ (λ (l m : Shard). l ++ m) (take-put_mid start width s piece end (omega (arith, ends, sized)) within)
+    (drop-put_mid start width s piece end (omega (arith, ends)) within sized)
+    ∙ append_assoc (take start s) piece (drop end s)
+
+-- Once all bytes are changed, the shard is.
+pub changed-all : (start : ℕ) (old new : Shard) (log : ℕ) (before now : Shard)
+    → IsChangedBelow start old new log before now → (start < length now → ⊥) → All (λ b. b < 256) now
+    → IsChanged old new log before now
+changed-all start old new log before now is done bytes =
+    let long = is.length_is in
+    record { length_is = long; bytes = bytes; words = λ j h. is.below j (omega (arith, h, done, long)) }
+
+-- A list whose middle part is another one.
+module _ (start end : ℕ) (now piece after : Shard) (order : start ≤ end) (within : end ≤ length now)
+    (sized : length piece ≡ end - start) (is : after ≡ take start now ++ (piece ++ drop end now)) where
+  front : length (take start now) ≡ start
+  front = length-take-le start now (omega (arith, order, within))
+
+  pub head-kept : take start after ≡ take start now
+  head-kept =
+      ap (take start) is
+      ∙ ap (λ (n : ℕ). take n (take start now ++ (piece ++ drop end now))) (sym front)
+      ∙ take-append_seam (take start now) (piece ++ drop end now)
+
+  behind : drop start after ≡ piece ++ drop end now
+  behind =
+      ap (drop start) is
+      ∙ ap (λ (n : ℕ). drop n (take start now ++ (piece ++ drop end now))) (sym front)
+      ∙ drop-append_seam (take start now) (piece ++ drop end now)
+
+  pub middle-is : between start end after ≡ piece
+  middle-is =
+      ap (take (end - start)) behind
+      ∙ ap (λ (n : ℕ). take n (piece ++ drop end now)) (sym sized)
+      ∙ take-append_seam piece (drop end now)
+
+  pub rest-kept : drop end after ≡ drop end now
+  rest-kept =
+      ap (λ (n : ℕ). drop n after) (let e : end ≡ start + (end - start) = omega (arith, order) in e)
+      ∙ sym (drop-drop (end - start) start after)
+      ∙ ap (drop (end - start)) behind
+      ∙ ap (λ (n : ℕ). drop n (piece ++ drop end now)) (sym sized)
+      ∙ drop-append_seam piece (drop end now)
+
+  pub length-kept : length after ≡ length now
+  length-kept =
+      ap length is
+      ∙ length-append (take start now) (piece ++ drop end now)
+      ∙ (let both = length-append piece (drop end now) in let rest = length-drop end now in
+      omega (arith, front, sized, both, rest, order, within))
+
+-- If the next piece is changed, the bytes up to its end are.
+pub changed-more : (start end : ℕ) (old new : Shard) (log : ℕ) (before now piece after : Shard)
+    → IsChangedBelow start old new log before now → IsStrip start end (length before)
+    → length old ≡ length before → length new ≡ length before
+    → IsChanged (between start end old) (between start end new) log (between start end now) piece
+    → length (between start end now) ≡ end - start
+    → after ≡ take start now ++ (piece ++ drop end now)
+    → IsChangedBelow end old new log before after
+changed-more start end old new log before now piece after is strip same_old same_new changed sized splice =
+    record {
+      length_is = length-kept start end now piece after strip.order within fits splice ∙ is.length_is;
+      inside = strip.inside;
+      begins = strip.ends;
+      below = λ j h. elim (cases_lt j (start / 2)) [
+        | inl first ↦ early j first
+        | inr later ↦
+            let begins = strip.begins in
+            let place : start / 2 + (j - start / 2) ≡ j = omega (arith, later) in
+            subst (λ (n : ℕ). column n after
+            ≡ bit_xor (column n before) (product (bit_xor (column n old) (column n new)) (power log))) place
+            (late (j - start / 2) (omega (arith, h, later, begins)))
+      ];
+      above = rest-kept start end now piece after strip.order within fits splice
+          ∙ ap (λ (n : ℕ). drop n now) (sym parts)
+          ∙ sym (drop-drop (end - start) start now) ∙ ap (drop (end - start)) is.above
+          ∙ drop-drop (end - start) start before
+          ∙ ap (λ (n : ℕ). drop n before) parts;
+    }
+  where
+    parts : start + (end - start) ≡ end
+    parts = let o = strip.order in omega (arith, o)
+
+    within : end ≤ length now
+    within = let long = is.length_is in let inside = strip.inside in omega (arith, long, inside)
+
+    fits : length piece ≡ end - start
+    fits = changed.length_is ∙ sized
+
+    begin : start ≤ length now
+    begin = let o = strip.order in omega (arith, within, o)
+
+    long : length after ≡ length before
+    long = length-kept start end now piece after strip.order within fits splice ∙ is.length_is
+
+    early : (j : ℕ) → j < start / 2
+        → column j after ≡ bit_xor (column j before) (product (bit_xor (column j old) (column j new)) (power log))
+    early j h =
+        sym (column-head start j after strip.begins
+        (let all = long in let l = is.length_is in omega (arith, all, l, begin)) h)
+        ∙ ap (column j) (head-kept start end now piece after strip.order within fits splice)
+        ∙ column-head start j now strip.begins begin h ∙ is.below j h
+
+    late : (i : ℕ) → i < (end - start) / 2
+        → column (start / 2 + i) after
+        ≡ bit_xor (column (start / 2 + i) before)
+        (product (bit_xor (column (start / 2 + i) old) (column (start / 2 + i) new)) (power log))
+    late i h =
+        sym (column-piece start end i after (subst (IsStrip start end) (sym long) strip) h)
+        ∙ ap (column i) (middle-is start end now piece after strip.order within fits splice)
+        ∙ changed.words i (omega (arith, h, sized))
+        ∙ ap₂ bit_xor
+        (column-piece start end i now (subst (IsStrip start end) (sym is.length_is) strip) h
+        ∙ sym (column-rest start i now strip.begins) ∙ ap (column i) is.above
+        ∙ column-rest start i before strip.begins)
+        (ap₂ (λ (x y : ℕ). product (bit_xor x y) (power log))
+        (column-piece start end i old (subst (IsStrip start end) (sym same_old) strip) h)
+        (column-piece start end i new (subst (IsStrip start end) (sym same_new) strip) h))
+
+-- The next piece of at most 2048 bytes is a strip.
+pub next-strip : (start size width : ℕ) → (start % 64 ≡ 0) ⊎ (start ≡ size) → start < size
+    → width ≡ min 2048 (size - start) → IsStrip start (start + width) size
+next-strip start size width (inr last) more is = let no : ⊥ = omega (arith, last, more) in absurd no
+next-strip start size width (inl whole) more is = elim (cases_lt 2048 (size - start)) [
+  | inl short ↦
+      let wide : width ≡ 2048 = is ∙ omega (arith, short) in
+      record {
+        order = omega arith;
+        inside = omega (arith, wide, short);
+        begins = whole;
+        ends = inl (omega (arith, wide, whole));
+      }
+  | inr long ↦
+      let wide : width ≡ size - start = is ∙ omega (arith, long) in
+      record {
+        order = omega arith;
+        inside = omega (arith, wide, more);
+        begins = whole;
+        ends = inr (omega (arith, wide, more));
+      }
+]
+
+-- ---- all recovery shards
+
+-- The shards in rooms, after one room was replaced.
+pub shard-set : (rooms : List (MutBor (List ℕ))) (index i : ℕ) (room : MutBor (List ℕ)) → index < length rooms
+    → i ≡ index → shard_at (bytes_in (set rooms index room)) i ≡ room.now
+shard-set rooms index i room inside same =
+    let many = length-map rooms (λ room. room.now) in
+    ap (λ (n : ℕ). get_or (bytes_in (set rooms index room)) n []) same
+    ∙ ap (λ (l : List (List ℕ)). get_or l index []) (map-set (λ room. room.now) rooms index room)
+    ∙ get_or-set_same (bytes_in rooms) index room.now [] (omega (arith, inside, many))
+
+pub shard-kept : (rooms : List (MutBor (List ℕ))) (index i : ℕ) (room : MutBor (List ℕ)) → (i ≡ index → ⊥)
+    → shard_at (bytes_in (set rooms index room)) i ≡ shard_at (bytes_in rooms) i
+shard-kept rooms index i room other =
+    ap (λ (l : List (List ℕ)). get_or l i []) (map-set (λ room. room.now) rooms index room)
+    ∙ get_or-set_other (bytes_in rooms) index i room.now [] other
+
+-- Changed recovery shards are those of the changed message.
+pub updates-changed : (k r index : ℕ) (old new : Shard) (factors : List ℕ) (before after : List Shard)
+    → supports default_rate k r ≡ true → length old % 2 ≡ 0 → AreChangeFactors default_rate k r index factors
+    → length after ≡ r → ((i : ℕ) → i < r → length (shard_at before i) ≡ length old)
+    → ((i : ℕ) → i < r → IsChanged old new (slice_index factors i) (shard_at before i) (shard_at after i))
+    → UpdatesShards k r index old new before after
+updates-changed k r index old new factors before after supported even are number sized changes
+    message changed shards changed_shards only own other coded =
+    let size : ℕ = length old in
+    let (all, made) = has_recovery (default_of k r size) changed supported even changed_shards in
+    let each : (i : ℕ) → i < r → IsShard (length old) (shard_at after i) =
+    λ i h. record { length_is = (changes i h).length_is ∙ sized i h; bytes = (changes i h).bytes } in
+    let same : after ≡ all =
+    shards_from_columns r size after all
+    (record {
+      length_is = number;
+      each = λ i d h. subst (IsShard (length old)) (sym (get_or_default after i d [] h))
+          (each i (subst (λ (n : ℕ). i < n) number h));
+    }) made.shards even
+    (λ i j hi hj. columns-at j after i
+    ∙ (changes i hi).words j (subst (λ (n : ℕ). j < n / 2) (sym (sized i hi)) hj)
+    ∙ ap₂ (λ (x y : Shard). bit_xor (column j (shard_at before i))
+    (product (bit_xor (column j x) (column j y)) (power (slice_index factors i)))) (sym own) (sym other)
+    ∙ sym (are.change size i j message changed before all shards changed_shards only coded made hi hj)
+    ∙ sym (columns-at j all i)) in
+    subst (AreRecovery (default_of k r size) changed) (sym same) made
+
+-- ---- the result of `update_into`
+
+module _ (k r index : ℕ) (old new : Shard) (before : List (List ℕ)) where
+  -- The first error of the checks is the result.
+  pub updates-refused : (e : RoomError) (answer : Result (Unit {0}) RoomError)
+      → update_outcome k r index (length old) (length new) before ≡ Err e → answer ≡ Err e
+      → UpdatesInto k r index old new before before answer
+  updates-refused e answer is same =
+      subst (λ (o : Result (Unit {0}) RoomError).
+      MatchResult o (λ _. ((answer ≡ Ok tt) × UpdatesShards k r index old new before before)
+      ⊎ ((answer ≡ Err (Refused OutOfMemory)) × (before ≡ before)))
+      (λ f. (answer ≡ Err f) × (before ≡ before))) (sym is) (same, refl)
+
+  -- If the checks find no error, the shards are updated, or memory is lacking and nothing has changed.
+  pub updates-done : (after : List (List ℕ)) (answer : Result (Unit {0}) RoomError)
+      → update_outcome k r index (length old) (length new) before ≡ Ok tt
+      → ((answer ≡ Ok tt) × UpdatesShards k r index old new before after)
+      ⊎ ((answer ≡ Err (Refused OutOfMemory)) × (after ≡ before))
+      → UpdatesInto k r index old new before after answer
+  updates-done after answer is does =
+      subst (λ (o : Result (Unit {0}) RoomError).
+      MatchResult o (λ _. ((answer ≡ Ok tt) × UpdatesShards k r index old new before after)
+      ⊎ ((answer ≡ Err (Refused OutOfMemory)) × (after ≡ before)))
+      (λ f. (answer ≡ Err f) × (after ≡ before))) (sym is) does
+
+  -- If an update fails, the rooms are unchanged.
+  pub updates-kept : (after : List (List ℕ)) (e : RoomError) (answer : Result (Unit {0}) RoomError) → answer ≡ Err e
+      → UpdatesInto k r index old new before after answer → after ≡ before
+  updates-kept after e answer failed updates =
+      by_outcome (update_outcome k r index (length old) (length new) before) updates
+    where
+      by_outcome : (o : Result (Unit {0}) RoomError)
+          → MatchResult o (λ _. ((answer ≡ Ok tt) × UpdatesShards k r index old new before after)
+          ⊎ ((answer ≡ Err (Refused OutOfMemory)) × (after ≡ before)))
+          (λ f. (answer ≡ Err f) × (after ≡ before)) → after ≡ before
+      by_outcome (Ok u) (inl does) = let done = does.0 in absurd (let no : ⊥ = cc in no)
+      by_outcome (Ok u) (inr does) = does.1
+      by_outcome (Err f) does = does.1
+
+  -- Unsupported counts are the first error.
+  pub outcome-uncounted : (e : Error) → (supports default_rate k r ≡ false) × (e ≡ UnsupportedShardCount k r)
+      → update_outcome k r index (length old) (length new) before ≡ Err (Refused e)
+  outcome-uncounted e refused = rw (refused.0, refused.1) refl
+
+  -- The outcome is that of checking the change, or else that of checking the rooms.
+  abbrev after_change : Result (Unit {0}) Error → Result (Unit {0}) RoomError
+  after_change o =
+      result_and_then (λ (u : Unit {0}). rooms_fit (zeros r (length old)) before) (result_map_both (λ u. u) Refused o)
+
+  pub outcome-change : (e : Error) → Err e ≡ change_outcome k r index (length old) (length new)
+      → update_outcome k r index (length old) (length new) before ≡ Err (Refused e)
+  outcome-change e is = ap after_change (sym is)
+
+  pub outcome-rooms : (o : Result (Unit {0}) RoomError) → Ok tt ≡ change_outcome k r index (length old) (length new)
+      → o ≡ rooms_fit (zeros r (length old)) before
+      → update_outcome k r index (length old) (length new) before ≡ o
+  outcome-rooms o is fits = ap after_change (sym is) ∙ sym fits

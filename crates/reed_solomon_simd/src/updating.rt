@@ -1,0 +1,197 @@
+//! A function that updates recovery shards if one original changes.
+ghost use Rattle.std.specs.Prelude.{◌≡◌, ◌/◌, ◌%◌, ℕ, ◌<◌, ◌≤◌, length, slice_index, bit_xor};
+ghost use Rattle.rs_field.specs.code.Column.{shard_at};
+ghost use Rattle.reed_solomon_simd.specs.Rooms.{bytes_in, loans_of};
+ghost use Rattle.reed_solomon_simd.specs.Updated.{UpdatesInto, IsChanged, change_outcome};
+
+use crate::rooms::check_rooms;
+use crate::{Error, RoomError};
+use rs_field::bytes::are_bytes;
+use rs_field::engine::{Engine, GfElement, Steps};
+use rs_rate::rate::DefaultRateCounts;
+use rs_rate::rate::changes::{add_change, change_factors};
+use std::alloc::Global;
+
+// The number of bytes of a strip.
+const STRIP_BYTES: usize = 2048;
+
+/// Updates recovery shards after one original has changed. The other originals are not needed.
+///
+/// `index` is the index of the original. `old` is the original before the change, and `new` is the original after it.
+/// `recovery` has a room for each recovery shard, in order of index. Before the call, the rooms hold the recovery shards
+/// of the message with `old`. After the call, they hold those of the message with `new`.
+///
+/// The call allocates a number for each recovery shard, and lists with an entry for each row of a decoder. It takes one
+/// product for each word of each recovery shard. After an error the rooms hold what they held before the call.
+///
+/// # Errors
+///
+/// - As [`RoomError::Refused`], in this order: [`Error::UnsupportedShardCount`]; [`Error::InvalidShardSize`] if the
+///   size of `old` is zero or odd; [`Error::InvalidOriginalShardIndex`]; [`Error::DifferentShardSize`] if `new` does
+///   not have the size of `old`.
+/// - [`RoomError::WrongNumberOfRooms`] if `recovery` does not have `recovery_count` items.
+/// - [`RoomError::WrongLength`] for the first room that does not have the size of `old`.
+/// - [`Error::OutOfMemory`] as [`RoomError::Refused`] if the factors cannot be allocated.
+///
+/// # Examples
+///
+/// Original 1 of three originals changes from `[0, 0]` to `[7, 1]`:
+///
+/// ```
+/// let (mut first, mut second) = ([3, 0], [5, 0]);
+/// let mut recovery: Vec<&mut [u8]> = Vec::new(alloc);
+/// recovery.push(&mut first)?;
+/// recovery.push(&mut second)?;
+/// update_into(alloc, 3, 2, 1, &[0, 0], &[7, 1], &mut recovery, engine)?;
+/// drop(recovery);
+/// // The rooms hold the recovery shards of [2, 0], [7, 1] and [4, 0].
+/// assert_eq!(rt; (first, second), ([198, 2], [199, 3]));
+/// ```
+pub fn update_into<E: Engine>(
+    alloc: Global,
+    original_count: usize,
+    recovery_count: usize,
+    index: usize,
+    old: &[u8],
+    new: &[u8],
+    recovery: &mut [&mut [u8]],
+    engine: E,
+) -> Result<(), RoomError>
+    ensures answer { UpdatesInto original_count recovery_count index old.now new.now
+        (bytes_in recovery.old) (bytes_in recovery.new) result }
+    ensures kept { loans_of recovery.new ≡ loans_of recovery.old }
+{
+    let counts = DefaultRateCounts::new(original_count, recovery_count)?;
+    check_change(counts, index, old.len(), new.len())?;
+    check_rooms(recovery_count, old.len(), recovery)?;
+    are_bytes(old);
+    are_bytes(new);
+    let mut steps = Steps::new();
+    let factors = change_factors(alloc, &engine, &mut steps, counts, index)?;
+    add_to_all(&engine, &mut steps, recovery, old, new, factors.as_slice());
+    Ok(())
+}
+
+// Checks the sizes and the index of a change. Fails with `InvalidShardSize`, then with `InvalidOriginalShardIndex`, and
+// then with `DifferentShardSize`.
+fn check_change(
+    counts: DefaultRateCounts,
+    index: usize,
+    shard_bytes: usize,
+    got: usize,
+) -> Result<(), Error>
+    ensures { result ≡ change_outcome counts.original_count counts.recovery_count
+        index shard_bytes got }
+{
+    let original_count = counts.original_count;
+    if shard_bytes == 0 || shard_bytes % 2 == 1 {
+        return Err(Error::InvalidShardSize { shard_bytes });
+    }
+    if index >= original_count {
+        return Err(Error::InvalidOriginalShardIndex {
+            original_count,
+            index,
+        });
+    }
+    if got != shard_bytes {
+        return Err(Error::DifferentShardSize { shard_bytes, got });
+    }
+    Ok(())
+}
+
+// Adds the change from `old` to `new` to each recovery shard, times the factor of the shard. `factors` has the logarithms
+// of the factors.
+fn add_to_all<E: Engine>(
+    engine: &E,
+    steps: &mut Steps,
+    recovery: &mut [&mut [u8]],
+    old: &[u8],
+    new: &[u8],
+    factors: &[GfElement],
+)
+    requires number { length factors.now ≡ length recovery.old }
+    requires same { length new.now ≡ length old.now }
+    requires even { length old.now % 2 ≡ 0 }
+    requires fit { (i : ℕ) → i < length recovery.old
+        → length (shard_at (bytes_in recovery.old) i) ≡ length old.now }
+    requires small { (i : ℕ) → i < length recovery.old → slice_index factors.now i < 65535 }
+    ensures number { length recovery.new ≡ length recovery.old }
+    ensures kept { loans_of recovery.new ≡ loans_of recovery.old }
+    ensures changed { (i : ℕ) → i < length recovery.old
+        → IsChanged old.now new.now (slice_index factors.now i)
+        (shard_at (bytes_in recovery.old) i) (shard_at (bytes_in recovery.new) i) }
+{
+    for i in 0..recovery.len() {
+        add_to_shard(engine, steps, recovery[i], old, new, factors[i]);
+    }
+}
+
+// Adds the change from `old` to `new` to a recovery shard, times a factor. `log_m` is the logarithm of the factor.
+fn add_to_shard<E: Engine>(
+    engine: &E,
+    steps: &mut Steps,
+    shard: &mut [u8],
+    old: &[u8],
+    new: &[u8],
+    log_m: GfElement,
+)
+    requires old { length old.now ≡ length shard.old }
+    requires new { length new.now ≡ length shard.old }
+    requires even { length shard.old % 2 ≡ 0 }
+    requires factor { log_m < 65535 }
+    ensures { IsChanged old.now new.now log_m shard.old shard.new }
+{
+    let mut start = 0;
+    while start < shard.len() {
+        let end = start + STRIP_BYTES.min(shard.len() - start);
+        let piece = &mut shard[start..end];
+        add_to_piece(
+            engine,
+            steps,
+            piece,
+            &old[start..end],
+            &new[start..end],
+            log_m,
+        );
+        start = end;
+    }
+    are_bytes(shard);
+}
+
+// Adds the change of a piece of an original to the same piece of a recovery shard, times a factor.
+fn add_to_piece<E: Engine>(
+    engine: &E,
+    steps: &mut Steps,
+    piece: &mut [u8],
+    old: &[u8],
+    new: &[u8],
+    log_m: GfElement,
+)
+    requires old { length old.now ≡ length piece.old }
+    requires new { length new.now ≡ length piece.old }
+    requires even { length piece.old % 2 ≡ 0 }
+    requires few { length piece.old ≤ 2048 }
+    requires factor { log_m < 65535 }
+    ensures { IsChanged old.now new.now log_m piece.old piece.new }
+{
+    are_bytes(old);
+    are_bytes(new);
+    let mut room = [0; STRIP_BYTES];
+    let change = &mut room[..piece.len()];
+    put_change(change, old, new);
+    add_change(engine, steps, piece, change, log_m);
+    are_bytes(piece);
+}
+
+// Writes the bytewise XOR of two pieces into a room of their size.
+fn put_change(change: &mut [u8], old: &[u8], new: &[u8])
+    requires old { length old.now ≡ length change.old }
+    requires new { length new.now ≡ length change.old }
+    ensures length { length change.new ≡ length change.old }
+    ensures bytes { (i : ℕ) → i < length change.old
+        → slice_index change.new i ≡ bit_xor (slice_index old.now i) (slice_index new.now i) }
+{
+    for i in 0..change.len() {
+        change[i] = old[i] ^ new[i];
+    }
+}
