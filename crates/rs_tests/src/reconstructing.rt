@@ -1,5 +1,5 @@
 //! Tests of `reconstruct` and `reconstruct_into`: wanted originals and recovery shards come back, whichever are lost.
-use crate::sizes::losses::drawn;
+use super::shards::{drawn, left};
 use reed_solomon_simd::engine::tables::Tables;
 use reed_solomon_simd::engine::{DefaultEngine, EngineKind};
 use reed_solomon_simd::{
@@ -8,20 +8,6 @@ use reed_solomon_simd::{
 use std::alloc::Global;
 use std::process::Abort;
 use std::test::Fail;
-
-// Shards with their indexes.
-type Items<'a> = Vec<(usize, &'a [u8])>;
-
-// Returns the shards whose index is not in `lost`.
-fn left<'a>(alloc: Global, shards: &'a [Vec<u8>], lost: &[usize]) -> Result<Items<'a>, Fail> {
-    let mut items: Items<'a> = Vec::new(alloc);
-    for (index, shard) in shards.iter().enumerate() {
-        if !lost.contains(&index) {
-            items.push((index, shard.as_slice()))?;
-        }
-    }
-    Ok(items)
-}
 
 // Loses an original and a recovery shard, and checks that both come back, in both orders.
 fn check_pair(
