@@ -63,14 +63,10 @@ impl<'t> OneCall<'t> {
         }
     }
 
-    // Encodes the given originals with iterators. Sets `left` to the number of originals that the call has not taken.
-    fn encode_places(
-        &self,
-        originals: &[Option<Shard>],
-        left: &mut Left,
-    ) -> Result<Vec<Vec<u8>>, Error> {
+    // Encodes the given originals with an iterator. Sets `left` to the number of originals that the call has not taken.
+    fn encode_places(&self, left: &mut Left) -> Result<Vec<Vec<u8>>, Error> {
         let (k, r, _) = self.configuration.numbers();
-        let mut originals = Originals(originals);
+        let mut originals = Originals(self.next.as_slice());
         let watch = Watch::new(self.alloc);
         let answer = encode(self.alloc, k, r, &mut originals, self.engine);
         drop(watch);
@@ -79,20 +75,42 @@ impl<'t> OneCall<'t> {
     }
 
     // Decodes the given shards with iterators. Sets `left` to the numbers of shards that the call has not taken.
-    fn decode_places(
-        &self,
-        originals: &[Option<Shard>],
-        recoveries: &[Option<Shard>],
-        left: &mut Left,
-    ) -> Result<BTreeMap<usize, Vec<u8>>, Error> {
+    fn decode_places(&self, left: &mut Left) -> Result<BTreeMap<usize, Vec<u8>>, Error> {
         let (k, r, _) = self.configuration.numbers();
-        let (mut original, mut recovery) = (Received(originals), Received(recoveries));
+        let mut original = Received(self.original.as_slice());
+        let mut recovery = Received(self.recovery.as_slice());
         let watch = Watch::new(self.alloc);
         let answer = decode(self.alloc, k, r, &mut original, &mut recovery, self.engine);
         drop(watch);
         left.originals = original.0.len();
         left.recoveries = recovery.0.len();
         answer
+    }
+
+    // Encodes the given originals in the form of this level. Clears `agrees` if the call mistreats its rooms.
+    fn encode_given(&self, left: &mut Left, agrees: &mut bool) -> Result<Vec<Vec<u8>>, Error> {
+        let (alloc, counts, engine) = (self.alloc, self.configuration, self.engine);
+        let own = self.next.as_slice();
+        match self.form {
+            Form::Iterators => self.encode_places(left),
+            Form::Slices => slices::encode(alloc, counts, own, engine),
+            Form::Rooms => rooms::encode(alloc, counts, own, engine, agrees),
+        }
+    }
+
+    // Decodes the given shards in the form of this level. Clears `agrees` if the call mistreats its rooms.
+    fn decode_given(
+        &self,
+        left: &mut Left,
+        agrees: &mut bool,
+    ) -> Result<BTreeMap<usize, Vec<u8>>, Error> {
+        let (alloc, counts, engine) = (self.alloc, self.configuration, self.engine);
+        let (own, further) = (self.original.as_slice(), self.recovery.as_slice());
+        match self.form {
+            Form::Iterators => self.decode_places(left),
+            Form::Slices => slices::decode(alloc, counts, own, further, engine),
+            Form::Rooms => rooms::decode(alloc, counts, own, further, engine, agrees),
+        }
     }
 }
 
@@ -127,13 +145,7 @@ impl Level for OneCall<'_> {
     }
 
     fn encode(&mut self, kept: &mut Kept) -> Answer {
-        let (alloc, counts, engine) = (self.alloc, self.configuration, self.engine);
-        let own = self.next.as_slice();
-        let answer = match self.form {
-            Form::Iterators => self.encode_places(own, &mut kept.left),
-            Form::Slices => slices::encode(alloc, counts, own, engine),
-            Form::Rooms => rooms::encode(alloc, counts, own, engine, &mut kept.agrees),
-        };
+        let answer = self.encode_given(&mut kept.left, &mut kept.agrees);
         self.next.clear();
         kept.recovery.clear();
         for (index, bytes) in answer?.into_iter().enumerate() {
@@ -143,13 +155,7 @@ impl Level for OneCall<'_> {
     }
 
     fn decode(&mut self, kept: &mut Kept) -> Answer {
-        let (alloc, counts, engine) = (self.alloc, self.configuration, self.engine);
-        let (own, further) = (self.original.as_slice(), self.recovery.as_slice());
-        let answer = match self.form {
-            Form::Iterators => self.decode_places(own, further, &mut kept.left),
-            Form::Slices => slices::decode(alloc, counts, own, further, engine),
-            Form::Rooms => rooms::decode(alloc, counts, own, further, engine, &mut kept.agrees),
-        };
+        let answer = self.decode_given(&mut kept.left, &mut kept.agrees);
         self.original.clear();
         self.recovery.clear();
         kept.restored.clear();
