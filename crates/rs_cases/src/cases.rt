@@ -2,8 +2,12 @@
 /// The level of use at which an action is run.
 #[derive(Clone, Copy, PartialEq, Eq)]
 pub enum LevelName {
-    /// The one-call functions.
+    /// The one-call functions over iterators.
     Call,
+    /// The one-call functions over slices.
+    Slices,
+    /// The one-call functions that write into rooms.
+    Rooms,
     /// The plain objects.
     Plain,
     /// The objects of the low rate.
@@ -19,6 +23,8 @@ impl LevelName {
     pub fn word(self) -> &'static str {
         match self {
             LevelName::Call => "call",
+            LevelName::Slices => "slices",
+            LevelName::Rooms => "rooms",
             LevelName::Plain => "plain",
             LevelName::Low => "low",
             LevelName::High => "high",
@@ -232,7 +238,7 @@ impl Case {
 pub struct CaseFile {
     /// The ways in which cases get their objects. Every case is run once in each of these ways.
     pub ways: Vec<Way>,
-    /// Whether the cases are run with every engine.
+    /// Whether the cases are run with every engine. Otherwise they are run with `ssse3` alone.
     pub every_engine: bool,
     /// The cases, in order.
     pub cases: Vec<Case>,

@@ -3,7 +3,7 @@ use crate::cases::{Action, Case, CaseFile, Left, LevelName, Line, Step, Way};
 use crate::comparison::is_expected;
 use crate::interpreter::{Failure, Returned, act};
 use crate::kept::Kept;
-use crate::one_call::OneCall;
+use crate::one_call::{Form, OneCall};
 use crate::plain::Plain;
 use crate::rated::Rated;
 use crate::report::Report;
@@ -12,9 +12,11 @@ use reed_solomon_simd::engine::{DefaultEngine, Engine};
 use reed_solomon_simd::rate::{DefaultRate, HighRate, LowRate};
 use std::alloc::{AllocError, Global};
 
-/// All levels: the one-call functions, the plain objects, and the objects of each rate.
+/// All levels: the three forms of the one-call functions, the plain objects, and the objects of each rate.
 pub const LEVELS: &[LevelName] = &[
     LevelName::Call,
+    LevelName::Slices,
+    LevelName::Rooms,
     LevelName::Plain,
     LevelName::Low,
     LevelName::High,
@@ -32,6 +34,8 @@ pub struct Levels<'t, E: Engine> {
     names: &'static [LevelName],
     alloc: Global,
     call: OneCall<'t>,
+    slices: OneCall<'t>,
+    rooms: OneCall<'t>,
     plain: Plain<'t>,
     low: Rated<E, LowRate<E>>,
     high: Rated<E, HighRate<E>>,
@@ -53,7 +57,9 @@ impl<'t, E: Engine + Copy> Levels<'t, E> {
         Ok(Levels {
             names,
             alloc,
-            call: OneCall::new(alloc, chosen),
+            call: OneCall::new(alloc, chosen, Form::Iterators),
+            slices: OneCall::new(alloc, chosen, Form::Slices),
+            rooms: OneCall::new(alloc, chosen, Form::Rooms),
             plain: Plain::new(alloc, chosen)?,
             low: Rated::new(alloc, engine)?,
             high: Rated::new(alloc, engine)?,
@@ -151,6 +157,8 @@ impl<'t, E: Engine + Copy> Levels<'t, E> {
     ) -> Result<Returned, Failure> {
         match level {
             LevelName::Call => act(&mut self.call, kept, action),
+            LevelName::Slices => act(&mut self.slices, kept, action),
+            LevelName::Rooms => act(&mut self.rooms, kept, action),
             LevelName::Plain => act(&mut self.plain, kept, action),
             LevelName::Low => act(&mut self.low, kept, action),
             LevelName::High => act(&mut self.high, kept, action),

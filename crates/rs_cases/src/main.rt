@@ -18,6 +18,8 @@ mod plain;
 mod rated;
 mod reading;
 mod report;
+mod rooms;
+mod slices;
 mod watch;
 mod words;
 
@@ -32,7 +34,7 @@ use std::alloc::Global;
 use std::{env, fs};
 use watch::Watch;
 
-// Runs a file's cases with each engine that can be chosen by name, or only with the first such engine.
+// Runs a file's cases with each engine that can be chosen by name, or only with `ssse3`.
 fn run_over_kinds(
     alloc: Global,
     file: &CaseFile,
@@ -45,10 +47,9 @@ fn run_over_kinds(
         (EngineKind::Avx2, "avx2"),
         (EngineKind::Ssse3, "ssse3"),
     ] {
-        let engine = DefaultEngine::new(tables, kind);
-        Levels::new(alloc, engine, engine, LEVELS)?.run(file, name, report)?;
-        if !file.every_engine {
-            break;
+        if file.every_engine || kind == EngineKind::Ssse3 {
+            let engine = DefaultEngine::new(tables, kind);
+            Levels::new(alloc, engine, engine, LEVELS)?.run(file, name, report)?;
         }
     }
     Ok(())

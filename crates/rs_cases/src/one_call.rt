@@ -1,4 +1,4 @@
-//! The level of the one-call functions. The level collects the shards, and passes them when the call is made.
+//! The levels of the one-call functions. A level collects the shards, and passes them when the call is made.
 ghost use Rattle.std.specs.Prelude.{length};
 ghost use Rattle.std.specs.Iterator.{at_most};
 
@@ -6,16 +6,29 @@ use crate::cases::{Configuration, Left, Object, Role, Shard};
 use crate::kept::{Kept, Works};
 use crate::level::{Answer, Level};
 use crate::watch::Watch;
+use crate::{rooms, slices};
 use reed_solomon_simd::engine::DefaultEngine;
 use reed_solomon_simd::{Error, decode, encode};
 use std::alloc::Global;
 use std::collections::BTreeMap;
 
-/// The one-call functions, with the counts and the shards for the next call.
+/// The form in which a call takes and returns shards.
+#[derive(Clone, Copy)]
+pub enum Form {
+    /// The call takes shards from iterators, and returns vectors.
+    Iterators,
+    /// The call takes slices of shards, and returns vectors.
+    Slices,
+    /// The call takes slices of shards, and writes into rooms.
+    Rooms,
+}
+
+/// The one-call functions of one form, with the counts and the shards for the next call.
 #[derive(Drop)]
 pub struct OneCall<'t> {
     alloc: Global,
     engine: DefaultEngine<'t>,
+    form: Form,
     configuration: Configuration,
     // The items of the three iterators. `None` is a place at which an iterator ends once.
     next: Vec<Option<Shard>>,
@@ -25,10 +38,11 @@ pub struct OneCall<'t> {
 
 impl<'t> OneCall<'t> {
     /// Makes a level that has not received a shard.
-    pub fn new(alloc: Global, engine: DefaultEngine<'t>) -> OneCall<'t> {
+    pub fn new(alloc: Global, engine: DefaultEngine<'t>, form: Form) -> OneCall<'t> {
         OneCall {
             alloc,
             engine,
+            form,
             configuration: Configuration {
                 original_count: 1,
                 recovery_count: 1,
@@ -49,22 +63,54 @@ impl<'t> OneCall<'t> {
         }
     }
 
-    // Decodes the given shards. Returns the result of the call, and the numbers of shards that the call has not taken.
-    fn decode_places<'a>(
-        &self,
-        originals: &'a [Option<Shard>],
-        recoveries: &'a [Option<Shard>],
-    ) -> (Result<BTreeMap<usize, Vec<u8>>, Error>, Left) {
+    // Encodes the given originals with an iterator. Sets `left` to the number of originals that the call has not taken.
+    fn encode_places(&self, left: &mut Left) -> Result<Vec<Vec<u8>>, Error> {
         let (k, r, _) = self.configuration.numbers();
-        let (mut original, mut recovery) = (Received(originals), Received(recoveries));
+        let mut originals = Originals(self.next.as_slice());
+        let watch = Watch::new(self.alloc);
+        let answer = encode(self.alloc, k, r, &mut originals, self.engine);
+        drop(watch);
+        left.originals = originals.0.len();
+        answer
+    }
+
+    // Decodes the given shards with iterators. Sets `left` to the numbers of shards that the call has not taken.
+    fn decode_places(&self, left: &mut Left) -> Result<BTreeMap<usize, Vec<u8>>, Error> {
+        let (k, r, _) = self.configuration.numbers();
+        let mut original = Received(self.original.as_slice());
+        let mut recovery = Received(self.recovery.as_slice());
         let watch = Watch::new(self.alloc);
         let answer = decode(self.alloc, k, r, &mut original, &mut recovery, self.engine);
         drop(watch);
-        let left = Left {
-            originals: original.0.len(),
-            recoveries: recovery.0.len(),
-        };
-        (answer, left)
+        left.originals = original.0.len();
+        left.recoveries = recovery.0.len();
+        answer
+    }
+
+    // Encodes the given originals in the form of this level. Clears `agrees` if the call mistreats its rooms.
+    fn encode_given(&self, left: &mut Left, agrees: &mut bool) -> Result<Vec<Vec<u8>>, Error> {
+        let (alloc, counts, engine) = (self.alloc, self.configuration, self.engine);
+        let own = self.next.as_slice();
+        match self.form {
+            Form::Iterators => self.encode_places(left),
+            Form::Slices => slices::encode(alloc, counts, own, engine),
+            Form::Rooms => rooms::encode(alloc, counts, own, engine, agrees),
+        }
+    }
+
+    // Decodes the given shards in the form of this level. Clears `agrees` if the call mistreats its rooms.
+    fn decode_given(
+        &self,
+        left: &mut Left,
+        agrees: &mut bool,
+    ) -> Result<BTreeMap<usize, Vec<u8>>, Error> {
+        let (alloc, counts, engine) = (self.alloc, self.configuration, self.engine);
+        let (own, further) = (self.original.as_slice(), self.recovery.as_slice());
+        match self.form {
+            Form::Iterators => self.decode_places(left),
+            Form::Slices => slices::decode(alloc, counts, own, further, engine),
+            Form::Rooms => rooms::decode(alloc, counts, own, further, engine, agrees),
+        }
     }
 }
 
@@ -99,15 +145,7 @@ impl Level for OneCall<'_> {
     }
 
     fn encode(&mut self, kept: &mut Kept) -> Answer {
-        let (k, r, _) = self.configuration.numbers();
-        let mut originals = Originals(self.next.as_slice());
-        let watch = Watch::new(self.alloc);
-        let answer = encode(self.alloc, k, r, &mut originals, self.engine);
-        drop(watch);
-        kept.left = Left {
-            originals: originals.0.len(),
-            recoveries: 0,
-        };
+        let answer = self.encode_given(&mut kept.left, &mut kept.agrees);
         self.next.clear();
         kept.recovery.clear();
         for (index, bytes) in answer?.into_iter().enumerate() {
@@ -117,9 +155,7 @@ impl Level for OneCall<'_> {
     }
 
     fn decode(&mut self, kept: &mut Kept) -> Answer {
-        let (originals, recoveries) = (self.original.as_slice(), self.recovery.as_slice());
-        let (answer, left) = self.decode_places(originals, recoveries);
-        kept.left = left;
+        let answer = self.decode_given(&mut kept.left, &mut kept.agrees);
         self.original.clear();
         self.recovery.clear();
         kept.restored.clear();

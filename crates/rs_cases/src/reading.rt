@@ -94,6 +94,8 @@ fn read_levels(alloc: Global, text: &str) -> Result<Vec<LevelName>, Fault> {
 fn level_of(word: &str) -> Result<LevelName, Fault> {
     match word {
         "call" => Ok(LevelName::Call),
+        "slices" => Ok(LevelName::Slices),
+        "rooms" => Ok(LevelName::Rooms),
         "plain" => Ok(LevelName::Plain),
         "low" => Ok(LevelName::Low),
         "high" => Ok(LevelName::High),

@@ -8,8 +8,50 @@ use std::alloc::Global;
 use std::env;
 use std::rt::Runtime;
 
-/// The help text of `--block`.
-const BLOCK_HELP: &str = "Cut the files into blocks of this size";
+/// The commands, with the names of their paths and their help texts.
+const COMMANDS: [(&str, &str, &str); 6] = [
+    (
+        "create",
+        "FILE",
+        "Make a volume with recovery blocks beside the files",
+    ),
+    ("split", "FILE", "Spread the files over volumes"),
+    ("verify", "VOLUME", "Look for damage"),
+    ("repair", "VOLUME", "Restore damaged and missing files"),
+    ("join", "VOLUME", "Restore all files from volumes"),
+    ("info", "VOLUME", "Show what a volume describes"),
+];
+
+/// An option: the command that has it, or an empty text if all commands have it; its name; its letter or none; the name of
+/// its value, or none if it takes no value; and its help text.
+type Choice = (
+    &'static str,
+    &'static str,
+    Option<char>,
+    Option<&'static str>,
+    &'static str,
+);
+
+/// The options of all commands.
+const OPTIONS: [Choice; 17] = [
+    ("", "quiet", Some('q'), None, "Print errors alone"),
+    ("", "force", None, None, "Overwrite files that exist"),
+    ("", "progress", None, Some("WHEN"), "Show progress: auto, always or never [default: auto]"),
+    ("", "memory", None, Some("BYTES"), "Use at most so much memory, as 64M [default: 1G]"),
+    ("create", "output", Some('o'), Some("VOLUME"), "Write this volume"),
+    ("create", "recovery", Some('r'), Some("COUNT"), "Make so many recovery blocks, as 10% or 300"),
+    ("create", "block", None, Some("BYTES"), "Cut the files into blocks of this size"),
+    ("split", "output", Some('o'), Some("FOLDER"), "Write the volumes into this folder"),
+    ("split", "volumes", Some('n'), Some("COUNT"), "Make so many volumes"),
+    ("split", "lose", None, Some("COUNT"), "Allow that so many volumes are lost [default: 1]"),
+    ("split", "block", None, Some("BYTES"), "Cut the files into blocks of this size"),
+    ("verify", "folder", None, Some("FOLDER"), "The files are in this folder"),
+    ("verify", "json", None, None, "Print the result as JSON"),
+    ("repair", "folder", None, Some("FOLDER"), "The files are in this folder"),
+    ("repair", "to", None, Some("FOLDER"), "Write the restored files into this folder"),
+    ("join", "to", None, Some("FOLDER"), "Write the files into this folder"),
+    ("info", "json", None, None, "Print the result as JSON"),
+];
 
 /// A request, or the status with which the program ends at once.
 #[derive(Drop)]
@@ -20,25 +62,22 @@ pub enum Parsed {
     Stop(u8),
 }
 
-// Returns an option with a value.
-fn value<'a>(alloc: Global, name: &'a str, shown: &'a str, help: &'a str) -> Arg<'a> {
-    Arg::new(alloc, name)
-        .long(name)
-        .value_name(shown)
-        .action(ArgAction::Set)
-        .help(help)
+// Returns an option as clap takes it.
+fn arg_of<'a>(alloc: Global, choice: Choice) -> Arg<'a> {
+    let (_, name, letter, value, help) = choice;
+    let arg = Arg::new(alloc, name).long(name).help(help);
+    let arg = match letter {
+        Some(letter) => arg.short(letter),
+        None => arg,
+    };
+    match value {
+        Some(shown) => arg.value_name(shown).action(ArgAction::Set),
+        None => arg.action(ArgAction::SetTrue),
+    }
 }
 
-// Returns an option without a value.
-fn flag<'a>(alloc: Global, name: &'a str, help: &'a str) -> Arg<'a> {
-    Arg::new(alloc, name)
-        .long(name)
-        .action(ArgAction::SetTrue)
-        .help(help)
-}
-
-// Returns a command that takes paths, with the options that every command has.
-fn command<'a>(
+// Returns a command that takes paths, with its options.
+fn command_of<'a>(
     alloc: Global,
     name: &'a str,
     paths: &'a str,
@@ -49,97 +88,22 @@ fn command<'a>(
         .required(true)
         .action(ArgAction::Append)
         .num_args(1..);
-    let quiet = flag(alloc, "quiet", "Print errors alone").short('q');
-    let force = flag(alloc, "force", "Overwrite files that exist");
-    let progress = value(
-        alloc,
-        "progress",
-        "WHEN",
-        "Show progress: auto, always or never [default: auto]",
-    );
-    let memory = value(
-        alloc,
-        "memory",
-        "BYTES",
-        "Use at most so much memory, as 64M [default: 1G]",
-    );
-    Ok(
-        Command::new(alloc, name)
-            .about(about)
-            .arg(paths)?
-            .arg(quiet)?
-            .arg(force)?
-            .arg(progress)?
-            .arg(memory)?,
-    )
+    let mut command = Command::new(alloc, name).about(about).arg(paths)?;
+    for choice in OPTIONS {
+        if choice.0.is_empty() || choice.0 == name {
+            command = command.arg(arg_of(alloc, choice))?;
+        }
+    }
+    Ok(command)
 }
 
-// Returns the command `create`.
-fn creator<'a>(alloc: Global) -> Result<Command<'a>> {
-    let about = "Make a volume with recovery blocks beside the files";
-    let output = value(alloc, "output", "VOLUME", "Write this volume").short('o');
-    let help = "Make so many recovery blocks, as 10% or 300";
-    let recovery = value(alloc, "recovery", "COUNT", help).short('r');
-    let block = value(alloc, "block", "BYTES", BLOCK_HELP);
-    let create = command(alloc, "create", "FILE", about)?;
-    Ok(create.arg(output)?.arg(recovery)?.arg(block)?)
-}
-
-// Returns the command `split`.
-fn splitter<'a>(alloc: Global) -> Result<Command<'a>> {
-    let about = "Spread the files over volumes";
-    let help = "Write the volumes into this folder";
-    let output = value(alloc, "output", "FOLDER", help).short('o');
-    let volumes = value(alloc, "volumes", "COUNT", "Make so many volumes").short('n');
-    let help = "Allow that so many volumes are lost [default: 1]";
-    let lose = value(alloc, "lose", "COUNT", help);
-    let block = value(alloc, "block", "BYTES", BLOCK_HELP);
-    let split = command(alloc, "split", "FILE", about)?;
-    Ok(split.arg(output)?.arg(volumes)?.arg(lose)?.arg(block)?)
-}
-
-// Adds the commands that make volumes: `create` and `split`.
-fn makers<'a>(alloc: Global, top: Command<'a>) -> Result<Command<'a>> {
-    let create = creator(alloc)?;
-    let split = splitter(alloc)?;
-    Ok(top.subcommand(create)?.subcommand(split)?)
-}
-
-// Adds the commands that read volumes: `verify`, `repair`, `join` and `info`.
-fn readers<'a>(alloc: Global, top: Command<'a>) -> Result<Command<'a>> {
-    let verify = command(alloc, "verify", "VOLUME", "Look for damage")?
-        .arg(value(alloc, "folder", "FOLDER", "The files are in this folder"))?
-        .arg(flag(alloc, "json", "Print the result as JSON"))?;
-    let repair = command(
-        alloc,
-        "repair",
-        "VOLUME",
-        "Restore damaged and missing files",
-    )?
-    .arg(value(alloc, "folder", "FOLDER", "The files are in this folder"))?
-    .arg(value(
-        alloc,
-        "to",
-        "FOLDER",
-        "Write the restored files into this folder",
-    ))?;
-    let join = command(alloc, "join", "VOLUME", "Restore all files from volumes")?.arg(value(
-        alloc,
-        "to",
-        "FOLDER",
-        "Write the files into this folder",
-    ))?;
-    let info = command(alloc, "info", "VOLUME", "Show what a volume describes")?.arg(flag(
-        alloc,
-        "json",
-        "Print the result as JSON",
-    ))?;
-    Ok(
-        top.subcommand(verify)?
-            .subcommand(repair)?
-            .subcommand(join)?
-            .subcommand(info)?,
-    )
+// Adds all commands.
+fn with_commands<'a>(alloc: Global, top: Command<'a>) -> Result<Command<'a>> {
+    let mut all = top;
+    for (name, paths, about) in COMMANDS {
+        all = all.subcommand(command_of(alloc, name, paths, about)?)?;
+    }
+    Ok(all)
 }
 
 // Returns the exit status after an error of the command line. The help text and the version are no error, and a lack of
@@ -165,7 +129,7 @@ pub fn read_words<R: Runtime + AllocGlobal>(rt: &R, terminal: bool) -> Result<Pa
         .about("Protects files against damage, and spreads them over places")
         .subcommand_required(true)
         .arg_required_else_help(true);
-    let top = readers(alloc, makers(alloc, top)?)?;
+    let top = with_commands(alloc, top)?;
     let matches = match top.try_get_matches_from(words.as_slice()) {
         Ok(matches) => matches,
         Err(error) => {

@@ -16,7 +16,7 @@ mod reconstructing;
 #[cfg(test)]
 mod rows;
 #[cfg(test)]
-mod sizes;
+mod shards;
 #[cfg(test)]
 mod stripes;
 #[cfg(test)]

@@ -21,6 +21,3 @@ mod writing;
 
 pub use reading::read_description;
 pub use writing::write_description;
-
-#[cfg(test)]
-mod tests;

@@ -1,0 +1,137 @@
+//! The one-call functions that write into rooms, which are memory of the caller.
+use crate::cases::{Configuration, Shard};
+use crate::slices::{lent, lent_items};
+use crate::watch::Watch;
+use reed_solomon_simd::engine::DefaultEngine;
+use reed_solomon_simd::{Error, RoomError, decode_into, encode_into};
+use std::alloc::{AllocError, Global};
+use std::collections::BTreeMap;
+
+// The byte that every room holds before a call.
+const BEFORE: u8 = 9;
+
+// The most rooms of a call. No counts of more shards are supported.
+const MOST_ROOMS: usize = 65536;
+
+// Makes rooms of the size of a shard.
+fn rooms_of(
+    alloc: Global,
+    count: usize,
+    places: &[Option<Shard>],
+) -> Result<Vec<Vec<u8>>, AllocError> {
+    let size = places.iter().flatten().map(|shard| shard.bytes.len()).next();
+    let mut rooms = Vec::new(alloc);
+    for _ in 0..count {
+        rooms.push(vec![in alloc; BEFORE; size.unwrap_or(2)]?)?;
+    }
+    Ok(rooms)
+}
+
+// Lends rooms.
+fn lend(alloc: Global, rooms: &mut [Vec<u8>]) -> Result<Vec<&mut [u8]>, AllocError> {
+    let mut lent = Vec::new(alloc);
+    for room in rooms {
+        lent.push(room.as_mut_slice())?;
+    }
+    Ok(lent)
+}
+
+// Returns whether every room holds what it held before the call.
+fn are_untouched(rooms: &[Vec<u8>]) -> bool {
+    rooms
+        .iter()
+        .all(|room| room.iter().all(|byte| *byte == BEFORE))
+}
+
+// Returns the rooms after a call, or the error of the library. Clears `agrees` if the call did not accept the rooms, or
+// failed and changed them.
+fn outcome(
+    answer: Result<(), RoomError>,
+    rooms: Vec<Vec<u8>>,
+    agrees: &mut bool,
+) -> Result<Vec<Vec<u8>>, Error> {
+    match answer {
+        Ok(()) => Ok(rooms),
+        Err(RoomError::Refused(error)) if are_untouched(&rooms) => Err(error),
+        Err(_) => {
+            *agrees = false;
+            Ok(rooms)
+        }
+    }
+}
+
+/// Encodes originals with `encode_into`, and returns the rooms. Clears `agrees` if the call did not accept the rooms, or
+/// failed and changed them.
+///
+/// # Errors
+///
+/// The error of the library, or [`Error::OutOfMemory`] if the rooms cannot be allocated.
+pub fn encode(
+    alloc: Global,
+    configuration: Configuration,
+    originals: &[Option<Shard>],
+    engine: DefaultEngine<'_>,
+    agrees: &mut bool,
+) -> Result<Vec<Vec<u8>>, Error> {
+    let (k, r, _) = configuration.numbers();
+    let shards = lent(alloc, originals)?;
+    let mut rooms = rooms_of(alloc, r.min(MOST_ROOMS), originals)?;
+    let mut lent_rooms = lend(alloc, &mut rooms)?;
+    let watch = Watch::new(alloc);
+    let answer = encode_into(alloc, k, r, &shards, &mut lent_rooms, engine);
+    drop(watch);
+    drop(lent_rooms);
+    outcome(answer, rooms, agrees)
+}
+
+// Returns the indexes of the originals that were not received, in order.
+fn missing_indexes(
+    alloc: Global,
+    count: usize,
+    received: &[(usize, &[u8])],
+) -> Result<Vec<usize>, AllocError> {
+    let mut is_received = vec![in alloc; false; count.min(MOST_ROOMS)]?;
+    for (index, _) in received {
+        if let Some(mark) = is_received.get_mut(*index) {
+            *mark = true;
+        }
+    }
+    let mut missing = Vec::new(alloc);
+    for (index, mark) in is_received.iter().enumerate() {
+        if !*mark {
+            missing.push(index)?;
+        }
+    }
+    Ok(missing)
+}
+
+/// Decodes received shards with `decode_into`, and returns the rooms by the indexes of the missing originals. Clears
+/// `agrees` if the call did not accept the rooms, or failed and changed them.
+///
+/// # Errors
+///
+/// The error of the library, or [`Error::OutOfMemory`] if the rooms cannot be allocated.
+pub fn decode(
+    alloc: Global,
+    configuration: Configuration,
+    originals: &[Option<Shard>],
+    recoveries: &[Option<Shard>],
+    engine: DefaultEngine<'_>,
+    agrees: &mut bool,
+) -> Result<BTreeMap<usize, Vec<u8>>, Error> {
+    let (k, r, _) = configuration.numbers();
+    let own = lent_items(alloc, originals)?;
+    let further = lent_items(alloc, recoveries)?;
+    let missing = missing_indexes(alloc, k, &own)?;
+    let mut rooms = rooms_of(alloc, missing.len(), recoveries)?;
+    let mut lent_rooms = lend(alloc, &mut rooms)?;
+    let watch = Watch::new(alloc);
+    let answer = decode_into(alloc, k, r, &own, &further, &mut lent_rooms, engine);
+    drop(watch);
+    drop(lent_rooms);
+    let mut restored = BTreeMap::new(alloc);
+    for (index, room) in missing.into_iter().zip(outcome(answer, rooms, agrees)?) {
+        restored.insert(index, room)?;
+    }
+    Ok(restored)
+}
