@@ -1,4 +1,4 @@
-/* rs_verify, rs_reconstruct and rs_update. Words: `rounds SEED COUNT`; `refusals`. */
+/* rs_verify, rs_reconstruct and rs_update. Words: `rounds SEED COUNT`; `pairs`; `refusals`. */
 #include "reed_solomon_simd.h"
 
 #include <stdio.h>
@@ -37,9 +37,8 @@ struct message {
     size_t *order;
 };
 
-static struct message made(uint64_t *state) {
-    struct message m = {1 + drawn(state) % 12, 1 + drawn(state) % 12, 2 + 2 * (drawn(state) % 40), NULL, NULL};
-    if (drawn(state) % 8 == 0) m.size += 4096;
+static struct message made_of(size_t k, size_t r, size_t size, uint64_t *state) {
+    struct message m = {k, r, size, NULL, NULL};
     m.shards = room((m.k + m.r) * m.size);
     m.order = room((m.k + m.r) * sizeof *m.order);
     for (size_t i = 0; i < m.k * m.size; i++) m.shards[i] = (uint8_t)(drawn(state) >> 24);
@@ -50,6 +49,11 @@ static struct message made(uint64_t *state) {
     }
     if (rs_encode(tables, m.k, m.r, m.size, m.shards, m.k * m.size, m.shards + m.k * m.size, m.r * m.size, NULL)) wrong("an encode fails");
     return m;
+}
+
+static struct message made(uint64_t *state) {
+    size_t k = 1 + drawn(state) % 12, r = 1 + drawn(state) % 12, size = 2 + 2 * (drawn(state) % 40);
+    return made_of(k, r, drawn(state) % 8 == 0 ? size + 4096 : size, state);
 }
 
 /* Shards that were received: the first ones of the order. */
@@ -129,6 +133,33 @@ static void round_of(uint64_t *state) {
     }
     free(m.shards);
     free(m.order);
+}
+
+/* The original and the recovery shard with these indexes are lost, and come back. */
+static void pair(struct message *m, size_t own, size_t other) {
+    size_t count = 0;
+    for (size_t i = 0; i < m->k + m->r; i++)
+        if (i != own && i != m->k + other) m->order[count++] = i;
+    m->order[count] = own;
+    m->order[count + 1] = m->k + other;
+    struct received a = first_of(m, count);
+    struct rs_fault fault = {99, 99, 99, 99};
+    if (verified(m, &a, &fault) || reconstructed(m, &a, count, &fault) || !told(&fault, RS_OK, 0, 0, 0)) wrong("a pair doesn't come back");
+}
+
+/* Every pair of a lost original and a lost recovery shard, for all counts up to 12:12. */
+static void pairs(void) {
+    uint64_t state = 12;
+    size_t count = 0;
+    for (size_t k = 1; k <= 12; k++)
+        for (size_t r = 2; r <= 12; r++) {
+            struct message m = made_of(k, r, 66, &state);
+            for (size_t own = 0; own < k; own++)
+                for (size_t other = 0; other < r; other++, count++) pair(&m, own, other);
+            free(m.shards);
+            free(m.order);
+        }
+    printf("received: %zu pairs of lost shards come back\n", count);
 }
 
 /* The shards that the refusals below pass: three originals and two recovery shards of four bytes, and one of six. */
@@ -220,7 +251,9 @@ int main(int count, char **words) {
         uint64_t state = strtoull(words[2], NULL, 10);
         for (unsigned long n = strtoul(words[3], NULL, 10); n > 0; n--) round_of(&state);
         puts("received: rounds");
-    } else if (count == 2 && !strcmp(words[1], "refusals"))
+    } else if (count == 2 && !strcmp(words[1], "pairs"))
+        pairs();
+    else if (count == 2 && !strcmp(words[1], "refusals"))
         refusals();
     else
         wrong("no such words");
