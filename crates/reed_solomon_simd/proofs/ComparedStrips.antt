@@ -124,7 +124,7 @@ module _ (s : DecoderState) (is : IsDecoder default_rate s)
             let c : Configuration = (state_of_pieces start end s).configuration in
             let n = count-pieces start end s.configuration.original_count s.originals in
             let one : Agrees (state_of_pieces start end s).configuration (pieces_of start end s.originals) nothing
-              message =
+            message =
             record {
               shards = agrees.shards;
               own = agrees.own;
@@ -135,7 +135,7 @@ module _ (s : DecoderState) (is : IsDecoder default_rate s)
             record { shards = listed-are; own = listed-among; coded = (made, coded, nothing_among made) } in
             let same = one_message c (pieces_of start end s.originals) nothing message listed_pieces
             (valid-supported s.configuration is.valid) (even-strip s is start end strip) (omega (arith, n, all)) one
-              other in
+            other in
             let recovered : AreRecovery (state_of_pieces start end s).configuration listed_pieces agrees.coded.0 =
             subst (λ (m : List Shard). AreRecovery (state_of_pieces start end s).configuration m agrees.coded.0) same
             agrees.coded.1 in

@@ -1,6 +1,24 @@
 -- From the result of collecting received shards to the result of `verify`.
-use Rattle.std.proofs.Common.{◌≡◌, ℕ, [], ◌∷◌, Option, Some, None, Result, Ok, Err, false, refl, sym, ap, ◌∙◌, subst,
-  inl, inr}
+use Rattle.std.proofs.Common.{
+  ◌≡◌,
+  ℕ,
+  [],
+  ◌∷◌,
+  Option,
+  Some,
+  None,
+  Result,
+  Ok,
+  Err,
+  false,
+  refl,
+  sym,
+  ap,
+  ◌∙◌,
+  subst,
+  inl,
+  inr,
+}
 use Rattle.std.proofs.Common.{arith}
 use Rattle.std.specs.Prelude.{◌⊎◌, MatchResult, IsOk, is_ok}
 use Rattle.rs_field.specs.declared.code.error.Error.{Error}
@@ -49,7 +67,7 @@ module _ (k r : ℕ) (originals recovery : Items) where
     -- The decoder is the outcome of adding the shards.
     pub receiving-outcome : Ok s ≡ receiving_outcome k r (received_size originals recovery) originals recovery
     receiving-outcome = elim is
-      [ inl same ↦ same | inr lacks ↦ let refused = lacks.1 in absurd (let no : ⊥ = cc in no) ]
+        [ inl same ↦ same | inr lacks ↦ let refused = lacks.1 in absurd (let no : ⊥ = cc in no) ]
 
     -- What the decoder says of the shards is the result of `verify`.
     verifies-led : (result : Result (Unit {0}) Error) → VerifyAnswers s result

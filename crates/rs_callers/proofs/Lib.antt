@@ -7,3 +7,4 @@ pub mod MessageBack
 pub mod LeftReceived
 pub mod VerifyLaws
 pub mod ReconstructLaws
+mod UpdatedCode

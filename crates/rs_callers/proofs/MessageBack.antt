@@ -1,6 +1,23 @@
 -- The last steps of a round trip of a message: its originals are completed and joined.
-use Rattle.std.proofs.Common.{◌≡◌, ℕ, ◌<◌, ◌%◌, Bool, true, false, cond, List, [], map, length, Ok, Err, Result, Vec,
-  Bor}
+use Rattle.std.proofs.Common.{
+  ◌≡◌,
+  ℕ,
+  ◌<◌,
+  ◌%◌,
+  Bool,
+  true,
+  false,
+  cond,
+  List,
+  [],
+  map,
+  length,
+  Ok,
+  Err,
+  Result,
+  Vec,
+  Bor,
+}
 use Rattle.std.proofs.Common.{refl, sym, ap, subst, ◌∙◌, inl, inr, arith}
 use Rattle.std.specs.Prelude.{All, IfOk, IfErr, MatchResult, ◌==◌}
 use Rattle.std.proofs.lemmas.Bool.{cases_eq, ne_eqb}

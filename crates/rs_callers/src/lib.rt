@@ -1,5 +1,5 @@
 //! Callers of the library, whose proofs use only its contracts: round trips, objects, results, stripes of a file, lent rows,
-//! and every public path.
+//! updates of recovery shards, and every public path.
 #![tactic(auto)]
 
 pub mod callers;
@@ -12,4 +12,5 @@ pub mod rate_round_trip;
 pub mod round_trip;
 pub mod stripes;
 pub mod surface;
+pub mod updating;
 pub mod walking;

@@ -19,7 +19,11 @@ fn rooms_of(
     count: usize,
     places: &[Option<Shard>],
 ) -> Result<Vec<Vec<u8>>, AllocError> {
-    let size = places.iter().flatten().map(|shard| shard.bytes.len()).next();
+    let size = places
+        .iter()
+        .flatten()
+        .map(|shard| shard.bytes.len())
+        .next();
     let mut rooms = Vec::new(alloc);
     for _ in 0..count {
         rooms.push(vec![in alloc; BEFORE; size.unwrap_or(2)]?)?;

@@ -1,6 +1,23 @@
 -- How a change of one original changes the recovery shards.
-use Rattle.std.proofs.Common.{◌≡◌, ◌≢◌, ℕ, zero, suc, ◌+◌, ◌%◌, ◌<◌, ◌≤◌, bit_xor, sym, ap, ◌∙◌, arith, inl, inr,
-  zero-add}
+use Rattle.std.proofs.Common.{
+  ◌≡◌,
+  ◌≢◌,
+  ℕ,
+  zero,
+  suc,
+  ◌+◌,
+  ◌%◌,
+  ◌<◌,
+  ◌≤◌,
+  bit_xor,
+  sym,
+  ap,
+  ◌∙◌,
+  arith,
+  inl,
+  inr,
+  zero-add,
+}
 use Rattle.std.proofs.Common.{◌⊎◌, Bool, true, false, List, [], length, subst}
 use Rattle.std.specs.Prelude.{slice_index, Some, Result, Ok, Err, IfOk}
 use Rattle.std.specs.Int.Bits.{xor_zero_r}
@@ -95,13 +112,13 @@ factors_of_change frame k r index given locator factors framed supported inside 
       count = count;
       small = λ i hi. subst (λ (n : ℕ). n < 65535) (sym (made_at i hi)) (mod-lt _ (omega arith));
       change = λ size i j message changed recovery changed_recovery shards changed_shards only coded changed_coded hi
-        hj.
+          hj.
           word_changed (configuration default_rate k r size) (erasure (frame_of default_rate k r) given)
           (λ x. slice_index locator x) (is_marked given)
           (message_rows (frame_of default_rate k r) k r given locator (has_frame default_rate k r supported) own_at
           others_at is_at)
           index i j message changed recovery changed_recovery inside shards changed_shards only coded changed_coded hi
-            hj
+          hj
           ∙ ap (λ l. bit_xor (column j (shard_at recovery i))
           (product (bit_xor (column j (shard_at message index)) (column j (shard_at changed index))) (power l)))
           (sym (made_at i hi));

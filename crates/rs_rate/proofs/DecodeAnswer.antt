@@ -167,7 +167,8 @@ module _ (rate : Rate) (k r size surplus : ℕ) (marks new : List Bool) (before 
             (λ n. located_word marks locator (word_in before (row_len size) (n / 32) (n % 32)))
             (λ n. restored.coefficients (n / 32) (n % 32))
             (are_columns rate k r size marks locator before located surplus d.restores.words agrees restored)
-            message added i j (slice_index locator (original_row (frame_of rate k r) i)) (omega (arith, count)) a inside hj step entry
+            message added i j (slice_index locator (original_row (frame_of rate k r) i)) (omega (arith, count)) a inside
+            hj step entry
             (omega (arith, word))
             (located_at rate k r size marks locator before located (original_row (frame_of rate k r) i) below)
 

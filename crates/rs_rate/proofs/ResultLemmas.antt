@@ -106,7 +106,7 @@ pub length-restored : (old new : List Bool) (before after : Chunks) (size from n
 length-restored old new before after size from n marked =
     let counted = length-listed n (part (restored_by_row new after size) from n) in
     let apart = count-apart n (part (restored_by_row new after size) from n)
-      (part (shards_by_row old before size) from n)
+    (part (shards_by_row old before size) from n)
     (λ i inside.
     ap is_some (part-in (restored_by_row new after size) from n i inside)
     ∙ some-marked new (shard_in_order after size) (from + i) ∙ marked i inside

@@ -1,6 +1,22 @@
 -- The marks of a decoder's rows, and the shards in marked rows.
-use Rattle.std.specs.Prelude.{◌≡◌, ℕ, zero, suc, ◌+◌, ◌<◌, ◌≤◌, ◌⊎◌, nat_lt, nat_le, ◌&&◌, ◌||◌, if◌then◌else◌, Bool,
-  false, not}
+use Rattle.std.specs.Prelude.{
+  ◌≡◌,
+  ℕ,
+  zero,
+  suc,
+  ◌+◌,
+  ◌<◌,
+  ◌≤◌,
+  ◌⊎◌,
+  nat_lt,
+  nat_le,
+  ◌&&◌,
+  ◌||◌,
+  if◌then◌else◌,
+  Bool,
+  false,
+  not,
+}
 use Rattle.std.specs.Prelude.{List, [], Some, None, vec_len}
 use Rattle.std.specs.Vec.{vec_capacity}
 use Rattle.rs_field.specs.code.Column.{IsShard}

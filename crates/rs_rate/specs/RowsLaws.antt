@@ -4,8 +4,15 @@ use Rattle.std.proofs.Common.{ap, arith}
 use Rattle.std.proofs.Math.Nat.{mul-le-mul_left}
 use Rattle.rs_field.specs.rows.Layout.{row_len}
 use Rattle.rs_field.specs.code.Counts.{Rate, next_power, is_low}
-use Rattle.rs_field.specs.code.Frame.{encoder_rows, decoder_rows, next_multiple, frame_of, low_frame, high_frame,
-  row_count}
+use Rattle.rs_field.specs.code.Frame.{
+  encoder_rows,
+  decoder_rows,
+  next_multiple,
+  frame_of,
+  low_frame,
+  high_frame,
+  row_count,
+}
 use Rattle.rs_rate.specs.declared.values.configuration.Configuration.{Configuration}
 use Rattle.rs_rate.specs.Configured.{rate_of}
 use Rattle.rs_rate.specs.SetUp.{IsSetUp, rows_of}

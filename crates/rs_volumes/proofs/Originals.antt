@@ -61,7 +61,7 @@ piece_of-one blocks (item ∷ items) own once i is =
       | inl same ↦
           let rest : piece_of i items ≡ [] =
           piece_of-none i items (subst (λ (n : ℕ). has n items ≡ false) (sym same.1) (none_after item.0 items once.0))
-            in
+          in
           rw (same.0, rest) (append-nil item.1 ∙ sym (own 0 item (omega arith)).1
           ∙ ap (shard_at blocks) (sym same.1))
       | inr other ↦
@@ -76,7 +76,7 @@ module _ (k r size : ℕ) (message all : List Shard) (read received : Items) (ou
     (answers : OneDecodeAnswers k r read received (Ok out)) where
   valid_by : (first : ℕ × Shard) (rest : Items) (o : Result (Unit {0}) Error)
       → MatchResult (result_and_then
-        (λ _. with_both (fresh_decoder (default_of k r (length first.1))) read (first ∷ rest)) o)
+      (λ _. with_both (fresh_decoder (default_of k r (length first.1))) read (first ∷ rest)) o)
       (λ s. DecodeAnswers s (Ok out)) (λ e. ◌≡◌ {A = Result Shards Error} (Ok out) (Err e)) → o ≡ Ok tt
   valid_by first rest (Ok u) h = refl
   valid_by first rest (Err e) h = absurd (let no : ⊥ = cc in no)

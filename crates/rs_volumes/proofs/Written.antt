@@ -1,6 +1,23 @@
 -- Pieces that are written to the blocks with their numbers.
-use Rattle.std.proofs.Common.{◌≡◌, ◌≢◌, ℕ, ◌+◌, ◌<◌, ◌≤◌, Bool, true, false, eqb, List, [], ◌∷◌, ◌++◌, length, get_or,
-  take}
+use Rattle.std.proofs.Common.{
+  ◌≡◌,
+  ◌≢◌,
+  ℕ,
+  ◌+◌,
+  ◌<◌,
+  ◌≤◌,
+  Bool,
+  true,
+  false,
+  eqb,
+  List,
+  [],
+  ◌∷◌,
+  ◌++◌,
+  length,
+  get_or,
+  take,
+}
 use Rattle.std.proofs.Common.{Some, refl, sym, ap, subst, ◌∙◌, inl, inr, arith, append_assoc}
 use Rattle.std.specs.Prelude.{if◌then◌else◌}
 use Rattle.std.specs.Global.{Vec}
@@ -51,7 +68,7 @@ module _ (wanted : List Bool) (items : Items) (item : ℕ × Shard) (before now 
 
   -- the next piece is not wanted
   pub gets_same : (get_or wanted item.0 false ≡ true → ⊥) → Gets wanted (λ i. piece_of i (items ++ item ∷ [])) before
-    now
+      now
   gets_same unwanted i bytes is held =
       let add : piece_of i (items ++ item ∷ []) ≡ piece_of i items ++ piece_of i (item ∷ []) =
       piece_of-append i items (item ∷ []) in

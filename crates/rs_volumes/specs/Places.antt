@@ -1,6 +1,22 @@
 -- Where the original blocks lie in the files.
-use Rattle.std.specs.Prelude.{◌≡◌, ℕ, zero, suc, ◌+◌, ◌*◌, ◌/◌, ◌%◌, ◌==◌, List, [], ◌∷◌, ◌++◌, length, map,
-  if◌then◌else◌}
+use Rattle.std.specs.Prelude.{
+  ◌≡◌,
+  ℕ,
+  zero,
+  suc,
+  ◌+◌,
+  ◌*◌,
+  ◌/◌,
+  ◌%◌,
+  ◌==◌,
+  List,
+  [],
+  ◌∷◌,
+  ◌++◌,
+  length,
+  map,
+  if◌then◌else◌,
+}
 use Rattle.std.specs.List.{between, concat, flat_map}
 use Rattle.rs_field.specs.code.Column.{Shard, shard_at}
 use Rattle.rs_volumes.specs.declared.placement.Place.{Place}

@@ -1,6 +1,23 @@
 -- What a restore guarantees.
-use Rattle.std.specs.Prelude.{◌≡◌, ℕ, ◌+◌, ◌*◌, ◌<◌, ◌==◌, ◌⊎◌, Bool, true, false, List, [], ◌∷◌, ◌++◌, length, All,
-  map}
+use Rattle.std.specs.Prelude.{
+  ◌≡◌,
+  ℕ,
+  ◌+◌,
+  ◌*◌,
+  ◌<◌,
+  ◌==◌,
+  ◌⊎◌,
+  Bool,
+  true,
+  false,
+  List,
+  [],
+  ◌∷◌,
+  ◌++◌,
+  length,
+  All,
+  map,
+}
 use Rattle.std.specs.Prelude.{slice_index_or, Option, Some, None, nat_eq, if◌then◌else◌}
 use Rattle.std.specs.Global.{Vec}
 use Rattle.std.specs.List.{between, IsDistinct, list_any}
@@ -62,9 +79,9 @@ items_of pieces = map (λ piece. (piece.0, piece.1.items)) pieces
 -- with the index `first` + n, its piece is a piece of the known block
 pub record AreRead (first : ℕ) (numbers : List ℕ) (start end : ℕ) (known : Shards) (pieces : List (ℕ × Vec ℕ)) : Type 0
   where
-  pub numbers_are : map (λ piece. piece.0) pieces ≡ numbers
-  pub each : All (λ piece. (block : Shard) → known (first + piece.0) ≡ Some block
-      → piece.1.items ≡ between start end block) pieces
+    pub numbers_are : map (λ piece. piece.0) pieces ≡ numbers
+    pub each : All (λ piece. (block : Shard) → known (first + piece.0) ≡ Some block
+        → piece.1.items ≡ between start end block) pieces
 
 -- the bytes of an optional piece
 abbrev pub bytes_of : Option Shard → Shard

@@ -24,7 +24,7 @@ fn put_opening(out: &mut Vec<u8>, block: u64, k: u32, r: u32, files: u32) -> Res
 fn put_numbers(out: &mut Vec<u8>, size: u64, modified: u64, mode: u32) -> Result<(), AllocError>
     ensures { OnOk result (out.new.items
         ≡ out.old.items ++ (to_le_bytes w64 size ++
-            (to_le_bytes w64 modified ++ to_le_bytes w32 mode))) }
+        (to_le_bytes w64 modified ++ to_le_bytes w32 mode))) }
 {
     out.extend_from_slice(&size.to_le_bytes())?;
     out.extend_from_slice(&modified.to_le_bytes())?;

@@ -100,7 +100,7 @@ module _ (c : Configuration) (originals recovery : Shards) (words : ℕ → ℕ 
     taken : (n from : ℕ) (given : Shards) (shards : List Shard) → AreSized n c.shard_bytes given
         → AreShards n c.shard_bytes shards
         → ((i j : ℕ) → i < n → j < c.shard_bytes / 2 → slice_index (columns j shards) i ≡ value (f j) (from + i) %
-          65536)
+        65536)
         → ((j i : ℕ) (shard : Shard) → j < c.shard_bytes / 2 → i < n → given i ≡ Some shard
         → value (f j) (from + i) ≡ column j shard)
         → (i : ℕ) (shard : Shard) → given i ≡ Some shard → shard_at shards i ≡ shard

@@ -25,7 +25,7 @@ pub record AreColumns (c : Configuration) (originals recovery : Shards) (marks :
   pub has : (j : ℕ) → j < c.shard_bytes / 2 → HasWords (frame_at c) originals recovery j (words j)
   pub each : (j : ℕ) → j < c.shard_bytes / 2
       → IsColumnOf (frame_at c) c.original_count c.recovery_count originals recovery marks (words j) (located j)
-        (rows j)
+      (rows j)
 
 module _ (c : Configuration) (originals recovery : Shards) (marks : ℕ → ℕ) (words located rows : ℕ → ℕ → ℕ)
     (h : AreColumns c originals recovery marks words located rows) where

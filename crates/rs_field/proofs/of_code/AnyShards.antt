@@ -213,7 +213,7 @@ is_column p k r size originals recovery j f own coded =
     let marks : ℕ → ℕ = mark_at p k r originals recovery in
     let words : ℕ → ℕ = word_at p k r originals recovery j in
     let (rows, are) = coefficients_of p.exponent (located_at (row_count p) marks words) f.few
-      (located_at_lt (row_count p) marks words) in (
+    (located_at_lt (row_count p) marks words) in (
       rows,
       record {
         is_frame = f;

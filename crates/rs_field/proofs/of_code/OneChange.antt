@@ -56,7 +56,7 @@ all_of-some k i shards shard is = elim (cases_lt i k) [
   | inl inside ↦ (
     inside,
     (let same : ◌≡◌ {A = Option Shard} (Some (shard_at shards i)) (Some shard) = sym (all_of-in k i shards inside) ∙ is
-      in cc same),
+        in cc same),
   )
   | inr past ↦ absurd (none-some shard (sym (all_of-past k i shards past) ∙ is))
 ]
@@ -66,7 +66,7 @@ count-all_of zero k shards few = count_below-zero (all_of k shards)
 count-all_of (suc n) k shards few =
     count_below-suc n (all_of k shards)
     ∙ ap₂ (λ m b. m + cond b 1 0) (count-all_of n k shards (omega arith))
-      (ap is_some (all_of-in k n shards (omega arith)))
+    (ap is_some (all_of-in k n shards (omega arith)))
     ∙ omega arith
 
 module _ (c : Configuration) (marks locator : ℕ → ℕ) (received : ℕ → Bool)

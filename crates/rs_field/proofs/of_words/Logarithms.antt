@@ -30,7 +30,7 @@ even_times_next : (x : ℕ) → x < 2 ^ 16 → x % 2 ≡ 0 → product x (x + 1)
 even_times_next x hx even =
     let half : x ≡ x / 2 * 2 ^ 1 = omega arith in
     ap (product x) (ap (λ v. v + 1) half ∙ sym (xor_shifted (x / 2) 1 1 (omega arith)) ∙ ap (λ v. bit_xor v 1)
-      (sym half))
+    (sym half))
     ∙ times_next x hx
 
 -- The logarithm of 1 is 0.

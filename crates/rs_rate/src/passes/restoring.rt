@@ -161,7 +161,7 @@ fn reveal_rows<E: Engine>(
     ensures revealed { (k s i : ℕ) → k < rows.old.shard_len_64 → s < 32
         → i < configuration.original_count
         → let p = original_row configuration.frame i in
-            is_marked (restored_marks marks.now) p ≡ true
+        is_marked (restored_marks marks.now) p ≡ true
         → word rows.new k s p
         ≡ product (word rows.old k s p) (power (65535 - slice_index locator.now p)) }
     ensures counts { CountsUpTo configuration.original_count 0 0 steps.old steps.new }

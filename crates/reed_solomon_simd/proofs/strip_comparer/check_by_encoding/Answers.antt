@@ -8,8 +8,10 @@ use Rattle.rs_field.proofs.of_code.Pieces.{is_strip}
 use Rattle.rs_rate.specs.EncoderView.{encoder_state}
 use Rattle.reed_solomon_simd.proofs.ConsistentStrips.{AreCheckedBelow, checked-none, checked-further, checked-all}
 use Rattle.reed_solomon_simd.proofs.ConsistentStrips.{consistent-cut}
-use Rattle.reed_solomon_simd.proofs.strip_comparer.check_by_encoding.Goals.{then-left-width+in_ok-reset,
-  else-left-width}
+use Rattle.reed_solomon_simd.proofs.strip_comparer.check_by_encoding.Goals.{
+  then-left-width+in_ok-reset,
+  else-left-width,
+}
 use Rattle.reed_solomon_simd.proofs.strip_comparer.check_by_encoding.Goals as goal
 
 pub loop-start-init : goal.loop-start-init

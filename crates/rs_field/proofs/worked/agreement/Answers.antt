@@ -38,14 +38,14 @@ message_shards = shards_from 2 2 message refl
 -- The recovery shards of the message of two originals are values of the polynomial x.
 line : AreRecovery (configuration default_rate 2 3 2) message recovered
 unfolding passes_below frame_of low_frame high_frame is_low next_power exponent_of first_below value product combine
-  bits
+    bits
     from_bits cantor_basis monomials carryless reduce column
 line = recovery_from _ _ _ ((0 ∷ 1 ∷ []) ∷ []) refl
 
 -- The recovery shards of one original are values of a constant.
 copies : AreRecovery (configuration default_rate 1 2 2) ((7 ∷ 9 ∷ []) ∷ []) ((7 ∷ 9 ∷ []) ∷ (7 ∷ 9 ∷ []) ∷ [])
 unfolding passes_below frame_of low_frame high_frame is_low next_power exponent_of first_below value product combine
-  bits
+    bits
     from_bits cantor_basis monomials carryless reduce column
 copies = recovery_from _ _ _ ((2311 ∷ []) ∷ []) refl
 
@@ -103,7 +103,7 @@ four_more = low_bytes (11 ∷ 9 ∷ 14 ∷ 13 ∷ [])
 -- The recovery shards of the message of four originals are values of a polynomial that is zero from the point 8 on.
 cubic : AreRecovery (configuration default_rate 4 4 2) four four_more
 unfolding passes_below is_low next_power exponent_of first_below value product combine bits from_bits cantor_basis
-  monomials
+    monomials
     carryless reduce column
 cubic = recovery_from_high 3 _ _ _ ((11 ∷ 6 ∷ 5 ∷ 1 ∷ []) ∷ []) refl
 

@@ -8,6 +8,6 @@ use Rattle.rs_field.proofs.worked.bounds.Goals as goal
 
 pub returns : goal.returns
 unfolding log2 transform_steps encode_steps decode_steps block_rows encoder_rows frame_of low_frame high_frame is_low
-  next_power exponent_of
+    next_power exponent_of
     first_below
 returns c = search rules

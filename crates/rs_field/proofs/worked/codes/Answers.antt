@@ -18,7 +18,7 @@ use Rattle.rs_field.proofs.worked.codes.Goals as goal
 low : LowExamples low_rate × LowExamples default_rate × ShortLineExample low_rate × CubicExample low_rate × TailExample
     × ChunkAndTailExample
 unfolding passes_below frame_of low_frame high_frame is_low next_power exponent_of first_below value product combine
-  bits
+    bits
     from_bits cantor_basis monomials carryless reduce column xor_bytes xor_shards
 low = (
   (
@@ -53,7 +53,7 @@ low = (
 -- The examples of the high rate pass the tests, below 4 or below 8.
 high : HighExamples high_rate × HighExamples default_rate
 unfolding passes_below is_low next_power exponent_of first_below value product combine bits from_bits cantor_basis
-  monomials
+    monomials
     carryless reduce column
 high = (
   (

@@ -6,7 +6,7 @@ use Rattle.rs_volumes.proofs.head.read_head.Goals as goal
 
 pub returns-clause-found : goal.returns-clause-found
 returns-clause-found c = head_found c.args.bytes.now c.head_from.result (λ i. omega (arith, c.fits-bytes i))
-  c.head_from.ensures
+    c.head_from.ensures
 
 pub returns-clause-only : goal.returns-clause-only
 returns-clause-only c = λ h fits e.

@@ -16,7 +16,7 @@ loop-index-preserved c =
     c.in_ok-push_places.ensures
     ∙ ap (λ (l : List Place).
     l ++ file_places c.loop-index.index c.args.description.now.block_bytes c.file-item.result.size)
-      c.loop-index.invariant
+    c.loop-index.invariant
     ∙ sym (places_next c.args.description.now.block_bytes c.as_slice-file-items.result.now c.loop-index.index
     c.file-item.result c.loop-index-test.true c.file-item.is)
 

@@ -40,7 +40,7 @@ loop-index-preserved g c =
             put = λ i bytes lt is so. rw w.sink-is
                 (got_next wanted piece n before now now held.put held.rest (λ i e. refl)
                 (λ own bytes so. so ∙ ap Some (sym (append-nil bytes)) ∙ ap (λ (x : Shard). Some (bytes ++ x))
-                  (sym none))
+                (sym none))
                 i bytes lt is so);
             rest = λ i le. rw w.sink-is
                 (left_next wanted piece n before now now held.put held.rest (λ i e. refl) i le);
@@ -51,7 +51,7 @@ loop-index-preserved g c =
             step = search rules;
             put = λ i bytes lt is so. rw w.sink-is
                 (got_next wanted piece n before now now held.put held.rest (λ i e. refl)
-                  (λ own. absurd (grind (arith, common_steps))) i bytes lt is so);
+                (λ own. absurd (grind (arith, common_steps))) i bytes lt is so);
             rest = λ i le. rw w.sink-is
                 (left_next wanted piece n before now now held.put held.rest (λ i e. refl) i le);
           }

@@ -62,5 +62,5 @@ returns-else-are_zero_bytes c =
       λ zeros.
           c.are_zero_bytes.ensures.1
           (zero-part bytes 0 _ (first-fits size c.args.row.now bytes is)
-            (zero-first size c.args.row.now bytes is zeros)),
+          (zero-first size c.args.row.now bytes is zeros)),
     )

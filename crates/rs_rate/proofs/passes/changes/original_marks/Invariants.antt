@@ -8,5 +8,5 @@ invariant-loop-i l = record {
   length : vec_len l.marks ≡ row_count l.counts.frame;
   own : (j : ℕ) → j < l.i → is_marked l.marks.items (original_row l.counts.frame j) ≡ true;
   others : (p : ℕ) → (p < l.counts.frame.originals_from) ⊎ (original_row l.counts.frame l.i ≤ p) → is_marked
-    l.marks.items p ≡ false;
+      l.marks.items p ≡ false;
 }

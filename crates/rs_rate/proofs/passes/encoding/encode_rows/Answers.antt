@@ -19,7 +19,7 @@ pub laid_out_are_bytes-requires : goal.laid_out_are_bytes-requires
 laid_out_are_bytes-requires g c =
     let w = c.args.rows.now in
     let rise = chunk_count-more w.configuration.recovery_count (rows_to_encode w.configuration)
-      w.configuration.shard_bytes
+    w.configuration.shard_bytes
     w.configured.recovery in
     record { room = omega (arith, rise, w.whole, c.code_chunks.auto.chunks, c.as_mut_slice-chunks.ensures.len) }
 
@@ -27,7 +27,7 @@ pub move_tails-requires-clause-room : goal.move_tails-requires-clause-room
 move_tails-requires-clause-room g c =
     let w = c.args.rows.now in
     let rise = chunk_count-more w.configuration.recovery_count (rows_to_encode w.configuration)
-      w.configuration.shard_bytes
+    w.configuration.shard_bytes
     w.configured.recovery in
     omega (arith, rise, w.whole, c.code_chunks.auto.chunks, c.as_mut_slice-chunks.ensures.len)
 

@@ -49,7 +49,7 @@ invariant_of-self c =
       given = subst (HoldGiven own w.originals_given w.recovery_given)
           (sym (c.enter.ensures.rows ∙ entry-refused rows c.original_row-row.result own.shard_bytes
           (DuplicateOriginalShardIndex c.args.index) c.args.shard.now c.in_err-enter.field-0.0
-            c.in_err-enter.ensures.answer))
+          c.in_err-enter.ensures.answer))
           w.given;
     }
 
@@ -91,7 +91,7 @@ invariant_of-self-2 c =
       given = subst (HoldGiven own (w.originals_given + 1) w.recovery_given)
           (sym (rw c.original_row-row.ensures at (c.enter.ensures.rows ∙ ap (state_after rows) made.1)))
           (hold-original own (places-known own w.configured) w.originals_given w.recovery_given rows w.given
-            c.args.index
+          c.args.index
           c.args.shard.now c.in_ok-enter.ensures.shard c.if-index-original_count.false
           (rw c.original_row-row.ensures at made.0));
     }
