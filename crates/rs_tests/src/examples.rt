@@ -173,6 +173,34 @@ fn missing_originals_are_written_into_arrays(rt: HostRuntime) -> Result<(), Fail
 }
 
 #[test]
+fn an_encode_needs_all_originals(rt: HostRuntime) -> Result<(), Fail> {
+    let alloc = rt.alloc();
+    let tables = Tables::new(alloc)?;
+    let engine = DefaultEngine::new(&tables, EngineKind::Ssse3);
+    let mut encoder = ReedSolomonEncoder::new(alloc, 3, 2, 12, engine)?;
+    let error = Error::TooFewOriginalShards {
+        original_count: 3,
+        original_received_count: 0,
+    };
+    assert_eq!(rt; encoder.encode().err(), Some(error));
+    Ok(())
+}
+
+#[test]
+fn a_fourth_original_is_refused(rt: HostRuntime) -> Result<(), Fail> {
+    let alloc = rt.alloc();
+    let tables = Tables::new(alloc)?;
+    let engine = DefaultEngine::new(&tables, EngineKind::Ssse3);
+    let mut encoder = ReedSolomonEncoder::new(alloc, 3, 2, 12, engine)?;
+    for shard in ORIGINAL {
+        encoder.add_original_shard(shard)?;
+    }
+    let error = Error::TooManyOriginalShards { original_count: 3 };
+    assert_eq!(rt; encoder.add_original_shard(ORIGINAL[0]), Err(error));
+    Ok(())
+}
+
+#[test]
 fn three_shards_have_these_recovery_shards(rt: HostRuntime) -> Result<(), Fail> {
     let alloc = rt.alloc();
     let tables = Tables::new(alloc)?;
@@ -196,6 +224,21 @@ fn three_shards_in_a_slice_have_these_recovery_shards(rt: HostRuntime) -> Result
     assert_eq!(rt; made.len(), 2);
     assert_eq!(rt; made[0].as_slice(), RECOVERY[0].as_slice());
     assert_eq!(rt; made[1].as_slice(), RECOVERY[1].as_slice());
+    Ok(())
+}
+
+#[test]
+fn a_decode_needs_as_many_shards_as_originals(rt: HostRuntime) -> Result<(), Fail> {
+    let alloc = rt.alloc();
+    let tables = Tables::new(alloc)?;
+    let engine = DefaultEngine::new(&tables, EngineKind::Ssse3);
+    let mut decoder = ReedSolomonDecoder::new(alloc, 3, 2, 12, engine)?;
+    let error = Error::NotEnoughShards {
+        original_count: 3,
+        original_received_count: 0,
+        recovery_received_count: 0,
+    };
+    assert_eq!(rt; decoder.decode().err(), Some(error));
     Ok(())
 }
 
@@ -230,8 +273,15 @@ fn a_decoder_is_reset(rt: HostRuntime) -> Result<(), Fail> {
     decoder.add_recovery_shard(0, &[3, 0])?;
     decoder.add_recovery_shard(1, &[5, 0])?;
     let restored = decoder.decode()?;
-    assert_eq!(rt; restored.restored_original(0), Some([2, 0].as_slice()));
-    assert_eq!(rt; restored.restored_original(2), Some([4, 0].as_slice()));
+    let (first, last) = ([2, 0], [4, 0]);
+    assert_eq!(rt;
+        restored.restored_original(0).ok_or("none")?,
+        first.as_slice()
+    );
+    assert_eq!(rt;
+        restored.restored_original(2).ok_or("none")?,
+        last.as_slice()
+    );
     Ok(())
 }
 
