@@ -5,7 +5,7 @@ ghost use Rattle.std.specs.Prelude.{length, Ok, Some, None, MatchOption, IsTrue,
 ghost use Rattle.rs_field.specs.code.Column.{Shard};
 ghost use Rattle.rs_field.specs.code.Counts.{default_rate};
 ghost use Rattle.rs_field.specs.code.Decoder.{IsDecoder, enough_given, originals_given, recovery_given};
-ghost use Rattle.rs_field.specs.code.Decoder.{IsAgreeing, IsConsistent, NoneAgrees};
+ghost use Rattle.rs_field.specs.code.Decoder.{IsConsistent, NoneAgrees};
 ghost use Rattle.rs_field.specs.code.Frame.{row_count};
 ghost use Rattle.rs_field.specs.code.Pieces.{ArePut, room_length};
 ghost use Rattle.rs_field.specs.code.PieceStates.{state_of_pieces};
@@ -16,7 +16,6 @@ ghost use Rattle.rs_rate.specs.Sums.{sum_word};
 ghost use Rattle.reed_solomon_simd.specs.Base.{frame_in, row_of, shard_in_row, MarkBase, CanSum};
 ghost use Rattle.reed_solomon_simd.specs.Base.{base_sum, IsBaseSum, AgreesInRow};
 ghost use Rattle.reed_solomon_simd.specs.Reconstructed.{AreReconstructed, CanBeRebuilt};
-ghost use Rattle.reed_solomon_simd.specs.ShardNames.{shard_named};
 
 use crate::pieces::Pieces;
 use crate::rooms::Rooms;

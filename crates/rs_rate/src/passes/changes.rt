@@ -1,6 +1,6 @@
 //! How a change of one original changes the recovery shards: each word of a recovery shard changes by the change of the
 //! original's word times a factor.
-ghost use Rattle.std.specs.Prelude.{◌≡◌, ◌≢◌, ℕ, ◌+◌, ◌/◌, ◌%◌, ◌<◌, ◌≤◌, ◌⊎◌, true, false, length, vec_len};
+ghost use Rattle.std.specs.Prelude.{◌≡◌, ◌≢◌, ℕ, ◌/◌, ◌%◌, ◌<◌, ◌≤◌, ◌⊎◌, true, false, length, vec_len};
 ghost use Rattle.std.specs.Prelude.{slice_index, bit_xor, IfOk, IfErr};
 ghost use Rattle.rs_field.specs.code.Column.{column};
 ghost use Rattle.rs_field.specs.code.Counts.{default_rate};
