@@ -6,8 +6,11 @@ use Rattle.std.specs.Result.{result_map_both}
 use Rattle.std.proofs.lemmas.Bool.{cases_eq, ne_eqb}
 use Rattle.std.proofs.lemmas.List.{get_or-set_same, get_or-set_other, length-set}
 use Rattle.rs_field.specs.declared.code.error.Error.{Error}
-use Rattle.rs_field.specs.declared.code.error.Error.TheVariants.{InvalidOriginalShardIndex, DifferentShardSize,
-  OutOfMemory}
+use Rattle.rs_field.specs.declared.code.error.Error.TheVariants.{
+  InvalidOriginalShardIndex,
+  DifferentShardSize,
+  OutOfMemory,
+}
 use Rattle.rs_field.specs.code.Code.{AreRecovery}
 use Rattle.rs_field.specs.code.Column.{Shard, IsShard, AreShards, shard_at}
 use Rattle.rs_field.specs.code.Configuration.{validation_outcome}

@@ -25,8 +25,8 @@ returns c =
     get_or-map (λ shard. shard.now) c.args.original.now c.args.index d [] c.requires in
     let bytes : All (All (λ b. b < 256)) (shards_of c.args.original.now) =
     λ i e h. let inside : i < length c.args.original.now = subst (λ (n : ℕ). i < n) many h in
-        subst (All (λ b. b < 256)) (sym (get_or-map (λ shard. shard.now) c.args.original.now i d e inside))
-        (c.slices_are_bytes.ensures i d inside) in
+    subst (All (λ b. b < 256)) (sym (get_or-map (λ shard. shard.now) c.args.original.now i d e inside))
+    (c.slices_are_bytes.ensures i d inside) in
     subst (λ (k : ℕ). OnOk result (AreRecovery (default_of k r (length (shard_at shards index)))
     (set shards index c.args.new.now) after)) many
     (encoded-updated r index shards before coded after c.args.new.now result bytes c.are_bytes.ensures.all
