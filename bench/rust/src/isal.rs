@@ -21,20 +21,23 @@ mod linked {
         fn gf_invert_matrix(from: *mut u8, to: *mut u8, k: i32) -> i32;
         fn ec_init_tables(k: i32, rows: i32, from: *mut u8, tables: *mut u8);
         fn ec_encode_data(size: i32, k: i32, rows: i32, tables: *mut u8, from: *mut *mut u8, to: *mut *mut u8);
+        fn ec_encode_data_update(size: i32, k: i32, rows: i32, index: i32, tables: *mut u8, change: *mut u8, to: *mut *mut u8);
     }
 
-    /// An encode or a decode. The tables of an encode are made once, those of a decode in each round, since lost shards differ.
+    /// A call. The tables of an encode are made once, those of a decode in each round, since lost shards differ.
     struct Coder {
         work: &'static Work,
         matrix: Vec<u8>,
         tables: Vec<u8>,
         recovery: Shards,
+        /// The change of the first original, for an update.
+        change: Shards,
     }
 
     /// Makes the side, or returns None if the counts are too large for ISA-L.
     pub fn side(work: &'static Work) -> Option<Box<dyn Side>> {
         let Row { call, k, r, size } = work.row;
-        if !call.codes() || k + r > 256 {
+        if !(call.codes() || matches!(call, Call::Recover | Call::Update)) || k + r > 256 {
             return None;
         }
         let mut matrix = vec![0; (k + r) * k];
@@ -44,19 +47,37 @@ mod linked {
             gf_gen_cauchy1_matrix(matrix.as_mut_ptr(), (k + r) as i32, k as i32);
             ec_init_tables(k as i32, r as i32, matrix[k * k..].as_mut_ptr(), tables.as_mut_ptr());
         }
-        let mut coder = Coder { work, matrix, tables, recovery: Shards::new(r, size) };
-        coder.encode((0..r).map(|index| coder.recovery.pointer(index)).collect());
+        let mut coder = Coder { work, matrix, tables, recovery: Shards::new(r, size), change: Shards::new(1, size) };
+        coder.encode(r, (0..r).map(|index| coder.recovery.pointer(index)).collect());
         Some(Box::new(coder))
     }
 
     impl Coder {
-        fn encode(&mut self, mut to: Vec<*mut u8>) {
-            let Row { k, r, size, .. } = self.work.row;
+        /// Encodes the first recovery shards.
+        fn encode(&mut self, count: usize, mut to: Vec<*mut u8>) {
+            let Row { k, size, .. } = self.work.row;
             let mut from: Vec<*mut u8> = (0..k).map(|index| self.work.originals.pointer(index)).collect();
             // SAFETY: each pointer has `size` bytes.
             unsafe {
-                ec_encode_data(size as i32, k as i32, r as i32, self.tables.as_mut_ptr(), from.as_mut_ptr(), to.as_mut_ptr());
+                ec_encode_data(size as i32, k as i32, count as i32, self.tables.as_mut_ptr(), from.as_mut_ptr(), to.as_mut_ptr());
             }
+        }
+
+        /// Updates the recovery shards in the rooms after the change of the first original.
+        fn update(&mut self) {
+            let Row { k, r, size, .. } = self.work.row;
+            let (before, after) = (self.work.before.shard(0), self.work.originals.shard(0));
+            for (change, (old, new)) in self.change.bytes_mut().iter_mut().zip(before.iter().zip(after)) {
+                *change = old ^ new;
+            }
+            let mut to = self.rooms();
+            let (change, tables) = (self.change.start(), self.tables.as_mut_ptr());
+            // SAFETY: each pointer has `size` bytes.
+            unsafe { ec_encode_data_update(size as i32, k as i32, r as i32, 0, tables, change, to.as_mut_ptr()) };
+        }
+
+        fn rooms(&self) -> Vec<*mut u8> {
+            (0..self.work.row.r).map(|index| self.work.rooms.pointer(index)).collect()
         }
 
         /// Restores the first originals into rooms from the first recovery shards.
@@ -81,9 +102,21 @@ mod linked {
             }
         }
 
+        /// Encodes the message before the change of the first original into the rooms.
+        fn rooms_before(&mut self) {
+            let Row { k, r, size, .. } = self.work.row;
+            let mut from: Vec<*mut u8> = (0..k).map(|index| self.work.originals.pointer(index)).collect();
+            from[0] = self.work.before.start();
+            let (mut to, tables) = (self.rooms(), self.tables.as_mut_ptr());
+            // SAFETY: each pointer has `size` bytes.
+            unsafe { ec_encode_data(size as i32, k as i32, r as i32, tables, from.as_mut_ptr(), to.as_mut_ptr()) };
+        }
+
         fn round(&mut self) {
             match self.work.row.call {
-                Call::Encode => self.encode((0..self.work.row.r).map(|index| self.work.rooms.pointer(index)).collect()),
+                Call::Encode => self.encode(self.work.row.r, self.rooms()),
+                Call::Recover => self.encode(1, vec![self.work.rooms.pointer(0)]),
+                Call::Update => self.update(),
                 _ => self.decode(self.work.lost),
             }
         }
@@ -98,8 +131,18 @@ mod linked {
         fn is_right(&mut self) -> bool {
             let work = self.work;
             let Row { call, k, r, size } = work.row;
-            if call != Call::Encode {
-                return work.checks(|| self.round());
+            match call {
+                Call::Encode => {}
+                Call::Recover => {
+                    self.round();
+                    return work.rooms.shard(0) == self.recovery.shard(0);
+                }
+                Call::Update => {
+                    self.rooms_before();
+                    self.round();
+                    return work.rooms.bytes() == self.recovery.bytes();
+                }
+                _ => return work.checks(|| self.round()),
             }
             let lost = k.min(r);
             self.round();

@@ -37,9 +37,55 @@ pub struct Plan {
     pub copies: bool,
 }
 
+/// A wanted shard, as `struct rs_wanted`.
+#[repr(C)]
+#[derive(Clone, Copy)]
+pub struct Wanted {
+    pub kind: usize,
+    pub index: usize,
+}
+
+/// The kind of a wanted recovery shard, `RS_RECOVERY`.
+pub const RECOVERY: usize = 1;
+
+/// The calls of one build that rebuild, check and update single shards. An earlier state of the library may not have them.
+#[derive(Clone, Copy)]
+pub struct Repairs {
+    pub reconstruct: unsafe extern "C" fn(
+        *const u8,
+        usize,
+        usize,
+        *const Indexed,
+        usize,
+        *const Indexed,
+        usize,
+        *const Wanted,
+        usize,
+        *const Bytes,
+        usize,
+        *mut Fault,
+    ) -> u32,
+    pub verify:
+        unsafe extern "C" fn(*const u8, usize, usize, *const Indexed, usize, *const Indexed, usize, *mut Fault) -> u32,
+    pub update: unsafe extern "C" fn(
+        *const u8,
+        usize,
+        usize,
+        usize,
+        *const u8,
+        usize,
+        *const u8,
+        usize,
+        *const Bytes,
+        usize,
+        *mut Fault,
+    ) -> u32,
+}
+
 /// The calls of one build.
 #[derive(Clone, Copy)]
 pub struct Library {
+    pub repairs: Option<Repairs>,
     pub tables_make: unsafe extern "C" fn(*mut u8) -> u32,
     pub encode: unsafe extern "C" fn(*const u8, usize, usize, usize, *const u8, usize, *mut u8, usize, *mut Fault) -> u32,
     pub decode: unsafe extern "C" fn(
@@ -77,7 +123,7 @@ pub struct Library {
 /// Declares the calls of a build, whose names all begin with its prefix.
 #[allow(unused_macros)]
 macro_rules! library {
-    ($prefix:literal) => {{
+    ($prefix:literal, $repairs:expr) => {{
         extern "C" {
             #[link_name = concat!($prefix, "rs_tables_make")]
             fn tables_make(tables: *mut u8) -> u32;
@@ -147,7 +193,57 @@ macro_rules! library {
             #[link_name = concat!($prefix, "rs_bench_tables")]
             fn bench_tables(time: *mut u64) -> u32;
         }
-        Some(Library { tables_make, encode, decode, encode_shards, decode_shards, bench_encode, bench_decode, bench_tables })
+        Some(Library { repairs: $repairs, tables_make, encode, decode, encode_shards, decode_shards, bench_encode, bench_decode, bench_tables })
+    }};
+}
+
+/// Declares the calls of a build for single shards.
+#[allow(unused_macros)]
+macro_rules! repairs {
+    ($prefix:literal) => {{
+        extern "C" {
+            #[link_name = concat!($prefix, "rs_reconstruct")]
+            fn reconstruct(
+                t: *const u8,
+                k: usize,
+                r: usize,
+                own: *const Indexed,
+                n: usize,
+                other: *const Indexed,
+                m: usize,
+                wanted: *const Wanted,
+                w: usize,
+                to: *const Bytes,
+                l: usize,
+                fault: *mut Fault,
+            ) -> u32;
+            #[link_name = concat!($prefix, "rs_verify")]
+            fn verify(
+                t: *const u8,
+                k: usize,
+                r: usize,
+                own: *const Indexed,
+                n: usize,
+                other: *const Indexed,
+                m: usize,
+                fault: *mut Fault,
+            ) -> u32;
+            #[link_name = concat!($prefix, "rs_update")]
+            fn update(
+                t: *const u8,
+                k: usize,
+                r: usize,
+                index: usize,
+                before: *const u8,
+                n: usize,
+                after: *const u8,
+                m: usize,
+                to: *const Bytes,
+                l: usize,
+                fault: *mut Fault,
+            ) -> u32;
+        }
+        Some(Repairs { reconstruct, verify, update })
     }};
 }
 
@@ -155,13 +251,13 @@ macro_rules! library {
 pub fn library(who: &str) -> Option<Library> {
     match who {
         #[cfg(plain)]
-        "plain" => library!("plain_"),
+        "plain" => library!("plain_", repairs!("plain_")),
         #[cfg(v3)]
-        "v3" => library!("v3_"),
+        "v3" => library!("v3_", repairs!("v3_")),
         #[cfg(plain_before)]
-        "plain_before" => library!("plain_before_"),
+        "plain_before" => library!("plain_before_", None),
         #[cfg(v3_before)]
-        "v3_before" => library!("v3_before_"),
+        "v3_before" => library!("v3_before_", None),
         _ => None,
     }
 }

@@ -22,7 +22,7 @@ pub const USAGE: &str =
     "usage: bench/run [--calls CALL,..] [--counts K:R,..] [--sizes BYTES,..] [--turns N] [--ms N] [--most SECONDS]
                  [--sides SIDE,..] [--to SIDE] [--data FILE]
        bench/run --print FILE
-CALL: encode decode decode1 new-encoder new-decoder reset-encoder reset-decoder tables
+CALL: encode decode decode1 lost1 lost2 recover1 verify update new-encoder new-decoder reset-encoder reset-decoder tables
 SIDE: WHO.WAY[.ENGINE]
   WHO: crate, isal, plain, v3, plain_before, v3_before
   WAY: c-shards, c-buffers, into, call, slice, object; of the crate: object, call; of ISA-L none

@@ -1,6 +1,6 @@
 //! This library, in each build that was linked: its calls from C, and the exports of `bench/exports`.
 use crate::clock::{rs_bench_now, time_rounds};
-use crate::library::{library, Bytes, Fault, Indexed, Library, Plan};
+use crate::library::{library, Bytes, Fault, Indexed, Library, Plan, Wanted, RECOVERY};
 use crate::side::{Name, Side, ENGINES};
 use crate::work::{Call, Row, Work};
 use std::alloc::{alloc_zeroed, Layout};
@@ -22,6 +22,9 @@ pub fn side(name: &Name, work: &'static Work) -> Option<Box<dyn Side>> {
         return match work.row.call {
             Call::Tables => Some(Box::new(MakeTables { library, is_c: true })),
             call if call.codes() => Some(Box::new(FromC::new(library, work, arrays, is_buffers))),
+            call if call.repairs() && !is_buffers && library.repairs.is_some() => {
+                Some(Box::new(FromC::new(library, work, arrays, false)))
+            }
             _ => None,
         };
     }
@@ -106,6 +109,33 @@ impl FromC {
         unsafe { (self.library.decode_shards)(self.tables, k, r, own, n, other, m, rooms, l, fault) }
     }
 
+    /// Rebuilds the first recovery shard from all originals.
+    fn recover(&mut self, fault: &mut Fault) -> u32 {
+        let (Row { k, r, .. }, a) = (self.work.row, &mut self.arrays);
+        let wanted = Wanted { kind: RECOVERY, index: 0 };
+        let (own, other, rooms) = (a.own.as_ptr(), a.other.as_ptr(), a.rooms.as_ptr());
+        let (n, m, l) = (a.own.len(), a.other.len(), a.rooms.len());
+        let call = self.library.repairs.expect("a library with this call").reconstruct;
+        // SAFETY: each array has the entries of its length, and nobody else uses the rooms now.
+        unsafe { call(self.tables, k, r, own, n, other, m, &wanted, 1, rooms, l, fault) }
+    }
+
+    fn verify(&mut self, fault: &mut Fault) -> u32 {
+        let (Row { k, r, .. }, a) = (self.work.row, &self.arrays);
+        let (own, other, n, m) = (a.own.as_ptr(), a.other.as_ptr(), a.own.len(), a.other.len());
+        let call = self.library.repairs.expect("a library with this call").verify;
+        // SAFETY: each array has the entries of its length.
+        unsafe { call(self.tables, k, r, own, n, other, m, fault) }
+    }
+
+    fn update(&mut self, fault: &mut Fault) -> u32 {
+        let (Row { k, r, size, .. }, a) = (self.work.row, &self.arrays);
+        let (before, after) = (self.work.before.start(), self.work.originals.start());
+        let call = self.library.repairs.expect("a library with this call").update;
+        // SAFETY: both originals have `size` bytes, and nobody else uses the rooms now.
+        unsafe { call(self.tables, k, r, 0, before, size, after, size, a.rooms.as_ptr(), a.rooms.len(), fault) }
+    }
+
     fn encode_buffers(&mut self, fault: &mut Fault) -> u32 {
         let Row { k, r, size, .. } = self.work.row;
         let (from, to) = (self.work.originals.start(), self.work.rooms.start());
@@ -125,6 +155,9 @@ impl FromC {
         let number = match (self.work.row.call, self.is_buffers) {
             (Call::Encode, false) => self.encode_arrays(&mut fault),
             (Call::Encode, true) => self.encode_buffers(&mut fault),
+            (Call::Recover, _) => self.recover(&mut fault),
+            (Call::Verify, _) => self.verify(&mut fault),
+            (Call::Update, _) => self.update(&mut fault),
             (_, false) => self.decode_arrays(&mut fault),
             (_, true) => self.decode_buffers(&mut fault),
         };

@@ -54,6 +54,7 @@ fn cell(figures: &Figures) -> String {
     let speed = match figures.nanoseconds {
         _ if figures.row.call.codes() => format!("{:.0} MiB/s", figures.speed()),
         time if time < 1e4 => format!("{time:.0} ns"),
+        time if time < 1e6 => format!("{:.1} us", time / 1e3),
         time => format!("{:.2} ms", time / 1e6),
     };
     format!(" {speed} | **{}** ({}–{}) |", three_digits(middle), three_digits(low), three_digits(high))

@@ -63,8 +63,16 @@ impl<E: Engine> Encodes<E> {
             self.encoder.add_original_shard(self.work.originals.shard(index)).expect("an original");
         }
     }
+
+    /// Encodes, and compares with the received recovery shards: the crate has no other way to check a message.
+    fn verify(&mut self) {
+        self.add_all();
+        let lent = self.encoder.encode().expect("an encode");
+        assert!(lent.recovery_iter().zip(&self.work.other).all(|(shard, (_, received))| shard == *received));
+    }
 }
 
+/// The crate encodes all recovery shards, also if one is lost or if one original has changed.
 impl<E: Engine> Side for Encodes<E> {
     fn time(&mut self, first: usize, rounds: usize) -> u64 {
         let Row { call, k, r, size } = self.work.row;
@@ -74,6 +82,7 @@ impl<E: Engine> Side for Encodes<E> {
                 time_rounds(first, rounds, || drop(black_box(DefaultRateEncoder::new(k, r, size, engine(), None))))
             }
             Call::ResetEncoder => time_rounds(first, rounds, || self.encoder.reset(k, r, size).expect("a reset")),
+            Call::Verify => time_rounds(first, rounds, || self.verify()),
             _ => time_rounds(first, rounds, || {
                 self.add_all();
                 black_box(self.encoder.encode().expect("an encode"));
@@ -83,10 +92,11 @@ impl<E: Engine> Side for Encodes<E> {
 
     fn is_right(&mut self) -> bool {
         let work = self.work;
+        let written = work.wanted().len() / work.row.size;
         work.checks(|| {
             self.add_all();
             let lent = self.encoder.encode().expect("an encode");
-            lent.recovery_iter().enumerate().for_each(|(index, shard)| work.put(index, shard));
+            lent.recovery_iter().take(written).enumerate().for_each(|(index, shard)| work.put(index, shard));
         })
     }
 }

@@ -47,7 +47,7 @@ impl Task {
                 continue;
             };
             let start = rs_bench_now();
-            if self.row.call.codes() && !is_right(&mut *side) {
+            if (self.row.call.codes() || self.row.call.repairs()) && !is_right(&mut *side) {
                 println!("wrong bytes by {}", name.words());
                 return false;
             }

@@ -8,6 +8,16 @@ pub enum Call {
     Decode,
     /// A decode after 1 % of the originals were lost, at least one.
     DecodeFew,
+    /// A decode after one original was lost.
+    DecodeOne,
+    /// A decode after two originals were lost.
+    DecodeTwo,
+    /// The first recovery shard was lost, and all originals are there.
+    Recover,
+    /// A check whether all shards belong to one message.
+    Verify,
+    /// The recovery shards are updated after the first original has changed.
+    Update,
     NewEncoder,
     NewDecoder,
     ResetEncoder,
@@ -17,10 +27,15 @@ pub enum Call {
 }
 
 /// All calls with their names on the command line and in data files.
-pub const CALLS: [(Call, &str); 8] = [
+pub const CALLS: [(Call, &str); 13] = [
     (Call::Encode, "encode"),
     (Call::Decode, "decode"),
     (Call::DecodeFew, "decode1"),
+    (Call::DecodeOne, "lost1"),
+    (Call::DecodeTwo, "lost2"),
+    (Call::Recover, "recover1"),
+    (Call::Verify, "verify"),
+    (Call::Update, "update"),
     (Call::NewEncoder, "new-encoder"),
     (Call::NewDecoder, "new-decoder"),
     (Call::ResetEncoder, "reset-encoder"),
@@ -41,18 +56,29 @@ impl Call {
 
     /// Returns whether the call concerns decoders.
     pub fn is_decode(self) -> bool {
-        matches!(self, Call::Decode | Call::DecodeFew | Call::NewDecoder | Call::ResetDecoder)
+        self.decodes() || matches!(self, Call::NewDecoder | Call::ResetDecoder)
     }
 
-    /// Returns whether the call writes shards.
+    /// Returns whether the call is an encode or a decode.
     pub fn codes(self) -> bool {
-        matches!(self, Call::Encode | Call::Decode | Call::DecodeFew)
+        self == Call::Encode || self.decodes()
+    }
+
+    /// Returns whether the call concerns single shards of a message: it rebuilds, checks or updates them.
+    pub fn repairs(self) -> bool {
+        matches!(self, Call::Recover | Call::Verify | Call::Update)
+    }
+
+    fn decodes(self) -> bool {
+        matches!(self, Call::Decode | Call::DecodeFew | Call::DecodeOne | Call::DecodeTwo)
     }
 
     fn lost(self, k: usize, r: usize) -> usize {
         match self {
             Call::Decode => k.min(r),
             Call::DecodeFew => k.div_ceil(100).min(r),
+            Call::DecodeOne => k.min(r).min(1),
+            Call::DecodeTwo => k.min(r).min(2),
             _ => 0,
         }
     }
@@ -122,9 +148,13 @@ pub struct Work {
     pub recovery: Shards,
     /// The received originals with their indexes.
     pub own: Vec<(usize, &'static [u8])>,
-    /// The received recovery shards with their indexes. As many are received as originals are lost.
+    /// The received recovery shards with their indexes. As many are received as originals are lost, and all for `Call::Verify`.
     pub other: Vec<(usize, &'static [u8])>,
-    /// Where a call writes its results: the recovery shards of an encode, or the lost originals.
+    /// The first original before it changed, for `Call::Update`.
+    pub before: Shards,
+    /// The recovery shards of the message before the change, for `Call::Update`.
+    pub outdated: Shards,
+    /// Where a call writes its results: recovery shards or originals.
     pub rooms: Shards,
 }
 
@@ -134,22 +164,36 @@ impl Work {
         let lost = row.call.lost(row.k, row.r);
         let mut originals = Shards::new(row.k, row.size);
         fill(originals.bytes_mut());
-        let recovery = if row.call.codes() { encode(&row, &originals) } else { Shards::new(row.r, row.size) };
-        let written = if row.call == Call::Encode { row.r } else { lost };
-        let work = Work { row, lost, originals, recovery, own: vec![], other: vec![], rooms: Shards::new(written, row.size) };
+        let coded = row.call.codes() || row.call.repairs();
+        let recovery = if coded { encode(&row, &originals) } else { Shards::new(row.r, row.size) };
+        let (mut before, mut outdated) = (Shards::new(0, row.size), Shards::new(0, row.size));
+        if row.call == Call::Update {
+            before = changed(&mut originals);
+            outdated = encode(&row, &originals);
+            changed(&mut originals);
+        }
+        let written = match row.call {
+            Call::Encode | Call::Update => row.r,
+            Call::Recover => 1,
+            _ => lost,
+        };
+        let rooms = Shards::new(written, row.size);
+        let work = Work { row, lost, originals, recovery, own: vec![], other: vec![], before, outdated, rooms };
         let work: &'static mut Work = Box::leak(Box::new(work));
         // SAFETY: `work` is leaked, and its originals and recovery shards are never written again.
         let (originals, recovery): (&'static Shards, &'static Shards) =
             unsafe { (&*(&raw const work.originals), &*(&raw const work.recovery)) };
         work.own = (lost..row.k).map(|index| (index, originals.shard(index))).collect();
-        work.other = (0..lost).map(|index| (index, recovery.shard(index))).collect();
+        let received = if row.call == Call::Verify { row.r } else { lost };
+        work.other = (0..received).map(|index| (index, recovery.shard(index))).collect();
         work
     }
 
     /// Returns what the rooms must hold after a call.
     pub fn wanted(&self) -> &[u8] {
         match self.row.call {
-            Call::Encode => self.recovery.bytes(),
+            Call::Encode | Call::Update => self.recovery.bytes(),
+            Call::Recover => self.recovery.shard(0),
             _ => &self.originals.bytes()[..self.lost * self.row.size],
         }
     }
@@ -158,6 +202,9 @@ impl Work {
     pub fn checks(&self, run: impl FnOnce()) -> bool {
         // SAFETY: the rooms have `size` bytes each, at least one for each wanted shard, and nobody borrows them now.
         unsafe { self.rooms.start().write_bytes(0xA5, self.wanted().len()) };
+        if self.row.call == Call::Update {
+            (0..self.row.r).for_each(|index| self.put(index, self.outdated.shard(index)));
+        }
         run();
         self.rooms.bytes() == self.wanted()
     }
@@ -168,6 +215,15 @@ impl Work {
         // SAFETY: the room has as many bytes, and nobody borrows it now.
         unsafe { self.rooms.pointer(index).copy_from_nonoverlapping(shard.as_ptr(), shard.len()) };
     }
+}
+
+/// Changes each byte of the first shard, and returns the changed shard. A second change undoes the first one.
+fn changed(shards: &mut Shards) -> Shards {
+    let size = shards.size;
+    shards.bytes_mut()[..size].iter_mut().for_each(|byte| *byte ^= 0x5A);
+    let mut copy = Shards::new(1, size);
+    copy.bytes_mut().copy_from_slice(shards.shard(0));
+    copy
 }
 
 /// Fills the bytes by the generator SplitMix64.
