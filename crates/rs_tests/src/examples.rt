@@ -209,9 +209,13 @@ fn three_shards_have_these_recovery_shards(rt: HostRuntime) -> Result<(), Fail> 
     for shard in ORIGINAL {
         encoder.add_original_shard(shard)?;
     }
-    let made = encoder.encode()?;
-    assert_eq!(rt; made.recovery(0), Some(RECOVERY[0].as_slice()));
-    assert_eq!(rt; made.recovery(1), Some(RECOVERY[1].as_slice()));
+    let recovery = encoder.encode()?;
+    for index in 0..2 {
+        assert_eq!(rt;
+            recovery.recovery(index).ok_or("none")?,
+            RECOVERY[index].as_slice()
+        );
+    }
     Ok(())
 }
 
