@@ -13,7 +13,7 @@ struct tried {
 };
 
 /* How many requests for memory the calls make. */
-enum { TABLES = 6, ENCODE = 2, ENCODE_SHARDS = 1, DECODE = 4, DECODE_SHARDS = 5, RECONSTRUCT = 9, VERIFY = 3, VERIFY_FEWER = 5, UPDATE = 4 };
+enum { TABLES = 6, ENCODE = 2, ENCODE_SHARDS = 1, DECODE = 4, DECODE_SHARDS = 5, RECONSTRUCT = 9, VERIFY = 3, VERIFY_FEWER = 5, UPDATE = 5 };
 /* With surplus shards, a decode restores to vectors first: the list of them, and each vector. */
 enum { LIST = 1 };
 
