@@ -12,10 +12,13 @@ fn main() {
         let asked = Command::new("pkg-config").args(words).output().ok()?;
         asked.status.success().then(|| String::from_utf8_lossy(&asked.stdout).trim().to_string())
     });
+    let (kind, end) = if env::var_os("RS_SHARED").is_some() { ("dylib", "so") } else { ("static", "a") };
     match folder {
-        Some(folder) => println!("cargo:rustc-link-search=native={folder}"),
+        Some(folder) => {
+            println!("cargo:rustc-link-search=native={folder}");
+            println!("cargo:rerun-if-changed={folder}/libreed_solomon_simd.{end}");
+        }
         None => println!("cargo:warning=neither RS_LIB_DIR nor pkg-config names the folder of libreed_solomon_simd"),
     }
-    let kind = if env::var_os("RS_SHARED").is_some() { "dylib" } else { "static" };
     println!("cargo:rustc-link-lib={kind}=reed_solomon_simd");
 }
