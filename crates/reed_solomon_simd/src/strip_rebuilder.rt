@@ -27,9 +27,8 @@ use crate::strip_summer::{mark_base, sum_strips};
 use rs_field::engine::{Engine, Steps};
 use rs_field::error::Error;
 use rs_rate::rate::rounds::{encode_round, lent_originals, lent_recovery};
-use rs_rate::rate::{
-    DefaultRateCounts, DefaultRateDecoder, DefaultRateEncoder, RateDecoder, RateEncoder,
-};
+use rs_rate::rate::{DefaultRateCounts, are_sums_cheaper};
+use rs_rate::rate::{DefaultRateDecoder, DefaultRateEncoder, RateDecoder, RateEncoder};
 use rs_rate::{DecoderResult, EncoderResult};
 use std::alloc::Global;
 
@@ -66,24 +65,22 @@ pub fn rebuild_strips<E: Engine + Copy, P: Pieces, R: Rooms>(
     ensures loan { R.loan rooms.new ≡ R.loan rooms.old }
 {
     let (marks, surplus) = mark_base(alloc, received)?;
-    if are_sums_cheaper(received.counts(), wanted.len(), surplus) {
+    if are_sums_used(received.counts(), wanted.len(), surplus) {
         return sum_strips(alloc, &engine, received, wanted, marks, surplus, rooms);
     }
     rebuild_by_rounds(alloc, engine, received, wanted, rooms)
 }
 
-// Returns whether direct sums rebuild shards in fewer row steps than a decode: for each wanted shard and each surplus shard, a
-// sum takes one product for each original, while a transform of the rows of a decoder takes half of their number times the
-// exponent.
-fn are_sums_cheaper(counts: DefaultRateCounts, wanted: usize, surplus: usize) -> bool
+// Returns whether wanted shards are rebuilt by direct sums: the sums, one for each wanted shard and for each surplus shard, are
+// cheaper than a transform.
+fn are_sums_used(counts: DefaultRateCounts, wanted: usize, surplus: usize) -> bool
     requires few { surplus ≤ 65536 }
     ensures { result ≡ true
         → 2 * ((wanted + surplus) * counts.original_count)
         < row_count counts.frame * counts.frame.exponent }
 {
-    let row_count = counts.frame.row_count();
-    wanted <= row_count
-        && 2 * ((wanted + surplus) * counts.original_count) < row_count * counts.frame.exponent
+    wanted <= counts.frame.row_count()
+        && are_sums_cheaper(counts.frame, counts.original_count, wanted + surplus)
 }
 
 // Writes wanted shards into rooms, in order, by a decode of each strip and an encode if a recovery shard is wanted. Fails as

@@ -7,4 +7,5 @@ pub use crate::objects::{giving, names, originals_alone, rounds};
 pub use crate::passes::{changes, sums};
 pub use crate::rows::decoder_work::DecoderWork;
 pub use crate::rows::encoder_work::EncoderWork;
+pub use crate::values::frames::are_sums_cheaper;
 pub use crate::values::supported_counts::{DefaultRateCounts, HighRateCounts, LowRateCounts};

@@ -9,7 +9,7 @@ ghost use Rattle.rs_field.specs.code.OneChange.{AreChangeFactors};
 ghost use Rattle.rs_field.specs.rows.Layout.{row_len};
 ghost use Rattle.rs_field.specs.rows.MarkedRows.{is_marked};
 ghost use Rattle.rs_field.specs.words.DirectSum.{direct_factor};
-ghost use Rattle.rs_field.specs.words.Field.{product, power, log};
+ghost use Rattle.rs_field.specs.words.Field.{product, power};
 
 use crate::passes::sums::{SumBase, add_times, finish_sum, summed_piece};
 use crate::rows::shard_rows::insert_at;

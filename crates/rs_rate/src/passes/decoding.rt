@@ -1,8 +1,8 @@
 //! The decoding of a round, for every rate: the locator of the erased rows, the rows over the chunks, the tails, and
 //! the round's end.
 ghost use Rattle.std.specs.Prelude.{◌≡◌, ℕ, ◌+◌, ◌-◌, ◌*◌, ◌/◌, ◌%◌, ◌^◌, ◌<◌, ◌≤◌, ◌⊎◌, ◌&&◌, if◌then◌else◌};
-ghost use Rattle.std.specs.Prelude.{true, List, length, slice_index, IfNone, IfOk, IfSome, MatchResult};
-ghost use Rattle.rs_field.specs.words.StepBounds.{CountsUpTo, LocatorCounts, transform_steps};
+ghost use Rattle.std.specs.Prelude.{true, length, slice_index, IfNone, IfOk, IfSome, MatchResult};
+ghost use Rattle.rs_field.specs.words.StepBounds.{CountsUpTo, LocatorCounts};
 ghost use Rattle.rs_field.specs.code.Bounds.{DecodeCounts};
 ghost use Rattle.rs_field.specs.code.Counts.{Rate};
 ghost use Rattle.rs_field.specs.code.Decoder.{fresh_decoder, Restored, NoneAgrees};
@@ -17,7 +17,7 @@ ghost use Rattle.rs_rate.specs.Marks.{erasure, given_marks, restored_marks, mark
 ghost use Rattle.rs_rate.specs.SetUp.{IsSetUp};
 ghost use Rattle.rs_rate.specs.ShardRows.{chunk_count, shard_laid_out, shard_in_order};
 
-use crate::passes::direct::{Logarithms, MOST_ROWS, are_sums_cheaper, mark_base, sum_rows};
+use crate::passes::direct::{Logarithms, MOST_ROWS, are_sums_used, mark_base, sum_rows};
 use crate::passes::restoring::restore_rows;
 use crate::rows::decoder_work::{DecoderMemory, DecoderRows};
 use crate::rows::marks::Marks;
@@ -223,7 +223,7 @@ fn find_by_sums<E: Engine>(
     ensures counts { IfSome result (λ _. CountsUpTo
         (restore_steps tally.configuration tally.surplus) 1048576 65536 steps.old steps.new) }
 {
-    if !are_sums_cheaper(tally) {
+    if !are_sums_used(tally) {
         return None;
     }
     let configuration = tally.configuration;

@@ -19,6 +19,7 @@ ghost use Rattle.rs_rate.specs.Decoding.{AreRowsOf, is_outside, IsBaseOf, SumsWo
 ghost use Rattle.rs_rate.specs.Marks.{how_many};
 
 use crate::values::configuration::{Configuration, Tally};
+use crate::values::frames::are_sums_cheaper;
 use rs_field::engine::layout::is_zero_row;
 use rs_field::engine::rows::{clear_rows, mul_add_row_at};
 use rs_field::engine::{Engine, GF_MODULUS, GfElement, ShardsRefMut, Steps};
@@ -54,9 +55,9 @@ impl Logarithms<'_> {
     }
 }
 
-// Returns whether direct sums are used: the products of the sums, one sum for each missing original and for each surplus
-// shard, take fewer row steps than one transform.
-pub(crate) fn are_sums_cheaper(tally: Tally) -> bool
+// Returns whether direct sums are used: the decoder has few rows, and the sums, one for each missing original and for each
+// surplus shard, are cheaper than a transform.
+pub(crate) fn are_sums_used(tally: Tally) -> bool
     requires configured { IsConfigured tally.configuration }
     requires few { tally.missing ≤ 65536 }
     requires few_surplus { tally.surplus ≤ 65536 }
@@ -66,9 +67,9 @@ pub(crate) fn are_sums_cheaper(tally: Tally) -> bool
         < rows_to_decode tally.configuration * tally.configuration.frame.exponent }
 {
     let frame = tally.configuration.frame;
-    let row_count = frame.row_count();
-    let sums = (tally.missing + tally.surplus) * tally.configuration.original_count;
-    row_count <= MOST_ROWS && 2 * sums < row_count * frame.exponent
+    let sums = tally.missing + tally.surplus;
+    frame.row_count() <= MOST_ROWS
+        && are_sums_cheaper(frame, tally.configuration.original_count, sums)
 }
 
 // Marks the first `count` given rows, which are the base.

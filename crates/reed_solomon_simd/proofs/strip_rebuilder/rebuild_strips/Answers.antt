@@ -6,8 +6,8 @@ use Rattle.reed_solomon_simd.specs.Base.{frame_in}
 use Rattle.reed_solomon_simd.proofs.BaseLemmas.{decoder_frame}
 use Rattle.reed_solomon_simd.proofs.strip_rebuilder.rebuild_strips.Goals as goal
 
-pub are_sums_cheaper-requires : goal.are_sums_cheaper-requires
-are_sums_cheaper-requires g c =
+pub are_sums_used-requires : goal.are_sums_used-requires
+are_sums_used-requires g c =
     let s : DecoderState = g.P.Pieces.received c.args.received.now in
     let f = decoder_frame s c.requires.set_up in
     let rows : row_count (frame_in (g.P.Pieces.received c.args.received.now)) ≤ 2 ^ 16 = pow_mono f.few in

@@ -29,8 +29,8 @@ sums_within w e k missing surplus few power most fit cheaper =
 log_mod : (l z : ℕ) → 0 < z → z < 65536 → l ≡ log z → l % 65535 ≡ log z
 log_mod l z some small is = ap (λ n. n % 65535) is ∙ mod-eq_of_lt (log_lt z some small)
 
-pub are_sums_cheaper-requires-clause-few : goal.are_sums_cheaper-requires-clause-few
-are_sums_cheaper-requires-clause-few g c =
+pub are_sums_used-requires-clause-few : goal.are_sums_used-requires-clause-few
+are_sums_used-requires-clause-few g c =
     let facts = c.requires.facts in
     let own = c.args.tally.configuration in
     let rows : rows_to_decode c.args.tally.configuration ≤ 2 ^ 16 = pow_mono facts.configured.few in
@@ -43,8 +43,8 @@ are_sums_cheaper-requires-clause-few g c =
           (λ i. not (is_marked (given_marks c.args.marks.now) (original_row own.frame i))),
     )
 
-pub are_sums_cheaper-requires-clause-few_surplus : goal.are_sums_cheaper-requires-clause-few_surplus
-are_sums_cheaper-requires-clause-few_surplus g c =
+pub are_sums_used-requires-clause-few_surplus : goal.are_sums_used-requires-clause-few_surplus
+are_sums_used-requires-clause-few_surplus g c =
     let rows : rows_to_decode c.args.tally.configuration ≤ 2 ^ 16 = pow_mono c.requires.facts.configured.few in
     omega (arith, rows, c.requires.facts.few_surplus)
 
@@ -85,5 +85,5 @@ returns-clause-counts g c =
     (sums_within rows own.frame.exponent own.original_count tally.missing tally.surplus
     (omega (arith, facts.configured.few)) refl (omega (arith, most, facts.missing))
     (omega (arith, facts.configured.own_rows))
-    (c.are_sums_cheaper.ensures.cheaper c.if-not-are_sums_cheaper.false))
+    (c.are_sums_used.ensures.cheaper c.if-not-are_sums_used.false))
     c.make_locator.ensures.counts sums
