@@ -226,43 +226,39 @@ module _ (s : DecoderState) (is : IsDecoder default_rate s) (start end : ℕ)
           λ below none. sums.1 below none ∙ ap (λ (all : List Shard). column j (shard_at all i)) part.1,
         )
 
-    -- A piece is that of a wanted shard, if it is the received piece in its row, or else the direct sum.
+    -- No piece was received in the row of a shard that can be rebuilt.
+    pub wanted-missing : (w : ShardIndex) → CanBeRebuilt s w
+        → shard_in_row (state_of_pieces start end s) (row_of (frame_in s) w) ≡ None
+    wanted-missing (Original i) can =
+        let t = state_of_pieces start end s in
+        given_at-own (frame_in s) s.configuration.original_count s.configuration.recovery_count i t.originals t.recovery
+        can.0 ∙ ap (option_map (λ x. between start end x)) can.1
+    wanted-missing (Recovery i) can =
+        let t = state_of_pieces start end s in
+        given_at-coded (frame_in s) s.configuration.original_count s.configuration.recovery_count i t.originals
+        t.recovery (decoder_frame s is) can.0 ∙ ap (option_map (λ x. between start end x)) can.1
+
+    -- The direct sum is the piece of a wanted shard.
     pub wanted-piece : (message : List Shard) (agrees : IsAgreeing (state_of_pieces start end s) message)
         (w : ShardIndex) (piece : Shard) → CanBeRebuilt s w
-        → ((shard : Shard) → shard_in_row (state_of_pieces start end s) (row_of (frame_in s) w) ≡ Some shard
-        → piece ≡ shard)
-        → (shard_in_row (state_of_pieces start end s) (row_of (frame_in s) w) ≡ None
-        → IsBaseSum marks (state_of_pieces start end s) (row_of (frame_in s) w) piece)
+        → IsBaseSum marks (state_of_pieces start end s) (row_of (frame_in s) w) piece
         → piece ≡ shard_named message agrees.coded.0 w
-    wanted-piece message agrees (Original i) piece can received summed =
+    wanted-piece message agrees (Original i) piece can sum =
         let t = state_of_pieces start end s in
-        let missing : pieces_of start end s.originals i ≡ None = ap (option_map (λ x. between start end x)) can.1 in
-        let sum = summed (given_at-own (frame_in s) s.configuration.original_count s.configuration.recovery_count i
-        t.originals t.recovery can.0 ∙ missing) in
         shard_from_columns (end - start) piece (shard_at message i) sum.is_shard
         (shard_in s.configuration.original_count (end - start) message agrees.shards i can.0)
         (even-strip s is start end strip)
         (λ j inside. sum.words j inside ∙ (summed-words message agrees i j inside).0 can.0
-        (part-missing marks (frame_in s).originals_from i t.originals missing))
-    wanted-piece message agrees (Recovery i) piece can received summed =
-        by_option ((state_of_pieces start end s).recovery i) refl
-      where
-        by_option : (o : Option Shard) → (state_of_pieces start end s).recovery i ≡ o
-            → piece ≡ shard_at agrees.coded.0 i
-        by_option (Some shard) e =
-            let t = state_of_pieces start end s in
-            received shard (given_at-coded (frame_in s) s.configuration.original_count s.configuration.recovery_count i
-            t.originals t.recovery (decoder_frame s is) can ∙ e)
-            ∙ sym (agrees.coded.2 i shard e)
-        by_option None e =
-            let t = state_of_pieces start end s in
-            let sum = summed (given_at-coded (frame_in s) s.configuration.original_count s.configuration.recovery_count
-            i t.originals t.recovery (decoder_frame s is) can ∙ e) in
-            shard_from_columns (end - start) piece (shard_at agrees.coded.0 i) sum.is_shard
-            (shard_in s.configuration.recovery_count (end - start) agrees.coded.0 agrees.coded.1.shards i can)
-            (even-strip s is start end strip)
-            (λ j inside. sum.words j inside ∙ (summed-words message agrees i j inside).1 can
-            (part-missing marks (frame_in s).recovery_from i t.recovery e))
+        (part-missing marks (frame_in s).originals_from i t.originals
+        (ap (option_map (λ x. between start end x)) can.1)))
+    wanted-piece message agrees (Recovery i) piece can sum =
+        let t = state_of_pieces start end s in
+        shard_from_columns (end - start) piece (shard_at agrees.coded.0 i) sum.is_shard
+        (shard_in s.configuration.recovery_count (end - start) agrees.coded.0 agrees.coded.1.shards i can.0)
+        (even-strip s is start end strip)
+        (λ j inside. sum.words j inside ∙ (summed-words message agrees i j inside).1 can.0
+        (part-missing marks (frame_in s).recovery_from i t.recovery
+        (ap (option_map (λ x. between start end x)) can.1)))
 
     -- Shards with the direct sums as their words are equal.
     pub sums-same : (x : ℕ) (one other : Shard) → IsBaseSum marks (state_of_pieces start end s) x one
@@ -302,27 +298,17 @@ module _ (s : DecoderState) (is : IsDecoder default_rate s) (start end : ℕ)
     pub wanted-at : (message : List Shard) (agrees : IsAgreeing (state_of_pieces start end s) message)
         (wanted : List ShardIndex) (n x : ℕ) (d : ShardIndex) (piece : Shard) → All (CanBeRebuilt s) wanted
         → n < length wanted → x ≡ row_of (frame_in s) (get_or wanted n d)
-        → ((shard : Shard) → shard_in_row (state_of_pieces start end s) x ≡ Some shard → piece ≡ shard)
-        → (shard_in_row (state_of_pieces start end s) x ≡ None
-        → IsBaseSum marks (state_of_pieces start end s) x piece)
+        → IsBaseSum marks (state_of_pieces start end s) x piece
         → (piece ≡ get_or (named_shards message agrees.coded.0 wanted) n []) × (length piece ≡ end - start)
-    wanted-at message agrees wanted n x d piece can inside at received summed =
+    wanted-at message agrees wanted n x d piece can inside at sum =
         let t = state_of_pieces start end s in
-        let named = named_shards message agrees.coded.0 wanted in
-        let long = length-map wanted (shard_named message agrees.coded.0) in
         let is_named = wanted-piece message agrees (get_or wanted n d) piece (can n d inside)
-        (λ shard e. received shard (ap (shard_in_row t) at ∙ e))
-        (λ none. subst (λ (y : ℕ). IsBaseSum marks (state_of_pieces start end s) y piece) at
-        (summed (ap (shard_in_row t) at ∙ none)))
+        (subst (λ (y : ℕ). IsBaseSum marks (state_of_pieces start end s) y piece) at sum)
         ∙ sym (get_or-map (shard_named message agrees.coded.0) wanted n d [] inside) in
-        let sized = named-sized t message agrees wanted (can-pieces s start end wanted can) n []
-        (omega (arith, long, inside)) in (
-          is_named,
-          ap length is_named ∙ sized,
-        )
+        (is_named, sum.is_shard.length_is)
 
 -- The row of a shard that can be rebuilt is a row of a decoder.
 pub row-inside : (s : DecoderState) → IsDecoder default_rate s → (w : ShardIndex) → CanBeRebuilt s w
     → row_of (frame_in s) w < row_count (frame_in s)
 row-inside s is (Original i) can = let f = decoder_frame s is in omega (arith, f.originals, can.0)
-row-inside s is (Recovery i) can = let f = decoder_frame s is in omega (arith, f.recovery, can)
+row-inside s is (Recovery i) can = let f = decoder_frame s is in omega (arith, f.recovery, can.0)

@@ -62,7 +62,7 @@ named-sized s message agrees wanted can =
         (agrees.shards.each i [] (let n = agrees.shards.length_is in omega (arith, n, can.0))).length_is
     by_kind (Recovery i) can =
         let all = agrees.coded.1.shards in
-        (all.each i [] (let n = all.length_is in omega (arith, n, can))).length_is
+        (all.each i [] (let n = all.length_is in omega (arith, n, can.0))).length_is
 
 -- The strips below a byte are rebuilt: their pieces are consistent, and each room holds the first bytes of the wanted
 -- shard of each message that agrees.
@@ -133,7 +133,7 @@ module _ (s : DecoderState) (is : IsDecoder default_rate s) (wanted : List Shard
           (let n = rebuilt.agrees.shards.length_is in omega (arith, n, can.0))).length_is
       by_kind (Recovery i) can =
           let all = rebuilt.agrees.coded.1.shards in
-          (all.each i [] (let n = all.length_is in omega (arith, n, can))).length_is
+          (all.each i [] (let n = all.length_is in omega (arith, n, can.0))).length_is
 
   -- After the rebuilt pieces are put into the rooms, one more strip is rebuilt.
   pub rebuilt-further : (old new : List Shard) → ArePut start end made old new
@@ -220,7 +220,7 @@ can-pieces s start end wanted can i d h = by_kind (get_or wanted i d) (can i d h
   where
     by_kind : (w : ShardIndex) → CanBeRebuilt s w → CanBeRebuilt (state_of_pieces start end s) w
     by_kind (Original i) can = (can.0, ap (option_map (λ x. between start end x)) can.1)
-    by_kind (Recovery i) can = can
+    by_kind (Recovery i) can = (can.0, ap (option_map (λ x. between start end x)) can.1)
 
 -- The wanted shards among the restored originals and the encoded recovery shards are those of the codeword.
 pub lent-named : (s : DecoderState) (out : Shards) (encoded message : List Shard) (agrees : IsAgreeing s message)
@@ -234,12 +234,12 @@ lent-named s out encoded message agrees (Original i ∷ wanted) restored can cod
     (restored-there s out message i restored agrees here.0 here.1)
     (lent-named s out encoded message agrees wanted restored (λ k d h. can (suc k) d (omega (arith, h))) coded)
 lent-named s out encoded message agrees (Recovery i ∷ wanted) restored can coded =
-    let here : i < s.configuration.recovery_count = can 0 (Recovery i) (omega arith) in
+    let here : (i < s.configuration.recovery_count) × (s.recovery i ≡ None) = can 0 (Recovery i) (omega arith) in
     let same = coded refl in
     let long : length encoded ≡ s.configuration.recovery_count =
     ap length same ∙ agrees.coded.1.shards.length_is in
     ap₂ (λ (x : Option Shard) (l : List (Option Shard)). x ∷ l)
-    (ap (λ (b : Bool). cond b (Some (get_or encoded i [])) None) (lt-ltb i (length encoded) (omega (arith, here, long)))
+    (ap (λ (b : Bool). cond b (Some (get_or encoded i [])) None) (lt-ltb i (length encoded) (omega (arith, here.0, long)))
     ∙ ap (λ (l : List Shard). Some (get_or l i [])) same)
     (lent-named s out encoded message agrees wanted restored (λ k d h. can (suc k) d (omega (arith, h))) (λ _. same))
 

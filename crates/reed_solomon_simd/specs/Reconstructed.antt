@@ -55,10 +55,10 @@ wanted_outcome s before (shard ∷ shards) =
     else if is_received s shard then Err (WantedReceived shard)
     else wanted_outcome s (shard ∷ before) shards
 
--- a shard that the strips of received shards determine: an original that was not received, or a recovery shard
+-- a shard that was not received, so that received shards can rebuild it
 abbrev pub CanBeRebuilt : DecoderState → ShardIndex → Type 0
 CanBeRebuilt s (Original i) = (i < s.configuration.original_count) × (s.originals i ≡ None)
-CanBeRebuilt s (Recovery i) = i < s.configuration.recovery_count
+CanBeRebuilt s (Recovery i) = (i < s.configuration.recovery_count) × (s.recovery i ≡ None)
 
 -- the shard with a name, among restored originals by their index and a list of encoded recovery shards, if it is there
 abbrev pub lent_at : Shards → List Shard → ShardIndex → Option Shard

@@ -27,8 +27,10 @@ use crate::strip_summer::{mark_base, sum_strips};
 use rs_field::engine::{Engine, Steps};
 use rs_field::error::Error;
 use rs_rate::rate::rounds::{encode_round, lent_originals, lent_recovery};
-use rs_rate::rate::{DefaultRateCounts, are_sums_cheaper};
-use rs_rate::rate::{DefaultRateDecoder, DefaultRateEncoder, RateDecoder, RateEncoder};
+use rs_rate::rate::{
+    DefaultRateCounts, DefaultRateDecoder, DefaultRateEncoder, RateDecoder, RateEncoder,
+    are_sums_cheaper,
+};
 use rs_rate::{DecoderResult, EncoderResult};
 use std::alloc::Global;
 

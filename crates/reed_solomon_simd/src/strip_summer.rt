@@ -168,15 +168,11 @@ fn sum_strip<E: Engine, P: Pieces, R: Rooms>(
 {
     let len = row_len(end - start);
     let mut sum = [[0; 64]; STRIP_BYTES / 64];
-    let mut added = [[0; 64]; STRIP_BYTES / 64];
     let sum = &mut sum[..len];
-    let added = &mut added[..len];
-    if surplus > 0 && !agree_in_strip(engine, base, received, start, end, sum, added) {
+    if surplus > 0 && !agree_in_strip(engine, base, received, start, end, sum) {
         return Err(inconsistent(received, surplus));
     }
-    put_sums(
-        engine, base, received, wanted, start, end, sum, added, rooms,
-    )
+    put_sums(engine, base, received, wanted, start, end, sum, rooms)
 }
 
 // Returns the error of received shards with which no message agrees. There are `surplus` more shards than originals.
@@ -210,16 +206,14 @@ fn agree_in_strip<E: Engine, P: Pieces>(
     start: usize,
     end: usize,
     sum: &mut [[u8; 64]],
-    added: &mut [[u8; 64]],
 ) -> bool
     requires ready { CanSum (P.received received.now) base.now start end }
     requires room { length sum.old ≡ row_len (end - start) }
-    requires other_room { length added.old ≡ row_len (end - start) }
     ensures { IsTrue result
         ↔ IsConsistent (state_of_pieces start end (P.received received.now)) }
 {
     for row in 0..base.marks.len() {
-        if !agrees_in_row(engine, base, received, row, start, end, sum, added) {
+        if !agrees_in_row(engine, base, received, row, start, end, sum) {
             return false;
         }
     }
@@ -235,12 +229,10 @@ fn agrees_in_row<E: Engine, P: Pieces>(
     start: usize,
     end: usize,
     sum: &mut [[u8; 64]],
-    added: &mut [[u8; 64]],
 ) -> bool
     requires ready { CanSum (P.received received.now) base.now start end }
     requires row { row < row_count (frame_in (P.received received.now)) }
     requires room { length sum.old ≡ row_len (end - start) }
-    requires other_room { length added.old ≡ row_len (end - start) }
     ensures { IsTrue result ↔ AgreesInRow base.now.marks.items
         (state_of_pieces start end (P.received received.now)) row }
 {
@@ -250,7 +242,7 @@ fn agrees_in_row<E: Engine, P: Pieces>(
     let Some(piece) = piece_in_row(received, row, start, end) else {
         return true;
     };
-    sum_piece(engine, base, received, row, start, end, sum, added);
+    sum_piece(engine, base, received, row, start, end, sum);
     is_equal(summed_piece(sum, end - start), piece)
 }
 
@@ -270,13 +262,11 @@ fn put_sums<E: Engine, P: Pieces, R: Rooms>(
     start: usize,
     end: usize,
     sum: &mut [[u8; 64]],
-    added: &mut [[u8; 64]],
     rooms: &mut R,
 ) -> Result<(), Error>
     requires ready { CanSum (P.received received.now) base.now start end }
     requires consistent { IsConsistent (state_of_pieces start end (P.received received.now)) }
     requires room { length sum.old ≡ row_len (end - start) }
-    requires other_room { length added.old ≡ row_len (end - start) }
     requires can { All (CanBeRebuilt (P.received received.now)) wanted.now }
     requires number { length (R.held rooms.old) ≡ length wanted.now }
     requires fit { All
@@ -292,7 +282,7 @@ fn put_sums<E: Engine, P: Pieces, R: Rooms>(
 {
     for room in 0..wanted.len() {
         let row = row_of(base.counts.frame, wanted[room]);
-        make_piece(engine, base, received, row, start, end, sum, added);
+        sum_piece(engine, base, received, row, start, end, sum);
         rooms.put(room, start, summed_piece(sum, end - start))?;
     }
     Ok(())
@@ -309,38 +299,6 @@ fn row_of(frame: Frame, shard: ShardIndex) -> usize
     }
 }
 
-// Sets a sum to a strip of the shard in a row: the received one, or else the direct sum.
-fn make_piece<E: Engine, P: Pieces>(
-    engine: &E,
-    base: &SumBase,
-    received: &P,
-    row: usize,
-    start: usize,
-    end: usize,
-    sum: &mut [[u8; 64]],
-    added: &mut [[u8; 64]],
-)
-    requires ready { CanSum (P.received received.now) base.now start end }
-    requires row { row < row_count (frame_in (P.received received.now)) }
-    requires room { length sum.old ≡ row_len (end - start) }
-    requires other_room { length added.old ≡ row_len (end - start) }
-    ensures received { (shard : Shard)
-        → shard_in_row (state_of_pieces start end (P.received received.now)) row ≡ Some shard
-        → shard_in_order sum.new (end - start) 0 ≡ shard }
-    ensures summed { shard_in_row (state_of_pieces start end (P.received received.now)) row ≡ None
-        → IsBaseSum base.now.marks.items
-        (state_of_pieces start end (P.received received.now)) row
-        (shard_in_order sum.new (end - start) 0) }
-{
-    if let Some(piece) = piece_in_row(received, row, start, end) {
-        clear_sum(sum);
-        add_times(engine, &mut Steps::new(), sum, added, piece, 0);
-        finish_sum(sum, end - start);
-        return;
-    }
-    sum_piece(engine, base, received, row, start, end, sum, added);
-}
-
 // Sets a sum to the direct sum over a strip of the base, for a row outside of the base.
 fn sum_piece<E: Engine, P: Pieces>(
     engine: &E,
@@ -350,19 +308,17 @@ fn sum_piece<E: Engine, P: Pieces>(
     start: usize,
     end: usize,
     sum: &mut [[u8; 64]],
-    added: &mut [[u8; 64]],
 )
     requires ready { CanSum (P.received received.now) base.now start end }
     requires row { row < row_count (frame_in (P.received received.now)) }
     requires outside { is_marked base.now.marks.items row ≡ false }
     requires room { length sum.old ≡ row_len (end - start) }
-    requires other_room { length added.old ≡ row_len (end - start) }
     ensures { IsBaseSum base.now.marks.items
         (state_of_pieces start end (P.received received.now)) row
         (shard_in_order sum.new (end - start) 0) }
 {
     clear_sum(sum);
-    add_base(engine, base, received, row, start, end, sum, added);
+    add_base(engine, base, received, row, start, end, sum);
     finish_sum(sum, end - start);
 }
 
@@ -375,13 +331,11 @@ fn add_base<E: Engine, P: Pieces>(
     start: usize,
     end: usize,
     sum: &mut [[u8; 64]],
-    added: &mut [[u8; 64]],
 )
     requires ready { CanSum (P.received received.now) base.now start end }
     requires row { row < row_count (frame_in (P.received received.now)) }
     requires outside { is_marked base.now.marks.items row ≡ false }
     requires room { length sum.old ≡ row_len (end - start) }
-    requires other_room { length added.old ≡ row_len (end - start) }
     requires zeros { (j : ℕ) → j < (end - start) / 2 → sum_word sum.old j ≡ 0 }
     ensures { (j : ℕ) → j < (end - start) / 2
         → sum_word sum.new j
@@ -392,7 +346,7 @@ fn add_base<E: Engine, P: Pieces>(
         let from = base.rows[index];
         if let Some(piece) = piece_in_row(received, from, start, end) {
             let log_m = base.factor(from, row);
-            add_times(engine, &mut Steps::new(), sum, added, piece, log_m);
+            add_times(engine, &mut Steps::new(), sum, piece, log_m);
         }
     }
 }

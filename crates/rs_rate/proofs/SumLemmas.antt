@@ -6,7 +6,7 @@ use Rattle.std.specs.Prelude.{slice_index, is_some, nat_le, nat_lt, ◌&&◌, �
 use Rattle.std.specs.Int.Bits.{xor_zero_r}
 use Rattle.std.proofs.Math.Seq.{get_or-append_seam, take-append_seam}
 use Rattle.std.proofs.lemmas.Bool.{cases_lt}
-use Rattle.std.proofs.lemmas.List.{get_or_append_left, length-append, get_or-replicate}
+use Rattle.std.proofs.lemmas.List.{get_or_append_left, get_or-append_right, length-append, get_or-replicate}
 use Rattle.rs_field.specs.code.DirectLaws.{given_at, mark_at, locator_at}
 use Rattle.rs_field.specs.code.Frame.{row_count}
 use Rattle.rs_field.specs.code.Given.{Shards}
@@ -39,6 +39,19 @@ column-sum chunks size j even inside =
     column-put chunks size 0 j even inside
     ∙ ap (λ k. symbol (chunk chunks k) (j % 32))
     (let first : 0 * row_len size + j / 32 ≡ j / 32 = omega arith in first)
+
+-- The words of a sum in two parts: those of the first n chunks, and those of the others.
+pub words-first : (n j : ℕ) (xs ys : Chunks) → length xs ≡ n → j / 32 < n → sum_word (xs ++ ys) j ≡ sum_word xs j
+words-first n j xs ys long inside =
+    ap (λ (c : List ℕ). symbol c (j % 32)) (get_or_append_left xs ys [] (j / 32) (omega (arith, long, inside)))
+
+pub words-last : (n j : ℕ) (xs ys : Chunks) → length xs ≡ n → n ≤ j / 32
+    → sum_word (xs ++ ys) j ≡ sum_word ys (j - 32 * n)
+words-last n j xs ys long past =
+    ap₂ (λ (c : List ℕ) (s : ℕ). symbol c s)
+    (get_or-append_right xs ys n (j / 32) [] long past
+    ∙ ap (λ (k : ℕ). chunk ys k) (let e : j / 32 - n ≡ (j - 32 * n) / 32 = omega (arith, past) in e))
+    (let e : j % 32 ≡ (j - 32 * n) % 32 = omega (arith, past) in e)
 
 -- A slice that was lent by a vector is its list of elements afterwards, if it has as many elements.
 pub written-back : (xs ys : List ℕ) (n : ℕ) → length xs ≡ n → length ys ≡ n

@@ -1,8 +1,9 @@
 -- The places of the bytes of a shard in a row, and the proof that the columns of the shard are the symbols of the row's
 -- chunks.
-use Rattle.std.proofs.Common.{rules, ◌≡◌, ℕ, suc, ◌+◌, ◌-◌, ◌*◌, ◌/◌, ◌%◌, ◌<◌, ◌≤◌, List, [], ◌∷◌, length, get_or, min}
+use Rattle.std.proofs.Common.{rules, ◌≡◌, ℕ, zero, suc, ◌+◌, ◌-◌, ◌*◌, ◌/◌, ◌%◌, ◌<◌, ◌≤◌, List, [], ◌∷◌, length, get_or, min}
 use Rattle.std.proofs.Common.{take, drop, All, sym, ap, ap₂, ◌∙◌, refl, subst, arith, inl, inr, length-append}
 use Rattle.std.specs.Prelude.{slice_index}
+use Rattle.std.specs.Simd.{first_chunks}
 use Rattle.std.proofs.Math.Nat.{min-eq_left, min-eq_right}
 use Rattle.std.proofs.lemmas.Bool.{cases_lt}
 use Rattle.std.proofs.lemmas.List.{get_or_append_left, get_or-append_right, get_or-take, get_or-drop, length-take-le}
@@ -11,6 +12,7 @@ use Rattle.rs_field.specs.code.Column.{Shard, IsShard, column}
 use Rattle.std.specs.List.{flat_map}
 use Rattle.rs_field.specs.rows.Rows.{chunk, symbol}
 use Rattle.rs_field.specs.rows.Layout.{row_len, byte_offset, laid_out, in_order}
+use Rattle.rs_field.proofs.of_code.Columns.{column-chunk}
 use Rattle.rs_field.proofs.of_words.UpTo.{length-up_to, get-up_to, up_to-same, up_to-is}
 
 pub length-laid_out : (size : ℕ) (chunks : ℕ → List ℕ) → length (laid_out size chunks) ≡ size
@@ -217,3 +219,26 @@ take-flat size rows sized len =
     (up_to-is 0 size (λ b. slice_index (chunk rows (b / 64)) (b % 64)) (take size (flat_map (λ x. x) rows))
     (length-take-le size _ (let whole = length-flat rows sized in omega arith))
     (λ b h. sym (get_or-take size (flat_map (λ x. x) rows) b 0 h ∙ get-flat rows sized b (omega arith))))
+
+-- ---- a list of bytes as whole chunks
+
+-- Byte b of chunk k is byte 64 k + b of the list.
+pub byte_of_chunk : (count k b : ℕ) (bytes : List ℕ) → k < count → b < 64
+    → get_or (get_or (first_chunks 64 count bytes) k []) b 0 ≡ get_or bytes (k * 64 + b) 0
+byte_of_chunk zero k b bytes h hb = absurd (omega arith)
+byte_of_chunk (suc count) zero b bytes h hb = get_or-take 64 bytes b 0 hb ∙ ap (λ i. get_or bytes i 0) (omega arith)
+byte_of_chunk (suc count) (suc k) b bytes h hb =
+    byte_of_chunk count k b (drop 64 bytes) (omega arith) hb ∙ get_or-drop 64 bytes (k * 64 + b) 0
+    ∙ ap (λ i. get_or bytes i 0) (omega arith)
+
+-- The symbols of the whole chunks of a shard are its columns.
+pub symbol_of_chunk : (count j : ℕ) (shard : Shard) → j / 32 < count → count * 64 ≤ length shard
+    → symbol (chunk (first_chunks 64 count shard) (j / 32)) (j % 32) ≡ column j shard
+symbol_of_chunk count j shard inside within =
+    let place : j / 32 * 32 + j % 32 ≡ j = omega arith in
+    ap₂ (λ (a b : ℕ). a + 256 * b) (byte_of_chunk count (j / 32) (j % 32) shard inside (omega arith))
+    (byte_of_chunk count (j / 32) (j % 32 + 32) shard inside (omega arith)
+    ∙ ap (λ (i : ℕ). get_or shard i 0)
+    (let e : j / 32 * 64 + (j % 32 + 32) ≡ j / 32 * 64 + j % 32 + 32 = omega arith in e))
+    ∙ sym (column-chunk (j / 32) (j % 32) shard (omega arith) (omega (arith, inside, within)))
+    ∙ ap (λ (c : ℕ). column c shard) place

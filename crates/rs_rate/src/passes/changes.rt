@@ -105,30 +105,19 @@ pub fn add_change<E: Engine>(
 {
     let len = row_len(piece.len());
     let mut row = [[0; 64]; MOST_BYTES / 64];
-    let mut added = [[0; 64]; MOST_BYTES / 64];
-    add_in_rows(
-        engine,
-        steps,
-        &mut row[..len],
-        &mut added[..len],
-        piece,
-        change,
-        log_m,
-    );
+    add_in_row(engine, steps, &mut row[..len], piece, change, log_m);
 }
 
-// Adds a piece of a change, times a factor, to a piece of a recovery shard. `row` and `added` are memory for both, one row each.
-fn add_in_rows<E: Engine>(
+// Adds a piece of a change, times a factor, to a piece of a recovery shard. `row` is memory for this piece.
+fn add_in_row<E: Engine>(
     engine: &E,
     steps: &mut Steps,
     row: &mut [[u8; 64]],
-    added: &mut [[u8; 64]],
     piece: &mut [u8],
     change: &[u8],
     log_m: GfElement,
 )
     requires row { length row.old ≡ row_len (length piece.old) }
-    requires other_row { length added.old ≡ row_len (length piece.old) }
     requires same { length change.now ≡ length piece.old }
     requires even { length piece.old % 2 ≡ 0 }
     requires factor { log_m < 65535 }
@@ -138,7 +127,7 @@ fn add_in_rows<E: Engine>(
         ≡ bit_xor (column j piece.old) (product (column j change.now) (power log_m)) }
 {
     insert_at(row, piece, 0);
-    add_times(engine, steps, row, added, change, log_m);
+    add_times(engine, steps, row, change, log_m);
     finish_sum(row, piece.len());
     piece.copy_from_slice(summed_piece(row, piece.len()));
 }

@@ -145,27 +145,51 @@ pub fn clear_sum(sum: &mut [[u8; 64]])
     }
 }
 
-/// Adds a piece of a shard, times a factor, to a sum of pieces of its size. `sum` holds the words of the sum, and `added` is
-/// memory for the piece: both have one chunk of 64 bytes for every 64 bytes of the piece, and one for the rest. The size of
-/// the piece is even. `log_m` is the logarithm of the factor, below 65535.
+/// Adds a piece of a shard, times a factor, to a sum of pieces of its size. `sum` holds the words of the sum: it has one chunk
+/// of 64 bytes for every 64 bytes of the piece, and one for the rest. The size of the piece is even. `log_m` is the logarithm
+/// of the factor, below 65535.
 pub fn add_times<E: Engine>(
     engine: &E,
     steps: &mut Steps,
     sum: &mut [[u8; 64]],
-    added: &mut [[u8; 64]],
     piece: &[u8],
     log_m: GfElement,
 )
     requires room { length sum.old ≡ row_len (length piece.now) }
-    requires other_room { length added.old ≡ row_len (length piece.now) }
     requires even { length piece.now % 2 ≡ 0 }
     requires factor { log_m < 65535 }
     ensures words { (j : ℕ) → j < length piece.now / 2
         → sum_word sum.new j
         ≡ bit_xor (sum_word sum.old j) (product (column j piece.now) (power log_m)) }
 {
-    insert_at(added, piece, 0);
-    engine.mul_add(steps, sum, added, log_m);
+    let (whole, tail) = piece.as_chunks::<64>();
+    let (chunks, last) = sum.split_at_mut(whole.len());
+    engine.mul_add(steps, chunks, whole, log_m);
+    if !tail.is_empty() {
+        add_tail_times(engine, steps, last, tail, log_m);
+    }
+}
+
+// Adds the tail of a piece, which is less than a chunk, times a factor, to the chunk of its words in a sum.
+fn add_tail_times<E: Engine>(
+    engine: &E,
+    steps: &mut Steps,
+    sum: &mut [[u8; 64]],
+    tail: &[u8],
+    log_m: GfElement,
+)
+    requires room { length sum.old ≡ 1 }
+    requires some { 0 < length tail.now }
+    requires short { length tail.now < 64 }
+    requires even { length tail.now % 2 ≡ 0 }
+    requires factor { log_m < 65535 }
+    ensures words { (j : ℕ) → j < length tail.now / 2
+        → sum_word sum.new j
+        ≡ bit_xor (sum_word sum.old j) (product (column j tail.now) (power log_m)) }
+{
+    let mut chunk = [[0; 64]];
+    insert_at(&mut chunk, tail, 0);
+    engine.mul_add(steps, sum, &chunk, log_m);
 }
 
 /// Puts the bytes of a sum of pieces in order. Then [`summed_piece`] lends them.

@@ -32,13 +32,6 @@ add_times-requires-clause-room g c =
     c.index-from.result.now c.in-Some.piece.now (sym c.in-Some.ensures) in
     c.loop-index.auto.sum ∙ c.requires.room ∙ ap row_len (sym sized.length_is)
 
-pub add_times-requires-clause-other_room : goal.add_times-requires-clause-other_room
-add_times-requires-clause-other_room g c =
-    let ready = c.requires.ready in
-    let sized = in_row-sized (g.P.Pieces.received c.args.received.now) ready.set_up c.args.start c.args.end ready.strip
-    c.index-from.result.now c.in-Some.piece.now (sym c.in-Some.ensures) in
-    c.loop-index.auto.added ∙ c.requires.other_room ∙ ap row_len (sym sized.length_is)
-
 pub add_times-requires-clause-even : goal.add_times-requires-clause-even
 add_times-requires-clause-even g c =
     let ready = c.requires.ready in

@@ -6,9 +6,11 @@ use Rattle.rs_field.specs.code.Decoder.{DecoderState}
 use Rattle.rs_field.specs.code.Frame.{row_count}
 use Rattle.rs_rate.specs.ShardRows.{shard_in_order}
 use Rattle.reed_solomon_simd.specs.declared.shard_index.ShardIndex.TheVariants.{Original}
-use Rattle.reed_solomon_simd.specs.Base.{frame_in, row_of}
+use Rattle.rs_field.specs.code.PieceStates.{state_of_pieces}
+use Rattle.reed_solomon_simd.specs.declared.shard_index.ShardIndex.{ShardIndex}
+use Rattle.reed_solomon_simd.specs.Base.{frame_in, row_of, shard_in_row}
 use Rattle.reed_solomon_simd.proofs.BaseLemmas.{decoder_frame, frame_same}
-use Rattle.reed_solomon_simd.proofs.BaseSums.{wanted-at, only-message, row-inside}
+use Rattle.reed_solomon_simd.proofs.BaseSums.{wanted-at, wanted-missing, missing-unmarked, only-message, row-inside}
 use Rattle.reed_solomon_simd.proofs.RebuiltStrips.{named_shards}
 use Rattle.reed_solomon_simd.proofs.strip_summer.put_sums.Goals as goal
 
@@ -25,8 +27,8 @@ row_of-row-requires g c =
     (c.requires.can c.loop-room.room (Original 0) c.loop-room-test.true) in
     omega (arith, rows, inside, ap (λ p. row_of p (get_or c.args.wanted.now c.loop-room.room (Original 0))) same)
 
-pub make_piece-requires-clause-row : goal.make_piece-requires-clause-row
-make_piece-requires-clause-row g c =
+pub sum_piece-requires-clause-row : goal.sum_piece-requires-clause-row
+sum_piece-requires-clause-row g c =
     let s : DecoderState = g.P.Pieces.received c.args.received.now in
     let ready = c.requires.ready in
     let counts = c.args.base.now.counts in
@@ -41,6 +43,21 @@ make_piece-requires-clause-row g c =
       ap (λ p. row_of p (get_or c.args.wanted.now c.loop-room.room (Original 0))) same,
     )
 
+pub sum_piece-requires-clause-outside : goal.sum_piece-requires-clause-outside
+sum_piece-requires-clause-outside g c =
+    let s : DecoderState = g.P.Pieces.received c.args.received.now in
+    let ready = c.requires.ready in
+    let counts = c.args.base.now.counts in
+    let same = frame_same counts.frame counts.original_count counts.recovery_count s ready.set_up counts.framed
+    ready.originals ready.recovery in
+    let wanted : ShardIndex = get_or c.args.wanted.now c.loop-room.room (Original 0) in
+    missing-unmarked s ready.set_up c.args.start c.args.end ready.strip c.args.base.now.marks.items ready.marked
+    c.row_of-row.result
+    (ap (shard_in_row (state_of_pieces c.args.start c.args.end s))
+    (c.row_of-row.ensures ∙ ap (λ p. row_of p wanted) same)
+    ∙ wanted-missing s ready.set_up c.args.start c.args.end ready.strip c.args.base.now.marks.items ready.marked wanted
+    (c.requires.can c.loop-room.room (Original 0) c.loop-room-test.true))
+
 pub put-requires-clause-fits : goal.put-requires-clause-fits
 put-requires-clause-fits g c =
     let s : DecoderState = g.P.Pieces.received c.args.received.now in
@@ -54,9 +71,9 @@ put-requires-clause-fits g c =
     let (message, agrees) = c.requires.consistent in
     let piece = wanted-at s ready.set_up c.args.start c.args.end ready.strip own.marks.items ready.marked message agrees
     c.args.wanted.now n c.row_of-row.result (Original 0)
-    (shard_in_order c.make_piece.new.sum (c.args.end - c.args.start) 0) c.requires.can c.loop-room-test.true
+    (shard_in_order c.sum_piece.new.sum (c.args.end - c.args.start) 0) c.requires.can c.loop-room-test.true
     (c.row_of-row.ensures ∙ ap (λ p. row_of p (get_or c.args.wanted.now c.loop-room.room (Original 0))) same)
-    c.make_piece.ensures.received c.make_piece.ensures.summed in
+    c.sum_piece.ensures in
     let long : length c.summed_piece.result.now ≡ c.args.end - c.args.start =
     ap length c.summed_piece.ensures ∙ piece.1 in
     let inside : c.loop-room.room < length (g.R.Rooms.held c.args.rooms.now) =
@@ -86,9 +103,9 @@ loop-room-preserved g c =
         | inl here ↦
             let piece = wanted-at s ready.set_up c.args.start c.args.end ready.strip own.marks.items ready.marked
             message agrees c.args.wanted.now n c.row_of-row.result (Original 0)
-            (shard_in_order c.make_piece.new.sum (c.args.end - c.args.start) 0) c.requires.can c.loop-room-test.true
+            (shard_in_order c.sum_piece.new.sum (c.args.end - c.args.start) 0) c.requires.can c.loop-room-test.true
             (c.row_of-row.ensures ∙ ap (λ p. row_of p (get_or c.args.wanted.now c.loop-room.room (Original 0))) same)
-            c.make_piece.ensures.received c.make_piece.ensures.summed in
+            c.sum_piece.ensures in
             let long : length c.summed_piece.result.now ≡ c.args.end - c.args.start =
             ap length c.summed_piece.ensures ∙ piece.1 in
             let ends : c.args.start + length c.summed_piece.result.now ≡ c.args.end =

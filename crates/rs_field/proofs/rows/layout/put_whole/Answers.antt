@@ -3,16 +3,8 @@ use Rattle.std.proofs.Common.{arith, sym, length-take-le, get_or-set_same}
 use lib.ListN.{set}
 use Rattle.std.specs.Simd.{first_chunks}
 use Rattle.std.proofs.lemmas.List.{get_or_append_left, get_or-take, get_or-drop}
+use Rattle.rs_field.proofs.of_rows.LayoutLemmas.{byte_of_chunk}
 use Rattle.rs_field.proofs.rows.layout.put_whole.Goals as goal
-
--- Byte b of chunk k is byte 64 k + b of the list.
-byte_of_chunk : (count k b : ℕ) (bytes : List ℕ) → k < count → b < 64
-    → get_or (get_or (first_chunks 64 count bytes) k []) b 0 ≡ get_or bytes (k * 64 + b) 0
-byte_of_chunk zero k b bytes h hb = absurd (omega arith)
-byte_of_chunk (suc count) zero b bytes h hb = get_or-take 64 bytes b 0 hb ∙ ap (λ i. get_or bytes i 0) (omega arith)
-byte_of_chunk (suc count) (suc k) b bytes h hb =
-    byte_of_chunk count k b (drop 64 bytes) (omega arith) hb ∙ get_or-drop 64 bytes (k * 64 + b) 0
-    ∙ ap (λ i. get_or bytes i 0) (omega arith)
 
 -- Byte b of chunk k of the first bytes of a shard is byte 64 k + b of the shard.
 byte_of_shard : (count k b : ℕ) (shard : List ℕ) (chunks : List (List ℕ))

@@ -1,20 +1,91 @@
-use Rattle.std.proofs.Common.{◌/◌, ◌%◌, ◌<◌, length, bit_xor, sym, ap, ◌∙◌, arith}
-use Rattle.rs_field.specs.code.Column.{column}
+use Rattle.std.proofs.Common.{rules, ◌≡◌, ℕ, ◌+◌, ◌-◌, ◌*◌, ◌/◌, ◌%◌, ◌<◌, ◌≤◌, ◌++◌, length, take, drop, bit_xor, sym, ap, ap₂, ◌∙◌}
+use Rattle.std.proofs.Common.{inl, inr, arith}
+use Rattle.std.proofs.lemmas.Bool.{cases_lt}
+use Rattle.std.proofs.lemmas.List.{take-append-drop, length-take-le}
+use Rattle.std.specs.Simd.{first_chunks}
+use Rattle.rs_field.specs.code.Column.{Shard, column}
+use Rattle.rs_field.specs.rows.Rows.{Chunks, chunk, symbol}
 use Rattle.rs_field.specs.words.Field.{product, power}
+use Rattle.rs_field.specs.words.Tables.{times_factor}
+use Rattle.rs_field.proofs.of_code.Pieces.{column-rest}
+use Rattle.rs_field.proofs.of_rows.LayoutLemmas.{symbol_of_chunk}
 use Rattle.rs_rate.specs.Sums.{sum_word}
-use Rattle.rs_rate.proofs.SumLemmas.{one_row, times_known, column-sum}
+use Rattle.rs_rate.proofs.SumLemmas.{times_known, words-first, words-last}
 use Rattle.rs_rate.proofs.passes.sums.add_times.Goals as goal
 
-pub insert_at-requires-clause-room : goal.insert_at-requires-clause-room
-insert_at-requires-clause-room g c = one_row (length c.args.piece.now) _ c.requires.other_room
+-- The sum before, and what its first n chunks and the others become.
+module _ (n log_m : ℕ) (factor : log_m < 65535) (piece : Shard) (sum : Chunks) (within : n * 64 ≤ length piece)
+    (room : n ≤ length sum) where
+  first : length (take n sum) ≡ n
+  first = length-take-le n sum room
 
-pub returns : goal.returns
-returns g c = record {
-  words = λ j inside.
-      let added = c.insert_at.new.chunks in
-      let place : j / 32 < length c.args.sum.now = omega (arith, inside, c.requires.room) in
-      let own = column-sum added (length c.args.piece.now) j c.requires.even inside in
-      c.mul_add.ensures.sums (j / 32) (j % 32) place (omega arith)
-      ∙ ap (bit_xor (sum_word c.args.sum.now j)) (times_known c.args.log_m (sum_word added j) c.requires.factor
-      ∙ ap (λ w. product w (power c.args.log_m)) (sym own ∙ ap (column j) c.insert_at.ensures.here));
-}
+  whole : (now rest front chunks : Chunks) → length now ≡ n → front ≡ take n sum → chunks ≡ first_chunks 64 n piece
+      → ((k s : ℕ) → k < n → s < 32 → symbol (chunk now k) s
+      ≡ bit_xor (symbol (chunk front k) s) (times_factor log_m (symbol (chunk chunks k) s)))
+      → (j : ℕ) → j / 32 < n
+      → sum_word (now ++ rest) j ≡ bit_xor (sum_word sum j) (product (column j piece) (power log_m))
+  whole now rest front chunks long is_front are sums j inside =
+      words-first n j now rest long inside
+      ∙ sums (j / 32) (j % 32) inside (omega arith)
+      ∙ ap₂ bit_xor
+      (ap (λ (c : Chunks). sum_word c j) is_front
+      ∙ sym (words-first n j (take n sum) (drop n sum) first inside)
+      ∙ ap (λ (c : Chunks). sum_word c j) (take-append-drop n sum))
+      (times_known log_m (sum_word chunks j) factor
+      ∙ ap (λ w. product w (power log_m))
+      (ap (λ (c : Chunks). sum_word c j) are ∙ symbol_of_chunk n j piece inside within))
+
+  tail : (now last back : Chunks) (end : Shard) → length now ≡ n → back ≡ drop n sum → end ≡ drop (n * 64) piece
+      → ((j : ℕ) → j < length end / 2
+      → sum_word last j ≡ bit_xor (sum_word back j) (product (column j end) (power log_m)))
+      → (j : ℕ) → n ≤ j / 32 → j - 32 * n < length end / 2
+      → sum_word (now ++ last) j ≡ bit_xor (sum_word sum j) (product (column j piece) (power log_m))
+  tail now last back end long is_back is words j past inside =
+      words-last n j now last long past
+      ∙ words (j - 32 * n) inside
+      ∙ ap₂ bit_xor
+      (ap (λ (c : Chunks). sum_word c (j - 32 * n)) is_back
+      ∙ sym (words-last n j (take n sum) (drop n sum) first past)
+      ∙ ap (λ (c : Chunks). sum_word c j) (take-append-drop n sum))
+      (ap (λ w. product w (power log_m))
+      (ap (column (j - 32 * n)) is
+      ∙ column-rest (n * 64) (j - 32 * n) piece (omega arith)
+      ∙ ap (λ (i : ℕ). column i piece) (let e : n * 64 / 2 + (j - 32 * n) ≡ j = omega (arith, past) in e)))
+
+pub returns-then-not-is_empty : goal.returns-then-not-is_empty
+returns-then-not-is_empty g c =
+    let n : ℕ = length c.as_chunks.result.0.now in
+    let count = c.as_chunks.ensures.front_len in
+    let piece = c.args.piece.now in let sum = c.args.sum.now in let now = c.mul_add.new.x in
+    let within : length c.as_chunks.result.0.now * 64 ≤ length c.args.piece.now = omega (arith, count) in
+    let room : length c.as_chunks.result.0.now ≤ length c.args.sum.now = omega (arith, count, c.requires.room) in
+    let long : length c.mul_add.new.x ≡ length c.as_chunks.result.0.now = search rules in
+    record {
+      words = λ j inside. elim (cases_lt (j / 32) n) [
+        | inl early ↦
+            whole n c.args.log_m c.requires.factor piece sum within room now c.add_tail_times.new.sum
+            c.split_at_mut-chunks.result.0.now c.as_chunks.result.0.now long (search rules) (search rules)
+            (λ k s h. c.mul_add.ensures.sums k s (search rules)) j early
+        | inr late ↦
+            tail n c.args.log_m c.requires.factor piece sum within room now c.add_tail_times.new.sum
+            c.split_at_mut-chunks.result.1.now c.as_chunks.result.1.now long (search rules) (search rules)
+            c.add_tail_times.ensures.words j late (omega (arith, inside, late, count, c.as_chunks.ensures.back_len))
+      ];
+    }
+
+pub returns-else-not-is_empty : goal.returns-else-not-is_empty
+returns-else-not-is_empty g c =
+    let n : ℕ = length c.as_chunks.result.0.now in
+    let count = c.as_chunks.ensures.front_len in
+    let piece = c.args.piece.now in let sum = c.args.sum.now in let now = c.mul_add.new.x in
+    let within : length c.as_chunks.result.0.now * 64 ≤ length c.args.piece.now = omega (arith, count) in
+    let room : length c.as_chunks.result.0.now ≤ length c.args.sum.now = omega (arith, count, c.requires.room) in
+    let long : length c.mul_add.new.x ≡ length c.as_chunks.result.0.now = search rules in
+    let none : length c.as_chunks.result.1.now ≡ 0 = search rules in
+    record {
+      words = λ j inside.
+          whole n c.args.log_m c.requires.factor piece sum within room now c.split_at_mut-chunks.result.1.now
+          c.split_at_mut-chunks.result.0.now c.as_chunks.result.0.now long (search rules) (search rules)
+          (λ k s h. c.mul_add.ensures.sums k s (search rules)) j
+          (omega (arith, inside, count, none, c.as_chunks.ensures.back_len));
+    }
