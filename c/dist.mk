@@ -34,7 +34,7 @@ check: all
 	$(RUN) c/out/test rounds 1 500
 	$(RUN) c/out/test threads
 	$(RUN) c/out/received refusals
-	$(RUN) c/out/received rounds 1 500
+	$(RUN) c/out/received rounds 1 500 12
 	$(RUN) c/out/memory
 	$(RUN) c/out/work few
 

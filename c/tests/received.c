@@ -1,9 +1,12 @@
-/* rs_verify, rs_reconstruct and rs_update. Words: `rounds SEED COUNT`; `pairs`; `refusals`. */
+/* rs_verify, rs_reconstruct and rs_update. Words: `rounds SEED COUNT MOST`, with at most MOST originals and recovery shards, and MOST at
+   most 1000; `pairs`; `refusals`. */
 #include "reed_solomon_simd.h"
 
 #include <stdio.h>
 #include <stdlib.h>
 #include <string.h>
+
+enum { MOST_SHARDS = 1000 };
 
 static struct rs_tables *tables;
 
@@ -51,14 +54,14 @@ static struct message made_of(size_t k, size_t r, size_t size, uint64_t *state) 
     return m;
 }
 
-static struct message made(uint64_t *state) {
-    size_t k = 1 + drawn(state) % 12, r = 1 + drawn(state) % 12, size = 2 + 2 * (drawn(state) % 40);
+static struct message made(uint64_t *state, size_t most) {
+    size_t k = 1 + drawn(state) % most, r = 1 + drawn(state) % most, size = 2 + 2 * (drawn(state) % 40);
     return made_of(k, r, drawn(state) % 8 == 0 ? size + 4096 : size, state);
 }
 
 /* Shards that were received: the first ones of the order. */
 struct received {
-    struct rs_shard shards[2][12];
+    struct rs_shard shards[2][MOST_SHARDS];
     size_t counts[2];
 };
 
@@ -78,8 +81,8 @@ static uint32_t verified(const struct message *m, const struct received *a, stru
 
 /* Reconstructs the shards of the order from place `from` on, and compares them, or the unchanged rooms if the call fails. */
 static uint32_t reconstructed(const struct message *m, const struct received *a, size_t from, struct rs_fault *fault) {
-    struct rs_wanted wanted[24] = {{RS_ORIGINAL, 0}};
-    struct rs_room rooms[24] = {{NULL, 0}};
+    static struct rs_wanted wanted[2 * MOST_SHARDS];
+    static struct rs_room rooms[2 * MOST_SHARDS];
     size_t count = 0;
     uint32_t answer;
     for (size_t i = from; i < m->k + m->r; i++, count++) {
@@ -104,7 +107,7 @@ static void update(struct message *m, uint64_t *state) {
     size_t index = drawn(state) % m->k, length = m->r * m->size;
     uint8_t *original = m->shards + index * m->size, *recovery = m->shards + m->k * m->size;
     uint8_t *before = memcpy(room(m->size), original, m->size), *updated = memcpy(room(length), recovery, length);
-    struct rs_room rooms[12] = {{NULL, 0}};
+    static struct rs_room rooms[MOST_SHARDS];
     struct rs_fault fault = {99, 99, 99, 99};
     for (size_t i = 0; i < m->size; i++) original[i] = (uint8_t)(drawn(state) >> 24);
     for (size_t i = 0; i < m->r; i++) rooms[i].bytes = updated + i * m->size, rooms[i].length = m->size;
@@ -116,10 +119,13 @@ static void update(struct message *m, uint64_t *state) {
     free(updated);
 }
 
-static void round_of(uint64_t *state) {
-    struct message m = made(state);
+/* A round with a message of random counts. In each second round, at most four shards are wanted and at most one is surplus. */
+static void round_of(uint64_t *state, size_t most) {
+    struct message m = made(state, most);
     update(&m, state);
-    size_t count = m.k + drawn(state) % (m.r + 1), from = count + drawn(state) % (m.k + m.r - count + 1);
+    size_t is_few = drawn(state) % 2, count = m.k + drawn(state) % (is_few ? 2 : m.r + 1), others = m.k + m.r - count;
+    size_t from = count + drawn(state) % (others + 1);
+    if (is_few && others > 4) from = m.k + m.r - drawn(state) % 5;
     struct received a = first_of(&m, count);
     struct rs_fault fault = {99, 99, 99, 99};
     if (verified(&m, &a, &fault) || !told(&fault, RS_OK, 0, 0, 0)) wrong("shards of one message are refused");
@@ -247,9 +253,10 @@ static void refusals(void) {
 int main(int count, char **words) {
     struct rs_tables *at = tables = room(sizeof *tables);
     if (rs_tables_make(tables)) wrong("no memory for the tables");
-    if (count == 4 && !strcmp(words[1], "rounds")) {
+    size_t most = count == 5 ? strtoul(words[4], NULL, 10) : 0;
+    if (0 < most && most <= MOST_SHARDS && !strcmp(words[1], "rounds")) {
         uint64_t state = strtoull(words[2], NULL, 10);
-        for (unsigned long n = strtoul(words[3], NULL, 10); n > 0; n--) round_of(&state);
+        for (unsigned long n = strtoul(words[3], NULL, 10); n > 0; n--) round_of(&state, most);
         puts("received: rounds");
     } else if (count == 2 && !strcmp(words[1], "pairs"))
         pairs();
