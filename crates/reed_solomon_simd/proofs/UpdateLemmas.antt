@@ -31,7 +31,8 @@ use Rattle.reed_solomon_simd.specs.declared.room_error.RoomError.{RoomError}
 use Rattle.reed_solomon_simd.specs.declared.room_error.RoomError.TheVariants.{Refused}
 use Rattle.reed_solomon_simd.specs.Into.{rooms_fit}
 use Rattle.reed_solomon_simd.specs.Rooms.{bytes_in}
-use Rattle.reed_solomon_simd.specs.Updated.{IsChanged, UpdatesShards, UpdatesInto, change_outcome, update_outcome}
+use Rattle.reed_solomon_simd.specs.Updated.{IsChanged, IsChangedStrip, UpdatesShards, UpdatesInto}
+use Rattle.reed_solomon_simd.specs.Updated.{change_outcome, update_outcome}
 use Rattle.reed_solomon_simd.proofs.ReconstructLemmas.{zeros}
 
 -- If each byte of a shard is the XOR of two bytes, each word is the XOR of two words.
@@ -70,7 +71,7 @@ column-xor size j s t u hs ht hu bytes =
 -- The first `start` bytes of a shard are changed, and the others are those of the shard before.
 pub record IsChangedBelow (start : ℕ) (old new : Shard) (log : ℕ) (before now : Shard) : Type 0 where
   pub length_is : length now ≡ length before
-  pub inside : start ≤ length before
+  pub bytes : (start ≡ 0) ⊎ All (λ b. b < 256) now
   pub begins : (start % 64 ≡ 0) ⊎ (start ≡ length before)
   pub below : (j : ℕ) → j < start / 2
       → column j now ≡ bit_xor (column j before) (product (bit_xor (column j old) (column j new)) (power log))
@@ -81,7 +82,7 @@ pub changed-none : (old new : Shard) (log : ℕ) (before : Shard) → IsChangedB
 changed-none old new log before =
     record {
       length_is = refl;
-      inside = omega arith;
+      bytes = inl refl;
       begins = inl refl;
       below = λ j h. let no : ⊥ = omega (arith, h) in absurd no;
       above = refl;
@@ -103,13 +104,19 @@ put-piece start width end s piece ends within sized =
 
 -- Once all bytes are changed, the shard is.
 pub changed-all : (start : ℕ) (old new : Shard) (log : ℕ) (before now : Shard)
-    → IsChangedBelow start old new log before now → (start < length now → ⊥) → All (λ b. b < 256) now
+    → IsChangedBelow start old new log before now → 0 < length before → length before ≤ start
     → IsChanged old new log before now
-changed-all start old new log before now is done bytes =
-    let long = is.length_is in
-    record { length_is = long; bytes = bytes; words = λ j h. is.below j (omega (arith, h, done, long)) }
+changed-all start old new log before now is some done =
+    record {
+      length_is = is.length_is;
+      bytes = elim is.bytes [
+        | inl none ↦ let no : ⊥ = omega (arith, none, some, done) in absurd no
+        | inr all ↦ all
+      ];
+      words = λ j h. is.below j (omega (arith, h, done));
+    }
 
--- A list whose middle part is another one.
+-- The parts of a list whose middle part is replaced.
 module _ (start end : ℕ) (now piece after : Shard) (order : start ≤ end) (within : end ≤ length now)
     (sized : length piece ≡ end - start) (is : after ≡ take start now ++ (piece ++ drop end now)) where
   front : length (take start now) ≡ start
@@ -141,25 +148,15 @@ module _ (start end : ℕ) (now piece after : Shard) (order : start ≤ end) (wi
       ∙ ap (λ (n : ℕ). drop n (piece ++ drop end now)) (sym sized)
       ∙ drop-append_seam piece (drop end now)
 
-  pub length-kept : length after ≡ length now
-  length-kept =
-      ap length is
-      ∙ length-append (take start now) (piece ++ drop end now)
-      ∙ (let both = length-append piece (drop end now) in let rest = length-drop end now in
-      omega (arith, front, sized, both, rest, order, within))
-
--- If the next piece is changed, the bytes up to its end are.
-pub changed-more : (start end : ℕ) (old new : Shard) (log : ℕ) (before now piece after : Shard)
+-- If the next strip is changed, the bytes up to its end are.
+pub changed-more : (start end : ℕ) (old new : Shard) (log : ℕ) (before now after : Shard)
     → IsChangedBelow start old new log before now → IsStrip start end (length before)
-    → length old ≡ length before → length new ≡ length before
-    → IsChanged (between start end old) (between start end new) log (between start end now) piece
-    → length (between start end now) ≡ end - start
-    → after ≡ take start now ++ (piece ++ drop end now)
+    → length old ≡ length before → length new ≡ length before → IsChangedStrip start end old new log now after
     → IsChangedBelow end old new log before after
-changed-more start end old new log before now piece after is strip same_old same_new changed sized splice =
+changed-more start end old new log before now after is strip same_old same_new (change, sized, words, adds) =
     record {
-      length_is = length-kept start end now piece after strip.order within fits splice ∙ is.length_is;
-      inside = strip.inside;
+      length_is = long;
+      bytes = inr adds.bytes;
       begins = strip.ends;
       below = λ j h. elim (cases_lt j (start / 2)) [
         | inl first ↦ early j first
@@ -170,7 +167,7 @@ changed-more start end old new log before now piece after is strip same_old same
             ≡ bit_xor (column n before) (product (bit_xor (column n old) (column n new)) (power log))) place
             (late (j - start / 2) (omega (arith, h, later, begins)))
       ];
-      above = rest-kept start end now piece after strip.order within fits splice
+      above = adds.rest
           ∙ ap (λ (n : ℕ). drop n now) (sym parts)
           ∙ sym (drop-drop (end - start) start now) ∙ ap (drop (end - start)) is.above
           ∙ drop-drop (end - start) start before
@@ -180,39 +177,33 @@ changed-more start end old new log before now piece after is strip same_old same
     parts : start + (end - start) ≡ end
     parts = let o = strip.order in omega (arith, o)
 
-    within : end ≤ length now
-    within = let long = is.length_is in let inside = strip.inside in omega (arith, long, inside)
-
-    fits : length piece ≡ end - start
-    fits = changed.length_is ∙ sized
-
-    begin : start ≤ length now
-    begin = let o = strip.order in omega (arith, within, o)
+    begin : start ≤ length before
+    begin = let o = strip.order in let inside = strip.inside in omega (arith, o, inside)
 
     long : length after ≡ length before
-    long = length-kept start end now piece after strip.order within fits splice ∙ is.length_is
+    long = adds.length_is ∙ is.length_is
 
     early : (j : ℕ) → j < start / 2
         → column j after ≡ bit_xor (column j before) (product (bit_xor (column j old) (column j new)) (power log))
     early j h =
-        sym (column-head start j after strip.begins
-        (let all = long in let l = is.length_is in omega (arith, all, l, begin)) h)
-        ∙ ap (column j) (head-kept start end now piece after strip.order within fits splice)
-        ∙ column-head start j now strip.begins begin h ∙ is.below j h
+        sym (column-head start j after strip.begins (omega (arith, long, begin)) h)
+        ∙ ap (column j) adds.first
+        ∙ column-head start j now strip.begins (let l = is.length_is in omega (arith, l, begin)) h ∙ is.below j h
 
     late : (i : ℕ) → i < (end - start) / 2
         → column (start / 2 + i) after
         ≡ bit_xor (column (start / 2 + i) before)
         (product (bit_xor (column (start / 2 + i) old) (column (start / 2 + i) new)) (power log))
     late i h =
+        let inside : i < length change / 2 = omega (arith, h, sized) in
         sym (column-piece start end i after (subst (IsStrip start end) (sym long) strip) h)
-        ∙ ap (column i) (middle-is start end now piece after strip.order within fits splice)
-        ∙ changed.words i (omega (arith, h, sized))
+        ∙ adds.words i inside
         ∙ ap₂ bit_xor
         (column-piece start end i now (subst (IsStrip start end) (sym is.length_is) strip) h
         ∙ sym (column-rest start i now strip.begins) ∙ ap (column i) is.above
         ∙ column-rest start i before strip.begins)
-        (ap₂ (λ (x y : ℕ). product (bit_xor x y) (power log))
+        (ap (λ (w : ℕ). product w (power log)) (words i inside)
+        ∙ ap₂ (λ (x y : ℕ). product (bit_xor x y) (power log))
         (column-piece start end i old (subst (IsStrip start end) (sym same_old) strip) h)
         (column-piece start end i new (subst (IsStrip start end) (sym same_new) strip) h))
 

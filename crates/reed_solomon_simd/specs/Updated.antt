@@ -3,6 +3,7 @@ use Rattle.std.specs.Prelude.{
   ◌≡◌,
   ◌⊎◌,
   ℕ,
+  ◌-◌,
   ◌/◌,
   ◌<◌,
   ◌==◌,
@@ -10,6 +11,8 @@ use Rattle.std.specs.Prelude.{
   All,
   List,
   length,
+  take,
+  drop,
   replicate,
   nat_le,
   if◌then◌else◌,
@@ -18,6 +21,7 @@ use Rattle.std.specs.Prelude.{
   Err,
   MatchResult,
 }
+use Rattle.std.specs.List.{between}
 use Rattle.std.specs.Result.{result_map_both}
 use Rattle.rs_field.specs.declared.code.error.Error.{Error}
 use Rattle.rs_field.specs.declared.code.error.Error.TheVariants.{
@@ -75,3 +79,23 @@ pub record IsChanged (old new : Shard) (log : ℕ) (before after : Shard) : Type
   pub bytes : All (λ b. b < 256) after
   pub words : (j : ℕ) → j < length before / 2
       → column j after ≡ bit_xor (column j before) (product (bit_xor (column j old) (column j new)) (power log))
+
+-- a shard is another one plus a change from byte `start` up to byte `end`, times the generator to the power of this
+-- logarithm
+pub record AddsToStrip (start end : ℕ) (change : Shard) (log : ℕ) (before after : Shard) : Type 0 where
+  pub length_is : length after ≡ length before
+  pub bytes : All (λ b. b < 256) after
+  pub first : take start after ≡ take start before
+  pub rest : drop end after ≡ drop end before
+  pub words : (j : ℕ) → j < length change / 2
+      → column j (between start end after)
+      ≡ bit_xor (column j (between start end before)) (product (column j change) (power log))
+
+-- a shard is another one plus the change of an original from byte `start` up to byte `end`, times the generator to the
+-- power of this logarithm
+abbrev pub IsChangedStrip : ℕ → ℕ → Shard → Shard → ℕ → Shard → Shard → Type 0
+IsChangedStrip start end old new log before after =
+    (change : Shard) × (length change ≡ end - start)
+    × ((j : ℕ) → j < length change / 2
+    → column j change ≡ bit_xor (column j (between start end old)) (column j (between start end new)))
+    × AddsToStrip start end change log before after

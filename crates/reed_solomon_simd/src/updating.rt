@@ -1,8 +1,10 @@
 //! A function that updates recovery shards if one original changes.
-ghost use Rattle.std.specs.Prelude.{◌≡◌, ◌/◌, ◌%◌, ℕ, ◌<◌, ◌≤◌, length, slice_index, bit_xor};
-ghost use Rattle.rs_field.specs.code.Column.{shard_at};
+ghost use Rattle.std.specs.Prelude.{◌≡◌, ◌+◌, ◌-◌, ◌/◌, ◌%◌, ℕ, ◌<◌, ◌≤◌, length, slice_index, bit_xor};
+ghost use Rattle.rs_field.specs.code.Column.{shard_at, column};
+ghost use Rattle.rs_field.specs.code.Pieces.{IsStrip};
 ghost use Rattle.reed_solomon_simd.specs.Rooms.{bytes_in, loans_of};
-ghost use Rattle.reed_solomon_simd.specs.Updated.{UpdatesInto, IsChanged, change_outcome};
+ghost use Rattle.reed_solomon_simd.specs.Updated.{UpdatesInto, IsChanged, IsChangedStrip, AddsToStrip};
+ghost use Rattle.reed_solomon_simd.specs.Updated.{change_outcome};
 
 use crate::rooms::check_rooms;
 use crate::{Error, RoomError};
@@ -64,8 +66,6 @@ pub fn update_into<E: Engine>(
     let counts = DefaultRateCounts::new(original_count, recovery_count)?;
     check_change(counts, index, old.len(), new.len())?;
     check_rooms(recovery_count, old.len(), recovery)?;
-    are_bytes(old);
-    are_bytes(new);
     let mut steps = Steps::new();
     let factors = change_factors(alloc, &engine, &mut steps, counts, index)?;
     add_to_all(&engine, &mut steps, recovery, old, new, factors.as_slice());
@@ -99,8 +99,8 @@ fn check_change(
     Ok(())
 }
 
-// Adds the change from `old` to `new` to each recovery shard, times the factor of the shard. `factors` has the logarithms
-// of the factors.
+// Adds the change from `old` to `new` to each recovery shard, times the factor of the shard, strip by strip. `factors` has the
+// logarithms of the factors.
 fn add_to_all<E: Engine>(
     engine: &E,
     steps: &mut Steps,
@@ -110,6 +110,7 @@ fn add_to_all<E: Engine>(
     factors: &[GfElement],
 )
     requires number { length factors.now ≡ length recovery.old }
+    requires some { 0 < length old.now }
     requires same { length new.now ≡ length old.now }
     requires even { length old.now % 2 ≡ 0 }
     requires fit { (i : ℕ) → i < length recovery.old
@@ -121,76 +122,77 @@ fn add_to_all<E: Engine>(
         → IsChanged old.now new.now (slice_index factors.now i)
         (shard_at (bytes_in recovery.old) i) (shard_at (bytes_in recovery.new) i) }
 {
-    for i in 0..recovery.len() {
-        add_to_shard(engine, steps, recovery[i], old, new, factors[i]);
+    let mut start = 0;
+    while start < old.len() {
+        let end = start + STRIP_BYTES.min(old.len() - start);
+        add_strip(engine, steps, recovery, old, new, start, end, factors);
+        start = end;
     }
 }
 
-// Adds the change from `old` to `new` to a recovery shard, times a factor. `log_m` is the logarithm of the factor.
-fn add_to_shard<E: Engine>(
+// Adds a strip of the change to the same strip of each recovery shard, times the factor of the shard.
+fn add_strip<E: Engine>(
+    engine: &E,
+    steps: &mut Steps,
+    recovery: &mut [&mut [u8]],
+    old: &[u8],
+    new: &[u8],
+    start: usize,
+    end: usize,
+    factors: &[GfElement],
+)
+    requires number { length factors.now ≡ length recovery.old }
+    requires strip { IsStrip start end (length old.now) }
+    requires few { end - start ≤ 2048 }
+    requires same { length new.now ≡ length old.now }
+    requires even { length old.now % 2 ≡ 0 }
+    requires fit { (i : ℕ) → i < length recovery.old
+        → length (shard_at (bytes_in recovery.old) i) ≡ length old.now }
+    requires small { (i : ℕ) → i < length recovery.old → slice_index factors.now i < 65535 }
+    ensures number { length recovery.new ≡ length recovery.old }
+    ensures kept { loans_of recovery.new ≡ loans_of recovery.old }
+    ensures changed { (i : ℕ) → i < length recovery.old
+        → IsChangedStrip start end old.now new.now (slice_index factors.now i)
+        (shard_at (bytes_in recovery.old) i) (shard_at (bytes_in recovery.new) i) }
+{
+    let mut room = [0; STRIP_BYTES];
+    let change = &mut room[..end - start];
+    put_change(change, &old[start..end], &new[start..end]);
+    for i in 0..recovery.len() {
+        add_to_strip(engine, steps, recovery[i], change, start, factors[i]);
+    }
+}
+
+// Adds a strip of a change to the same strip of a recovery shard, times a factor. `log_m` is the logarithm of the factor.
+fn add_to_strip<E: Engine>(
     engine: &E,
     steps: &mut Steps,
     shard: &mut [u8],
-    old: &[u8],
-    new: &[u8],
+    change: &[u8],
+    start: usize,
     log_m: GfElement,
 )
-    requires old { length old.now ≡ length shard.old }
-    requires new { length new.now ≡ length shard.old }
-    requires even { length shard.old % 2 ≡ 0 }
+    requires inside { start + length change.now ≤ length shard.old }
+    requires even { length change.now % 2 ≡ 0 }
+    requires few { length change.now ≤ 2048 }
     requires factor { log_m < 65535 }
-    ensures { IsChanged old.now new.now log_m shard.old shard.new }
+    ensures { AddsToStrip start (start + length change.now) change.now log_m shard.old shard.new }
 {
-    let mut start = 0;
-    while start < shard.len() {
-        let end = start + STRIP_BYTES.min(shard.len() - start);
-        let piece = &mut shard[start..end];
-        add_to_piece(
-            engine,
-            steps,
-            piece,
-            &old[start..end],
-            &new[start..end],
-            log_m,
-        );
-        start = end;
-    }
+    let end = start + change.len();
+    add_change(engine, steps, &mut shard[start..end], change, log_m);
     are_bytes(shard);
 }
 
-// Adds the change of a piece of an original to the same piece of a recovery shard, times a factor.
-fn add_to_piece<E: Engine>(
-    engine: &E,
-    steps: &mut Steps,
-    piece: &mut [u8],
-    old: &[u8],
-    new: &[u8],
-    log_m: GfElement,
-)
-    requires old { length old.now ≡ length piece.old }
-    requires new { length new.now ≡ length piece.old }
-    requires even { length piece.old % 2 ≡ 0 }
-    requires few { length piece.old ≤ 2048 }
-    requires factor { log_m < 65535 }
-    ensures { IsChanged old.now new.now log_m piece.old piece.new }
-{
-    are_bytes(old);
-    are_bytes(new);
-    let mut room = [0; STRIP_BYTES];
-    let change = &mut room[..piece.len()];
-    put_change(change, old, new);
-    add_change(engine, steps, piece, change, log_m);
-    are_bytes(piece);
-}
-
-// Writes the bytewise XOR of two pieces into a room of their size.
+// Writes the XOR of two pieces, word by word, into a room of their size.
 fn put_change(change: &mut [u8], old: &[u8], new: &[u8])
     requires old { length old.now ≡ length change.old }
     requires new { length new.now ≡ length change.old }
     ensures length { length change.new ≡ length change.old }
-    ensures bytes { (i : ℕ) → i < length change.old
-        → slice_index change.new i ≡ bit_xor (slice_index old.now i) (slice_index new.now i) }
+    ensures words { (j : ℕ) → j < length change.old / 2
+        → column j change.new ≡ bit_xor (column j old.now) (column j new.now) }
 {
+    are_bytes(old);
+    are_bytes(new);
     for i in 0..change.len() {
         change[i] = old[i] ^ new[i];
     }

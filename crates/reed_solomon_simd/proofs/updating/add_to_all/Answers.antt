@@ -1,45 +1,58 @@
-use Rattle.std.proofs.Common.{rules, ◌≡◌, ℕ, ◌<◌, List, [], length, get_or, MutBor, inl, inr, sym, ◌∙◌, subst}
-use Rattle.std.proofs.Common.{arith}
+use Rattle.std.proofs.Common.{rules, ◌≡◌, ℕ, ◌+◌, ◌<◌, ◌≤◌, length, refl, ◌∙◌, inl, subst, sym, arith}
 use Rattle.std.specs.Prelude.{slice_index}
-use Rattle.std.proofs.lemmas.Bool.{cases_lt}
-use Rattle.std.proofs.lemmas.List.{get_or-map}
 use Rattle.rs_field.specs.code.Column.{Shard, shard_at}
+use Rattle.rs_field.specs.code.Pieces.{IsStrip}
 use Rattle.reed_solomon_simd.specs.Rooms.{bytes_in}
-use Rattle.reed_solomon_simd.specs.Updated.{IsChanged}
-use Rattle.reed_solomon_simd.proofs.UpdateLemmas.{shard-set, shard-kept}
+use Rattle.reed_solomon_simd.proofs.UpdateLemmas.{changed-none, changed-more, changed-all, next-strip}
 use Rattle.reed_solomon_simd.proofs.updating.add_to_all.Goals as goal
 
-pub loop-i-preserved : goal.loop-i-preserved
-loop-i-preserved g c =
-    let rooms : List (MutBor (List ℕ)) = c.loop-i.recovery in
-    let index : ℕ = c.loop-i.i in
-    let d : MutBor (List ℕ) = record { ref_ptr = (0, 0); ghost_name = 0; now = [] } in
-    let number = c.loop-i.invariant.number in
-    let test = c.loop-i-test.true in
-    let inside : c.loop-i.i < length c.loop-i.recovery = omega (arith, number, test) in
-    let was : (get_or c.loop-i.recovery c.loop-i.i d).now ≡ shard_at (bytes_in c.args.recovery.now) c.loop-i.i =
-    sym (get_or-map (λ room. room.now) c.loop-i.recovery c.loop-i.i d [] inside)
-    ∙ c.loop-i.invariant.others c.loop-i.i (omega arith) in
-    let log : ℕ → ℕ = λ i. slice_index c.args.factors.now i in
-    let initial : ℕ → Shard = λ i. shard_at (bytes_in c.args.recovery.now) i in
+pub loop-start-init : goal.loop-start-init
+loop-start-init g c = record {
+  inside = omega arith;
+  begins = inl refl;
+  number = refl;
+  kept = refl;
+  changed = λ i h.
+      changed-none c.args.old.now c.args.new.now (slice_index c.args.factors.now i)
+      (shard_at (bytes_in c.args.recovery.now) i);
+}
+
+pub add_strip-requires-clause-strip : goal.add_strip-requires-clause-strip
+add_strip-requires-clause-strip g c =
+    next-strip c.loop-start.start (length c.args.old.now) c.min.result c.loop-start.invariant.begins
+    (search rules) (search rules)
+
+pub add_strip-requires-clause-fit : goal.add_strip-requires-clause-fit
+add_strip-requires-clause-fit g c i h =
+    let number = c.loop-start.invariant.number in
+    let inside : i < length c.args.recovery.now = omega (arith, h, number) in
+    (c.loop-start.invariant.changed i inside).length_is ∙ c.requires.fit i inside
+
+pub loop-start-preserved : goal.loop-start-preserved
+loop-start-preserved g c =
+    let start : ℕ = c.loop-start.start in
+    let held = c.loop-start.invariant in
+    let strip : IsStrip c.loop-start.start (c.loop-start.start + c.min.result) (length c.args.old.now) =
+    next-strip start (length c.args.old.now) c.min.result held.begins (search rules) (search rules) in
     record {
-      number = search rules;
-      kept = search rules;
-      changed = λ i h. elim (cases_lt i c.loop-i.i) [
-        | inl before ↦
-            subst (λ (s : Shard). IsChanged c.args.old.now c.args.new.now (log i) (initial i) s)
-            (sym (shard-kept rooms index i _ (λ same. let no : ⊥ = omega (arith, before, same) in no)))
-            (c.loop-i.invariant.changed i before)
-        | inr not_before ↦
-            let here : i ≡ c.loop-i.i = omega (arith, h, not_before) in
-            subst (λ (s : Shard). IsChanged c.args.old.now c.args.new.now (log i) (initial i) s)
-            (sym (shard-set rooms index i _ inside here))
-            (subst (λ (n : ℕ). IsChanged c.args.old.now c.args.new.now (log n) (initial n) c.add_to_shard.new.shard)
-            (sym here)
-            (subst (λ (s : Shard). IsChanged c.args.old.now c.args.new.now (log c.loop-i.i) s c.add_to_shard.new.shard)
-            was c.add_to_shard.ensures))
-      ];
-      others = λ i h.
-          shard-kept rooms index i _ (λ same. let no : ⊥ = omega (arith, h, same) in no)
-          ∙ c.loop-i.invariant.others i (omega (arith, h));
+      inside = strip.inside;
+      begins = strip.ends;
+      number = c.add_strip.ensures.number ∙ held.number;
+      kept = c.add_strip.ensures.kept ∙ held.kept;
+      changed = λ i h.
+          let long = c.requires.fit i h in
+          changed-more start (start + c.min.result) c.args.old.now c.args.new.now (slice_index c.args.factors.now i)
+          (shard_at (bytes_in c.args.recovery.now) i) (shard_at (bytes_in c.loop-start.recovery) i)
+          (shard_at (bytes_in c.add_strip.new.recovery) i) (held.changed i h)
+          (subst (λ (n : ℕ). IsStrip start (start + c.min.result) n) (sym long) strip) (sym long)
+          (c.requires.same ∙ sym long)
+          (c.add_strip.ensures.changed i (let n = held.number in omega (arith, h, n)));
     }
+
+pub returns-clause-changed : goal.returns-clause-changed
+returns-clause-changed g c i h =
+    let long = c.requires.fit i h in
+    changed-all c.loop-start.start c.args.old.now c.args.new.now (slice_index c.args.factors.now i)
+    (shard_at (bytes_in c.args.recovery.now) i) (shard_at (bytes_in c.loop-start.recovery) i)
+    (c.loop-start.invariant.changed i h) (omega (arith, long, c.requires.some))
+    (omega (arith, long, c.loop-start-test.false))
