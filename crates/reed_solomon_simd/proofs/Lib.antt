@@ -28,6 +28,7 @@ pub mod BaseLemmas
 pub mod BaseSums
 pub mod BaseMarks
 pub mod WantedLemmas
+pub mod MissingLemmas
 pub mod ReceivingLemmas
 pub mod VerifyingLemmas
 pub mod ReconstructLemmas

@@ -198,7 +198,7 @@ rebuilt-all s wanted grows rooms is enough can done =
 -- ---- a strip
 
 -- The missing original of a message with an index is original i of the message.
-missing-there : (s : DecoderState) (message : List Shard) (i : ℕ) → i < s.configuration.original_count
+pub missing-there : (s : DecoderState) (message : List Shard) (i : ℕ) → i < s.configuration.original_count
     → s.originals i ≡ None → missing_of s message i ≡ Some (shard_at message i)
 unfolding missing_of
 missing-there s message i inside none =

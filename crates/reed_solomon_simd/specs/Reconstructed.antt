@@ -1,15 +1,16 @@
 -- What `reconstruct` and `reconstruct_into` return for lists of received shards.
-use Rattle.std.specs.Prelude.{◌≡◌, ◌⊎◌, ℕ, ◌<◌, Bool, List, [], ◌∷◌, length, map, replicate, nat_le}
+use Rattle.std.specs.Prelude.{◌≡◌, ◌⊎◌, ℕ, ◌+◌, ◌<◌, All, Bool, List, [], ◌∷◌, length, map, replicate, nat_le}
 use Rattle.std.specs.Prelude.{nat_lt, is_some, if◌then◌else◌, Option, Some, None, Result, Ok, Err, IsOk, MatchResult}
 use Rattle.std.specs.List.{list_any}
 use Rattle.std.specs.Result.{result_map_both}
 use Rattle.rs_field.specs.declared.code.error.Error.{Error}
 use Rattle.rs_field.specs.declared.code.error.Error.TheVariants.{OutOfMemory}
 use Rattle.rs_field.specs.code.Column.{Shard, shard_at}
-use Rattle.rs_field.specs.code.Decoder.{DecoderState, IsAgreeing, enough_given, NoneAgrees}
-use Rattle.rs_field.specs.code.Given.{Shards}
+use Rattle.rs_field.specs.code.Decoder.{DecoderState, IsAgreeing, missing_of, enough_given, NoneAgrees}
+use Rattle.rs_field.specs.code.Given.{Shards, count_below, items_below}
 use Rattle.rs_field.specs.code.OneCall.{Items}
 use Rattle.rs_field.specs.code.Outcome.{result_and_then}
+use Rattle.rs_field.specs.code.PieceStates.{shards_listed}
 use Rattle.reed_solomon_simd.specs.declared.reconstruct_error.ReconstructError.{ReconstructError}
 use Rattle.reed_solomon_simd.specs.declared.reconstruct_error.ReconstructError.TheVariants.{
   Refused,
@@ -59,6 +60,13 @@ wanted_outcome s before (shard ∷ shards) =
 abbrev pub CanBeRebuilt : DecoderState → ShardIndex → Type 0
 CanBeRebuilt s (Original i) = (i < s.configuration.original_count) × (s.originals i ≡ None)
 CanBeRebuilt s (Recovery i) = (i < s.configuration.recovery_count) × (s.recovery i ≡ None)
+
+-- a list names the missing originals with indexes below n, in order of index
+pub record NamesMissing (n : ℕ) (s : DecoderState) (wanted : List ShardIndex) : Type 0 where
+  pub each : All (CanBeRebuilt s) wanted
+  pub number : length wanted + count_below n s.originals ≡ n
+  pub named : (message recovery : List Shard)
+      → map (shard_named message recovery) wanted ≡ shards_listed (items_below n (missing_of s message))
 
 -- the shard with a name, among restored originals by their index and a list of encoded recovery shards, if it is there
 abbrev pub lent_at : Shards → List Shard → ShardIndex → Option Shard

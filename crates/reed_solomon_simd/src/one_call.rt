@@ -150,7 +150,7 @@ where
     let Some(received) = received_shards(alloc, counts, original, recovery)? else {
         return Ok(BTreeMap::new(alloc));
     };
-    received.surplus()?;
-    let restored = restore_vectors(alloc, engine, received.missing(), &received)?;
+    let surplus = received.surplus()?;
+    let restored = restore_vectors(alloc, engine, received.missing(), surplus, &received)?;
     by_index(alloc, &received, restored)
 }

@@ -18,12 +18,14 @@ use crate::pieces::Pieces;
 use crate::received_shards::ReceivedShards;
 use crate::rooms::{LentRooms, Rooms, check_rooms};
 use crate::strip_decoder::decode_strips;
+use crate::strip_summer::{are_sums_used, sum_missing};
 use rs_field::engine::Engine;
 use rs_field::error::Error;
 use std::alloc::Global;
 use std::collections::BTreeMap;
 
-/// Returns the missing originals as vectors, in order of index. `missing` is their number.
+/// Returns the missing originals as vectors, in order of index. `missing` is their number, and `surplus` is the number of
+/// received shards beyond the number of originals.
 ///
 /// # Errors
 ///
@@ -33,32 +35,41 @@ pub fn restore_vectors<E: Engine, P: Pieces>(
     alloc: Global,
     engine: E,
     missing: usize,
+    surplus: usize,
     received: &P,
 ) -> Result<Vec<Vec<u8>>, Error>
     requires set_up { IsDecoder default_rate (P.received received.now) }
-    requires enough { enough_given (P.received received.now) ≡ Ok tt }
+    requires enough { originals_given (P.received received.now)
+        + recovery_given (P.received received.now)
+        ≡ (P.received received.now).configuration.original_count + surplus }
     requires missing { missing + originals_given (P.received received.now)
         ≡ (P.received received.now).configuration.original_count }
     ensures { MatchResult (collected_shards result) (HoldRestored (P.received received.now))
         (λ e. NoneAgrees (P.received received.now) e ⊎ (e ≡ Error.OutOfMemory)) }
 {
     let mut vectors = empty_vectors(alloc, missing, received.shard_bytes())?;
-    restore_apart(alloc, engine, received, &mut vectors)?;
+    restore_apart(alloc, engine, missing, surplus, received, &mut vectors)?;
     Ok(vectors)
 }
 
-// Writes the missing originals into rooms that share no memory with the received shards, in order of index. Fails with
-// `OutOfMemory`, and with `InconsistentShards` if no message agrees with all received shards.
+// Writes the missing originals into rooms that share no memory with the received shards, in order of index: few of them by
+// direct sums, and more by decodes of strips. Fails with `OutOfMemory`, and with `InconsistentShards` if no message agrees
+// with all received shards.
 fn restore_apart<E: Engine, P: Pieces, R: Rooms>(
     alloc: Global,
     engine: E,
+    missing: usize,
+    surplus: usize,
     received: &P,
     rooms: &mut R,
 ) -> Result<(), Error>
     requires set_up { IsDecoder default_rate (P.received received.now) }
-    requires enough { enough_given (P.received received.now) ≡ Ok tt }
-    requires number { length (R.held rooms.old) + originals_given (P.received received.now)
+    requires enough { originals_given (P.received received.now)
+        + recovery_given (P.received received.now)
+        ≡ (P.received received.now).configuration.original_count + surplus }
+    requires missing { missing + originals_given (P.received received.now)
         ≡ (P.received received.now).configuration.original_count }
+    requires number { length (R.held rooms.old) ≡ missing }
     requires fit { All
         (λ room. length room
         ≡ room_length R.grows 0 (P.received received.now).configuration.shard_bytes)
@@ -71,6 +82,9 @@ fn restore_apart<E: Engine, P: Pieces, R: Rooms>(
     ensures places { R.places rooms.new ≡ R.places rooms.old }
     ensures loan { R.loan rooms.new ≡ R.loan rooms.old }
 {
+    if are_sums_used(received.counts(), missing, surplus) {
+        return sum_missing(alloc, &engine, received, surplus, rooms);
+    }
     let mut store = Apart {
         pieces: received,
         rooms,
@@ -102,8 +116,9 @@ pub fn restore_lent<E: Engine>(
     ensures untouched { OnErr result (bytes_in rooms.new ≡ bytes_in rooms.old) }
     ensures kept { loans_of rooms.new ≡ loans_of rooms.old }
 {
+    let missing = rooms.len();
     let mut lent = LentRooms { rooms };
-    restore_apart(alloc, engine, received, &mut lent)
+    restore_apart(alloc, engine, missing, 0, received, &mut lent)
 }
 
 /// Writes the missing originals into rooms that are part of the store. `missing` is the number of missing originals,
@@ -145,7 +160,7 @@ pub fn restore_in_place<E: Engine, S: Pieces + Rooms>(
     if surplus == 0 {
         return decode_strips(alloc, engine, store);
     }
-    let vectors = restore_vectors(alloc, engine, missing, &*store)?;
+    let vectors = restore_vectors(alloc, engine, missing, surplus, &*store)?;
     let shard_bytes = store.shard_bytes();
     put_all(vectors.as_slice(), shard_bytes, store)
 }
@@ -177,7 +192,7 @@ pub fn restore_into<E: Engine>(
     if can_be_written(surplus, received, rooms) {
         return restore_directly(alloc, received, engine, rooms);
     }
-    restore_by_vectors(alloc, received, engine, rooms)
+    restore_by_vectors(alloc, received, surplus, engine, rooms)
 }
 
 // Returns true if the missing originals can be written into the rooms strip by strip: there are as many shards as
@@ -218,16 +233,20 @@ fn restore_directly<E: Engine>(
 fn restore_by_vectors<E: Engine>(
     alloc: Global,
     received: &ReceivedShards<'_>,
+    surplus: usize,
     engine: E,
     rooms: &mut [&mut [u8]],
 ) -> Result<(), RoomError>
     requires enough { enough_given (received_state received.now) ≡ Ok tt }
+    requires surplus { originals_given (received_state received.now)
+        + recovery_given (received_state received.now)
+        ≡ received.now.counts.original_count + surplus }
     ensures answer { RestoresInto (received_state received.now) (bytes_in rooms.old)
         (bytes_in rooms.new) result }
     ensures kept { loans_of rooms.new ≡ loans_of rooms.old }
 {
     let missing = received.missing();
-    let vectors = restore_vectors(alloc, engine, missing, received)?;
+    let vectors = restore_vectors(alloc, engine, missing, surplus, received)?;
     check_rooms(missing, received.shard_bytes, rooms)?;
     fill_rooms(vectors.as_slice(), received.shard_bytes, rooms);
     Ok(())

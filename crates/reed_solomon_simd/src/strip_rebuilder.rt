@@ -1,7 +1,7 @@
 //! Reconstructing wanted shards strip by strip. Few shards are rebuilt by direct sums. Otherwise the received shards of each
 //! strip are decoded. If a recovery shard is wanted, the originals are then encoded. The wanted pieces are copied into the
 //! rooms.
-ghost use Rattle.std.specs.Prelude.{◌≡◌, ◌⊎◌, ℕ, ◌+◌, ◌-◌, ◌*◌, ◌<◌, ◌≤◌, All, true, false, List, length, map, Ok, Some, OnOk, IfErr, IsTrue, option_copied};
+ghost use Rattle.std.specs.Prelude.{◌≡◌, ◌⊎◌, ℕ, ◌+◌, ◌-◌, ◌<◌, ◌≤◌, All, true, false, List, length, map, Ok, Some, OnOk, IfErr, IsTrue, option_copied};
 ghost use Rattle.std.specs.List.{list_any};
 ghost use Rattle.rs_field.specs.code.Code.{AreRecovery};
 ghost use Rattle.rs_field.specs.code.Column.{Shard, shard_at};
@@ -9,7 +9,6 @@ ghost use Rattle.rs_field.specs.code.Counts.{default_rate};
 ghost use Rattle.rs_field.specs.code.Decoder.{IsDecoder, fresh_decoder, enough_given, IsAgreeing, Restored, NoneAgrees};
 ghost use Rattle.rs_field.specs.code.Encoder.{fresh_encoder};
 ghost use Rattle.rs_field.specs.code.OneCall.{with_shards};
-ghost use Rattle.rs_field.specs.code.Frame.{row_count};
 ghost use Rattle.rs_field.specs.code.Pieces.{IsStrip, ArePut, room_length};
 ghost use Rattle.rs_field.specs.code.PieceStates.{state_of_pieces};
 ghost use Rattle.rs_rate.specs.DecoderView.{decoder_state};
@@ -23,14 +22,11 @@ use crate::pieces::Pieces;
 use crate::rooms::Rooms;
 use crate::shard_index::ShardIndex;
 use crate::strip_decoder::{STRIP_BYTES, decode_pieces};
-use crate::strip_summer::{mark_base, sum_strips};
+use crate::strip_summer::{are_sums_used, mark_base, sum_strips};
 use rs_field::engine::{Engine, Steps};
 use rs_field::error::Error;
 use rs_rate::rate::rounds::{encode_round, lent_originals, lent_recovery};
-use rs_rate::rate::{
-    DefaultRateCounts, DefaultRateDecoder, DefaultRateEncoder, RateDecoder, RateEncoder,
-    are_sums_cheaper,
-};
+use rs_rate::rate::{DefaultRateDecoder, DefaultRateEncoder, RateDecoder, RateEncoder};
 use rs_rate::{DecoderResult, EncoderResult};
 use std::alloc::Global;
 
@@ -71,18 +67,6 @@ pub fn rebuild_strips<E: Engine + Copy, P: Pieces, R: Rooms>(
         return sum_strips(alloc, &engine, received, wanted, marks, surplus, rooms);
     }
     rebuild_by_rounds(alloc, engine, received, wanted, rooms)
-}
-
-// Returns whether wanted shards are rebuilt by direct sums: the sums, one for each wanted shard and for each surplus shard, are
-// cheaper than a transform.
-fn are_sums_used(counts: DefaultRateCounts, wanted: usize, surplus: usize) -> bool
-    requires few { surplus ≤ 65536 }
-    ensures { result ≡ true
-        → 2 * ((wanted + surplus) * counts.original_count)
-        < row_count counts.frame * counts.frame.exponent }
-{
-    wanted <= counts.frame.row_count()
-        && are_sums_cheaper(counts.frame, counts.original_count, wanted + surplus)
 }
 
 // Writes wanted shards into rooms, in order, by a decode of each strip and an encode if a recovery shard is wanted. Fails as

@@ -1,6 +1,6 @@
 //! Reconstructing few wanted shards strip by strip, by direct sums. As many received shards as there are originals are the
 //! base. Each word of a wanted shard is the sum of the words of the base, each times a factor.
-ghost use Rattle.std.specs.Prelude.{◌≡◌, ◌⊎◌, ◌↔◌, ℕ, ◌+◌, ◌-◌, ◌/◌, ◌^◌, ◌<◌, ◌≤◌, All, true, false, List};
+ghost use Rattle.std.specs.Prelude.{◌≡◌, ◌⊎◌, ◌↔◌, ℕ, ◌+◌, ◌-◌, ◌*◌, ◌/◌, ◌^◌, ◌<◌, ◌≤◌, All, true, false, List};
 ghost use Rattle.std.specs.Prelude.{length, Ok, Some, None, MatchOption, IsTrue, OnOk, IfOk, IfErr, option_copied};
 ghost use Rattle.rs_field.specs.code.Column.{Shard};
 ghost use Rattle.rs_field.specs.code.Counts.{default_rate};
@@ -8,14 +8,14 @@ ghost use Rattle.rs_field.specs.code.Decoder.{IsDecoder, enough_given, originals
 ghost use Rattle.rs_field.specs.code.Decoder.{IsConsistent, NoneAgrees};
 ghost use Rattle.rs_field.specs.code.Frame.{row_count};
 ghost use Rattle.rs_field.specs.code.Pieces.{ArePut, room_length};
-ghost use Rattle.rs_field.specs.code.PieceStates.{state_of_pieces};
+ghost use Rattle.rs_field.specs.code.PieceStates.{state_of_pieces, HoldRestored};
 ghost use Rattle.rs_field.specs.rows.Layout.{row_len};
 ghost use Rattle.rs_field.specs.rows.MarkedRows.{is_marked};
 ghost use Rattle.rs_rate.specs.ShardRows.{shard_in_order};
 ghost use Rattle.rs_rate.specs.Sums.{sum_word};
 ghost use Rattle.reed_solomon_simd.specs.Base.{frame_in, row_of, shard_in_row, MarkBase, CanSum};
 ghost use Rattle.reed_solomon_simd.specs.Base.{base_sum, IsBaseSum, AgreesInRow};
-ghost use Rattle.reed_solomon_simd.specs.Reconstructed.{AreReconstructed, CanBeRebuilt};
+ghost use Rattle.reed_solomon_simd.specs.Reconstructed.{AreReconstructed, CanBeRebuilt, NamesMissing};
 
 use crate::pieces::Pieces;
 use crate::rooms::Rooms;
@@ -27,7 +27,20 @@ use rs_field::engine::{Engine, Steps};
 use rs_field::error::Error;
 use rs_field::frame::Frame;
 use rs_rate::rate::sums::{SumBase, add_times, clear_sum, finish_sum, summed_piece};
+use rs_rate::rate::{DefaultRateCounts, are_sums_cheaper};
 use std::alloc::Global;
+
+/// Returns whether shards are made by direct sums: the sums, one for each wanted shard and for each surplus shard, are cheaper
+/// than a transform.
+pub(crate) fn are_sums_used(counts: DefaultRateCounts, wanted: usize, surplus: usize) -> bool
+    requires few { surplus ≤ 65536 }
+    ensures { result ≡ true
+        → 2 * ((wanted + surplus) * counts.original_count)
+        < row_count counts.frame * counts.frame.exponent }
+{
+    wanted <= counts.frame.row_count()
+        && are_sums_cheaper(counts.frame, counts.original_count, wanted + surplus)
+}
 
 // Marks the rows of the base: the first received shards, as many as there are originals. Also returns how many more shards were
 // received. Fails with `OutOfMemory`.
@@ -82,6 +95,69 @@ fn index_of(row: usize, from: usize, count: usize) -> Option<usize>
     } else {
         None
     }
+}
+
+/// Writes the missing originals into rooms, in order of index, by direct sums. `surplus` is the number of received shards beyond
+/// the number of originals.
+///
+/// # Errors
+///
+/// - [`Error::OutOfMemory`] if the lists or the factors cannot be allocated.
+/// - For each strip in order: [`Error::InconsistentShards`] if no message agrees with all received shards, and then
+///   [`Error::OutOfMemory`] if a room cannot grow. The rooms may then hold some strips.
+pub(crate) fn sum_missing<E: Engine, P: Pieces, R: Rooms>(
+    alloc: Global,
+    engine: &E,
+    received: &P,
+    surplus: usize,
+    rooms: &mut R,
+) -> Result<(), Error>
+    requires set_up { IsDecoder default_rate (P.received received.now) }
+    requires enough { originals_given (P.received received.now)
+        + recovery_given (P.received received.now)
+        ≡ (P.received received.now).configuration.original_count + surplus }
+    requires number { length (R.held rooms.old) + originals_given (P.received received.now)
+        ≡ (P.received received.now).configuration.original_count }
+    requires fit { All
+        (λ room. length room
+        ≡ room_length R.grows 0 (P.received received.now).configuration.shard_bytes)
+        (R.held rooms.old) }
+    ensures restored { OnOk result (HoldRestored (P.received received.now) (R.held rooms.new)) }
+    ensures refused { IfErr result
+        (λ e. NoneAgrees (P.received received.now) e ⊎ (e ≡ Error.OutOfMemory)) }
+    ensures untouched { R.grows ≡ false
+        → IfErr result (λ e. e ≡ Error.OutOfMemory → R.held rooms.new ≡ R.held rooms.old) }
+    ensures places { R.places rooms.new ≡ R.places rooms.old }
+    ensures loan { R.loan rooms.new ≡ R.loan rooms.old }
+{
+    let wanted = missing_originals(alloc, received)?;
+    let (marks, _) = mark_base(alloc, received)?;
+    sum_strips(
+        alloc,
+        engine,
+        received,
+        wanted.as_slice(),
+        marks,
+        surplus,
+        rooms,
+    )
+}
+
+// Returns the names of the missing originals, in order of index. Fails with `OutOfMemory`.
+fn missing_originals<P: Pieces>(alloc: Global, received: &P) -> Result<Vec<ShardIndex>, Error>
+    requires { IsDecoder default_rate (P.received received.now) }
+    ensures made { IfOk result (λ wanted.
+        NamesMissing (P.received received.now).configuration.original_count
+        (P.received received.now) wanted.items) }
+    ensures refused { IfErr result (λ e. e ≡ Error.OutOfMemory) }
+{
+    let mut missing = Vec::new(alloc);
+    for index in 0..received.counts().original_count {
+        if received.original_piece(index, 0, 0).is_none() {
+            missing.push(ShardIndex::Original(index))?;
+        }
+    }
+    Ok(missing)
 }
 
 /// Writes wanted shards into rooms, in order, by direct sums over the base whose rows are marked. `surplus` is the number of

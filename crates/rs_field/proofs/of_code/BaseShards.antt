@@ -21,7 +21,7 @@ use Rattle.rs_field.proofs.of_code.RateFrames.{has_frame}
 use Rattle.rs_field.proofs.of_code.DirectColumn.{AreDirectColumns, direct_original, direct_recovery}
 use Rattle.rs_field.proofs.of_code.AnyShards.{any_consistent, words_given, are_erasures, word_at-zero}
 use Rattle.rs_field.specs.code.DirectLaws.{given_at, word_of, word_at, mark_at, locator_at, summed_word}
-use Rattle.rs_field.specs.code.DirectLaws.{IsPartOf, AreSummed, IsSummedDirectly, IsDecidedByBase}
+use Rattle.rs_field.specs.code.DirectLaws.{IsPartOf, IsSummedDirectly, IsDecidedByBase}
 
 -- A message that agrees with given shards agrees with some of them.
 pub agrees_with_part : (c : Configuration) (originals recovery some_originals some_recovery : Shards)

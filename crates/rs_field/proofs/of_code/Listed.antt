@@ -39,7 +39,7 @@ items_from-past from n given past = ap (λ m. items_from from m given) (let m : 
     ∙ items_from-zero from given
 
 -- Listing one index more appends the shard of this index, if there is one.
-items_from-more : (from n : ℕ) (given : Shards)
+pub items_from-more : (from n : ℕ) (given : Shards)
     → items_from from (suc n) given ≡ items_from from n given ++ items_at (from + n) (given (from + n))
 items_from-more from zero given = search (rules, items_from-suc, items_from-zero, append-nil, add-zero)
 items_from-more from (suc n) given = search (rules, items_from-suc, append_assoc, items_from-more (suc from) n given)

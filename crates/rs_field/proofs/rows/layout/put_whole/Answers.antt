@@ -1,8 +1,8 @@
-use Rattle.std.proofs.Common.{◌≡◌, ℕ, zero, suc, ◌+◌, ◌*◌, ◌/◌, ◌<◌, ◌≤◌, List, [], length, take, drop, get_or, ap, ◌∙◌}
+use Rattle.std.proofs.Common.{◌≡◌, ℕ, ◌+◌, ◌*◌, ◌/◌, ◌<◌, ◌≤◌, List, [], length, take, drop, get_or, ap, ◌∙◌}
 use Rattle.std.proofs.Common.{arith, sym, length-take-le, get_or-set_same}
 use lib.ListN.{set}
 use Rattle.std.specs.Simd.{first_chunks}
-use Rattle.std.proofs.lemmas.List.{get_or_append_left, get_or-take, get_or-drop}
+use Rattle.std.proofs.lemmas.List.{get_or_append_left, get_or-take}
 use Rattle.rs_field.proofs.of_rows.LayoutLemmas.{byte_of_chunk}
 use Rattle.rs_field.proofs.rows.layout.put_whole.Goals as goal
 

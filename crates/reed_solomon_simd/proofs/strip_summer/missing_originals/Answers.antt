@@ -1,0 +1,42 @@
+use Rattle.std.proofs.Common.{rules, ◌≡◌, ℕ, ◌+◌, ◌<◌, ◌∷◌, [], ◌++◌, arith, sym, ap, ◌∙◌, subst}
+use Rattle.std.specs.Prelude.{not, is_some, Option}
+use Rattle.rs_field.specs.code.Column.{Shard}
+use Rattle.rs_field.specs.code.Decoder.{DecoderState}
+use Rattle.rs_field.proofs.of_code.PieceStates.{is_some-map}
+use Rattle.reed_solomon_simd.proofs.BaseMarks.{some-copied}
+use Rattle.reed_solomon_simd.specs.Reconstructed.{NamesMissing}
+use Rattle.reed_solomon_simd.proofs.MissingLemmas.{names-none, names-received, names-missing}
+use Rattle.reed_solomon_simd.proofs.strip_summer.missing_originals.Goals.{then-is_none+in_ok-push, else-is_none}
+use Rattle.reed_solomon_simd.proofs.strip_summer.missing_originals.Goals as goal
+
+pub loop-index-init : goal.loop-index-init
+loop-index-init g c =
+    let s : DecoderState = g.P.Pieces.received c.args.received.now in
+    subst (NamesMissing 0 s) (sym c.new-missing.ensures.items) (names-none s)
+
+pub loop-index-preserved : goal.loop-index-preserved
+loop-index-preserved g c =
+    let s : DecoderState = g.P.Pieces.received c.args.received.now in
+    let index : ℕ = c.loop-index.index in
+    let received : is_some ((g.P.Pieces.received c.args.received.now).originals c.loop-index.index)
+    ≡ not c.is_none.result =
+    sym (is_some-map 0 0 (s.originals index))
+    ∙ ap (λ (o : Option Shard). is_some o) (sym c.original_piece.ensures)
+    ∙ some-copied c.original_piece.result ∙ c.is_none.ensures in
+    elim c.if-is_none.branch [
+      | then-is_none+in_ok-push w ↦
+          subst (NamesMissing (index + 1) s)
+          (sym (ap (λ v. v.items) w.missing-is ∙ w.in_ok-push.ensures.items))
+          (names-missing index s c.loop-index.missing.items c.loop-index.invariant (search rules)
+          (received ∙ ap not w.if-is_none.true))
+      | else-is_none w ↦
+          subst (NamesMissing (index + 1) s) (sym (ap (λ v. v.items) w.missing-is))
+          (names-received index s c.loop-index.missing.items c.loop-index.invariant
+          (received ∙ ap not w.if-is_none.false))
+    ]
+
+pub returns-clause-made : goal.returns-clause-made
+returns-clause-made g c =
+    let s : DecoderState = g.P.Pieces.received c.args.received.now in
+    subst (λ n. NamesMissing n s c.loop-index.missing.items)
+    (let e : c.loop-index.index ≡ s.configuration.original_count = search rules in e) c.loop-index.invariant
