@@ -101,9 +101,10 @@ fn encode_lent<E: Engine>(
 /// which also begin at 0. `restored` has a room for each missing original: memory that the original is written into. All
 /// shards and rooms have the size of the first recovery shard.
 ///
-/// The call allocates a work area for at most 2048 bytes of each shard, and two lists of references to shards. If there
-/// are more shards than originals, it also allocates memory for the missing originals, because a later strip may
-/// show that no message agrees with all shards. After an error the rooms hold what they held before the call.
+/// The call allocates two lists of references to shards. If few originals are missing, it sums received shards, and also
+/// allocates short lists of rows and logarithms. Otherwise it allocates a work area for at most 2048 bytes of each shard.
+/// If there are more shards than originals, it also allocates memory for the missing originals, because a later strip
+/// may show that no message agrees with all shards. After an error the rooms hold what they held before the call.
 ///
 /// If there is no recovery shard, nothing can be restored. Then the call checks only the indexes of the originals, and no
 /// size.

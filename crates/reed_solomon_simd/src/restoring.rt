@@ -83,7 +83,7 @@ fn restore_apart<E: Engine, P: Pieces, R: Rooms>(
     ensures loan { R.loan rooms.new ≡ R.loan rooms.old }
 {
     if are_sums_used(received.counts(), missing, surplus) {
-        return sum_missing(alloc, &engine, received, surplus, rooms);
+        return sum_missing(alloc, &engine, missing, surplus, received, rooms);
     }
     let mut store = Apart {
         pieces: received,

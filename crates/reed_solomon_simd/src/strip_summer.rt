@@ -97,8 +97,8 @@ fn index_of(row: usize, from: usize, count: usize) -> Option<usize>
     }
 }
 
-/// Writes the missing originals into rooms, in order of index, by direct sums. `surplus` is the number of received shards beyond
-/// the number of originals.
+/// Writes the missing originals into rooms, in order of index, by direct sums. `missing` is the number of missing originals, and
+/// `surplus` is the number of received shards beyond the number of originals.
 ///
 /// # Errors
 ///
@@ -108,16 +108,18 @@ fn index_of(row: usize, from: usize, count: usize) -> Option<usize>
 pub(crate) fn sum_missing<E: Engine, P: Pieces, R: Rooms>(
     alloc: Global,
     engine: &E,
-    received: &P,
+    missing: usize,
     surplus: usize,
+    received: &P,
     rooms: &mut R,
 ) -> Result<(), Error>
     requires set_up { IsDecoder default_rate (P.received received.now) }
     requires enough { originals_given (P.received received.now)
         + recovery_given (P.received received.now)
         ≡ (P.received received.now).configuration.original_count + surplus }
-    requires number { length (R.held rooms.old) + originals_given (P.received received.now)
+    requires missing { missing + originals_given (P.received received.now)
         ≡ (P.received received.now).configuration.original_count }
+    requires number { length (R.held rooms.old) ≡ missing }
     requires fit { All
         (λ room. length room
         ≡ room_length R.grows 0 (P.received received.now).configuration.shard_bytes)
@@ -130,7 +132,7 @@ pub(crate) fn sum_missing<E: Engine, P: Pieces, R: Rooms>(
     ensures places { R.places rooms.new ≡ R.places rooms.old }
     ensures loan { R.loan rooms.new ≡ R.loan rooms.old }
 {
-    let wanted = missing_originals(alloc, received)?;
+    let wanted = missing_originals(alloc, missing, received)?;
     let (marks, _) = mark_base(alloc, received)?;
     sum_strips(
         alloc,
@@ -143,15 +145,19 @@ pub(crate) fn sum_missing<E: Engine, P: Pieces, R: Rooms>(
     )
 }
 
-// Returns the names of the missing originals, in order of index. Fails with `OutOfMemory`.
-fn missing_originals<P: Pieces>(alloc: Global, received: &P) -> Result<Vec<ShardIndex>, Error>
+// Returns the names of the missing originals, in order of index. `number` is their number. Fails with `OutOfMemory`.
+fn missing_originals<P: Pieces>(
+    alloc: Global,
+    number: usize,
+    received: &P,
+) -> Result<Vec<ShardIndex>, Error>
     requires { IsDecoder default_rate (P.received received.now) }
     ensures made { IfOk result (λ wanted.
         NamesMissing (P.received received.now).configuration.original_count
         (P.received received.now) wanted.items) }
     ensures refused { IfErr result (λ e. e ≡ Error.OutOfMemory) }
 {
-    let mut missing = Vec::new(alloc);
+    let mut missing = Vec::with_capacity(alloc, number)?;
     for index in 0..received.counts().original_count {
         if received.original_piece(index, 0, 0).is_none() {
             missing.push(ShardIndex::Original(index))?;

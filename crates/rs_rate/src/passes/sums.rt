@@ -62,7 +62,7 @@ impl SumBase {
         ensures refused { IfErr result (λ e. e ≡ Error.OutOfMemory) }
     {
         let frame = counts.frame;
-        let rows = marked_rows(alloc, marks.as_slice())?;
+        let rows = marked_rows(alloc, marks.as_slice(), counts.original_count)?;
         let mut locator = vec![in alloc; 0; frame.row_count()]?;
         let mut logs = vec![in alloc; 0; frame.row_count()]?;
         make_locator(
@@ -105,12 +105,12 @@ impl SumBase {
     }
 }
 
-// Returns the marked rows, from the lowest one on.
-fn marked_rows(alloc: Global, marks: &[bool]) -> Result<Vec<usize>, Error>
+// Returns the marked rows, from the lowest one on. The list begins with memory for `count` rows.
+fn marked_rows(alloc: Global, marks: &[bool], count: usize) -> Result<Vec<usize>, Error>
     ensures made { IfOk result (λ rows. ListsMarked marks.now (length marks.now) rows.items) }
     ensures refused { IfErr result (λ e. e ≡ Error.OutOfMemory) }
 {
-    let mut rows = Vec::new(alloc);
+    let mut rows = Vec::with_capacity(alloc, count)?;
     for row in 0..marks.len() {
         if marks[row] {
             rows.push(row)?;

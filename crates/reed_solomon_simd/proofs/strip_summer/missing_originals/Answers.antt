@@ -12,7 +12,7 @@ use Rattle.reed_solomon_simd.proofs.strip_summer.missing_originals.Goals as goal
 pub loop-index-init : goal.loop-index-init
 loop-index-init g c =
     let s : DecoderState = g.P.Pieces.received c.args.received.now in
-    subst (NamesMissing 0 s) (sym c.new-missing.ensures.items) (names-none s)
+    subst (NamesMissing 0 s) (sym c.in_ok-missing.ensures.items) (names-none s)
 
 pub loop-index-preserved : goal.loop-index-preserved
 loop-index-preserved g c =

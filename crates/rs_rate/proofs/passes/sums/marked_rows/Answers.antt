@@ -6,7 +6,7 @@ use Rattle.rs_rate.proofs.passes.sums.marked_rows.Goals as goal
 
 pub loop-row-init : goal.loop-row-init
 loop-row-init c =
-    subst (λ (rows : List ℕ). ListsMarked c.args.marks.now 0 rows) (sym c.new-rows.ensures.items)
+    subst (λ (rows : List ℕ). ListsMarked c.args.marks.now 0 rows) (sym c.in_ok-rows.ensures.items)
     (listed-none c.args.marks.now)
 
 pub loop-row-preserved : goal.loop-row-preserved
