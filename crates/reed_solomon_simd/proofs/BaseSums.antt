@@ -6,7 +6,7 @@ use Rattle.std.specs.Prelude.{Option, Some, None, is_some, ◌↔◌}
 use Rattle.std.specs.List.{between}
 use Rattle.std.specs.Option.{option_map}
 use Rattle.std.proofs.lemmas.Bool.{cases_Bool}
-use Rattle.std.proofs.lemmas.List.{length-drop, length-take-le, length-map, get_or-map}
+use Rattle.std.proofs.lemmas.List.{length-drop, length-take-le, get_or-map}
 use Rattle.std.proofs.lemmas.List.Elements.{All-take, All-drop}
 use Rattle.std.proofs.lemmas.Option.{none-some}
 use Rattle.rs_field.specs.code.Column.{Shard, IsShard, column, shard_at}
@@ -32,7 +32,7 @@ use Rattle.reed_solomon_simd.specs.Reconstructed.{CanBeRebuilt}
 use Rattle.reed_solomon_simd.specs.ShardNames.{shard_named}
 use Rattle.reed_solomon_simd.proofs.BaseLemmas.{decoder_frame, in_row-cases, marked_part-at, base-pieces}
 use Rattle.reed_solomon_simd.proofs.ConsistentStrips.{even-strip}
-use Rattle.reed_solomon_simd.proofs.RebuiltStrips.{named_shards, named-sized, can-pieces}
+use Rattle.reed_solomon_simd.proofs.RebuiltStrips.{named_shards}
 
 -- ---- pieces
 

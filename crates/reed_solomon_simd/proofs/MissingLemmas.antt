@@ -1,12 +1,12 @@
 -- The names of the missing originals, in order of index, and what rooms hold after these were rebuilt.
-use Rattle.std.proofs.Common.{◌≡◌, ℕ, suc, ◌+◌, ◌<◌, ◌≤◌, Bool, true, false, cond, List, [], ◌∷◌, ◌++◌, length, map, All}
+use Rattle.std.proofs.Common.{◌≡◌, ℕ, ◌+◌, ◌<◌, ◌≤◌, Bool, true, false, cond, List, [], ◌∷◌, ◌++◌, length}
 use Rattle.std.proofs.Common.{get_or, Option, Some, None, refl, sym, ap, ap₂, ◌∙◌, inl, inr, arith, append-nil, add-one, subst}
 use Rattle.std.specs.Prelude.{nat_lt, ◌&&◌, not, is_some}
-use Rattle.std.proofs.lemmas.Bool.{cases_lt, lt-ltb, le-ltb}
+use Rattle.std.proofs.lemmas.Bool.{cases_lt, le-ltb}
 use Rattle.std.proofs.lemmas.List.{length-append, get_or_append_left, map-append}
 use Rattle.std.proofs.Math.Seq.{get_or-append_seam}
 use Rattle.rs_field.specs.code.Column.{Shard, shard_at}
-use Rattle.rs_field.specs.code.Decoder.{DecoderState, IsAgreeing, missing_of}
+use Rattle.rs_field.specs.code.Decoder.{DecoderState, missing_of}
 use Rattle.rs_field.specs.code.Given.{Shards, count_below, items_at, items_below}
 use Rattle.rs_field.specs.code.PieceStates.{shards_listed, HoldRestored}
 use Rattle.rs_field.proofs.of_code.Given.{count_below-zero, count_below-suc}

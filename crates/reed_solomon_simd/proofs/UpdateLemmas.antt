@@ -7,7 +7,7 @@ use borrow.Rule.Slice.PartMut.{put_mid}
 use Rattle.std.specs.List.{between}
 use Rattle.std.proofs.lemmas.Slice.{take-put_mid, drop-put_mid}
 use Rattle.std.proofs.lemmas.Bool.{cases_lt}
-use Rattle.std.proofs.lemmas.List.{get_or_past, length-append, length-take-le, length-drop, drop-drop}
+use Rattle.std.proofs.lemmas.List.{get_or_past, length-take-le, length-drop, drop-drop}
 use Rattle.std.proofs.lemmas.List.{take-append-drop, map-set, get_or-set_same, get_or-set_other, length-map}
 use Rattle.std.proofs.Math.Seq.{take-append_seam, drop-append_seam}
 use Rattle.rs_field.specs.words.Field.{product, power}

@@ -1,4 +1,4 @@
-use Rattle.std.proofs.Common.{◌^◌, ◌+◌, ◌≤◌, arith, pow_mono}
+use Rattle.std.proofs.Common.{◌^◌, ◌≤◌, arith, pow_mono}
 use Rattle.rs_field.specs.code.Frame.{row_count}
 use Rattle.rs_rate.proofs.ChangeLemmas.{is_frame_of}
 use Rattle.reed_solomon_simd.proofs.strip_summer.are_sums_used.Goals as goal

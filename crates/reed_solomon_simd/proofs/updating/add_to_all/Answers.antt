@@ -1,6 +1,6 @@
-use Rattle.std.proofs.Common.{rules, ◌≡◌, ℕ, ◌+◌, ◌<◌, ◌≤◌, length, refl, ◌∙◌, inl, subst, sym, arith}
+use Rattle.std.proofs.Common.{rules, ℕ, ◌+◌, ◌<◌, length, refl, ◌∙◌, inl, subst, sym, arith}
 use Rattle.std.specs.Prelude.{slice_index}
-use Rattle.rs_field.specs.code.Column.{Shard, shard_at}
+use Rattle.rs_field.specs.code.Column.{shard_at}
 use Rattle.rs_field.specs.code.Pieces.{IsStrip}
 use Rattle.reed_solomon_simd.specs.Rooms.{bytes_in}
 use Rattle.reed_solomon_simd.proofs.UpdateLemmas.{changed-none, changed-more, changed-all, next-strip}
