@@ -5,7 +5,8 @@ use reed_solomon_simd::engine::tables::Tables;
 use reed_solomon_simd::engine::{DefaultEngine, EngineKind, Ssse3, Steps};
 use reed_solomon_simd::rate::{DefaultRateDecoder, DefaultRateEncoder, RateDecoder, RateEncoder};
 use reed_solomon_simd::{
-    DecoderResult, Error, ReedSolomonDecoder, ReedSolomonEncoder, decode_slice, encode_slice,
+    DecoderResult, EncoderResult, Error, ReedSolomonDecoder, ReedSolomonEncoder, decode_slice,
+    encode_slice,
 };
 use std::alloc::Global;
 use std::collections::BTreeMap;
@@ -20,7 +21,11 @@ const ORIGINAL: [&[u8]; 3] = [b"Three shards", b" of one size", b" are coded. "]
 /// [`Error::OutOfMemory`] if memory cannot be allocated.
 pub fn in_one_call(alloc: Global) -> Result<bool, Error> {
     let tables = Tables::new(alloc)?;
-    let engine = DefaultEngine::new(&tables, EngineKind::Ssse3);
+    restores_in_one_call(alloc, DefaultEngine::new(&tables, EngineKind::Ssse3))
+}
+
+// Encodes and restores with an engine, with the one-call functions.
+fn restores_in_one_call(alloc: Global, engine: DefaultEngine<'_>) -> Result<bool, Error> {
     let recovery = reed_solomon_simd::encode(alloc, 3, 2, ORIGINAL.into_iter(), engine)?;
 
     // Originals 0 and 2 are lost. Any three shards are enough.
@@ -64,7 +69,11 @@ fn are_in(restored: &BTreeMap<usize, Vec<u8>>) -> bool {
 /// [`Error::OutOfMemory`] if memory cannot be allocated.
 pub fn with_objects(alloc: Global) -> Result<bool, Error> {
     let tables = Tables::new(alloc)?;
-    let engine = DefaultEngine::new(&tables, EngineKind::Ssse3);
+    restores_with_objects(alloc, DefaultEngine::new(&tables, EngineKind::Ssse3))
+}
+
+// Encodes and restores with an engine, with plain objects.
+fn restores_with_objects(alloc: Global, engine: DefaultEngine<'_>) -> Result<bool, Error> {
     let mut encoder = ReedSolomonEncoder::new(alloc, 3, 2, 12, engine)?;
     for shard in ORIGINAL {
         encoder.add_original_shard(shard)?;
@@ -96,7 +105,16 @@ pub fn with_a_rate_and_an_engine(alloc: Global) -> Result<bool, Error> {
         encoder.add_original_shard(shard)?;
     }
     let recovery = encoder.encode(&mut steps)?;
+    restores_at_a_rate(alloc, &recovery, engine)
+}
 
+// Restores the lost originals from the recovery shards, with a decoder of the default rate.
+fn restores_at_a_rate(
+    alloc: Global,
+    recovery: &EncoderResult<'_>,
+    engine: Ssse3<'_>,
+) -> Result<bool, Error> {
+    let mut steps = Steps::new();
     let mut decoder = DefaultRateDecoder::new(alloc, 3, 2, 12, engine, None)?;
     decoder.add_original_shard(1, ORIGINAL[1])?;
     for (index, shard) in recovery.recovery_iter().enumerate() {

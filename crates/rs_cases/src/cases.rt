@@ -1,4 +1,6 @@
 //! The cases of a data file, as values.
+use std::alloc::{AllocError, Global};
+
 /// The level of use at which an action is run.
 #[derive(Clone, Copy, PartialEq, Eq)]
 pub enum LevelName {
@@ -102,6 +104,20 @@ pub struct Shard {
     pub bytes: Vec<u8>,
 }
 
+impl Shard {
+    /// Makes a shard with a copy of these bytes.
+    ///
+    /// # Errors
+    ///
+    /// [`AllocError`] if memory cannot be allocated.
+    pub fn copied(alloc: Global, index: usize, bytes: &[u8]) -> Result<Shard, AllocError> {
+        Ok(Shard {
+            index,
+            bytes: bytes.to_vec(alloc)?,
+        })
+    }
+}
+
 /// The shards that one word of a line names.
 #[derive(Drop)]
 pub enum Shards {
@@ -144,9 +160,7 @@ pub enum Action {
     EmptyWorks,
     /// Gives shards.
     Give(Vec<Given>),
-    /// Encodes or decodes.
-    Run(Object),
-    /// Gives shards, and encodes or decodes.
+    /// Gives shards, if there are any, and encodes or decodes.
     Round(Object, Vec<Given>),
     /// Gets an object in the way in which the case is run, does the round twice, and then gives the first shards once
     /// more.
@@ -157,10 +171,9 @@ pub enum Action {
     Make(Configuration, Rule),
     /// Computes the digest of the recovery shards.
     Digest,
-    /// Checks that the counts of all these configurations are supported.
-    Supports(Vec<Configuration>),
-    /// Checks that none of the counts of these configurations is supported.
-    Excludes(Vec<Configuration>),
+    /// Checks that the counts of all these configurations are supported if the first value is true, and that none of
+    /// them is supported otherwise.
+    Counts(bool, Vec<Configuration>),
     /// Makes all calls that take a configuration. All of them must fail with the same error.
     Configure(Configuration),
 }
@@ -229,7 +242,7 @@ pub struct Case {
 impl Case {
     /// Returns whether the level with this name runs the case.
     pub fn is_by(&self, name: LevelName) -> bool {
-        self.levels.contains(&name)
+        self.levels.iter().any(|level| *level == name)
     }
 }
 

@@ -24,24 +24,26 @@ pub fn is_expected(kept: &Kept, outcome: &Outcome, step: &Step) -> Result<bool, 
 fn are_expected(kept: &Kept, outcome: &Outcome, expected: &[Shards]) -> bool {
     match outcome {
         Ok(Returned::Nothing) => expected.is_empty(),
-        Ok(Returned::Shards(object)) => are_same(kept, kept.result(*object), expected),
+        Ok(Returned::Shards(object)) => are_same(&kept.message, kept.result(*object), expected),
         Ok(Returned::Digest(_)) | Err(_) => false,
     }
 }
 
 // Returns whether the shards are the expected ones, in order. Expected indexes name originals of the message.
-fn are_same(kept: &Kept, shards: &[Shard], expected: &[Shards]) -> bool {
+fn are_same(message: &[Shard], shards: &[Shard], expected: &[Shards]) -> bool {
     let mut rest = shards;
     for part in expected {
-        let Some(wanted) = named(part, kept.message.as_slice()) else {
-            return false;
-        };
-        let Some(after) = rest.strip_prefix(wanted) else {
+        let Some(after) = without(message, rest, part) else {
             return false;
         };
         rest = after;
     }
     rest.is_empty()
+}
+
+// Returns the shards after the first ones, if the first ones are the shards of a part of the expected result.
+fn without<'a>(message: &[Shard], shards: &'a [Shard], part: &Shards) -> Option<&'a [Shard]> {
+    shards.strip_prefix(named(part, message)?)
 }
 
 /// Returns the text of an outcome: a space and I=HEX for each shard, a digest, or the text of the failure.

@@ -72,11 +72,14 @@ pub fn act<C: Level>(level: &mut C, kept: &mut Kept, action: &Action) -> Result<
             kept.works.decoder = Some(DecoderWork::default());
         }
         Action::Give(given) => give_all(level, kept, given)?,
-        Action::Run(object) => return run(level, kept, *object),
-        Action::Round(object, given) => return round(level, kept, *object, given),
+        Action::Round(object, given) => {
+            round(level, kept, *object, given)?;
+            return Ok(Returned::Shards(*object));
+        }
         Action::Rounds(object, configuration, given) => {
             obtain(level, kept, *object, *configuration)?;
-            return two_rounds(level, kept, *object, given);
+            two_rounds(level, kept, *object, given)?;
+            return Ok(Returned::Shards(*object));
         }
         Action::Forget => kept.forgets = true,
         Action::Make(configuration, rule) => make(level, kept, *configuration, *rule)?,
@@ -84,9 +87,10 @@ pub fn act<C: Level>(level: &mut C, kept: &mut Kept, action: &Action) -> Result<
             let digest = digest_of(kept.alloc, kept.recovery.as_slice())?;
             return Ok(Returned::Digest(digest));
         }
-        Action::Supports(pairs) => check_counts(level, pairs, true)?,
-        Action::Excludes(pairs) => check_counts(level, pairs, false)?,
-        Action::Configure(configuration) => configure(level, *configuration)?,
+        Action::Counts(supported, pairs) => check_counts(level, pairs, *supported)?,
+        Action::Configure(configuration) => {
+            configure(level, *configuration, &mut Works::default())?;
+        }
     }
     Ok(Returned::Nothing)
 }
@@ -134,7 +138,7 @@ fn give_shards<C: Level>(level: &mut C, role: Role, shards: &[Shard]) -> Answer 
 }
 
 // Encodes or decodes the shards that the level has received.
-fn run<C: Level>(level: &mut C, kept: &mut Kept, object: Object) -> Result<Returned, Failure> {
+fn run<C: Level>(level: &mut C, kept: &mut Kept, object: Object) -> Result<(), Failure> {
     match object {
         Object::Encoder => level.encode(kept)?,
         Object::Decoder => level.decode(kept)?,
@@ -142,7 +146,7 @@ fn run<C: Level>(level: &mut C, kept: &mut Kept, object: Object) -> Result<Retur
     if !kept.agrees {
         return Err(Failure::Disagrees);
     }
-    Ok(Returned::Shards(object))
+    Ok(())
 }
 
 // Gives shards, and encodes or decodes.
@@ -151,7 +155,7 @@ fn round<C: Level>(
     kept: &mut Kept,
     object: Object,
     given: &[Given],
-) -> Result<Returned, Failure> {
+) -> Result<(), Failure> {
     give_all(level, kept, given)?;
     run(level, kept, object)
 }
@@ -180,17 +184,29 @@ fn two_rounds<C: Level>(
     kept: &mut Kept,
     object: Object,
     given: &[Given],
-) -> Result<Returned, Failure> {
+) -> Result<(), Failure> {
     round(level, kept, object, given)?;
     let first = kept.take_result(object);
-    let returned = round(level, kept, object, given)?;
-    if first.as_slice() != kept.result(object) {
+    round_again(level, kept, object, given, &first)
+}
+
+// Runs the round once more, and fails if it does not return the shards `first`. Then gives the first shards of the
+// round to the object again.
+fn round_again<C: Level>(
+    level: &mut C,
+    kept: &mut Kept,
+    object: Object,
+    given: &[Given],
+    first: &[Shard],
+) -> Result<(), Failure> {
+    round(level, kept, object, given)?;
+    if kept.result(object) != first {
         return Err(Failure::OtherRound);
     }
-    if let Some(part) = given.first() {
-        give(level, kept, part)?;
+    match given.first() {
+        Some(part) => give(level, kept, part),
+        None => Ok(()),
     }
-    Ok(returned)
 }
 
 // Encodes a message that is made by a rule. Keeps the message and its recovery shards.
@@ -204,8 +220,7 @@ fn make<C: Level>(
     kept.message = message(kept.alloc, rule, count, size)?;
     obtain(level, kept, Object::Encoder, configuration)?;
     give_shards(level, Role::Next, kept.message.as_slice())?;
-    run(level, kept, Object::Encoder)?;
-    Ok(())
+    run(level, kept, Object::Encoder)
 }
 
 // Checks that the counts of all these configurations are supported, or that none of them is.
@@ -228,15 +243,15 @@ fn check_counts<C: Level>(
 }
 
 // Checks that every call that takes a configuration fails with the same error. The calls do not change the objects.
-fn configure<C: Level>(level: &mut C, configuration: Configuration) -> Result<(), Failure> {
-    let mut works = Works::default();
-    let Err(error) = level.start(Object::Encoder, configuration, &mut works) else {
+fn configure<C: Level>(
+    level: &mut C,
+    configuration: Configuration,
+    works: &mut Works,
+) -> Result<(), Failure> {
+    let Err(error) = level.start(Object::Encoder, configuration, works) else {
         return Err(Failure::NotRefused);
     };
-    check_error(
-        level.start(Object::Decoder, configuration, &mut works),
-        error,
-    )?;
+    check_error(level.start(Object::Decoder, configuration, works), error)?;
     check_error(level.reset(Object::Encoder, configuration), error)?;
     check_error(level.reset(Object::Decoder, configuration), error)?;
     if !level.tells(configuration, Err(error)) {

@@ -2,8 +2,9 @@
 use crate::cases::{Left, Object, Shard, Way};
 use crate::watch::Watch;
 use reed_solomon_simd::rate::{DecoderWork, EncoderWork};
-use reed_solomon_simd::{DecoderResult, EncoderResult, Error};
-use std::alloc::Global;
+use reed_solomon_simd::{DecoderResult, EncoderResult, Error, Recovery, RestoredOriginal};
+use std::alloc::{AllocError, Global};
+use std::collections::BTreeMap;
 use std::mem;
 
 /// The memory of objects that were taken apart.
@@ -79,14 +80,20 @@ impl Kept {
     pub fn keep_recovery(&mut self, lent: EncoderResult<'_>, watch: Watch) -> Result<(), Error> {
         self.agrees = recovery_agrees(&lent);
         drop(watch);
+        self.copy_recovery(&lent)?;
+        if self.forgets {
+            mem::forget(lent);
+        }
+        Ok(())
+    }
+
+    // Copies the recovery shards of a result.
+    fn copy_recovery(&mut self, lent: &EncoderResult<'_>) -> Result<(), AllocError> {
         self.recovery.clear();
         for shard in lent.recovery_iter() {
             let index = self.recovery.len();
-            let bytes = shard.to_vec(self.alloc)?;
-            self.recovery.push(Shard { index, bytes })?;
-        }
-        if self.forgets {
-            mem::forget(lent);
+            self.recovery
+                .push(Shard::copied(self.alloc, index, shard)?)?;
         }
         Ok(())
     }
@@ -99,13 +106,43 @@ impl Kept {
     pub fn keep_restored(&mut self, lent: DecoderResult<'_>, watch: Watch) -> Result<(), Error> {
         self.agrees = restored_agrees(&lent);
         drop(watch);
-        self.restored.clear();
-        for (index, shard) in lent.restored_original_iter() {
-            let bytes = shard.to_vec(self.alloc)?;
-            self.restored.push(Shard { index, bytes })?;
-        }
+        self.copy_restored(&lent)?;
         if self.forgets {
             mem::forget(lent);
+        }
+        Ok(())
+    }
+
+    // Copies the restored originals of a result.
+    fn copy_restored(&mut self, lent: &DecoderResult<'_>) -> Result<(), AllocError> {
+        self.restored.clear();
+        for (index, shard) in lent.restored_original_iter() {
+            self.restored
+                .push(Shard::copied(self.alloc, index, shard)?)?;
+        }
+        Ok(())
+    }
+
+    /// Adds recovery shards to the kept ones, in order of their index.
+    ///
+    /// # Errors
+    ///
+    /// [`AllocError`] if memory cannot be allocated.
+    pub fn add_recovery(&mut self, shards: Vec<Vec<u8>>) -> Result<(), AllocError> {
+        for (index, bytes) in shards.into_iter().enumerate() {
+            self.recovery.push(Shard { index, bytes })?;
+        }
+        Ok(())
+    }
+
+    /// Adds restored originals to the kept ones.
+    ///
+    /// # Errors
+    ///
+    /// [`AllocError`] if memory cannot be allocated.
+    pub fn add_restored(&mut self, originals: BTreeMap<usize, Vec<u8>>) -> Result<(), AllocError> {
+        for (index, bytes) in originals {
+            self.restored.push(Shard { index, bytes })?;
         }
         Ok(())
     }
@@ -116,15 +153,22 @@ impl Kept {
 fn recovery_agrees(lent: &EncoderResult<'_>) -> bool {
     let mut walk = lent.recovery_iter();
     let all = walk.len();
-    let mut agrees = true;
+    walks_recovery(lent, &mut walk)
+        && lent.recovery(all).is_none()
+        && lent.recovery(usize::MAX).is_none()
+}
+
+// Returns whether an iterator returns the recovery shards by their indexes, counts them, and stays at its end.
+fn walks_recovery(lent: &EncoderResult<'_>, walk: &mut Recovery<'_>) -> bool {
+    let all = walk.len();
     for index in 0..all {
-        agrees = agrees && has_left(&walk, all - index);
+        let counts = has_left(walk, all - index);
         let shard = walk.next();
-        agrees = agrees && shard.is_some() && lent.recovery(index) == shard;
+        if !counts || shard.is_none() || shard != lent.recovery(index) {
+            return false;
+        }
     }
-    agrees = agrees && has_left(&walk, 0) && walk.next().is_none() && walk.next().is_none();
-    agrees = agrees && has_left(&walk, 0) && lent.recovery(all).is_none();
-    agrees && lent.recovery(usize::MAX).is_none()
+    has_left(walk, 0) && walk.next().is_none() && walk.next().is_none() && has_left(walk, 0)
 }
 
 // Returns whether the result of a decoder agrees with its iterator: the number of indexes that have a shard is
@@ -132,15 +176,22 @@ fn recovery_agrees(lent: &EncoderResult<'_>) -> bool {
 fn restored_agrees(lent: &DecoderResult<'_>) -> bool {
     let mut walk = lent.restored_original_iter();
     let all = walk.len();
-    let mut agrees = true;
+    walks_restored(lent, &mut walk)
+        && count_restored(lent) == all
+        && lent.restored_original(usize::MAX).is_none()
+}
+
+// Returns whether an iterator returns the restored originals by their indexes, counts them, and stays at its end.
+fn walks_restored(lent: &DecoderResult<'_>, walk: &mut RestoredOriginal<'_>) -> bool {
+    let all = walk.len();
     for walked in 0..all {
-        agrees = agrees && has_left(&walk, all - walked);
+        let counts = has_left(walk, all - walked);
         let (index, shard) = walk.next().unwrap_or((usize::MAX, &[]));
-        agrees = agrees && lent.restored_original(index) == Some(shard);
+        if !counts || lent.restored_original(index) != Some(shard) {
+            return false;
+        }
     }
-    agrees = agrees && has_left(&walk, 0) && walk.next().is_none() && walk.next().is_none();
-    agrees = agrees && has_left(&walk, 0) && count_restored(lent) == all;
-    agrees && lent.restored_original(usize::MAX).is_none()
+    has_left(walk, 0) && walk.next().is_none() && walk.next().is_none() && has_left(walk, 0)
 }
 
 // Returns how many indexes have a restored original.

@@ -1,15 +1,14 @@
 //! The levels of use over one engine. They run the cases of a file.
 use crate::cases::{Action, Case, CaseFile, Left, LevelName, Line, Step, Way};
-use crate::comparison::is_expected;
+use crate::comparison::{Outcome, is_expected};
 use crate::interpreter::{Failure, Returned, act};
 use crate::kept::Kept;
 use crate::one_call::{Form, OneCall};
 use crate::plain::Plain;
-use crate::rated::Rated;
+use crate::rated::Rates;
 use crate::report::Report;
 use reed_solomon_simd::Error;
 use reed_solomon_simd::engine::{DefaultEngine, Engine};
-use reed_solomon_simd::rate::{DefaultRate, HighRate, LowRate};
 use std::alloc::{AllocError, Global};
 
 /// All levels: the three forms of the one-call functions, the plain objects, and the objects of each rate.
@@ -37,9 +36,7 @@ pub struct Levels<'t, E: Engine> {
     slices: OneCall<'t>,
     rooms: OneCall<'t>,
     plain: Plain<'t>,
-    low: Rated<E, LowRate<E>>,
-    high: Rated<E, HighRate<E>>,
-    default: Rated<E, DefaultRate<E>>,
+    rates: Rates<E>,
 }
 
 impl<'t, E: Engine + Copy> Levels<'t, E> {
@@ -54,16 +51,16 @@ impl<'t, E: Engine + Copy> Levels<'t, E> {
         chosen: DefaultEngine<'t>,
         names: &'static [LevelName],
     ) -> Result<Levels<'t, E>, Error> {
+        let plain = Plain::new(alloc, chosen)?;
+        let rates = Rates::new(alloc, engine)?;
         Ok(Levels {
             names,
             alloc,
             call: OneCall::new(alloc, chosen, Form::Iterators),
             slices: OneCall::new(alloc, chosen, Form::Slices),
             rooms: OneCall::new(alloc, chosen, Form::Rooms),
-            plain: Plain::new(alloc, chosen)?,
-            low: Rated::new(alloc, engine)?,
-            high: Rated::new(alloc, engine)?,
-            default: Rated::new(alloc, engine)?,
+            plain,
+            rates,
         })
     }
 
@@ -129,7 +126,7 @@ impl<'t, E: Engine + Copy> Levels<'t, E> {
         Ok(())
     }
 
-    // Runs an action with a level, and compares its result with the expected one. Returns whether it failed with
+    // Runs an action with a level, and compares its result with the expected one. Returns whether the action failed with
     // `OutOfMemory` although this was not expected.
     fn run_step(
         &mut self,
@@ -141,11 +138,7 @@ impl<'t, E: Engine + Copy> Levels<'t, E> {
         kept.agrees = true;
         kept.left = Left::NONE;
         let outcome = self.act_by(level, kept, &step.action);
-        if is_expected(kept, &outcome, step)? {
-            return Ok(false);
-        }
-        report.differ(level, kept, step, &outcome)?;
-        Ok(matches!(outcome, Err(Failure::Refused(Error::OutOfMemory))))
+        compare(level, kept, step, &outcome, report)
     }
 
     // Runs an action with a level.
@@ -160,9 +153,25 @@ impl<'t, E: Engine + Copy> Levels<'t, E> {
             LevelName::Slices => act(&mut self.slices, kept, action),
             LevelName::Rooms => act(&mut self.rooms, kept, action),
             LevelName::Plain => act(&mut self.plain, kept, action),
-            LevelName::Low => act(&mut self.low, kept, action),
-            LevelName::High => act(&mut self.high, kept, action),
-            LevelName::Default => act(&mut self.default, kept, action),
+            LevelName::Low => act(&mut self.rates.low, kept, action),
+            LevelName::High => act(&mut self.rates.high, kept, action),
+            LevelName::Default => act(&mut self.rates.default, kept, action),
         }
     }
+}
+
+// Compares the outcome of an action with the expected result, and writes into the report if they differ. Returns whether
+// the action failed with `OutOfMemory` although this was not expected.
+fn compare(
+    level: LevelName,
+    kept: &Kept,
+    step: &Step,
+    outcome: &Outcome,
+    report: &mut Report,
+) -> Result<bool, AllocError> {
+    if is_expected(kept, outcome, step)? {
+        return Ok(false);
+    }
+    report.differ(level, kept, step, outcome)?;
+    Ok(matches!(outcome, Err(Failure::Refused(Error::OutOfMemory))))
 }

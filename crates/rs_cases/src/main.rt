@@ -34,6 +34,17 @@ use std::alloc::Global;
 use std::{env, fs};
 use watch::Watch;
 
+// Runs a file's cases with all levels over an engine that is chosen by name.
+fn run_over_kind(
+    alloc: Global,
+    file: &CaseFile,
+    engine: DefaultEngine<'_>,
+    name: &str,
+    report: &mut Report,
+) -> Result<()> {
+    Ok(Levels::new(alloc, engine, engine, LEVELS)?.run(file, name, report)?)
+}
+
 // Runs a file's cases with each engine that can be chosen by name, or only with `ssse3`.
 fn run_over_kinds(
     alloc: Global,
@@ -48,8 +59,7 @@ fn run_over_kinds(
         (EngineKind::Ssse3, "ssse3"),
     ] {
         if file.every_engine || kind == EngineKind::Ssse3 {
-            let engine = DefaultEngine::new(tables, kind);
-            Levels::new(alloc, engine, engine, LEVELS)?.run(file, name, report)?;
+            run_over_kind(alloc, file, DefaultEngine::new(tables, kind), name, report)?;
         }
     }
     Ok(())
@@ -76,6 +86,23 @@ fn run_over_types(alloc: Global, file: &CaseFile, t: &Tables, report: &mut Repor
     run_over(alloc, file, Ssse3::new(t), "Ssse3", t, report)
 }
 
+// Runs the cases of a file with each of its engines.
+fn run_cases(alloc: Global, file: &CaseFile, tables: &Tables, report: &mut Report) -> Result<()> {
+    run_over_kinds(alloc, file, tables, report)?;
+    if file.every_engine {
+        run_over_types(alloc, file, tables, report)?;
+    }
+    Ok(())
+}
+
+// Runs the cases of a file with this name and these contents, and returns the report.
+fn run_file(alloc: Global, name: String, text: &str, tables: &Tables) -> Result<Report> {
+    let file = read_file(alloc, name.as_str(), text)?;
+    let mut report = Report::new(alloc, name);
+    run_cases(alloc, &file, tables, &mut report)?;
+    Ok(report)
+}
+
 fn main(rt: HostRuntime) -> Result<()> {
     let alloc = rt.alloc();
     let watch = Watch::new(alloc);
@@ -86,12 +113,7 @@ fn main(rt: HostRuntime) -> Result<()> {
     let _program = names.next();
     for name in names {
         let text = fs::read_to_string(&rt, name.as_str())?;
-        let file = read_file(alloc, name.as_str(), text.as_str())?;
-        let mut report = Report::new(alloc, name);
-        run_over_kinds(alloc, &file, &tables, &mut report)?;
-        if file.every_engine {
-            run_over_types(alloc, &file, &tables, &mut report)?;
-        }
+        let report = run_file(alloc, name, text.as_str(), &tables)?;
         rt.print(report.text.as_str())?;
         differing = differing.saturating_add(report.differing);
     }

@@ -66,8 +66,7 @@ fn points(alloc: Global, count: usize, from: usize) -> Result<Vec<Shard>, AllocE
     for index in 0..count {
         let point = from.wrapping_add(index);
         let word = [(point % 256) as u8, (point / 256 % 256) as u8];
-        let bytes = word.to_vec(alloc)?;
-        shards.push(Shard { index, bytes })?;
+        shards.push(Shard::copied(alloc, index, &word)?)?;
     }
     Ok(shards)
 }

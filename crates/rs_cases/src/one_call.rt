@@ -133,9 +133,8 @@ impl Level for OneCall<'_> {
     }
 
     fn give(&mut self, role: Role, shard: &Shard) -> Answer {
-        let bytes = shard.bytes.as_slice().to_vec(self.alloc)?;
-        let index = shard.index;
-        self.given(role).push(Some(Shard { index, bytes }))?;
+        let copy = Shard::copied(self.alloc, shard.index, &shard.bytes)?;
+        self.given(role).push(Some(copy))?;
         Ok(())
     }
 
@@ -148,10 +147,7 @@ impl Level for OneCall<'_> {
         let answer = self.encode_given(&mut kept.left, &mut kept.agrees);
         self.next.clear();
         kept.recovery.clear();
-        for (index, bytes) in answer?.into_iter().enumerate() {
-            kept.recovery.push(Shard { index, bytes })?;
-        }
-        Ok(())
+        Ok(kept.add_recovery(answer?)?)
     }
 
     fn decode(&mut self, kept: &mut Kept) -> Answer {
@@ -159,10 +155,7 @@ impl Level for OneCall<'_> {
         self.original.clear();
         self.recovery.clear();
         kept.restored.clear();
-        for (index, bytes) in answer? {
-            kept.restored.push(Shard { index, bytes })?;
-        }
-        Ok(())
+        Ok(kept.add_restored(answer?)?)
     }
 }
 

@@ -5,7 +5,7 @@ use crate::level::{Answer, Level};
 use crate::watch::Watch;
 use reed_solomon_simd::Error;
 use reed_solomon_simd::engine::{Engine, Steps};
-use reed_solomon_simd::rate::{Rate, RateDecoder, RateEncoder};
+use reed_solomon_simd::rate::{DefaultRate, HighRate, LowRate, Rate, RateDecoder, RateEncoder};
 use std::alloc::Global;
 use std::mem;
 
@@ -30,6 +30,41 @@ impl<E: Engine + Copy, R: Rate<E>> Rated<E, R> {
             engine,
             encoder: R::RateEncoder::new(alloc, 1, 1, 2, engine, None)?,
             decoder: R::RateDecoder::new(alloc, 1, 1, 2, engine, None)?,
+        })
+    }
+
+    // Makes an encoder and a decoder, and returns their errors.
+    fn make(&self, configuration: Configuration) -> [Option<Error>; 2] {
+        let (k, r, size) = configuration.numbers();
+        [
+            R::RateEncoder::new(self.alloc, k, r, size, self.engine, None).err(),
+            R::RateDecoder::new(self.alloc, k, r, size, self.engine, None).err(),
+        ]
+    }
+}
+
+/// The objects of each rate over an engine.
+#[derive(Drop)]
+pub struct Rates<E: Engine> {
+    /// The objects of the low rate.
+    pub low: Rated<E, LowRate<E>>,
+    /// The objects of the high rate.
+    pub high: Rated<E, HighRate<E>>,
+    /// The objects of the default rate.
+    pub default: Rated<E, DefaultRate<E>>,
+}
+
+impl<E: Engine + Copy> Rates<E> {
+    /// Makes the objects of each rate, for one original and one recovery shard of two bytes.
+    ///
+    /// # Errors
+    ///
+    /// [`Error::OutOfMemory`] if memory cannot be allocated.
+    pub fn new(alloc: Global, engine: E) -> Result<Rates<E>, Error> {
+        Ok(Rates {
+            low: Rated::new(alloc, engine)?,
+            high: Rated::new(alloc, engine)?,
+            default: Rated::new(alloc, engine)?,
         })
     }
 }
@@ -92,21 +127,33 @@ impl<E: Engine + Copy, R: Rate<E>> Level for Rated<E, R> {
     }
 
     fn tells(&self, configuration: Configuration, answer: Answer) -> bool {
-        let (k, r, size) = configuration.numbers();
         let supported = !matches!(answer, Err(Error::UnsupportedShardCount { .. }));
         let valid = match answer {
             Err(Error::OutOfMemory) => Ok(()),
             _ => answer,
         };
-        let encoder = R::RateEncoder::new(self.alloc, k, r, size, self.engine, None);
-        let decoder = R::RateDecoder::new(self.alloc, k, r, size, self.engine, None);
-        R::supports(k, r) == supported
-            && R::RateEncoder::supports(k, r) == supported
-            && R::RateDecoder::supports(k, r) == supported
-            && R::validate(k, r, size) == valid
-            && R::RateEncoder::validate(k, r, size) == valid
-            && R::RateDecoder::validate(k, r, size) == valid
-            && encoder.err() == answer.err()
-            && decoder.err() == answer.err()
+        supports::<E, R>(configuration) == [supported; 3]
+            && validate::<E, R>(configuration) == [valid; 3]
+            && self.make(configuration) == [answer.err(); 2]
     }
+}
+
+// Returns what `supports` of a rate, of its encoder and of its decoder returns.
+fn supports<E: Engine, R: Rate<E>>(configuration: Configuration) -> [bool; 3] {
+    let (k, r, _) = configuration.numbers();
+    [
+        R::supports(k, r),
+        R::RateEncoder::supports(k, r),
+        R::RateDecoder::supports(k, r),
+    ]
+}
+
+// Returns what `validate` of a rate, of its encoder and of its decoder returns.
+fn validate<E: Engine, R: Rate<E>>(configuration: Configuration) -> [Answer; 3] {
+    let (k, r, size) = configuration.numbers();
+    [
+        R::validate(k, r, size),
+        R::RateEncoder::validate(k, r, size),
+        R::RateDecoder::validate(k, r, size),
+    ]
 }

@@ -1,5 +1,7 @@
 //! Reads data files into cases. A comment at the top of each data file explains the format.
-use crate::cases::{Action, Case, CaseFile, Expected, Left, LevelName, Line, Object, Step, Way};
+use crate::cases::{
+    Action, Case, CaseFile, Configuration, Expected, Left, LevelName, Line, Object, Step, Way,
+};
 use crate::fault::Fault;
 use crate::words::{configuration, expected_shards, given, number, pairs, rule};
 use anyhow::{Result, bail};
@@ -27,8 +29,7 @@ pub fn read_file(alloc: Global, name: &str, text: &str) -> Result<CaseFile> {
     Ok(file)
 }
 
-// Reads a line of a file. The line is empty, a comment, a setting of the file, the first line of a case with the levels
-// of the case, or a further line of a case.
+// Reads a line of a file. The line is empty, a comment, a setting of the file, or a line of a case.
 fn read_line(alloc: Global, file: &mut CaseFile, number: usize, text: &str) -> Result<(), Fault> {
     if text.is_empty() || text.starts_with('#') {
         return Ok(());
@@ -41,11 +42,21 @@ fn read_line(alloc: Global, file: &mut CaseFile, number: usize, text: &str) -> R
         file.ways = read_ways(alloc, ways)?;
         return Ok(());
     }
+    read_line_of_case(alloc, &mut file.cases, number, text)
+}
+
+// Reads the first line of a case with the levels of the case, or a further line of the last case.
+fn read_line_of_case(
+    alloc: Global,
+    cases: &mut Vec<Case>,
+    number: usize,
+    text: &str,
+) -> Result<(), Fault> {
     if let Some((levels, first)) = text.split_once(" | ") {
-        file.cases.push(read_case(alloc, number, levels, first)?)?;
+        cases.push(read_case(alloc, number, levels, first)?)?;
         return Ok(());
     }
-    let Some(case) = file.cases.last_mut() else {
+    let Some(case) = cases.last_mut() else {
         return Err(Fault::NoCase);
     };
     case.lines.push(read_case_line(alloc, number, text)?)?;
@@ -120,8 +131,7 @@ fn read_case_line(alloc: Global, number: usize, text: &str) -> Result<Line, Faul
 fn read_step(alloc: Global, line: usize, is_else: bool, text: &str) -> Result<Step, Fault> {
     let (text, result) = text.split_once("->").unwrap_or((text, ""));
     let action = read_action(alloc, text)?;
-    let (result, left) = read_left(result.trim())?;
-    let expected = read_expected(alloc, &action, result)?;
+    let (expected, left) = read_result(alloc, &action, result.trim())?;
     Ok(Step {
         line,
         text: String::from_str(alloc, text)?,
@@ -135,35 +145,49 @@ fn read_step(alloc: Global, line: usize, is_else: bool, text: &str) -> Result<St
 // Reads the name of an action, and the words after it.
 fn read_action(alloc: Global, text: &str) -> Result<Action, Fault> {
     let words: Vec<&str> = text.split_whitespace().collect(alloc)?;
-    let [name, words @ ..] = words.as_slice() else {
+    read_words(alloc, &words)
+}
+
+// Reads the words of an action: its name, and the words after it.
+fn read_words(alloc: Global, words: &[&str]) -> Result<Action, Fault> {
+    let Some((name, words)) = words.split_first() else {
         return Err(Fault::Action);
     };
-    Ok(match *name {
-        "encoder" => Action::Start(Object::Encoder, configuration(words)?),
-        "decoder" => Action::Start(Object::Decoder, configuration(words)?),
-        "reset-encoder" => Action::Reset(Object::Encoder, configuration(words)?),
-        "reset-decoder" => Action::Reset(Object::Decoder, configuration(words)?),
-        "configure" => Action::Configure(configuration(words)?),
-        "give" => Action::Give(given(alloc, words)?),
-        "code" => Action::Round(Object::Encoder, given(alloc, words)?),
-        "restore" => Action::Round(Object::Decoder, given(alloc, words)?),
-        "encodes" => read_rounds(alloc, Object::Encoder, words)?,
-        "decodes" => read_rounds(alloc, Object::Decoder, words)?,
-        "makes" => read_make(words)?,
-        "supports" => Action::Supports(pairs(alloc, words)?),
-        "excludes" => Action::Excludes(pairs(alloc, words)?),
-        _ => read_bare(name, words)?,
-    })
+    match *name {
+        "encoder" | "decoder" | "reset-encoder" | "reset-decoder" | "configure" => {
+            read_configured(name, configuration(words)?)
+        }
+        "give" => Ok(Action::Give(given(alloc, words)?)),
+        "code" => Ok(Action::Round(Object::Encoder, given(alloc, words)?)),
+        "restore" => Ok(Action::Round(Object::Decoder, given(alloc, words)?)),
+        "encodes" => read_rounds(alloc, Object::Encoder, words),
+        "decodes" => read_rounds(alloc, Object::Decoder, words),
+        "makes" => read_make(words),
+        "supports" => Ok(Action::Counts(true, pairs(alloc, words)?)),
+        "excludes" => Ok(Action::Counts(false, pairs(alloc, words)?)),
+        _ => read_bare(alloc, name, words),
+    }
+}
+
+// Returns the action with this name whose words are a configuration.
+fn read_configured(name: &str, configuration: Configuration) -> Result<Action, Fault> {
+    match name {
+        "encoder" => Ok(Action::Start(Object::Encoder, configuration)),
+        "decoder" => Ok(Action::Start(Object::Decoder, configuration)),
+        "reset-encoder" => Ok(Action::Reset(Object::Encoder, configuration)),
+        "reset-decoder" => Ok(Action::Reset(Object::Decoder, configuration)),
+        _ => Ok(Action::Configure(configuration)),
+    }
 }
 
 // Reads an action that has no words after its name.
-fn read_bare(name: &str, words: &[&str]) -> Result<Action, Fault> {
+fn read_bare(alloc: Global, name: &str, words: &[&str]) -> Result<Action, Fault> {
     if !words.is_empty() {
         return Err(Fault::Action);
     }
     match name {
-        "encode" => Ok(Action::Run(Object::Encoder)),
-        "decode" => Ok(Action::Run(Object::Decoder)),
+        "encode" => Ok(Action::Round(Object::Encoder, Vec::new(alloc))),
+        "decode" => Ok(Action::Round(Object::Decoder, Vec::new(alloc))),
         "parts" => Ok(Action::TakeApart),
         "empty-parts" => Ok(Action::EmptyWorks),
         "forget" => Ok(Action::Forget),
@@ -197,14 +221,24 @@ fn read_left(text: &str) -> Result<(&str, Left), Fault> {
     let Some((result, counts)) = rest.rsplit_once(", ") else {
         return Err(Fault::Expected);
     };
+    Ok((result, left_of(counts)?))
+}
+
+// Reads `N and N`.
+fn left_of(counts: &str) -> Result<Left, Fault> {
     let Some((originals, recoveries)) = counts.split_once(" and ") else {
         return Err(Fault::Expected);
     };
-    let left = Left {
+    Ok(Left {
         originals: number(originals)?,
         recoveries: number(recoveries)?,
-    };
-    Ok((result, left))
+    })
+}
+
+// Reads an expected result, and the numbers of shards that are left.
+fn read_result(alloc: Global, action: &Action, text: &str) -> Result<(Expected, Left), Fault> {
+    let (result, left) = read_left(text)?;
+    Ok((read_expected(alloc, action, result)?, left))
 }
 
 // Reads an expected result: the text of an error, a digest, or shards.

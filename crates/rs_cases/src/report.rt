@@ -38,22 +38,27 @@ impl Report {
         step: &Step,
         outcome: &Outcome,
     ) -> Result<(), AllocError> {
-        let (line, level, way) = (step.line, level.word(), kept.way.word());
-        write!(
-            self.text,
-            "{}:{line}, {level}, {way}: {}->",
-            self.file, step.text
-        )?;
+        self.write_action(level, kept.way, step)?;
         self.text.push_str(text_of(kept, outcome)?.as_str())?;
-        if kept.left != Left::NONE {
-            let Left {
-                originals,
-                recoveries,
-            } = kept.left;
-            write!(self.text, ", {originals} and {recoveries} left")?;
-        }
+        self.write_left(kept.left)?;
         self.differing = self.differing.saturating_add(1);
         self.text.push_str("\n")
+    }
+
+    // Writes where an action is, the level and the way that it is run with, and the action.
+    fn write_action(&mut self, level: LevelName, way: Way, step: &Step) -> Result<(), AllocError> {
+        let (line, level, way) = (step.line, level.word(), way.word());
+        write!(self.text, "{}:{line}, {level}, {way}: ", self.file)?;
+        write!(self.text, "{}->", step.text)
+    }
+
+    // Writes the numbers of shards that a call has not taken, if there are such shards.
+    fn write_left(&mut self, left: Left) -> Result<(), AllocError> {
+        if left == Left::NONE {
+            return Ok(());
+        }
+        let (originals, recoveries) = (left.originals, left.recoveries);
+        write!(self.text, ", {originals} and {recoveries} left")
     }
 
     /// Writes the line of an engine: how many cases each level has run, how many cases the file has, and the ways.
@@ -68,11 +73,17 @@ impl Report {
         levels: &[LevelName],
     ) -> Result<(), AllocError> {
         write!(self.text, "{} with {engine}:", self.file)?;
+        self.write_counts(file, levels)?;
+        write!(self.text, " of {} cases;", file.cases.len())?;
+        self.write_ways(&file.ways)
+    }
+
+    // Writes how many cases of a file each level has run.
+    fn write_counts(&mut self, file: &CaseFile, levels: &[LevelName]) -> Result<(), AllocError> {
         for level in levels {
             write!(self.text, " {} {},", file.count_by(*level), level.word())?;
         }
-        write!(self.text, " of {} cases;", file.cases.len())?;
-        self.write_ways(&file.ways)
+        Ok(())
     }
 
     // Writes the names of the ways, and ends the line.

@@ -32,7 +32,7 @@ fn rooms_of(
 }
 
 // Lends rooms.
-fn lend(alloc: Global, rooms: &mut [Vec<u8>]) -> Result<Vec<&mut [u8]>, AllocError> {
+fn lend(alloc: Global, rooms: &mut [Vec<u8>]) -> Result<Vec<&mut [u8]>, Error> {
     let mut lent = Vec::new(alloc);
     for room in rooms {
         lent.push(room.as_mut_slice())?;
@@ -77,15 +77,51 @@ pub fn encode(
     engine: DefaultEngine<'_>,
     agrees: &mut bool,
 ) -> Result<Vec<Vec<u8>>, Error> {
-    let (k, r, _) = configuration.numbers();
     let shards = lent(alloc, originals)?;
-    let mut rooms = rooms_of(alloc, r.min(MOST_ROOMS), originals)?;
-    let mut lent_rooms = lend(alloc, &mut rooms)?;
-    let watch = Watch::new(alloc);
-    let answer = encode_into(alloc, k, r, &shards, &mut lent_rooms, engine);
-    drop(watch);
-    drop(lent_rooms);
+    let count = configuration.recovery_count.min(MOST_ROOMS);
+    let mut rooms = rooms_of(alloc, count, originals)?;
+    let answer = encode_in(alloc, configuration, &shards, &mut rooms, engine);
     outcome(answer, rooms, agrees)
+}
+
+// Encodes originals with `encode_into`.
+fn encode_in(
+    alloc: Global,
+    configuration: Configuration,
+    originals: &[&[u8]],
+    rooms: &mut [Vec<u8>],
+    engine: DefaultEngine<'_>,
+) -> Result<(), RoomError> {
+    let (k, r, _) = configuration.numbers();
+    let mut lent_rooms = lend(alloc, rooms)?;
+    let _watch = Watch::new(alloc);
+    encode_into(alloc, k, r, originals, &mut lent_rooms, engine)
+}
+
+// Returns a mark for each original, which is true if the original was received.
+fn received_marks(
+    alloc: Global,
+    count: usize,
+    received: &[(usize, &[u8])],
+) -> Result<Vec<bool>, AllocError> {
+    let mut marks = vec![in alloc; false; count.min(MOST_ROOMS)]?;
+    for (index, _) in received {
+        if let Some(mark) = marks.get_mut(*index) {
+            *mark = true;
+        }
+    }
+    Ok(marks)
+}
+
+// Returns the indexes of the marks that are false, in order.
+fn indexes_without_mark(alloc: Global, marks: &[bool]) -> Result<Vec<usize>, AllocError> {
+    let mut indexes = Vec::new(alloc);
+    for (index, mark) in marks.iter().enumerate() {
+        if !*mark {
+            indexes.push(index)?;
+        }
+    }
+    Ok(indexes)
 }
 
 // Returns the indexes of the originals that were not received, in order.
@@ -94,19 +130,8 @@ fn missing_indexes(
     count: usize,
     received: &[(usize, &[u8])],
 ) -> Result<Vec<usize>, AllocError> {
-    let mut is_received = vec![in alloc; false; count.min(MOST_ROOMS)]?;
-    for (index, _) in received {
-        if let Some(mark) = is_received.get_mut(*index) {
-            *mark = true;
-        }
-    }
-    let mut missing = Vec::new(alloc);
-    for (index, mark) in is_received.iter().enumerate() {
-        if !*mark {
-            missing.push(index)?;
-        }
-    }
-    Ok(missing)
+    let marks = received_marks(alloc, count, received)?;
+    indexes_without_mark(alloc, &marks)
 }
 
 /// Decodes received shards with `decode_into`, and returns the rooms by the indexes of the missing originals. Clears
@@ -123,19 +148,38 @@ pub fn decode(
     engine: DefaultEngine<'_>,
     agrees: &mut bool,
 ) -> Result<BTreeMap<usize, Vec<u8>>, Error> {
-    let (k, r, _) = configuration.numbers();
     let own = lent_items(alloc, originals)?;
     let further = lent_items(alloc, recoveries)?;
-    let missing = missing_indexes(alloc, k, &own)?;
+    let missing = missing_indexes(alloc, configuration.original_count, &own)?;
     let mut rooms = rooms_of(alloc, missing.len(), recoveries)?;
-    let mut lent_rooms = lend(alloc, &mut rooms)?;
-    let watch = Watch::new(alloc);
-    let answer = decode_into(alloc, k, r, &own, &further, &mut lent_rooms, engine);
-    drop(watch);
-    drop(lent_rooms);
+    let answer = decode_in(alloc, configuration, &own, &further, &mut rooms, engine);
+    Ok(by_index(alloc, &missing, outcome(answer, rooms, agrees)?)?)
+}
+
+// Decodes received shards with `decode_into`.
+fn decode_in(
+    alloc: Global,
+    configuration: Configuration,
+    originals: &[(usize, &[u8])],
+    recoveries: &[(usize, &[u8])],
+    rooms: &mut [Vec<u8>],
+    engine: DefaultEngine<'_>,
+) -> Result<(), RoomError> {
+    let (k, r, _) = configuration.numbers();
+    let mut lent_rooms = lend(alloc, rooms)?;
+    let _watch = Watch::new(alloc);
+    decode_into(alloc, k, r, originals, recoveries, &mut lent_rooms, engine)
+}
+
+// Returns rooms by their indexes.
+fn by_index(
+    alloc: Global,
+    indexes: &[usize],
+    rooms: Vec<Vec<u8>>,
+) -> Result<BTreeMap<usize, Vec<u8>>, AllocError> {
     let mut restored = BTreeMap::new(alloc);
-    for (index, room) in missing.into_iter().zip(outcome(answer, rooms, agrees)?) {
-        restored.insert(index, room)?;
+    for (index, room) in indexes.iter().zip(rooms) {
+        restored.insert(*index, room)?;
     }
     Ok(restored)
 }

@@ -180,6 +180,6 @@ fn piece_of(alloc: Global, piece: &str) -> Result<Vec<u8>, Fault> {
     let Some((digits, times)) = piece.split_once('*') else {
         return Ok(hex::decode(alloc, piece)?);
     };
-    let bytes = hex::decode(alloc, digits)?;
-    Ok(bytes.repeat(alloc, number(times)?)?)
+    let times = number(times)?;
+    Ok(hex::decode(alloc, digits)?.repeat(alloc, times)?)
 }
