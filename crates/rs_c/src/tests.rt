@@ -2,6 +2,7 @@
 //! contract states. The tables are larger than a stack, and only an optimised build copies them without room on the
 //! stack. So `rt test` runs these tests, and two of them fail in `rt try`.
 ghost use Rattle.std.specs.Prelude.{◌≡◌, length, IfOk};
+ghost use Rattle.rs_c.specs.Tables.{AreStamped, AreTables};
 
 use crate::fault::RsFault;
 use crate::layouts::RsShard;
@@ -11,6 +12,7 @@ use crate::{
     rs_tables_make,
 };
 use std::alloc::{AllocError, Global};
+use std::process::Abort;
 use std::test::Fail;
 
 // Tables that were not made.
@@ -37,14 +39,11 @@ fn unmade(alloc: Global) -> Result<&'static mut [RsTables], AllocError>
     Ok(tables.leak())
 }
 
-#[test]
-fn three_originals_come_back(rt: HostRuntime) -> Result<(), Fail> {
-    let alloc = rt.alloc();
-    let tables = &mut unmade(alloc)?[0];
-    assert_eq!(rt; rs_tables_make(alloc, tables), 0);
-    assert_eq!(rt; rs_supports(3, 2), 1);
+// Encodes three originals, and checks their recovery shards.
+fn check_encode(rt: &impl Abort, alloc: Global, tables: &RsTables)
+    requires stamped { AreStamped tables.now → AreTables tables.now }
+{
     let mut fault = NONE;
-    let mut originals = [2, 0, 0, 0, 4, 0];
     let mut recovery = [9; 4];
     let number = rs_encode(
         alloc,
@@ -52,13 +51,20 @@ fn three_originals_come_back(rt: HostRuntime) -> Result<(), Fail> {
         3,
         2,
         2,
-        &originals,
+        &[2, 0, 0, 0, 4, 0],
         &mut recovery,
         &mut fault,
     );
     assert_eq!(rt; number, 0);
     assert_eq!(rt; recovery, [3, 0, 5, 0]);
-    originals = [8, 8, 0, 0, 8, 8];
+}
+
+// Loses the first and the last of three originals, and checks that they come back.
+fn check_decode(rt: &impl Abort, alloc: Global, tables: &RsTables)
+    requires stamped { AreStamped tables.now → AreTables tables.now }
+{
+    let mut fault = NONE;
+    let mut originals = [8, 8, 0, 0, 8, 8];
     let number = rs_decode(
         alloc,
         tables,
@@ -66,12 +72,22 @@ fn three_originals_come_back(rt: HostRuntime) -> Result<(), Fail> {
         2,
         2,
         &mut originals,
-        &recovery,
+        &[3, 0, 5, 0],
         &[0, 1, 0, 1, 1],
         &mut fault,
     );
     assert_eq!(rt; number, 0);
     assert_eq!(rt; originals, [2, 0, 0, 0, 4, 0]);
+}
+
+#[test]
+fn three_originals_come_back(rt: HostRuntime) -> Result<(), Fail> {
+    let alloc = rt.alloc();
+    let tables = &mut unmade(alloc)?[0];
+    assert_eq!(rt; rs_tables_make(alloc, tables), 0);
+    assert_eq!(rt; rs_supports(3, 2), 1);
+    check_encode(&rt, alloc, tables);
+    check_decode(&rt, alloc, tables);
     Ok(())
 }
 
@@ -114,14 +130,15 @@ fn shards_anywhere_come_back(rt: HostRuntime) -> Result<(), Fail> {
     Ok(())
 }
 
-#[test]
-fn unmade_tables_are_noticed(rt: HostRuntime) -> Result<(), Fail> {
-    let alloc = rt.alloc();
+// Checks that an encode notices that these tables were not made, and returns the fault.
+fn fault_of_encode(rt: &impl Abort, alloc: Global, tables: &RsTables) -> RsFault
+    requires stamped { AreStamped tables.now → AreTables tables.now }
+{
     let mut fault = NONE;
     let mut recovery = [9; 4];
     let number = rs_encode(
         alloc,
-        &UNMADE[0],
+        tables,
         3,
         2,
         2,
@@ -131,8 +148,13 @@ fn unmade_tables_are_noticed(rt: HostRuntime) -> Result<(), Fail> {
     );
     assert_eq!(rt; number, 15);
     assert_eq!(rt; recovery, [9; 4]);
+    fault
+}
+
+#[test]
+fn unmade_tables_are_noticed(rt: HostRuntime) {
+    let fault = fault_of_encode(&rt, rt.alloc(), &UNMADE[0]);
     let mut text = [b'#'; 20];
     assert_eq!(rt; rs_fault_text(&fault, &mut text), 51);
     assert_eq!(rt; &text, b"tables not made: rs_");
-    Ok(())
 }

@@ -5,9 +5,7 @@ ghost use Rattle.std.specs.Prelude.{◌<◌};
 use reed_solomon_simd::Error;
 use reed_solomon_simd::engine::tables::Tables;
 use reed_solomon_simd::engine::{Engine, GfElement, Naive, ShardsRefMut, Steps};
-use reed_solomon_simd::rate::{
-    HighRate, HighRateDecoder, LowRate, LowRateDecoder, Rate, RateDecoder, RateEncoder,
-};
+use reed_solomon_simd::rate::{HighRate, LowRate, Rate, RateDecoder, RateEncoder};
 use rs_field::engine::kernel::Kernel;
 use rs_field::engine::lent_tables::LentTables;
 use std::alloc::Global;
@@ -15,7 +13,8 @@ use std::cell::Cell;
 use std::process::Abort;
 use std::test::Fail;
 
-// The number of calls of each method. The constants below are the indexes of the methods.
+// The number of calls of each method. The constants below are the indexes of the methods. `eval_poly` and `locate` both
+// compute a locator, and share an index.
 type Calls = [u32; 4];
 
 const FFT: usize = 0;
@@ -24,13 +23,14 @@ const IFFT: usize = 1;
 
 const MUL: usize = 2;
 
-const EVAL_POLY: usize = 3;
+const LOCATOR: usize = 3;
 
-/// The plain engine, which counts its calls.
+/// The plain engine, which counts its calls, and the entries of all locators that it computed.
 #[derive(Drop)]
 pub struct Counting<'t> {
     naive: Naive<'t>,
     calls: Cell<Calls>,
+    entries: Cell<usize>,
 }
 
 impl<'t> Counting<'t> {
@@ -38,6 +38,7 @@ impl<'t> Counting<'t> {
         Counting {
             naive: Naive::new(tables),
             calls: Cell::new([0; 4]),
+            entries: Cell::new(0),
         }
     }
 
@@ -48,6 +49,12 @@ impl<'t> Counting<'t> {
         let mut calls = self.calls.get();
         calls[method] = calls[method].saturating_add(1);
         self.calls.set(calls);
+    }
+
+    // Counts a locator of so many entries.
+    fn count_locator(&self, entries: usize) {
+        self.count(LOCATOR);
+        self.entries.set(self.entries.get().saturating_add(entries));
     }
 }
 
@@ -86,9 +93,26 @@ impl Engine for Counting<'_> {
     }
 
     fn eval_poly(&self, steps: &mut Steps, entries: &mut [GfElement], truncated_size: usize) {
-        self.count(EVAL_POLY);
+        self.count_locator(entries.len());
         self.naive.eval_poly(steps, entries, truncated_size);
     }
+
+    fn locate(&self, steps: &mut Steps, entries: &mut [GfElement]) {
+        self.count_locator(entries.len());
+        self.naive.locate(steps, entries);
+    }
+}
+
+// Gives an encoder these originals, and encodes them.
+fn encode_given<E: Engine>(
+    encoder: &mut impl RateEncoder<E>,
+    original: &[[u8; 2]],
+) -> Result<(), Error> {
+    for shard in original {
+        encoder.add_original_shard(shard)?;
+    }
+    drop(encoder.encode(&mut Steps::new())?);
+    Ok(())
 }
 
 // Returns how often an encode of these originals calls its engine.
@@ -100,123 +124,145 @@ fn calls_of_encode<'t, R: Rate<Counting<'t>>>(
 ) -> Result<Calls, Error> {
     let engine = Counting::new(tables);
     let mut encoder = R::encoder(alloc, original.len(), recovery_count, 2, engine, None)?;
-    for shard in original {
-        encoder.add_original_shard(shard)?;
-    }
-    drop(encoder.encode(&mut Steps::new())?);
+    encode_given(&mut encoder, original)?;
     Ok(encoder.into_parts().0.calls.get())
 }
 
-#[test]
-fn an_encode_transforms_each_block_and_once_more(rt: HostRuntime) -> Result<(), Fail> {
-    let alloc = rt.alloc();
-    let tables = Tables::new(alloc)?;
-    // Two blocks of two recovery shards, and two blocks of two originals.
-    let low = calls_of_encode::<LowRate<Counting<'_>>>(alloc, &tables, &[[0, 0], [1, 0]], 3)?;
-    let three = [[2, 0], [0, 0], [4, 0]];
-    let high = calls_of_encode::<HighRate<Counting<'_>>>(alloc, &tables, &three, 2)?;
-    assert_eq!(rt; low, [2, 1, 0, 0]);
-    assert_eq!(rt; high, [1, 2, 0, 0]);
+// Checks how often an encode of these originals calls its engine.
+fn check_encode<'t, R: Rate<Counting<'t>>>(
+    rt: &impl Abort,
+    alloc: Global,
+    tables: &'t Tables,
+    original: &[[u8; 2]],
+    recovery_count: usize,
+    wanted: Calls,
+) -> Result<(), Fail> {
+    let calls = calls_of_encode::<R>(alloc, tables, original, recovery_count)?;
+    assert_eq!(rt; calls, wanted);
     Ok(())
 }
 
 type Item = (usize, [u8; 2]);
 
-// Returns how often a decode of these shards, for four originals and four recovery shards, calls its engine.
-fn calls_of_decode<'t, R: Rate<Counting<'t>>>(
-    alloc: Global,
-    tables: &'t Tables,
+// Gives a decoder these originals.
+fn give_originals<E: Engine>(
+    decoder: &mut impl RateDecoder<E>,
     original: &[Item],
-    recovery: &[Item],
-) -> Result<Calls, Error> {
-    let mut decoder = R::decoder(alloc, 4, 4, 2, Counting::new(tables), None)?;
+) -> Result<(), Error> {
     for (index, shard) in original {
         decoder.add_original_shard(*index, shard)?;
-    }
-    for (index, shard) in recovery {
-        decoder.add_recovery_shard(*index, shard)?;
-    }
-    drop(decoder.decode(&mut Steps::new())?);
-    Ok(decoder.into_parts().0.calls.get())
-}
-
-// Checks how often decodes call their engine. All shards belong to one message of four originals. A decode calls `mul`
-// at most once for each given shard and once for each restored shard.
-fn counts_decodes<'t, R: Rate<Counting<'t>>, A: Abort + AllocGlobal>(
-    rt: &A,
-    tables: &'t Tables,
-) -> Result<(), Fail> {
-    let all = [(0, [0, 0]), (2, [2, 0]), (3, [3, 0]), (1, [0, 0])];
-    let recovery = [(2, [14, 0]), (0, [11, 0])];
-    for (original, recovery, others, most) in [
-        (&all[2..], &recovery[..], [1, 1, 1], 6),
-        (&all[..], &recovery[1..], [0, 1, 1], 5),
-        (&all[..], &recovery[2..], [0, 0, 0], 0),
-    ] {
-        let calls = calls_of_decode::<R>(rt.alloc(), tables, original, recovery)?;
-        let [fft, ifft, mul, eval_poly] = calls;
-        assert_eq!(rt; [fft, ifft, eval_poly], others);
-        assert!(rt; mul <= most, "{mul}");
     }
     Ok(())
 }
 
+// Gives a decoder these recovery shards, and decodes.
+fn decode_given<E: Engine>(
+    decoder: &mut impl RateDecoder<E>,
+    recovery: &[Item],
+) -> Result<(), Error> {
+    for (index, shard) in recovery {
+        decoder.add_recovery_shard(*index, shard)?;
+    }
+    drop(decoder.decode(&mut Steps::new())?);
+    Ok(())
+}
+
+// Returns the engine after a decode of these shards, for `count` originals and as many recovery shards.
+fn after_decode<E: Engine, R: Rate<E>>(
+    alloc: Global,
+    count: usize,
+    original: &[Item],
+    recovery: &[Item],
+    engine: E,
+) -> Result<E, Error> {
+    let mut decoder = R::decoder(alloc, count, count, 2, engine, None)?;
+    give_originals(&mut decoder, original)?;
+    decode_given(&mut decoder, recovery)?;
+    Ok(decoder.into_parts().0)
+}
+
+// Checks that a decode of these shards, for four originals and four recovery shards, calls `fft`, `ifft` and a method
+// for a locator as often as `others` says, and calls `mul` at most so often.
+fn check_decode<'t, R: Rate<Counting<'t>>>(
+    rt: &impl Abort,
+    alloc: Global,
+    tables: &'t Tables,
+    (original, recovery): (&[Item], &[Item]),
+    (others, most): ([u32; 3], u32),
+) -> Result<(), Fail> {
+    let engine = Counting::new(tables);
+    let engine = after_decode::<_, R>(alloc, 4, original, recovery, engine)?;
+    let [fft, ifft, mul, locator] = engine.calls.get();
+    assert_eq!(rt; [fft, ifft, locator], others);
+    assert!(rt; mul <= most, "{mul}");
+    Ok(())
+}
+
+// Checks that a decode transforms once to check and once to restore. All shards belong to one message of four
+// originals. A decode calls `mul` at most once for each given shard and once for each restored shard.
+fn check_decodes<'t, R: Rate<Counting<'t>>>(
+    rt: &impl Abort,
+    alloc: Global,
+    tables: &'t Tables,
+) -> Result<(), Fail> {
+    let all = [(0, [0, 0]), (2, [2, 0]), (3, [3, 0]), (1, [0, 0])];
+    let recovery = [(2, [14, 0]), (0, [11, 0])];
+    for (given, counts) in [
+        ((&all[2..], &recovery[..]), ([1, 1, 1], 6)),
+        ((&all[..], &recovery[1..]), ([0, 1, 1], 5)),
+        ((&all[..], &recovery[2..]), ([0, 0, 0], 0)),
+    ] {
+        check_decode::<R>(rt, alloc, tables, given, counts)?;
+    }
+    Ok(())
+}
+
+// Eight recovery shards of zeros. From these alone, a decode restores eight originals.
+const ZEROS: [Item; 8] = [
+    (0, [0; 2]),
+    (1, [0; 2]),
+    (2, [0; 2]),
+    (3, [0; 2]),
+    (4, [0; 2]),
+    (5, [0; 2]),
+    (6, [0; 2]),
+    (7, [0; 2]),
+];
+
+// Checks that a decode over 16 rows locates at 16 points.
+fn check_locator<'t, R: Rate<Counting<'t>>>(
+    rt: &impl Abort,
+    alloc: Global,
+    tables: &'t Tables,
+) -> Result<(), Fail> {
+    let engine = Counting::new(tables);
+    let engine = after_decode::<_, R>(alloc, 8, &[], &ZEROS, engine)?;
+    assert_eq!(rt; engine.entries.get(), 16);
+    Ok(())
+}
+
+// Checks how often the objects of a rate call their engine. An encode of these originals makes the calls in `encode`.
+fn check_rate<'t, R: Rate<Counting<'t>>>(
+    rt: &impl Abort,
+    alloc: Global,
+    tables: &'t Tables,
+    (original, recovery_count): (&[[u8; 2]], usize),
+    encode: Calls,
+) -> Result<(), Fail> {
+    check_encode::<R>(rt, alloc, tables, original, recovery_count, encode)?;
+    check_decodes::<R>(rt, alloc, tables)?;
+    check_locator::<R>(rt, alloc, tables)
+}
+
+// An encode transforms each block, and once more. At the low rate there are two blocks of two recovery shards, and at
+// the high rate two blocks of two originals.
 #[test]
-fn a_decode_transforms_once_to_check_and_once_to_restore(rt: HostRuntime) -> Result<(), Fail> {
-    let tables = Tables::new(rt.alloc())?;
-    counts_decodes::<LowRate<Counting<'_>>, _>(&rt, &tables)?;
-    counts_decodes::<HighRate<Counting<'_>>, _>(&rt, &tables)
-}
-
-/// The plain engine, which counts the entries of all locators that it computed.
-#[derive(Drop)]
-pub struct Locating<'t> {
-    naive: Naive<'t>,
-    entries: Cell<usize>,
-}
-
-impl Engine for Locating<'_> {
-    fn fft(
-        &self,
-        steps: &mut Steps,
-        rows: &mut ShardsRefMut<'_>,
-        pos: usize,
-        size: usize,
-        truncated_size: usize,
-        skew_delta: usize,
-    ) {
-        self.naive
-            .fft(steps, rows, pos, size, truncated_size, skew_delta);
-    }
-
-    fn ifft(
-        &self,
-        steps: &mut Steps,
-        rows: &mut ShardsRefMut<'_>,
-        pos: usize,
-        size: usize,
-        truncated_size: usize,
-        skew_delta: usize,
-    ) {
-        self.naive
-            .ifft(steps, rows, pos, size, truncated_size, skew_delta);
-    }
-
-    fn mul(&self, steps: &mut Steps, x: &mut [[u8; 64]], log_m: GfElement) {
-        self.naive.mul(steps, x, log_m);
-    }
-
-    fn eval_poly(&self, steps: &mut Steps, entries: &mut [GfElement], truncated_size: usize) {
-        let all = self.entries.get().saturating_add(entries.len());
-        self.entries.set(all);
-        self.naive.eval_poly(steps, entries, truncated_size);
-    }
-
-    fn locate(&self, steps: &mut Steps, entries: &mut [GfElement]) {
-        let all = self.entries.get().saturating_add(entries.len());
-        self.entries.set(all);
-        self.naive.locate(steps, entries);
-    }
+fn each_rate_calls_its_engine_so_often(rt: HostRuntime) -> Result<(), Fail> {
+    let alloc = rt.alloc();
+    let tables = Tables::new(alloc)?;
+    let (low, high) = ([[0, 0], [1, 0]], [[2, 0], [0, 0], [4, 0]]);
+    check_rate::<LowRate<Counting<'_>>>(&rt, alloc, &tables, (&low, 3), [2, 1, 0, 0])?;
+    check_rate::<HighRate<Counting<'_>>>(&rt, alloc, &tables, (&high, 2), [1, 2, 0, 0])
 }
 
 /// The plain engine's kernel, which counts the butterflies of rows of one chunk.
@@ -252,32 +298,10 @@ impl Kernel for Butterflies<'_> {
     }
 }
 
-// Returns the engine after a decode of eight originals of zeros, which are all lost, from eight recovery shards.
-fn after_decode<E: Engine, D: RateDecoder<E> + Drop>(alloc: Global, engine: E) -> Result<E, Error> {
-    let mut decoder = D::new(alloc, 8, 8, 2, engine, None)?;
-    for index in 0..8 {
-        decoder.add_recovery_shard(index, &[0, 0])?;
-    }
-    drop(decoder.decode(&mut Steps::new())?);
-    Ok(decoder.into_parts().0)
-}
-
-#[test]
-fn a_decode_over_16_rows_locates_at_16_points(rt: HostRuntime) -> Result<(), Fail> {
-    let tables = Tables::new(rt.alloc())?;
-    let engine = Locating {
-        naive: Naive::new(&tables),
-        entries: Cell::new(0),
-    };
-    let engine = after_decode::<Locating<'_>, LowRateDecoder<Locating<'_>>>(rt.alloc(), engine)?;
-    assert_eq!(rt; engine.entries.get(), 16);
-    Ok(())
-}
-
 // Checks that a decode leaves out the quarters in which no row is used. A transform of 16 rows has two layers of eight
 // butterflies between its quarters, and four butterflies in each quarter. Two quarters hold no given row: the first two
 // at the low rate, and the last two at the high rate. In the other two quarters, no row is wanted.
-fn check_empty_quarters<'t, D: RateDecoder<Butterflies<'t>> + Drop>(
+fn check_empty_quarters<'t, R: Rate<Butterflies<'t>>>(
     rt: &impl Abort,
     alloc: Global,
     tables: &'t Tables,
@@ -287,7 +311,7 @@ fn check_empty_quarters<'t, D: RateDecoder<Butterflies<'t>> + Drop>(
         forward: Cell::new(0),
         backward: Cell::new(0),
     };
-    let engine = after_decode::<Butterflies<'t>, D>(alloc, engine)?;
+    let engine = after_decode::<_, R>(alloc, 8, &[], &ZEROS, engine)?;
     assert_eq!(rt; engine.backward.get(), 24);
     assert_eq!(rt; engine.forward.get(), 24);
     Ok(())
@@ -296,6 +320,6 @@ fn check_empty_quarters<'t, D: RateDecoder<Butterflies<'t>> + Drop>(
 #[test]
 fn a_decode_leaves_empty_quarters_out(rt: HostRuntime) -> Result<(), Fail> {
     let tables = Tables::new(rt.alloc())?;
-    check_empty_quarters::<LowRateDecoder<Butterflies<'_>>>(&rt, rt.alloc(), &tables)?;
-    check_empty_quarters::<HighRateDecoder<Butterflies<'_>>>(&rt, rt.alloc(), &tables)
+    check_empty_quarters::<LowRate<Butterflies<'_>>>(&rt, rt.alloc(), &tables)?;
+    check_empty_quarters::<HighRate<Butterflies<'_>>>(&rt, rt.alloc(), &tables)
 }

@@ -6,11 +6,13 @@ use reed_solomon_simd::engine::{
 };
 use reed_solomon_simd::rate::DefaultRateCounts;
 use reed_solomon_simd::{
-    Error, ReconstructError, ReedSolomonDecoder, ReedSolomonEncoder, ShardIndex, decode,
-    decode_into, encode, encode_into, encode_slice, reconstruct, reconstruct_into, update_into,
-    verify,
+    DecoderResult, EncoderResult, Error, ReconstructError, ReedSolomonDecoder, ReedSolomonEncoder,
+    ShardIndex, decode, decode_into, encode, encode_into, encode_slice, reconstruct,
+    reconstruct_into, update_into, verify,
 };
 use rs_callers::walking::restored_copies;
+use std::alloc::Global;
+use std::process::Abort;
 use std::str::FromStr;
 use std::test::Fail;
 
@@ -39,11 +41,11 @@ fn a_recovery_shard_is_the_sum_of_all(rt: HostRuntime) -> Result<(), Fail> {
     Ok(())
 }
 
-#[test]
-fn recovery_shards_are_written_into_arrays(rt: HostRuntime) -> Result<(), Fail> {
-    let alloc = rt.alloc();
-    let tables = Tables::new(alloc)?;
-    let engine = DefaultEngine::new(&tables, EngineKind::Ssse3);
+fn recovery_shards_are_written_into_arrays(
+    rt: &impl Abort,
+    alloc: Global,
+    engine: DefaultEngine<'_>,
+) -> Result<(), Fail> {
     let original: [&[u8]; 3] = [&[2, 0], &[0, 0], &[4, 0]];
     let (mut first, mut second) = ([0; 2], [0; 2]);
     let mut recovery: Vec<&mut [u8]> = Vec::new(alloc);
@@ -55,11 +57,11 @@ fn recovery_shards_are_written_into_arrays(rt: HostRuntime) -> Result<(), Fail> 
     Ok(())
 }
 
-#[test]
-fn an_original_changes(rt: HostRuntime) -> Result<(), Fail> {
-    let alloc = rt.alloc();
-    let tables = Tables::new(alloc)?;
-    let engine = DefaultEngine::new(&tables, EngineKind::Ssse3);
+fn an_original_changes(
+    rt: &impl Abort,
+    alloc: Global,
+    engine: DefaultEngine<'_>,
+) -> Result<(), Fail> {
     let (mut first, mut second) = ([3, 0], [5, 0]);
     let mut recovery: Vec<&mut [u8]> = Vec::new(alloc);
     recovery.push(&mut first)?;
@@ -70,11 +72,11 @@ fn an_original_changes(rt: HostRuntime) -> Result<(), Fail> {
     Ok(())
 }
 
-#[test]
-fn two_recovery_shards_restore_two_originals(rt: HostRuntime) -> Result<(), Fail> {
-    let alloc = rt.alloc();
-    let tables = Tables::new(alloc)?;
-    let engine = DefaultEngine::new(&tables, EngineKind::Ssse3);
+fn two_recovery_shards_restore_two_originals(
+    rt: &impl Abort,
+    alloc: Global,
+    engine: DefaultEngine<'_>,
+) -> Result<(), Fail> {
     let received: [(usize, &[u8]); 2] = [(0, &[2, 0]), (1, &[3, 0])];
     let restored = decode(alloc, 2, 3, [].into_iter(), received.into_iter(), engine)?;
     assert_eq!(rt;
@@ -88,11 +90,11 @@ fn two_recovery_shards_restore_two_originals(rt: HostRuntime) -> Result<(), Fail
     Ok(())
 }
 
-#[test]
-fn lost_shards_of_both_kinds_come_back(rt: HostRuntime) -> Result<(), Fail> {
-    let alloc = rt.alloc();
-    let tables = Tables::new(alloc)?;
-    let engine = DefaultEngine::new(&tables, EngineKind::Ssse3);
+fn lost_shards_of_both_kinds_come_back(
+    rt: &impl Abort,
+    alloc: Global,
+    engine: DefaultEngine<'_>,
+) -> Result<(), Fail> {
     let original: [(usize, &[u8]); 2] = [(0, ORIGINAL[0]), (1, ORIGINAL[1])];
     let recovery: [(usize, &[u8]); 1] = [(0, &RECOVERY[0])];
     let wanted = [ShardIndex::Recovery(1), ShardIndex::Original(2)];
@@ -103,11 +105,11 @@ fn lost_shards_of_both_kinds_come_back(rt: HostRuntime) -> Result<(), Fail> {
     Ok(())
 }
 
-#[test]
-fn lost_shards_are_written_into_arrays(rt: HostRuntime) -> Result<(), Fail> {
-    let alloc = rt.alloc();
-    let tables = Tables::new(alloc)?;
-    let engine = DefaultEngine::new(&tables, EngineKind::Ssse3);
+fn lost_shards_are_written_into_arrays(
+    rt: &impl Abort,
+    alloc: Global,
+    engine: DefaultEngine<'_>,
+) -> Result<(), Fail> {
     let original: [(usize, &[u8]); 2] = [(0, ORIGINAL[0]), (1, ORIGINAL[1])];
     let recovery: [(usize, &[u8]); 1] = [(0, &RECOVERY[0])];
     let wanted = [ShardIndex::Recovery(1), ShardIndex::Original(2)];
@@ -124,11 +126,11 @@ fn lost_shards_are_written_into_arrays(rt: HostRuntime) -> Result<(), Fail> {
     Ok(())
 }
 
-#[test]
-fn a_shard_that_was_received_cannot_be_wanted(rt: HostRuntime) -> Result<(), Fail> {
-    let alloc = rt.alloc();
-    let tables = Tables::new(alloc)?;
-    let engine = DefaultEngine::new(&tables, EngineKind::Ssse3);
+fn a_shard_that_was_received_cannot_be_wanted(
+    rt: &impl Abort,
+    alloc: Global,
+    engine: DefaultEngine<'_>,
+) -> Result<(), Fail> {
     let original: [(usize, &[u8]); 2] = [(0, ORIGINAL[0]), (1, ORIGINAL[1])];
     let recovery: [(usize, &[u8]); 1] = [(0, &RECOVERY[0])];
     let wanted = [ShardIndex::Recovery(0)];
@@ -138,11 +140,11 @@ fn a_shard_that_was_received_cannot_be_wanted(rt: HostRuntime) -> Result<(), Fai
     Ok(())
 }
 
-#[test]
-fn a_changed_byte_is_noticed(rt: HostRuntime) -> Result<(), Fail> {
-    let alloc = rt.alloc();
-    let tables = Tables::new(alloc)?;
-    let engine = DefaultEngine::new(&tables, EngineKind::Ssse3);
+fn a_changed_byte_is_noticed(
+    rt: &impl Abort,
+    alloc: Global,
+    engine: DefaultEngine<'_>,
+) -> Result<(), Fail> {
     let original: [(usize, &[u8]); 2] = [(0, ORIGINAL[0]), (2, ORIGINAL[2])];
     let recovery: [(usize, &[u8]); 2] = [(0, &RECOVERY[0]), (1, &RECOVERY[1])];
     verify(alloc, 3, 2, &original, &recovery, engine)?;
@@ -156,11 +158,11 @@ fn a_changed_byte_is_noticed(rt: HostRuntime) -> Result<(), Fail> {
     Ok(())
 }
 
-#[test]
-fn missing_originals_are_written_into_arrays(rt: HostRuntime) -> Result<(), Fail> {
-    let alloc = rt.alloc();
-    let tables = Tables::new(alloc)?;
-    let engine = DefaultEngine::new(&tables, EngineKind::Ssse3);
+fn missing_originals_are_written_into_arrays(
+    rt: &impl Abort,
+    alloc: Global,
+    engine: DefaultEngine<'_>,
+) -> Result<(), Fail> {
     let recovery: [(usize, &[u8]); 2] = [(0, &[2, 0]), (1, &[3, 0])];
     let (mut first, mut second) = ([9; 2], [9; 2]);
     let mut restored: Vec<&mut [u8]> = Vec::new(alloc);
@@ -172,11 +174,11 @@ fn missing_originals_are_written_into_arrays(rt: HostRuntime) -> Result<(), Fail
     Ok(())
 }
 
-#[test]
-fn an_encode_needs_all_originals(rt: HostRuntime) -> Result<(), Fail> {
-    let alloc = rt.alloc();
-    let tables = Tables::new(alloc)?;
-    let engine = DefaultEngine::new(&tables, EngineKind::Ssse3);
+fn an_encode_needs_all_originals(
+    rt: &impl Abort,
+    alloc: Global,
+    engine: DefaultEngine<'_>,
+) -> Result<(), Fail> {
     let mut encoder = ReedSolomonEncoder::new(alloc, 3, 2, 12, engine)?;
     let error = Error::TooFewOriginalShards {
         original_count: 3,
@@ -186,12 +188,10 @@ fn an_encode_needs_all_originals(rt: HostRuntime) -> Result<(), Fail> {
     Ok(())
 }
 
-#[test]
-fn a_fourth_original_is_refused(rt: HostRuntime) -> Result<(), Fail> {
-    let alloc = rt.alloc();
-    let tables = Tables::new(alloc)?;
-    let engine = DefaultEngine::new(&tables, EngineKind::Ssse3);
-    let mut encoder = ReedSolomonEncoder::new(alloc, 3, 2, 12, engine)?;
+fn a_fourth_original_is_refused(
+    rt: &impl Abort,
+    encoder: &mut ReedSolomonEncoder<'_>,
+) -> Result<(), Fail> {
     for shard in ORIGINAL {
         encoder.add_original_shard(shard)?;
     }
@@ -200,16 +200,10 @@ fn a_fourth_original_is_refused(rt: HostRuntime) -> Result<(), Fail> {
     Ok(())
 }
 
-#[test]
-fn three_shards_have_these_recovery_shards(rt: HostRuntime) -> Result<(), Fail> {
-    let alloc = rt.alloc();
-    let tables = Tables::new(alloc)?;
-    let engine = DefaultEngine::new(&tables, EngineKind::Ssse3);
-    let mut encoder = ReedSolomonEncoder::new(alloc, 3, 2, 12, engine)?;
-    for shard in ORIGINAL {
-        encoder.add_original_shard(shard)?;
-    }
-    let recovery = encoder.encode()?;
+fn three_shards_have_these_recovery_shards(
+    rt: &impl Abort,
+    recovery: &EncoderResult<'_>,
+) -> Result<(), Fail> {
     for index in 0..2 {
         assert_eq!(rt;
             recovery.recovery(index).ok_or("none")?,
@@ -219,11 +213,11 @@ fn three_shards_have_these_recovery_shards(rt: HostRuntime) -> Result<(), Fail> 
     Ok(())
 }
 
-#[test]
-fn three_shards_in_a_slice_have_these_recovery_shards(rt: HostRuntime) -> Result<(), Fail> {
-    let alloc = rt.alloc();
-    let tables = Tables::new(alloc)?;
-    let engine = DefaultEngine::new(&tables, EngineKind::Ssse3);
+fn three_shards_in_a_slice_have_these_recovery_shards(
+    rt: &impl Abort,
+    alloc: Global,
+    engine: DefaultEngine<'_>,
+) -> Result<(), Fail> {
     let made = encode_slice(alloc, 3, 2, &ORIGINAL, engine)?;
     assert_eq!(rt; made.len(), 2);
     assert_eq!(rt; made[0].as_slice(), RECOVERY[0].as_slice());
@@ -231,11 +225,11 @@ fn three_shards_in_a_slice_have_these_recovery_shards(rt: HostRuntime) -> Result
     Ok(())
 }
 
-#[test]
-fn a_decode_needs_as_many_shards_as_originals(rt: HostRuntime) -> Result<(), Fail> {
-    let alloc = rt.alloc();
-    let tables = Tables::new(alloc)?;
-    let engine = DefaultEngine::new(&tables, EngineKind::Ssse3);
+fn a_decode_needs_as_many_shards_as_originals(
+    rt: &impl Abort,
+    alloc: Global,
+    engine: DefaultEngine<'_>,
+) -> Result<(), Fail> {
     let mut decoder = ReedSolomonDecoder::new(alloc, 3, 2, 12, engine)?;
     let error = Error::NotEnoughShards {
         original_count: 3,
@@ -246,32 +240,41 @@ fn a_decode_needs_as_many_shards_as_originals(rt: HostRuntime) -> Result<(), Fai
     Ok(())
 }
 
-#[test]
-fn originals_0_and_2_come_back(rt: HostRuntime) -> Result<(), Fail> {
-    let alloc = rt.alloc();
-    let tables = Tables::new(alloc)?;
-    let engine = DefaultEngine::new(&tables, EngineKind::Ssse3);
-    let mut decoder = ReedSolomonDecoder::new(alloc, 3, 2, 12, engine)?;
+// Gives a decoder original 1 and both recovery shards of the message.
+fn give_received(decoder: &mut ReedSolomonDecoder<'_>) -> Result<(), Error> {
     decoder.add_original_shard(1, ORIGINAL[1])?;
     decoder.add_recovery_shard(0, &RECOVERY[0])?;
-    decoder.add_recovery_shard(1, &RECOVERY[1])?;
-    let restored = decoder.decode()?;
+    decoder.add_recovery_shard(1, &RECOVERY[1])
+}
+
+// Checks that a decode restored originals 0 and 2 of the message.
+fn check_restored(rt: &impl Abort, restored: &DecoderResult<'_>) {
     assert_eq!(rt; restored.restored_original(0), Some(ORIGINAL[0]));
     assert_eq!(rt; restored.restored_original(1), None);
     assert_eq!(rt; restored.restored_original(2), Some(ORIGINAL[2]));
-    let copies = restored_copies(alloc, &restored)?;
+}
+
+// Checks that these are originals 0 and 2 of the message, with their indexes.
+fn check_copies(rt: &impl Abort, copies: &[(usize, Vec<u8>)]) {
     assert_eq!(rt; copies.len(), 2);
     assert_eq!(rt; (copies[0].0, copies[0].1.as_slice()), (0, ORIGINAL[0]));
     assert_eq!(rt; (copies[1].0, copies[1].1.as_slice()), (2, ORIGINAL[2]));
+}
+
+fn originals_0_and_2_come_back(
+    rt: &impl Abort,
+    alloc: Global,
+    decoder: &mut ReedSolomonDecoder<'_>,
+) -> Result<(), Fail> {
+    give_received(decoder)?;
+    let restored = decoder.decode()?;
+    check_restored(rt, &restored);
+    let copies = restored_copies(alloc, &restored)?;
+    check_copies(rt, &copies);
     Ok(())
 }
 
-#[test]
-fn a_decoder_is_reset(rt: HostRuntime) -> Result<(), Fail> {
-    let alloc = rt.alloc();
-    let tables = Tables::new(alloc)?;
-    let engine = DefaultEngine::new(&tables, EngineKind::Ssse3);
-    let mut decoder = ReedSolomonDecoder::new(alloc, 3, 2, 12, engine)?;
+fn a_decoder_is_reset(rt: &impl Abort, decoder: &mut ReedSolomonDecoder<'_>) -> Result<(), Fail> {
     decoder.reset(3, 2, 2)?;
     decoder.add_original_shard(1, &[0, 0])?;
     decoder.add_recovery_shard(0, &[3, 0])?;
@@ -290,27 +293,34 @@ fn a_decoder_is_reset(rt: HostRuntime) -> Result<(), Fail> {
 }
 
 #[test]
-fn errors_of_examples(rt: HostRuntime) -> Result<(), Fail> {
-    let alloc = rt.alloc();
+fn counts_of_examples(rt: HostRuntime) {
     let error = Error::UnsupportedShardCount {
         original_count: 60000,
         recovery_count: 5000,
     };
     assert_eq!(rt; DefaultRateCounts::new(60000, 5000).err(), Some(error));
     assert!(rt; DefaultRateCounts::new(60000, 4000).is_ok());
+}
+
+#[test]
+fn an_error_is_told(rt: HostRuntime) -> Result<(), Fail> {
     let refusal = Error::NotEnoughShards {
         original_count: 3,
         original_received_count: 1,
         recovery_received_count: 1,
     };
-    let text = format!(in alloc; "{refusal}\n")?;
+    let text = format!(in rt.alloc(); "{refusal}\n")?;
     assert_eq!(rt;
         text.as_str(),
         "not enough shards: 1 original + 1 recovery < 3 original_count\n"
     );
+    Ok(())
+}
+
+#[test]
+fn names_of_engines(rt: HostRuntime) {
     assert_eq!(rt; EngineKind::from_str("ssse3"), Ok(EngineKind::Ssse3));
     assert_eq!(rt; EngineKind::from_str("sse"), Err(UnknownEngine));
-    Ok(())
 }
 
 #[test]
@@ -366,4 +376,49 @@ fn a_locator_of_one_point_is_made_of_logarithms(rt: HostRuntime) -> Result<(), F
     locate(&mut Steps::new(), &mut first, log_walsh);
     assert_eq!(rt; [first[2], first[3]], [21845, 43690]);
     Ok(())
+}
+
+#[test]
+fn examples_of_one_call(rt: HostRuntime) -> Result<(), Fail> {
+    let alloc = rt.alloc();
+    let tables = Tables::new(alloc)?;
+    let engine = DefaultEngine::new(&tables, EngineKind::Ssse3);
+    recovery_shards_are_written_into_arrays(&rt, alloc, engine)?;
+    an_original_changes(&rt, alloc, engine)?;
+    two_recovery_shards_restore_two_originals(&rt, alloc, engine)?;
+    missing_originals_are_written_into_arrays(&rt, alloc, engine)?;
+    three_shards_in_a_slice_have_these_recovery_shards(&rt, alloc, engine)
+}
+
+#[test]
+fn examples_of_received_shards(rt: HostRuntime) -> Result<(), Fail> {
+    let alloc = rt.alloc();
+    let tables = Tables::new(alloc)?;
+    let engine = DefaultEngine::new(&tables, EngineKind::Ssse3);
+    lost_shards_of_both_kinds_come_back(&rt, alloc, engine)?;
+    lost_shards_are_written_into_arrays(&rt, alloc, engine)?;
+    a_shard_that_was_received_cannot_be_wanted(&rt, alloc, engine)?;
+    a_changed_byte_is_noticed(&rt, alloc, engine)
+}
+
+#[test]
+fn examples_of_encoders(rt: HostRuntime) -> Result<(), Fail> {
+    let alloc = rt.alloc();
+    let tables = Tables::new(alloc)?;
+    let engine = DefaultEngine::new(&tables, EngineKind::Ssse3);
+    an_encode_needs_all_originals(&rt, alloc, engine)?;
+    let mut encoder = ReedSolomonEncoder::new(alloc, 3, 2, 12, engine)?;
+    a_fourth_original_is_refused(&rt, &mut encoder)?;
+    three_shards_have_these_recovery_shards(&rt, &encoder.encode()?)
+}
+
+#[test]
+fn examples_of_decoders(rt: HostRuntime) -> Result<(), Fail> {
+    let alloc = rt.alloc();
+    let tables = Tables::new(alloc)?;
+    let engine = DefaultEngine::new(&tables, EngineKind::Ssse3);
+    a_decode_needs_as_many_shards_as_originals(&rt, alloc, engine)?;
+    let mut decoder = ReedSolomonDecoder::new(alloc, 3, 2, 12, engine)?;
+    originals_0_and_2_come_back(&rt, alloc, &mut decoder)?;
+    a_decoder_is_reset(&rt, &mut decoder)
 }

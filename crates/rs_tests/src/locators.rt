@@ -22,28 +22,26 @@ fn located<E: Engine>(engine: &E, first: usize, end: usize) -> [GfElement; 65536
     entries
 }
 
-// Checks locators at all points. An entry is the logarithm of a product of differences of points. The logarithm of one
-// is 0 or 65535.
+// Checks that each of these entries is the logarithm of one, which is 0 or 65535.
+fn check_ones(rt: &impl Abort, entries: &[GfElement], marked: &str) {
+    for (x, entry) in entries.iter().enumerate() {
+        assert_eq!(rt; *entry % 65535, 0, "at {x}, {marked} marked");
+    }
+}
+
+// Checks locators at all points. An entry is the logarithm of a product of differences of points.
 fn check_locators<E: Engine>(rt: &impl Abort, engine: &E, log: &[GfElement])
     requires { length log.now ≡ 65536 }
 {
-    let entries = located(engine, 0, 0);
-    for x in 0..GF_ORDER {
-        assert_eq!(rt; entries[x] % 65535, 0, "at {x}, none marked");
-    }
+    check_ones(rt, &located(engine, 0, 0), "none");
     let entries = located(engine, 0, 1);
     assert_eq!(rt; [entries[0] % 65535, entries[1] % 65535], [0, 0]);
     assert_eq!(rt; [entries[2], entries[3]], [log[2], log[3]]);
     // The differences are 2 and 3 at 0 and 1, whose product is 1, and 1 at 2 and 3.
     let entries = located(engine, 2, 4);
-    for x in 0..4 {
-        assert_eq!(rt; entries[x] % 65535, 0, "at {x}");
-    }
+    check_ones(rt, &entries[..4], "2 and 3");
     // The differences are all nonzero elements, whose product is 1.
-    let entries = located(engine, 0, GF_ORDER);
-    for x in 0..GF_ORDER {
-        assert_eq!(rt; entries[x] % 65535, 0, "at {x}, all marked");
-    }
+    check_ones(rt, &located(engine, 0, GF_ORDER), "all");
 }
 
 // Checks the locator of an engine over the first four points.

@@ -8,6 +8,7 @@ use reed_solomon_simd::{complete, encode, join, shard_bytes, split};
 use rs_callers::message_round_trip::round_trip_of_a_message;
 use std::alloc::{AllocError, Global};
 use std::collections::BTreeMap;
+use std::process::Abort;
 use std::test::Fail;
 
 #[test]
@@ -20,7 +21,7 @@ fn sizes_of_shards(rt: HostRuntime) {
 }
 
 #[test]
-fn ten_bytes_are_split_and_joined(rt: HostRuntime) -> Result<(), Fail> {
+fn ten_bytes_are_split(rt: HostRuntime) -> Result<(), Fail> {
     let alloc = rt.alloc();
     let message: &[u8] = b"ten bytes.";
     let originals = split(alloc, message, 3)?;
@@ -28,19 +29,30 @@ fn ten_bytes_are_split_and_joined(rt: HostRuntime) -> Result<(), Fail> {
     assert_eq!(rt; originals[0].as_slice(), b"ten ".as_slice());
     assert_eq!(rt; originals[1].as_slice(), b"byte".as_slice());
     assert_eq!(rt; originals[2].as_slice(), b"s.\0\0".as_slice());
+    Ok(())
+}
 
+#[test]
+fn ten_bytes_are_joined(rt: HostRuntime) -> Result<(), Fail> {
+    let alloc = rt.alloc();
     let originals: [&[u8]; 3] = [b"ten ", b"byte", b"s.\0\0"];
     let message = join(alloc, &originals, 10)?;
     assert_eq!(rt; message.as_slice(), b"ten bytes.".as_slice());
     Ok(())
 }
 
-#[test]
-fn two_restored_originals_are_completed(rt: HostRuntime) -> Result<(), Fail> {
-    let alloc = rt.alloc();
+// Returns originals 0 and 2 of the message, as a decode restores them.
+fn restored_originals(alloc: Global) -> Result<BTreeMap<usize, Vec<u8>>, Fail> {
     let mut restored = BTreeMap::new(alloc);
     restored.insert(0, b"ten ".to_vec(alloc)?)?;
     restored.insert(2, b"s.\0\0".to_vec(alloc)?)?;
+    Ok(restored)
+}
+
+#[test]
+fn two_restored_originals_are_completed(rt: HostRuntime) -> Result<(), Fail> {
+    let alloc = rt.alloc();
+    let restored = restored_originals(alloc)?;
     let received: [(usize, &[u8]); 1] = [(1, b"byte")];
     let originals = complete(alloc, 3, &received, restored)?;
     let message = join(alloc, &originals, 10)?;
@@ -69,23 +81,38 @@ fn file_of(alloc: Global, length: usize) -> Result<Vec<u8>, AllocError> {
     Ok(bytes)
 }
 
+// The counts of originals and recovery shards, and the indexes of lost shards of both kinds.
+type Loss<'a> = (usize, usize, &'a [usize], &'a [usize]);
+
+const LOSSES: [Loss<'static>; 4] = [
+    (1, 1, &[0], &[]),
+    (2, 3, &[0, 1], &[1]),
+    (10, 4, &[0, 3, 9], &[2]),
+    (100, 30, &[], &[0, 29]),
+];
+
+// Checks that a file of this length comes back after each loss.
+fn check_length(
+    rt: &impl Abort,
+    alloc: Global,
+    length: usize,
+    engine: DefaultEngine<'_>,
+) -> Result<(), Fail> {
+    let file = file_of(alloc, length)?;
+    for (k, r, own, other) in LOSSES {
+        let back = round_trip_of_a_message(alloc, &file, k, r, own, other, engine)?;
+        assert!(rt; back == file, "{length} bytes by {k}:{r}");
+    }
+    Ok(())
+}
+
 #[test]
 fn files_of_any_length_come_back(rt: HostRuntime) -> Result<(), Fail> {
     let alloc = rt.alloc();
     let tables = Tables::new(alloc)?;
     let engine = DefaultEngine::fastest(&tables);
-    let losses: [(usize, usize, &[usize], &[usize]); 4] = [
-        (1, 1, &[0], &[]),
-        (2, 3, &[0, 1], &[1]),
-        (10, 4, &[0, 3, 9], &[2]),
-        (100, 30, &[], &[0, 29]),
-    ];
-    for (k, r, own, other) in losses {
-        for length in [0, 1, 2, 3, 999, 1000, 1001, 100_003] {
-            let file = file_of(alloc, length)?;
-            let back = round_trip_of_a_message(alloc, &file, k, r, own, other, engine)?;
-            assert!(rt; back == file, "{length} bytes by {k}:{r}");
-        }
+    for length in [0, 1, 2, 3, 999, 1000, 1001, 100_003] {
+        check_length(&rt, alloc, length, engine)?;
     }
     Ok(())
 }

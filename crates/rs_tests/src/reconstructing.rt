@@ -8,33 +8,83 @@ use std::alloc::Global;
 use std::process::Abort;
 use std::test::Fail;
 
-// Checks that shards of ten originals and four recovery shards come back.
-fn check_lost(
+// The indexes of lost originals and of lost recovery shards, and the same shards as they are wanted.
+type Loss<'a> = (&'a [usize], &'a [usize], &'a [ShardIndex]);
+
+const LOSSES: [Loss<'static>; 4] = [
+    (&[3], &[], &[ShardIndex::Original(3)]),
+    (
+        &[9],
+        &[0],
+        &[ShardIndex::Recovery(0), ShardIndex::Original(9)],
+    ),
+    (
+        &[0, 5],
+        &[1, 3],
+        &[
+            ShardIndex::Recovery(1),
+            ShardIndex::Recovery(3),
+            ShardIndex::Original(0),
+            ShardIndex::Original(5),
+        ],
+    ),
+    (
+        &[],
+        &[0, 1, 2, 3],
+        &[
+            ShardIndex::Recovery(0),
+            ShardIndex::Recovery(1),
+            ShardIndex::Recovery(2),
+            ShardIndex::Recovery(3),
+        ],
+    ),
+];
+
+// Checks that these are the wanted shards of the message.
+fn check_made(
+    rt: &impl Abort,
+    originals: &[Vec<u8>],
+    recovery: &[Vec<u8>],
+    wanted: &[ShardIndex],
+    made: &[Vec<u8>],
+) {
+    assert_eq!(rt; made.len(), wanted.len());
+    for (index, shard) in wanted.iter().zip(made) {
+        let lost = match *index {
+            ShardIndex::Original(place) => originals.get(place),
+            ShardIndex::Recovery(place) => recovery.get(place),
+        };
+        assert!(rt; lost == Some(shard), "{index:?} of {} bytes", shard.len());
+    }
+}
+
+// Checks that the lost shards of a message of ten originals and four recovery shards come back.
+fn check_loss(
+    rt: &impl Abort,
+    alloc: Global,
+    originals: &[Vec<u8>],
+    recovery: &[Vec<u8>],
+    (own_lost, other_lost, wanted): Loss<'_>,
+    engine: DefaultEngine<'_>,
+) -> Result<(), Fail> {
+    let own = left(alloc, originals, own_lost)?;
+    let other = left(alloc, recovery, other_lost)?;
+    let made = reconstruct(alloc, 10, 4, &own, &other, wanted, engine)?;
+    check_made(rt, originals, recovery, wanted, &made);
+    Ok(())
+}
+
+// Checks that shards of this size come back.
+fn check_size(
     rt: &impl Abort,
     alloc: Global,
     shard_bytes: usize,
-    own_lost: &[usize],
-    other_lost: &[usize],
     engine: DefaultEngine<'_>,
 ) -> Result<(), Fail> {
     let originals = drawn(alloc, 10, shard_bytes)?;
     let recovery = encode_slice(alloc, 10, 4, &originals, engine)?;
-    let mut wanted: Vec<ShardIndex> = Vec::new(alloc);
-    let mut lost: Vec<&[u8]> = Vec::new(alloc);
-    for index in other_lost {
-        wanted.push(ShardIndex::Recovery(*index))?;
-        lost.push(recovery.get(*index).ok_or("a recovery shard")?)?;
-    }
-    for index in own_lost {
-        wanted.push(ShardIndex::Original(*index))?;
-        lost.push(originals.get(*index).ok_or("an original")?)?;
-    }
-    let own = left(alloc, &originals, own_lost)?;
-    let other = left(alloc, &recovery, other_lost)?;
-    let made = reconstruct(alloc, 10, 4, &own, &other, &wanted, engine)?;
-    assert_eq!(rt; made.len(), lost.len());
-    for (shard, original) in made.iter().zip(lost.iter()) {
-        assert!(rt; shard.as_slice() == *original, "{shard_bytes} bytes");
+    for loss in LOSSES {
+        check_loss(rt, alloc, &originals, &recovery, loss, engine)?;
     }
     Ok(())
 }
@@ -51,10 +101,7 @@ fn lost_shards_come_back_with_each_engine(rt: HostRuntime) -> Result<(), Fail> {
     ] {
         let engine = DefaultEngine::new(&tables, kind);
         for shard_bytes in [2, 66, 2050, 4130] {
-            check_lost(&rt, alloc, shard_bytes, &[3], &[], engine)?;
-            check_lost(&rt, alloc, shard_bytes, &[9], &[0], engine)?;
-            check_lost(&rt, alloc, shard_bytes, &[0, 5], &[1, 3], engine)?;
-            check_lost(&rt, alloc, shard_bytes, &[], &[0, 1, 2, 3], engine)?;
+            check_size(&rt, alloc, shard_bytes, engine)?;
         }
     }
     Ok(())

@@ -16,22 +16,21 @@ fn file_of(alloc: Global, count: usize) -> Result<Vec<u8>, AllocError> {
     Ok(file)
 }
 
-// Loses originals 0 and 1 of a stripe, restores them, and checks that they come back. A stripe that is shorter than its four
-// shards is filled up with zeros.
-fn check_stripe<A: Abort + AllocGlobal>(
-    rt: &A,
-    engine: DefaultEngine<'_>,
-    stripe: &[u8],
-    recovery: &[Vec<u8>],
-) -> Result<(), Fail> {
-    let alloc = rt.alloc();
-    let shard_bytes = stripe.len().div_ceil(8).saturating_mul(2).max(2);
+// Returns the bytes of a stripe, filled up with zeros to four shards of this size.
+fn padded(alloc: Global, stripe: &[u8], shard_bytes: usize) -> Result<Vec<u8>, AllocError> {
     let mut padded = stripe.to_vec(alloc)?;
     padded.resize(shard_bytes.saturating_mul(4), 0)?;
-    let mut original: Vec<&[u8]> = Vec::new(alloc);
-    for shard in padded.chunks(shard_bytes) {
-        original.push(shard)?;
-    }
+    Ok(padded)
+}
+
+// Checks that originals 0 and 1 come back from the last two originals and both recovery shards.
+fn check_shards(
+    rt: &impl Abort,
+    alloc: Global,
+    original: &[&[u8]],
+    recovery: &[Vec<u8>],
+    engine: DefaultEngine<'_>,
+) -> Result<(), Fail> {
     assert_eq!(rt; [original.len(), recovery.len()], [4, 2]);
     let kept = [(2, original[2]), (3, original[3])];
     let received = [(0, recovery[0].as_slice()), (1, recovery[1].as_slice())];
@@ -42,6 +41,24 @@ fn check_stripe<A: Abort + AllocGlobal>(
         assert_eq!(rt; own.as_slice(), original[index]);
     }
     Ok(())
+}
+
+// Loses originals 0 and 1 of a stripe, restores them, and checks that they come back. A stripe that is shorter than its four
+// shards is filled up with zeros.
+fn check_stripe(
+    rt: &impl Abort,
+    alloc: Global,
+    stripe: &[u8],
+    recovery: &[Vec<u8>],
+    engine: DefaultEngine<'_>,
+) -> Result<(), Fail> {
+    let shard_bytes = stripe.len().div_ceil(8).saturating_mul(2).max(2);
+    let padded = padded(alloc, stripe, shard_bytes)?;
+    let mut original: Vec<&[u8]> = Vec::new(alloc);
+    for shard in padded.chunks(shard_bytes) {
+        original.push(shard)?;
+    }
+    check_shards(rt, alloc, &original, recovery, engine)
 }
 
 // The file has two whole stripes, and 10 bytes more. The shards of the last stripe have 4 bytes, because that is the smallest even
@@ -56,7 +73,7 @@ fn stripes_of_a_file_come_back(rt: HostRuntime) -> Result<(), Fail> {
     assert_eq!(rt; written.len(), 6);
     assert_eq!(rt; [written[3].len(), written[4].len()], [1024, 4]);
     for (stripe, recovery) in file.chunks(STRIPE_BYTES).zip(written.chunks(2)) {
-        check_stripe(&rt, engine, stripe, recovery)?;
+        check_stripe(&rt, alloc, stripe, recovery, engine)?;
     }
     Ok(())
 }

@@ -1,5 +1,6 @@
 //! Tests of entries of the tables that are known by hand, and a test that an entry can be cloned, which no contract
 //! states.
+use reed_solomon_simd::engine::GfElement;
 use reed_solomon_simd::engine::tables::{
     Tables, get_exp_log, get_mul16, get_mul128, get_skew, mul,
 };
@@ -11,6 +12,17 @@ fn check_powers(rt: &impl Abort, tables: &Tables) {
     assert_eq!(rt; [t.exp[0], t.exp[65535]], [1, 1]);
     assert_eq!(rt; [t.log[0], t.log[1]], [65535, 0]);
     assert_eq!(rt; u32::from(t.log[2]) + u32::from(t.log[3]), 65535);
+}
+
+// Checks the product of two elements, and that the factor one changes nothing.
+fn check_product(rt: &impl Abort, tables: &Tables, x: GfElement, y: GfElement, product: GfElement) {
+    let t = get_exp_log(tables);
+    let log_y = t.log[y as usize];
+    assert_eq!(rt; mul(x, log_y, &t.exp, &t.log), product, "{x} times {y}");
+    assert_eq!(rt; mul(x, 65535, &t.exp, &t.log), x, "{x} times one");
+}
+
+fn check_small_products(rt: &impl Abort, tables: &Tables) {
     for (x, y, product) in [
         (2, 2, 3),
         (2, 3, 1),
@@ -21,9 +33,7 @@ fn check_powers(rt: &impl Abort, tables: &Tables) {
         (3, 6, 14),
         (5, 4, 2),
     ] {
-        let log_y = t.log[y];
-        assert_eq!(rt; mul(x, log_y, &t.exp, &t.log), product, "{x} times {y}");
-        assert_eq!(rt; mul(x, 65535, &t.exp, &t.log), x, "{x} times one");
+        check_product(rt, tables, x, y, product);
     }
 }
 
@@ -45,24 +55,37 @@ fn check_products(rt: &impl Abort, tables: &Tables) {
     let entry = &get_mul128(tables)[log_2];
     assert_eq!(rt; entry.lo[0] % (1 << 64), 0x0A08_090B_0103_0200);
     assert_eq!(rt; entry.hi[0] % (1 << 64), 0);
+}
+
+// Checks that the factor one changes no product of a nibble at each of the four places.
+fn check_products_with_one(rt: &impl Abort, tables: &Tables) {
+    let nibbles = &get_mul16(tables)[65535];
     for i in 0..16 {
         let word = i as u16;
-        let rows = [word, word << 4, word << 8, word << 12];
-        for n in 0..4 {
-            assert_eq!(rt; mul16[65535][n][i], rows[n], "{i} at {n}");
-        }
+        let products = [nibbles[0][i], nibbles[1][i], nibbles[2][i], nibbles[3][i]];
+        assert_eq!(rt;
+            products,
+            [word, word << 4, word << 8, word << 12],
+            "at {i}"
+        );
     }
+}
+
+fn check_clone(rt: &impl Abort, tables: &Tables) -> Result<(), Fail> {
+    let own = &get_mul128(tables)[2];
+    let copy = own.clone()?;
+    assert_eq!(rt; copy.lo, own.lo);
+    assert_eq!(rt; copy.hi, own.hi);
+    Ok(())
 }
 
 #[test]
 fn entries_by_hand(rt: HostRuntime) -> Result<(), Fail> {
     let tables = Tables::new(rt.alloc())?;
     check_powers(&rt, &tables);
+    check_small_products(&rt, &tables);
     check_factors(&rt, &tables);
     check_products(&rt, &tables);
-    let own = &get_mul128(&tables)[2];
-    let copy = own.clone()?;
-    assert_eq!(rt; copy.lo, own.lo);
-    assert_eq!(rt; copy.hi, own.hi);
-    Ok(())
+    check_products_with_one(&rt, &tables);
+    check_clone(&rt, &tables)
 }

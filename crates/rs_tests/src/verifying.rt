@@ -7,6 +7,24 @@ use std::alloc::Global;
 use std::process::Abort;
 use std::test::Fail;
 
+// Verifies the shards of ten originals and four recovery shards.
+fn verified(
+    alloc: Global,
+    own: &[(usize, &[u8])],
+    recovery: &[Vec<u8>],
+    engine: DefaultEngine<'_>,
+) -> Result<(), Error> {
+    let other = left(alloc, recovery, &[])?;
+    verify(alloc, 10, 4, own, &other, engine)
+}
+
+// Changes a byte of the last recovery shard.
+fn damage(recovery: &mut [Vec<u8>], byte: usize) {
+    if let Some(damaged) = recovery.get_mut(3).and_then(|shard| shard.get_mut(byte)) {
+        *damaged ^= 1;
+    }
+}
+
 // Verifies the shards of ten originals and four recovery shards, without the originals in `lost`. They pass, and they
 // fail if a byte of the last recovery shard is wrong.
 fn check_damage(
@@ -19,18 +37,13 @@ fn check_damage(
     let originals = drawn(alloc, 10, 8226)?;
     let mut recovery = encode_slice(alloc, 10, 4, &originals, engine)?;
     let own = left(alloc, &originals, lost)?;
-    let other = left(alloc, &recovery, &[])?;
-    verify(alloc, 10, 4, &own, &other, engine)?;
-    drop(other);
-    if let Some(damaged) = recovery.get_mut(3).and_then(|shard| shard.get_mut(byte)) {
-        *damaged ^= 1;
-    }
-    let other = left(alloc, &recovery, &[])?;
+    verified(alloc, &own, &recovery, engine)?;
+    damage(&mut recovery, byte);
     let refusal = Error::InconsistentShards {
         original_received_count: own.len(),
         recovery_received_count: 4,
     };
-    let answer = verify(alloc, 10, 4, &own, &other, engine);
+    let answer = verified(alloc, &own, &recovery, engine);
     assert_eq!(rt; answer, Err(refusal), "byte {byte}");
     Ok(())
 }
