@@ -9,7 +9,7 @@ use crate::source::FileBlocks;
 use anyhow::Result;
 use reed_solomon_simd::engine::tables::Tables;
 use reed_solomon_simd::engine::{DefaultEngine, EngineKind};
-use rs_volumes::description::FileEntry;
+use rs_volumes::description::{Description, FileEntry};
 use rs_volumes::pieces::BlockSink;
 use rs_volumes::placement::Place;
 use rs_volumes::restoring::{Plan, restore};
@@ -166,28 +166,49 @@ pub fn write_blocks<R: Runtime>(
     shown: bool,
 ) -> Result<()> {
     let plan = plan_for(alloc, scan, parts)?;
-    let shape = shape_of(&scan.description);
     let blocks = (plan.originals.len() as u64).saturating_add(plan.recovery.len() as u64);
     let total = blocks.saturating_mul(scan.description.block_bytes);
+    let tables = Tables::new(alloc)?;
+    let engine = DefaultEngine::new(&tables, EngineKind::Ssse3);
     let progress = Progress::new(rt, shown, total);
     let (paths, origins) = (scan.paths.as_slice(), scan.origins.as_slice());
-    let mut source = FileBlocks::new(rt, alloc, paths, origins, progress);
-    let mut sink = FileSink {
+    let source = FileBlocks::new(rt, alloc, paths, origins, progress);
+    let sink = FileSink {
         rt,
         parts,
         places: scan.places.as_slice(),
         opened: None,
     };
-    let tables = Tables::new(alloc)?;
-    let engine = DefaultEngine::new(&tables, EngineKind::Ssse3);
+    restore_blocks(
+        alloc,
+        &scan.description,
+        &plan,
+        memory,
+        engine,
+        source,
+        sink,
+    )
+}
+
+// Restores the blocks of a plan: reads the blocks of a source, and writes blocks into the sink.
+fn restore_blocks<R: Runtime>(
+    alloc: Global,
+    description: &Description,
+    plan: &Plan,
+    memory: u64,
+    engine: DefaultEngine<'_>,
+    mut source: FileBlocks<'_, R>,
+    mut sink: FileSink<'_, R>,
+) -> Result<()> {
+    let shape = shape_of(description);
     let piece = piece_bytes(&shape, memory);
-    let digests = scan.description.digests.as_slice();
+    let digests = description.digests.as_slice();
     restore(
         alloc,
         shape,
         piece,
         engine,
-        &plan,
+        plan,
         digests,
         &mut source,
         &mut sink,

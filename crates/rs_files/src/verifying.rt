@@ -1,10 +1,11 @@
 //! `verify`: looks for damage.
+use crate::json::{add, object_of, print};
 use crate::names::{folder_to_open, parent_of, text_of};
-use crate::scanning::{Counts, FileState, Scan, open_volumes, scan_set};
+use crate::scanning::{Counts, FileState, Scan, scan_request};
 use crate::settings::{Request, STATUS_LOST, STATUS_MENDED, STATUS_WHOLE};
 use crate::volume::Copies;
 use anyhow::{Result, bail};
-use serde_json::{Value, json};
+use serde_json::{Map, Value, json};
 use std::alloc::{AllocError, Global};
 use std::rt::Runtime;
 
@@ -198,17 +199,30 @@ fn volumes_json(alloc: Global, scan: &Scan) -> std::result::Result<Vec<Value>, s
 // Prints the result of a scan as JSON.
 fn tell_json<R: Runtime + AllocGlobal>(rt: &R, scan: &Scan, counts: Counts) -> Result<()> {
     let alloc = rt.alloc();
-    let files = Value::Array(files_json(alloc, scan)?);
-    let volumes = Value::Array(volumes_json(alloc, scan)?);
-    let lost = counts.lost as u64;
-    let found = counts.recovery as u64;
-    let count = counts.recovery_count as u64;
-    let status = u64::from(status_of(scan, counts));
-    let value =
-        json!(in alloc; {"status": status, "lost_blocks": lost, "recovery_blocks": count, "whole_recovery_blocks": found, "files": files, "volumes": volumes})?;
-    let text = value.to_string(alloc)?;
-    println!(rt; "{text}")?;
-    Ok(())
+    let files = files_json(alloc, scan)?;
+    let volumes = volumes_json(alloc, scan)?;
+    let object = result_json(alloc, scan, counts, files, volumes)?;
+    print(rt, alloc, object)
+}
+
+// Returns the result of a scan as JSON.
+fn result_json(
+    alloc: Global,
+    scan: &Scan,
+    counts: Counts,
+    files: Vec<Value>,
+    volumes: Vec<Value>,
+) -> std::result::Result<Map<String, Value>, AllocError> {
+    let numbers = [
+        ("status", u64::from(status_of(scan, counts))),
+        ("lost_blocks", counts.lost as u64),
+        ("recovery_blocks", counts.recovery_count as u64),
+        ("whole_recovery_blocks", counts.recovery as u64),
+    ];
+    let mut object = object_of(alloc, &numbers)?;
+    add(alloc, &mut object, "files", Value::Array(files))?;
+    add(alloc, &mut object, "volumes", Value::Array(volumes))?;
+    Ok(object)
 }
 
 /// Runs `verify`: looks for damage in the files of a set and in its volumes. Returns the exit status.
@@ -224,8 +238,7 @@ fn tell_json<R: Runtime + AllocGlobal>(rt: &R, scan: &Scan, counts: Counts) -> R
 /// Every step fails if memory cannot be allocated.
 pub fn verify<R: Runtime + AllocGlobal>(rt: &R, request: &Request) -> Result<u8> {
     let folder = folder_of(request)?;
-    let volumes = open_volumes(rt, request.paths.as_slice())?;
-    let found = scan_set(rt, volumes, Some(folder), request.progress)?;
+    let found = scan_request(rt, request, Some(folder))?;
     let counts = found.counts();
     if request.json {
         tell_json(rt, &found, counts)?;
