@@ -4,6 +4,7 @@ use crate::names::text_of;
 use crate::settings::{Request, STATUS_WHOLE};
 use crate::volume::{Volume, open_volume};
 use anyhow::{Result, bail};
+use rs_volumes::description::FileEntry;
 use serde_json::{Map, Value, json};
 use std::alloc::{AllocError, Global};
 use std::rt::Runtime;
@@ -63,9 +64,15 @@ fn tell<R: Runtime>(rt: &R, path: &str, volume: &Volume) -> Result<()> {
     println!(rt;
         "{path}: {k} original blocks and {r} recovery blocks of {block} bytes, {records} of them here"
     )?;
-    for file in volume.description.files.as_slice() {
+    tell_files(rt, volume.description.files.as_slice())
+}
+
+// Prints the sizes and the names of files.
+fn tell_files<R: Runtime>(rt: &R, files: &[FileEntry]) -> Result<()> {
+    for file in files {
         let size = file.size;
-        println!(rt; "{size:>14}  {}", text_of(file.name.as_slice()))?;
+        let name = text_of(file.name.as_slice());
+        println!(rt; "{size:>14}  {name}")?;
     }
     Ok(())
 }

@@ -318,16 +318,24 @@ fn request_of(
     terminal: bool,
 ) -> Result<std::result::Result<Request, &'static str>> {
     let mut request = plain_request(alloc, name, matches, terminal)?;
-    if let Err(fault) = set_numbers(&mut request, matches) {
-        return Ok(Err(fault));
+    match set_options(&mut request, matches) {
+        Ok(()) => Ok(Ok(request)),
+        Err(fault) => Ok(Err(fault)),
     }
-    if let Err(fault) = set_volumes(&mut request, matches) {
-        return Ok(Err(fault));
-    }
-    Ok(Ok(request))
 }
 
-// Reads `--recovery`, `--block`, `--memory` and `--progress`.
+// Reads the options whose values are no folders, and checks that the command has the options that it needs.
+fn set_options(
+    request: &mut Request,
+    matches: &ArgMatches<'_>,
+) -> std::result::Result<(), &'static str> {
+    set_numbers(request, matches)?;
+    set_progress(request, matches)?;
+    set_volumes(request, matches)?;
+    check_needed(request)
+}
+
+// Reads `--recovery`, `--block` and `--memory`.
 fn set_numbers(
     request: &mut Request,
     matches: &ArgMatches<'_>,
@@ -352,6 +360,14 @@ fn set_numbers(
             None => return Err("--memory: write a number of bytes, as 64M or 2G"),
         }
     }
+    Ok(())
+}
+
+// Reads `--progress`.
+fn set_progress(
+    request: &mut Request,
+    matches: &ArgMatches<'_>,
+) -> std::result::Result<(), &'static str> {
     match matches.get_str("progress") {
         None | Some("auto") => {}
         Some("always") => request.progress = true,
@@ -361,7 +377,7 @@ fn set_numbers(
     Ok(())
 }
 
-// Reads `--volumes` and `--lose`, and checks that the command has the options that it needs.
+// Reads `--volumes` and `--lose`.
 fn set_volumes(
     request: &mut Request,
     matches: &ArgMatches<'_>,
@@ -378,6 +394,11 @@ fn set_volumes(
             Err(_) => return Err("--lose: write how many volumes may be lost"),
         }
     }
+    Ok(())
+}
+
+// Checks that a command has the options that it needs.
+fn check_needed(request: &Request) -> std::result::Result<(), &'static str> {
     match request.action {
         Action::Split if request.volumes == 0 => Err(
             "split: say how many volumes to make, as -n 6",

@@ -41,6 +41,22 @@ struct FileSink<'a, R: Runtime> {
     opened: Option<Opened<R::File>>,
 }
 
+impl<'a, R: Runtime> FileSink<'a, R> {
+    // Writes bytes into the part of a file, from byte `offset` on. `file` is the index of the file in the description.
+    fn write(&mut self, file: usize, part: &Part, offset: u64, bytes: &[u8]) -> io::Result<()> {
+        let mut opened = match self.opened.take() {
+            Some(opened) if opened.file == file => opened,
+            _ => Opened {
+                file,
+                handle: part.open(self.rt)?,
+            },
+        };
+        write_at(&mut opened.handle, offset, bytes)?;
+        self.opened = Some(opened);
+        Ok(())
+    }
+}
+
 impl<'a, R: Runtime> BlockSink for FileSink<'a, R> {
     ghost written = { λ _. nothing };
 
@@ -56,20 +72,8 @@ impl<'a, R: Runtime> BlockSink for FileSink<'a, R> {
             return Ok(());
         }
         let count = (place.bytes - from).min(piece.len() as u64) as usize;
-        let mut opened = match self.opened.take() {
-            Some(opened) if opened.file == place.file => opened,
-            _ => Opened {
-                file: place.file,
-                handle: part.open(self.rt)?,
-            },
-        };
-        write_at(
-            &mut opened.handle,
-            place.offset.wrapping_add(from),
-            &piece[..count],
-        )?;
-        self.opened = Some(opened);
-        Ok(())
+        let offset = place.offset.wrapping_add(from);
+        self.write(place.file, part, offset, &piece[..count])
     }
 }
 

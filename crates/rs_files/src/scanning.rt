@@ -320,9 +320,8 @@ impl Scanner {
         records: &[(u64, u64)],
         paths: &mut Vec<String>,
     ) -> Result<()> {
-        for (number, path) in volumes.iter().enumerate() {
-            let place = records.get(number).copied().unwrap_or((0, 0));
-            self.scan_volume(rt, description, paths.len(), path.as_str(), place)?;
+        for (path, records) in volumes.iter().zip(records) {
+            self.scan_volume(rt, description, paths.len(), path.as_str(), *records)?;
             paths.push(path.clone()?)?;
         }
         Ok(())
@@ -353,10 +352,22 @@ impl Scanner {
             Ok(_) => return FileState::Missing,
             Err(error) => return missing(rt, path, error),
         }
-        let mut file = match fs::open(rt, path) {
-            Ok(file) => file,
-            Err(error) => return missing(rt, path, error),
-        };
+        match fs::open(rt, path) {
+            Ok(file) => self.scan_opened(rt, description, entry, holder, file, places),
+            Err(error) => missing(rt, path, error),
+        }
+    }
+
+    // Compares the blocks of an open file with their digests, and returns the state of the file.
+    fn scan_opened<R: Runtime>(
+        &mut self,
+        rt: &R,
+        description: &Description,
+        entry: &FileEntry,
+        holder: usize,
+        mut file: R::File,
+        places: &[Place],
+    ) -> FileState {
         let Ok(metadata) = file.metadata() else {
             return FileState::Missing;
         };

@@ -65,6 +65,15 @@ fn tell_files<R: Runtime>(rt: &R, scan: &Scan) -> Result<()> {
     Ok(())
 }
 
+// Returns where a volume is damaged, and which head was used. Returns `None` if both copies are whole.
+fn damage_of(copies: Copies) -> Option<&'static str> {
+    match copies {
+        Copies::Whole => None,
+        Copies::FirstDamaged => Some(", its second head was used"),
+        Copies::SecondDamaged => Some(" at its end, its first head was used"),
+    }
+}
+
 // Prints which volumes do not have two equal copies of their head and their description.
 fn tell_volumes<R: Runtime>(rt: &R, scan: &Scan) -> Result<()> {
     let files = scan.description.files.len();
@@ -73,14 +82,8 @@ fn tell_volumes<R: Runtime>(rt: &R, scan: &Scan) -> Result<()> {
             Some(path) => path.as_str(),
             None => "",
         };
-        match *copies {
-            Copies::Whole => {}
-            Copies::FirstDamaged => {
-                println!(rt; "{path}: the volume is damaged, its second head was used")?;
-            }
-            Copies::SecondDamaged => {
-                println!(rt; "{path}: the volume is damaged at its end, its first head was used")?;
-            }
+        if let Some(damage) = damage_of(*copies) {
+            println!(rt; "{path}: the volume is damaged{damage}")?;
         }
     }
     Ok(())
