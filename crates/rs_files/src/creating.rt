@@ -1,19 +1,19 @@
 //! `create`: makes a volume with the recovery blocks of files.
 use crate::folder::{Cut, cut_files, piece_bytes, shape_of};
 use crate::names::{last_of, parent_of, path_in, text_of};
-use crate::output::{Part, exists, identities};
+use crate::output::{Part, exists};
 use crate::progress::Progress;
 use crate::settings::{Request, STATUS_WHOLE};
 use crate::source::{FileBlocks, Origin};
 use crate::volume::LARGEST_DESCRIPTION;
-use crate::volume_sink::{RECORD_HEAD_BYTES, VolumeSink};
+use crate::volume_sink::{RECORD_HEAD_BYTES, VolumeSink, Volumes};
 use crate::walking::{Found, find};
 use anyhow::{Result, bail, ensure};
 use reed_solomon_simd::engine::tables::Tables;
 use reed_solomon_simd::engine::{DefaultEngine, EngineKind};
 use rs_volumes::checking::fits;
 use rs_volumes::coding_error::CodingError;
-use rs_volumes::creating::create as create_blocks;
+use rs_volumes::creating::{Shape, create as create_blocks};
 use rs_volumes::description::{Description, FileEntry};
 use rs_volumes::placement::places_of;
 use rs_volumes::write_description;
@@ -134,17 +134,6 @@ fn check_unchanged<R: Runtime>(rt: &R, paths: &[String], files: &[FileEntry]) ->
     Ok(())
 }
 
-/// The volumes that a command writes.
-#[derive(Drop)]
-pub struct Volumes {
-    /// The file of each volume, which does not have its final name yet.
-    pub parts: Vec<Part>,
-    /// The index of the first block that is written into the volumes.
-    pub first: usize,
-    /// The number of block records of each volume.
-    pub counts: Vec<u64>,
-}
-
 // Makes the recovery blocks of files, and writes blocks into the sink. Returns the digests of all blocks. A set without
 // blocks has no digests.
 fn code_files<R: Runtime>(
@@ -153,22 +142,36 @@ fn code_files<R: Runtime>(
     request: &Request,
     description: &Description,
     paths: &[String],
-    sink: &mut VolumeSink<'_, R>,
+    sink: &mut VolumeSink<R>,
 ) -> Result<Vec<u8>> {
     let shape = shape_of(description);
     if shape.original_count == 0 {
         return Ok(Vec::new(alloc));
     }
     let origins = origins_of(alloc, description)?;
-    let total = (shape.original_count as u64).saturating_mul(description.block_bytes);
-    let progress = Progress::new(rt, request.progress, total);
-    let mut source = FileBlocks::new(rt, alloc, paths, origins.as_slice(), progress);
     let tables = Tables::new(alloc)?;
     let engine = DefaultEngine::new(&tables, EngineKind::Ssse3);
-    let piece = piece_bytes(&shape, request.memory);
+    let total = (shape.original_count as u64).saturating_mul(description.block_bytes);
+    let progress = Progress::new(rt, request.progress, total);
+    let source = FileBlocks::new(rt, alloc, paths, origins.as_slice(), progress);
+    let outcome = code_blocks(alloc, shape, request.memory, engine, source, sink);
+    named(paths, origins.as_slice(), outcome)
+}
+
+// Makes the recovery blocks of the blocks of a source, and writes blocks into the sink. Returns the digests of all
+// blocks. `memory` is the number of bytes that the function may use, approximately.
+fn code_blocks<R: Runtime>(
+    alloc: Global,
+    shape: Shape,
+    memory: u64,
+    engine: DefaultEngine<'_>,
+    mut source: FileBlocks<'_, R>,
+    sink: &mut VolumeSink<R>,
+) -> std::result::Result<Vec<u8>, CodingError> {
+    let piece = piece_bytes(&shape, memory);
     let outcome = create_blocks(alloc, shape, piece, engine, &mut source, sink);
     source.end();
-    named(paths, origins.as_slice(), outcome)
+    outcome
 }
 
 // Returns the digests. If a block could not be read, the message of the error names its file.
@@ -189,18 +192,18 @@ fn named(
     bail!("block {index} cannot be read: {error}")
 }
 
-/// Makes the recovery blocks of files, and writes the volumes. The volumes do not get their final names.
+/// Makes the recovery blocks of files, writes the volumes, and gives them their final names.
 ///
 /// # Errors
 ///
 /// In this order, fails if:
 ///
-/// - the description is larger than 1 GiB,
 /// - a volume cannot be opened,
 /// - a file cannot be read, a volume cannot be written, or the library fails,
 /// - a file has another length or time of change than before,
 /// - the description has too many files or too long a name, or is not sound,
-/// - the description or a head cannot be written.
+/// - the description or a head cannot be written,
+/// - a volume cannot be synced, or cannot get its final name.
 ///
 /// Every step fails if memory cannot be allocated.
 pub fn write_volumes<R: Runtime + AllocGlobal>(
@@ -211,47 +214,48 @@ pub fn write_volumes<R: Runtime + AllocGlobal>(
     volumes: &Volumes,
 ) -> Result<()> {
     let alloc = rt.alloc();
-    let length = description_bytes(found.files.as_slice(), cut)?;
     let paths = paths_of(alloc, found.folder.as_str(), found.files.as_slice())?;
-    let mut description = Description {
+    let mut description = description_of(alloc, found.files, cut);
+    fill(rt, request, &mut description, paths.as_slice(), volumes)?;
+    volumes.finish(rt, request.force)
+}
+
+// Returns the description of a set, without the digests of its blocks.
+fn description_of(alloc: Global, files: Vec<FileEntry>, cut: Cut) -> Description {
+    Description {
         block_bytes: cut.block_bytes,
         original_count: cut.original_count,
         recovery_count: cut.recovery_count,
-        files: found.files,
+        files,
         digests: Vec::new(alloc),
-    };
-    let mut sink = VolumeSink::new(
-        rt,
-        alloc,
-        volumes.parts.as_slice(),
-        volumes.first,
-        cut.block_bytes,
-        length,
-    )?;
-    let digests = code_files(
-        rt,
-        alloc,
-        request,
-        &description,
-        paths.as_slice(),
-        &mut sink,
-    )?;
-    description.digests = digests;
-    check_unchanged(rt, paths.as_slice(), description.files.as_slice())?;
-    describe(alloc, &description, length, volumes, &mut sink)
+    }
+}
+
+// Writes blocks, the description and the heads into the volumes. Sets the digests of the description.
+fn fill<R: Runtime + AllocGlobal>(
+    rt: &R,
+    request: &Request,
+    description: &mut Description,
+    paths: &[String],
+    volumes: &Volumes,
+) -> Result<()> {
+    let alloc = rt.alloc();
+    let mut sink = VolumeSink::new(rt, alloc, volumes, description.block_bytes)?;
+    description.digests = code_files(rt, alloc, request, description, paths, &mut sink)?;
+    check_unchanged(rt, paths, description.files.as_slice())?;
+    describe(alloc, description, volumes, &mut sink)
 }
 
 // Writes the description and the heads into the volumes.
 fn describe<R: Runtime>(
     alloc: Global,
     description: &Description,
-    length: u64,
     volumes: &Volumes,
-    sink: &mut VolumeSink<'_, R>,
+    sink: &mut VolumeSink<R>,
 ) -> Result<()> {
     let bytes = written(alloc, description)?;
     ensure!(
-        bytes.len() as u64 == length,
+        bytes.len() as u64 == volumes.description_bytes,
         "the description has another length than expected"
     );
     sink.describe(bytes.as_slice(), volumes.counts.as_slice())
@@ -284,39 +288,62 @@ fn written(alloc: Global, description: &Description) -> Result<Vec<u8>> {
 ///
 /// Every step fails if memory cannot be allocated.
 pub fn create<R: Runtime + AllocGlobal>(rt: &R, request: &Request) -> Result<u8> {
-    let alloc = rt.alloc();
-    let output = output_of(alloc, request)?;
+    let output = output_of(rt.alloc(), request)?;
     check_free(rt, output.as_str(), request.force)?;
-    let outputs = vec![in alloc; output.clone()?]?;
-    let written = identities(rt, alloc, outputs.as_slice())?;
-    let found = find(rt, request.paths.as_slice(), written.as_slice())?;
-    let cut = cut_files(
-        found.files.as_slice(),
-        request.block_bytes,
-        request.recovery,
-    )?;
-    let length = description_bytes(found.files.as_slice(), cut)?;
+    create_at(rt, request, output.as_str())?;
+    Ok(STATUS_WHOLE)
+}
+
+// Makes the recovery blocks of files, and writes them into the volume at `output`.
+fn create_at<R: Runtime + AllocGlobal>(rt: &R, request: &Request, output: &str) -> Result<()> {
+    let found = files_for(rt, request, output)?;
+    let files = found.files.as_slice();
+    let count = files.len();
+    let cut = cut_files(files, request.block_bytes, request.recovery)?;
+    let volumes = begin(rt, rt.alloc(), output, files, cut)?;
+    write_volumes(rt, request, found, cut, &volumes)?;
+    if request.quiet {
+        return Ok(());
+    }
+    tell(rt, output, count, cut)
+}
+
+// Finds the files of a request. The volume at `output`, which is written, is not one of them.
+fn files_for<R: Runtime + AllocGlobal>(rt: &R, request: &Request, output: &str) -> Result<Found> {
+    let alloc = rt.alloc();
+    let outputs = vec![in alloc; String::from_str(alloc, output)?]?;
+    find(rt, request.paths.as_slice(), outputs.as_slice())
+}
+
+// Begins the volume at `output`, which has room for all recovery blocks.
+fn begin<R: Runtime>(
+    rt: &R,
+    alloc: Global,
+    output: &str,
+    files: &[FileEntry],
+    cut: Cut,
+) -> Result<Volumes> {
+    let length = description_bytes(files, cut)?;
     let records = u64::from(cut.recovery_count);
     let size = volume_bytes(length, records, cut.block_bytes);
-    let part = Part::begin(rt, alloc, output.as_str(), size)?;
-    let volumes = Volumes {
+    let part = Part::begin(rt, alloc, output, size)?;
+    Ok(Volumes {
         parts: vec![in alloc; part]?,
         first: cut.original_count as usize,
         counts: vec![in alloc; records]?,
-    };
-    let count = found.files.len();
-    write_volumes(rt, request, found, cut, &volumes)?;
-    for part in &volumes.parts {
-        part.finish(rt, request.force)?;
-    }
-    if !request.quiet {
-        let k = cut.original_count;
-        let r = cut.recovery_count;
-        let b = cut.block_bytes;
-        println!(rt;
-            "{}: {count} files in {k} blocks of {b} bytes, {r} recovery blocks",
-            output.as_str()
-        )?;
-    }
-    Ok(STATUS_WHOLE)
+        description_bytes: length,
+    })
+}
+
+// Prints what was made: the volume at `output`, for `count` files.
+fn tell<R: Runtime>(rt: &R, output: &str, count: usize, cut: Cut) -> Result<()> {
+    let Cut {
+        block_bytes,
+        original_count,
+        recovery_count,
+    } = cut;
+    println!(rt;
+        "{output}: {count} files in {original_count} blocks of {block_bytes} bytes, {recovery_count} recovery blocks"
+    )?;
+    Ok(())
 }

@@ -1,9 +1,11 @@
 //! `info`: shows what a volume describes.
+use crate::json::{add, object_of, print};
 use crate::names::text_of;
 use crate::settings::{Request, STATUS_WHOLE};
 use crate::volume::{Volume, open_volume};
 use anyhow::{Result, bail};
-use serde_json::{Value, json};
+use rs_volumes::description::FileEntry;
+use serde_json::{Map, Value, json};
 use std::alloc::{AllocError, Global};
 use std::rt::Runtime;
 
@@ -25,16 +27,32 @@ fn files_json(
 // Prints what a volume describes as JSON.
 fn tell_json<R: Runtime + AllocGlobal>(rt: &R, volume: &Volume) -> Result<()> {
     let alloc = rt.alloc();
-    let files = Value::Array(files_json(alloc, volume)?);
-    let block = volume.description.block_bytes;
-    let k = volume.description.original_count;
-    let r = volume.description.recovery_count;
-    let records = volume.record_count;
-    let value =
-        json!(in alloc; {"block_bytes": block, "original_blocks": k, "recovery_blocks": r, "blocks_here": records, "files": files})?;
-    let text = value.to_string(alloc)?;
-    println!(rt; "{text}")?;
-    Ok(())
+    let files = files_json(alloc, volume)?;
+    let object = volume_json(alloc, volume, files)?;
+    print(rt, alloc, object)
+}
+
+// Returns what a volume describes as JSON.
+fn volume_json(
+    alloc: Global,
+    volume: &Volume,
+    files: Vec<Value>,
+) -> std::result::Result<Map<String, Value>, AllocError> {
+    let numbers = [
+        ("block_bytes", volume.description.block_bytes),
+        (
+            "original_blocks",
+            u64::from(volume.description.original_count),
+        ),
+        (
+            "recovery_blocks",
+            u64::from(volume.description.recovery_count),
+        ),
+        ("blocks_here", volume.record_count),
+    ];
+    let mut object = object_of(alloc, &numbers)?;
+    add(alloc, &mut object, "files", Value::Array(files))?;
+    Ok(object)
 }
 
 // Prints what a volume describes.
@@ -46,9 +64,15 @@ fn tell<R: Runtime>(rt: &R, path: &str, volume: &Volume) -> Result<()> {
     println!(rt;
         "{path}: {k} original blocks and {r} recovery blocks of {block} bytes, {records} of them here"
     )?;
-    for file in volume.description.files.as_slice() {
+    tell_files(rt, volume.description.files.as_slice())
+}
+
+// Prints the sizes and the names of files.
+fn tell_files<R: Runtime>(rt: &R, files: &[FileEntry]) -> Result<()> {
+    for file in files {
         let size = file.size;
-        println!(rt; "{size:>14}  {}", text_of(file.name.as_slice()))?;
+        let name = text_of(file.name.as_slice());
+        println!(rt; "{size:>14}  {name}")?;
     }
     Ok(())
 }

@@ -1,8 +1,9 @@
 //! `join`: restores all files of a set from volumes.
 use crate::creating::check_free;
 use crate::names::{path_in, text_of};
+use crate::output::Part;
 use crate::restoring::{begin_parts, complete, write_blocks};
-use crate::scanning::{Scan, open_volumes, scan_set};
+use crate::scanning::{Scan, scan_request};
 use crate::settings::{Request, STATUS_LOST, STATUS_MENDED, STATUS_WHOLE};
 use crate::verifying::tell;
 use anyhow::{Result, bail};
@@ -44,16 +45,15 @@ fn write_files<R: Runtime>(
         request.memory,
         request.progress,
     )?;
-    for (file, part) in found
-        .description
-        .files
-        .as_slice()
-        .iter()
-        .zip(parts.as_slice())
-    {
+    finish(rt, found, parts.as_slice(), request.force)
+}
+
+// Gives files their permission bits, times and final names. A file with such a name is only replaced if `overwrite` is set.
+fn finish<R: Runtime>(rt: &R, found: &Scan, parts: &[Option<Part>], overwrite: bool) -> Result<()> {
+    for (file, part) in found.description.files.as_slice().iter().zip(parts) {
         if let Some(part) = part {
             complete(rt, part, file)?;
-            part.take_name(rt, request.force)?;
+            part.take_name(rt, overwrite)?;
         }
     }
     Ok(())
@@ -73,20 +73,28 @@ fn write_files<R: Runtime>(
 ///
 /// Every step fails if memory cannot be allocated.
 pub fn join<R: Runtime + AllocGlobal>(rt: &R, request: &Request) -> Result<u8> {
-    let alloc = rt.alloc();
     let Some(folder) = &request.to else {
         bail!("say where the files go, as --to FOLDER");
     };
-    let volumes = open_volumes(rt, request.paths.as_slice())?;
-    let found = scan_set(rt, volumes, None, request.progress)?;
+    let found = scan_request(rt, request, None)?;
+    join_into(rt, request, &found, folder.as_str())
+}
+
+// Writes all files of a set below a folder, if enough blocks were found, and prints the result. Returns the exit status.
+fn join_into<R: Runtime + AllocGlobal>(
+    rt: &R,
+    request: &Request,
+    found: &Scan,
+    folder: &str,
+) -> Result<u8> {
     let counts = found.counts();
     if counts.lost > counts.recovery {
         if !request.quiet {
-            tell(rt, &found, counts)?;
+            tell(rt, found, counts)?;
         }
         return Ok(STATUS_LOST);
     }
-    write_files(rt, alloc, request, &found, folder.as_str())?;
+    write_files(rt, rt.alloc(), request, found, folder)?;
     if !request.quiet {
         let count = found.description.files.len();
         println!(rt; "{count} files were restored")?;

@@ -2,7 +2,7 @@
 use crate::names::{path_in, text_of};
 use crate::output::{Part, at_path, exists, free_path};
 use crate::restoring::{begin_parts, complete, write_blocks};
-use crate::scanning::{FileState, Scan, open_volumes, scan_set};
+use crate::scanning::{FileState, Scan, scan_request};
 use crate::settings::{Request, STATUS_LOST, STATUS_MENDED, STATUS_WHOLE};
 use crate::verifying::{folder_of, tell, tell_folder};
 use anyhow::Result;
@@ -119,23 +119,38 @@ fn restore_files<R: Runtime>(
 ///
 /// Every step fails if memory cannot be allocated.
 pub fn repair<R: Runtime + AllocGlobal>(rt: &R, request: &Request) -> Result<u8> {
-    let alloc = rt.alloc();
     let folder = folder_of(request)?;
-    let volumes = open_volumes(rt, request.paths.as_slice())?;
-    let found = scan_set(rt, volumes, Some(folder), request.progress)?;
+    let found = scan_request(rt, request, Some(folder))?;
     let counts = found.counts();
-    if counts.lost > counts.recovery || found.has_whole_files() {
-        if !request.quiet {
-            tell(rt, &found, counts)?;
-            tell_folder(rt, &found, folder)?;
-        }
-        return Ok(if counts.lost > counts.recovery {
-            STATUS_LOST
-        } else {
-            STATUS_WHOLE
-        });
+    if counts.lost > counts.recovery {
+        explain(rt, request, &found, folder)?;
+        Ok(STATUS_LOST)
+    } else if found.has_whole_files() {
+        explain(rt, request, &found, folder)?;
+        Ok(STATUS_WHOLE)
+    } else {
+        repair_files(rt, request, &found, folder)?;
+        Ok(STATUS_MENDED)
     }
-    let Restored { count, kept } = restore_files(rt, alloc, request, &found, folder)?;
+}
+
+// Prints why no file is restored, unless only errors are printed.
+fn explain<R: Runtime>(rt: &R, request: &Request, found: &Scan, folder: &str) -> Result<()> {
+    if request.quiet {
+        return Ok(());
+    }
+    tell(rt, found, found.counts())?;
+    tell_folder(rt, found, folder)
+}
+
+// Restores the damaged and missing files of a set, and prints how many they are.
+fn repair_files<R: Runtime + AllocGlobal>(
+    rt: &R,
+    request: &Request,
+    found: &Scan,
+    folder: &str,
+) -> Result<()> {
+    let Restored { count, kept } = restore_files(rt, rt.alloc(), request, found, folder)?;
     if !request.quiet && kept > 0 {
         println!(rt;
             "{count} files were restored, and {kept} damaged files are kept as NAME.damaged"
@@ -143,5 +158,5 @@ pub fn repair<R: Runtime + AllocGlobal>(rt: &R, request: &Request) -> Result<u8>
     } else if !request.quiet {
         println!(rt; "{count} files were restored")?;
     }
-    Ok(STATUS_MENDED)
+    Ok(())
 }

@@ -154,6 +154,27 @@ fn arg_of<'a>(alloc: Global, choice: Choice) -> Arg<'a> {
     }
 }
 
+// Returns the paths of a command as clap takes them.
+fn paths_arg<'a>(alloc: Global, shown: &'a str) -> Arg<'a> {
+    Arg::new(alloc, "paths")
+        .value_name(shown)
+        .required(true)
+        .action(ArgAction::Append)
+        .num_args(1..)
+}
+
+// Returns the paths and the options of a command.
+fn args_of<'a>(alloc: Global, name: &'a str, paths: &'a str) -> Result<Vec<Arg<'a>>> {
+    let mut args = Vec::new(alloc);
+    args.push(paths_arg(alloc, paths))?;
+    for choice in OPTIONS {
+        if choice.0.is_empty() || choice.0 == name {
+            args.push(arg_of(alloc, choice))?;
+        }
+    }
+    Ok(args)
+}
+
 // Returns a command that takes paths, with its options.
 fn command_of<'a>(
     alloc: Global,
@@ -161,27 +182,28 @@ fn command_of<'a>(
     paths: &'a str,
     about: &'a str,
 ) -> Result<Command<'a>> {
-    let paths = Arg::new(alloc, "paths")
-        .value_name(paths)
-        .required(true)
-        .action(ArgAction::Append)
-        .num_args(1..);
-    let mut command = Command::new(alloc, name).about(about).arg(paths)?;
-    for choice in OPTIONS {
-        if choice.0.is_empty() || choice.0 == name {
-            command = command.arg(arg_of(alloc, choice))?;
-        }
-    }
-    Ok(command)
+    let args = args_of(alloc, name, paths)?;
+    Ok(Command::new(alloc, name).about(about).args(args)?)
 }
 
-// Adds all commands.
-fn with_commands<'a>(alloc: Global, top: Command<'a>) -> Result<Command<'a>> {
-    let mut all = top;
+// Returns all commands.
+fn all_commands<'a>(alloc: Global) -> Result<Vec<Command<'a>>> {
+    let mut commands = Vec::new(alloc);
     for (name, paths, about) in COMMANDS {
-        all = all.subcommand(command_of(alloc, name, paths, about)?)?;
+        commands.push(command_of(alloc, name, paths, about)?)?;
     }
-    Ok(all)
+    Ok(commands)
+}
+
+// Returns the program with all commands, as clap takes it.
+fn program<'a>(alloc: Global) -> Result<Command<'a>> {
+    let commands = all_commands(alloc)?;
+    let top = Command::new(alloc, "rs_files")
+        .version("1.0")
+        .about("Protects files against damage, and spreads them over places")
+        .subcommand_required(true)
+        .arg_required_else_help(true);
+    Ok(top.subcommands(commands)?)
 }
 
 // Returns the exit status after an error of the command line. The help text and the version are no error, and a lack of
@@ -202,28 +224,30 @@ fn status_of(error: &clap::Error) -> u8 {
 pub fn read_words<R: Runtime + AllocGlobal>(rt: &R, terminal: bool) -> Result<Parsed> {
     let alloc = rt.alloc();
     let words: Vec<String> = env::args(rt)?.collect(alloc)?;
-    let top = Command::new(alloc, "rs_files")
-        .version("1.0")
-        .about("Protects files against damage, and spreads them over places")
-        .subcommand_required(true)
-        .arg_required_else_help(true);
-    let top = with_commands(alloc, top)?;
-    let matches = match top.try_get_matches_from(words.as_slice()) {
-        Ok(matches) => matches,
+    match program(alloc)?.try_get_matches_from(words.as_slice()) {
+        Ok(matches) => read_matches(rt, &matches, terminal),
         Err(error) => {
             error.print(rt)?;
-            return Ok(Parsed::Stop(status_of(&error)));
+            Ok(Parsed::Stop(status_of(&error)))
         }
+    }
+}
+
+// Returns the request of a command line. If an option has a wrong value, the function prints a message.
+fn read_matches<R: Runtime + AllocGlobal>(
+    rt: &R,
+    matches: &ArgMatches<'_>,
+    terminal: bool,
+) -> Result<Parsed> {
+    let Some((name, inner)) = matches.subcommand() else {
+        return Ok(Parsed::Stop(STATUS_USAGE));
     };
-    match matches.subcommand() {
-        None => Ok(Parsed::Stop(STATUS_USAGE)),
-        Some((name, inner)) => match request_of(alloc, name, inner, terminal)? {
-            Ok(request) => Ok(Parsed::Run(request)),
-            Err(fault) => {
-                eprintln!(rt; "rs_files: {fault}")?;
-                Ok(Parsed::Stop(STATUS_USAGE))
-            }
-        },
+    match request_of(rt.alloc(), name, inner, terminal)? {
+        Ok(request) => Ok(Parsed::Run(request)),
+        Err(fault) => {
+            eprintln!(rt; "rs_files: {fault}")?;
+            Ok(Parsed::Stop(STATUS_USAGE))
+        }
     }
 }
 
@@ -294,16 +318,24 @@ fn request_of(
     terminal: bool,
 ) -> Result<std::result::Result<Request, &'static str>> {
     let mut request = plain_request(alloc, name, matches, terminal)?;
-    if let Err(fault) = set_numbers(&mut request, matches) {
-        return Ok(Err(fault));
+    match set_options(&mut request, matches) {
+        Ok(()) => Ok(Ok(request)),
+        Err(fault) => Ok(Err(fault)),
     }
-    if let Err(fault) = set_volumes(&mut request, matches) {
-        return Ok(Err(fault));
-    }
-    Ok(Ok(request))
 }
 
-// Reads `--recovery`, `--block`, `--memory` and `--progress`.
+// Reads the options whose values are no folders, and checks that the command has the options that it needs.
+fn set_options(
+    request: &mut Request,
+    matches: &ArgMatches<'_>,
+) -> std::result::Result<(), &'static str> {
+    set_numbers(request, matches)?;
+    set_progress(request, matches)?;
+    set_volumes(request, matches)?;
+    check_needed(request)
+}
+
+// Reads `--recovery`, `--block` and `--memory`.
 fn set_numbers(
     request: &mut Request,
     matches: &ArgMatches<'_>,
@@ -328,6 +360,14 @@ fn set_numbers(
             None => return Err("--memory: write a number of bytes, as 64M or 2G"),
         }
     }
+    Ok(())
+}
+
+// Reads `--progress`.
+fn set_progress(
+    request: &mut Request,
+    matches: &ArgMatches<'_>,
+) -> std::result::Result<(), &'static str> {
     match matches.get_str("progress") {
         None | Some("auto") => {}
         Some("always") => request.progress = true,
@@ -337,7 +377,7 @@ fn set_numbers(
     Ok(())
 }
 
-// Reads `--volumes` and `--lose`, and checks that the command has the options that it needs.
+// Reads `--volumes` and `--lose`.
 fn set_volumes(
     request: &mut Request,
     matches: &ArgMatches<'_>,
@@ -354,6 +394,11 @@ fn set_volumes(
             Err(_) => return Err("--lose: write how many volumes may be lost"),
         }
     }
+    Ok(())
+}
+
+// Checks that a command has the options that it needs.
+fn check_needed(request: &Request) -> std::result::Result<(), &'static str> {
     match request.action {
         Action::Split if request.volumes == 0 => Err(
             "split: say how many volumes to make, as -n 6",

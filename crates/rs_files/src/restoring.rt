@@ -9,7 +9,7 @@ use crate::source::FileBlocks;
 use anyhow::Result;
 use reed_solomon_simd::engine::tables::Tables;
 use reed_solomon_simd::engine::{DefaultEngine, EngineKind};
-use rs_volumes::description::FileEntry;
+use rs_volumes::description::{Description, FileEntry};
 use rs_volumes::pieces::BlockSink;
 use rs_volumes::placement::Place;
 use rs_volumes::restoring::{Plan, restore};
@@ -41,6 +41,22 @@ struct FileSink<'a, R: Runtime> {
     opened: Option<Opened<R::File>>,
 }
 
+impl<'a, R: Runtime> FileSink<'a, R> {
+    // Writes bytes into the part of a file, from byte `offset` on. `file` is the index of the file in the description.
+    fn write(&mut self, file: usize, part: &Part, offset: u64, bytes: &[u8]) -> io::Result<()> {
+        let mut opened = match self.opened.take() {
+            Some(opened) if opened.file == file => opened,
+            _ => Opened {
+                file,
+                handle: part.open(self.rt)?,
+            },
+        };
+        write_at(&mut opened.handle, offset, bytes)?;
+        self.opened = Some(opened);
+        Ok(())
+    }
+}
+
 impl<'a, R: Runtime> BlockSink for FileSink<'a, R> {
     ghost written = { λ _. nothing };
 
@@ -56,20 +72,8 @@ impl<'a, R: Runtime> BlockSink for FileSink<'a, R> {
             return Ok(());
         }
         let count = (place.bytes - from).min(piece.len() as u64) as usize;
-        let mut opened = match self.opened.take() {
-            Some(opened) if opened.file == place.file => opened,
-            _ => Opened {
-                file: place.file,
-                handle: part.open(self.rt)?,
-            },
-        };
-        write_at(
-            &mut opened.handle,
-            place.offset.wrapping_add(from),
-            &piece[..count],
-        )?;
-        self.opened = Some(opened);
-        Ok(())
+        let offset = place.offset.wrapping_add(from);
+        self.write(place.file, part, offset, &piece[..count])
     }
 }
 
@@ -166,28 +170,49 @@ pub fn write_blocks<R: Runtime>(
     shown: bool,
 ) -> Result<()> {
     let plan = plan_for(alloc, scan, parts)?;
-    let shape = shape_of(&scan.description);
     let blocks = (plan.originals.len() as u64).saturating_add(plan.recovery.len() as u64);
     let total = blocks.saturating_mul(scan.description.block_bytes);
+    let tables = Tables::new(alloc)?;
+    let engine = DefaultEngine::new(&tables, EngineKind::Ssse3);
     let progress = Progress::new(rt, shown, total);
     let (paths, origins) = (scan.paths.as_slice(), scan.origins.as_slice());
-    let mut source = FileBlocks::new(rt, alloc, paths, origins, progress);
-    let mut sink = FileSink {
+    let source = FileBlocks::new(rt, alloc, paths, origins, progress);
+    let sink = FileSink {
         rt,
         parts,
         places: scan.places.as_slice(),
         opened: None,
     };
-    let tables = Tables::new(alloc)?;
-    let engine = DefaultEngine::new(&tables, EngineKind::Ssse3);
+    restore_blocks(
+        alloc,
+        &scan.description,
+        &plan,
+        memory,
+        engine,
+        source,
+        sink,
+    )
+}
+
+// Restores the blocks of a plan: reads the blocks of a source, and writes blocks into the sink.
+fn restore_blocks<R: Runtime>(
+    alloc: Global,
+    description: &Description,
+    plan: &Plan,
+    memory: u64,
+    engine: DefaultEngine<'_>,
+    mut source: FileBlocks<'_, R>,
+    mut sink: FileSink<'_, R>,
+) -> Result<()> {
+    let shape = shape_of(description);
     let piece = piece_bytes(&shape, memory);
-    let digests = scan.description.digests.as_slice();
+    let digests = description.digests.as_slice();
     restore(
         alloc,
         shape,
         piece,
         engine,
-        &plan,
+        plan,
         digests,
         &mut source,
         &mut sink,

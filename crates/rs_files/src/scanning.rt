@@ -1,5 +1,6 @@
 //! Looks for the blocks of a set, in its files and in volumes.
 use crate::progress::Progress;
+use crate::settings::Request;
 use crate::source::Origin;
 use crate::volume::{Copies, Volume, open_volume};
 use crate::volume_sink::RECORD_HEAD_BYTES;
@@ -48,66 +49,91 @@ pub struct Scan {
     pub unreadable: Vec<String>,
 }
 
-/// The volumes of one set.
-#[derive(Drop)]
-pub struct Volumes {
-    /// The first volume that can be read. Its description is the description of the set.
-    pub first: Volume,
-    /// The paths of the volumes that can be read.
-    pub paths: Vec<String>,
-    /// For each of these volumes, the number of its records and the offset of the first record in bytes.
-    pub records: Vec<(u64, u64)>,
-    /// For each of these volumes, the state of the two copies of its head and its description.
-    pub copies: Vec<Copies>,
-    /// The paths of the volumes that cannot be read.
-    pub unreadable: Vec<String>,
-}
-
-/// Opens volumes. The first volume that can be read determines the set. For each volume that cannot be read, the
-/// function prints a message.
+/// Opens the volumes of a request, and looks for all blocks of their set in the volumes and, if `folder` is given, in
+/// the files of the set below that folder.
+///
+/// The first volume that can be read determines the set. For each volume that cannot be read, the function prints a
+/// message. A file or a record that cannot be read is not an error: its blocks are not found.
 ///
 /// # Errors
 ///
-/// For each volume in turn, fails if a message cannot be printed, or if the volume belongs to another set. At the end,
-/// fails if no volume can be read. Every step fails if memory cannot be allocated.
-pub fn open_volumes<R: Runtime + AllocGlobal>(rt: &R, paths: &[String]) -> Result<Volumes> {
-    let alloc = rt.alloc();
-    let mut first: Option<Volume> = None;
-    let mut found = Vec::new(alloc);
-    let mut records = Vec::new(alloc);
-    let mut copies = Vec::new(alloc);
-    let mut unreadable = Vec::new(alloc);
-    for path in paths {
-        match open_volume(rt, path.as_str()) {
-            Err(error) => {
-                eprintln!(rt; "rs_files: {error:#}")?;
-                unreadable.push(path.clone()?)?;
-            }
-            Ok(volume) => {
-                if let Some(known) = &first {
-                    if known.digest != volume.digest {
-                        bail!("{} belongs to another set", path.as_str());
-                    }
-                }
-                found.push(path.clone()?)?;
-                records.push((volume.record_count, volume.records_at))?;
-                copies.push(volume.copies)?;
-                if first.is_none() {
-                    first = Some(volume);
-                }
-            }
+/// For each volume in turn, fails if a message cannot be printed, or if the volume belongs to another set. Then fails if
+/// no volume can be read, if the block size is 0, or if a volume cannot be opened again. Every step fails if memory cannot
+/// be allocated.
+pub fn scan_request<R: Runtime + AllocGlobal>(
+    rt: &R,
+    request: &Request,
+    folder: Option<&str>,
+) -> Result<Scan> {
+    let volumes = open_volumes(rt, request.paths.as_slice())?;
+    scan_set(rt, volumes, folder, request.progress)
+}
+
+// The volumes of one set.
+#[derive(Drop)]
+struct Volumes {
+    // The first volume that can be read. Its description is the description of the set.
+    first: Option<Volume>,
+    // The paths of the volumes that can be read.
+    paths: Vec<String>,
+    // For each of these volumes, the number of its records and the offset of the first record in bytes.
+    records: Vec<(u64, u64)>,
+    // For each of these volumes, the state of the two copies of its head and its description.
+    copies: Vec<Copies>,
+    // The paths of the volumes that cannot be read.
+    unreadable: Vec<String>,
+}
+
+impl Volumes {
+    // Returns a set without volumes.
+    fn new(alloc: Global) -> Volumes {
+        Volumes {
+            first: None,
+            paths: Vec::new(alloc),
+            records: Vec::new(alloc),
+            copies: Vec::new(alloc),
+            unreadable: Vec::new(alloc),
         }
     }
-    match first {
-        None => bail!("no volume can be read"),
-        Some(first) => Ok(Volumes {
-            first,
-            paths: found,
-            records,
-            copies,
-            unreadable,
-        }),
+
+    // Opens a volume. If the volume cannot be read, the function prints a message.
+    fn open<R: Runtime + AllocGlobal>(&mut self, rt: &R, path: &str) -> Result<()> {
+        match open_volume(rt, path) {
+            Ok(volume) => {
+                self.add(rt.alloc(), path, &volume)?;
+                if self.first.is_none() {
+                    self.first = Some(volume);
+                }
+            }
+            Err(error) => {
+                eprintln!(rt; "rs_files: {error:#}")?;
+                self.unreadable.push(String::from_str(rt.alloc(), path)?)?;
+            }
+        }
+        Ok(())
     }
+
+    // Adds a volume that was read. Fails if the volume belongs to another set than the first one.
+    fn add(&mut self, alloc: Global, path: &str, volume: &Volume) -> Result<()> {
+        if let Some(first) = &self.first {
+            if first.digest != volume.digest {
+                bail!("{path} belongs to another set");
+            }
+        }
+        self.paths.push(String::from_str(alloc, path)?)?;
+        self.records.push((volume.record_count, volume.records_at))?;
+        self.copies.push(volume.copies)?;
+        Ok(())
+    }
+}
+
+// Opens volumes. The first volume that can be read determines the set.
+fn open_volumes<R: Runtime + AllocGlobal>(rt: &R, paths: &[String]) -> Result<Volumes> {
+    let mut volumes = Volumes::new(rt.alloc());
+    for path in paths {
+        volumes.open(rt, path.as_str())?;
+    }
+    Ok(volumes)
 }
 
 // Returns the SHA-256 of a block, which consists of `bytes` bytes of a file from `offset` on, and of zeros up to
@@ -157,14 +183,8 @@ fn blocks_of(description: &Description) -> usize {
     (u64::from(description.original_count) + u64::from(description.recovery_count)) as usize
 }
 
-/// Looks for all blocks of a set in the volumes and, if `folder` is given, in the files of the set below that folder.
-///
-/// A file or a record that cannot be read is not an error: its blocks are not found.
-///
-/// # Errors
-///
-/// Fails if the block size is 0, if a volume cannot be opened again, or if memory cannot be allocated.
-pub fn scan_set<R: Runtime + AllocGlobal>(
+// Looks for all blocks of a set in its volumes and, if `folder` is given, in the files of the set below that folder.
+fn scan_set<R: Runtime + AllocGlobal>(
     rt: &R,
     volumes: Volumes,
     folder: Option<&str>,
@@ -177,16 +197,12 @@ pub fn scan_set<R: Runtime + AllocGlobal>(
         copies,
         unreadable,
     } = volumes;
-    let Volume {
-        description,
-        digest: _,
-        record_count: _,
-        records_at: _,
-        copies: _,
-    } = first;
+    let Some(first) = first else {
+        bail!("no volume can be read");
+    };
     let mut scan = scan_blocks(
         rt,
-        description,
+        first.description,
         paths.as_slice(),
         records.as_slice(),
         folder,
@@ -304,9 +320,8 @@ impl Scanner {
         records: &[(u64, u64)],
         paths: &mut Vec<String>,
     ) -> Result<()> {
-        for (number, path) in volumes.iter().enumerate() {
-            let place = records.get(number).copied().unwrap_or((0, 0));
-            self.scan_volume(rt, description, paths.len(), path.as_str(), place)?;
+        for (path, records) in volumes.iter().zip(records) {
+            self.scan_volume(rt, description, paths.len(), path.as_str(), *records)?;
             paths.push(path.clone()?)?;
         }
         Ok(())
@@ -337,10 +352,22 @@ impl Scanner {
             Ok(_) => return FileState::Missing,
             Err(error) => return missing(rt, path, error),
         }
-        let mut file = match fs::open(rt, path) {
-            Ok(file) => file,
-            Err(error) => return missing(rt, path, error),
-        };
+        match fs::open(rt, path) {
+            Ok(file) => self.scan_opened(rt, description, entry, holder, file, places),
+            Err(error) => missing(rt, path, error),
+        }
+    }
+
+    // Compares the blocks of an open file with their digests, and returns the state of the file.
+    fn scan_opened<R: Runtime>(
+        &mut self,
+        rt: &R,
+        description: &Description,
+        entry: &FileEntry,
+        holder: usize,
+        mut file: R::File,
+        places: &[Place],
+    ) -> FileState {
         let Ok(metadata) = file.metadata() else {
             return FileState::Missing;
         };

@@ -66,17 +66,35 @@ impl<'a, R: Runtime> FileBlocks<'a, R> {
         self.progress.end(self.rt);
     }
 
+    // Opens the file with the index `holder` in the list of paths.
+    fn open(&self, holder: usize) -> io::Result<Opened<R::File>> {
+        let Some(path) = self.paths.get(holder) else {
+            return Err(io::Error::from(ErrorKind::NotFound));
+        };
+        let file = fs::open(self.rt, path.as_str())?;
+        Ok(Opened { holder, file })
+    }
+
+    // Fills `piece` with the bytes of a block from byte `start` of the block on. Bytes that the file or volume does not hold
+    // stay as they are.
+    fn read(&mut self, index: usize, start: u64, piece: &mut [u8]) -> io::Result<()> {
+        let Some(Some(origin)) = self.origins.get(index).copied() else {
+            return Err(io::Error::from(ErrorKind::NotFound));
+        };
+        let held = origin.bytes.saturating_sub(start);
+        let count = held.min(piece.len() as u64) as usize;
+        if count == 0 {
+            return Ok(());
+        }
+        let offset = origin.offset.wrapping_add(start);
+        self.fill(origin.holder, offset, &mut piece[..count])
+    }
+
     // Fills `piece` with the bytes of a file from `offset` on. `holder` is the index of the file in the list of paths.
     fn fill(&mut self, holder: usize, offset: u64, piece: &mut [u8]) -> io::Result<()> {
         let mut opened = match self.opened.take() {
             Some(opened) if opened.holder == holder => opened,
-            _ => {
-                let Some(path) = self.paths.get(holder) else {
-                    return Err(io::Error::from(ErrorKind::NotFound));
-                };
-                let file = fs::open(self.rt, path.as_str())?;
-                Opened { holder, file }
-            }
+            _ => self.open(holder)?,
         };
         opened.file.seek(SeekFrom::Start(offset))?;
         opened.file.read_exact(piece)?;
@@ -90,16 +108,7 @@ impl<'a, R: Runtime> BlockSource for FileBlocks<'a, R> {
 
     fn piece(&mut self, index: usize, start: usize, end: usize) -> io::Result<Vec<u8>> {
         let mut piece = vec![in self.alloc; 0u8; end - start]?;
-        let Some(Some(origin)) = self.origins.get(index).copied() else {
-            return Err(io::Error::from(ErrorKind::NotFound));
-        };
-        let from = start as u64;
-        let to = (end as u64).min(origin.bytes);
-        if from < to {
-            let count = (to - from) as usize;
-            let offset = origin.offset.wrapping_add(from);
-            self.fill(origin.holder, offset, &mut piece[..count])?;
-        }
+        self.read(index, start as u64, &mut piece)?;
         self.progress.advance(self.rt, (end - start) as u64);
         Ok(piece)
     }

@@ -1,9 +1,10 @@
 //! `split`: spreads files over volumes.
-use crate::creating::{Volumes, check_free, description_bytes, volume_bytes, write_volumes};
+use crate::creating::{check_free, description_bytes, volume_bytes, write_volumes};
 use crate::folder::{Cut, cut_files};
 use crate::names::path_in;
-use crate::output::{Part, identities};
+use crate::output::Part;
 use crate::settings::{Recovery, Request, STATUS_WHOLE};
+use crate::volume_sink::Volumes;
 use crate::walking::find;
 use anyhow::{Result, bail};
 use std::alloc::Global;
@@ -47,7 +48,7 @@ fn cut_for(files: &[rs_volumes::description::FileEntry], request: &Request) -> R
 }
 
 // Returns the paths of all volumes in a folder.
-fn outputs(alloc: Global, request: &Request, folder: &str) -> Result<Vec<String>> {
+fn outputs_in(alloc: Global, request: &Request, folder: &str) -> Result<Vec<String>> {
     let mut paths = Vec::new(alloc);
     for number in 0..request.volumes {
         let shown = u64::from(number) + 1;
@@ -80,6 +81,7 @@ fn begin<R: Runtime>(
         parts,
         first: 0,
         counts,
+        description_bytes: length,
     })
 }
 
@@ -103,21 +105,28 @@ pub fn split<R: Runtime + AllocGlobal>(rt: &R, request: &Request) -> Result<u8> 
     let Some(folder) = &request.output else {
         bail!("say where the volumes go, as -o FOLDER");
     };
-    let paths = outputs(alloc, request, folder.as_str())?;
-    let written = identities(rt, alloc, paths.as_slice())?;
-    let found = find(rt, request.paths.as_slice(), written.as_slice())?;
-    let cut = cut_for(found.files.as_slice(), request)?;
-    let length = description_bytes(found.files.as_slice(), cut)?;
-    let volumes = begin(rt, alloc, request, paths.as_slice(), cut, length)?;
-    let count = found.files.len();
-    write_volumes(rt, request, found, cut, &volumes)?;
-    for part in &volumes.parts {
-        part.finish(rt, request.force)?;
-    }
+    let outputs = outputs_in(alloc, request, folder.as_str())?;
+    let count = split_into(rt, request, outputs.as_slice())?;
     if !request.quiet {
         let n = request.volumes;
         let lose = request.lose;
         println!(rt; "{count} files in {n} volumes, of which {lose} may be lost")?;
     }
     Ok(STATUS_WHOLE)
+}
+
+// Spreads all blocks of files over the volumes at `outputs`. Returns the number of files.
+fn split_into<R: Runtime + AllocGlobal>(
+    rt: &R,
+    request: &Request,
+    outputs: &[String],
+) -> Result<usize> {
+    let found = find(rt, request.paths.as_slice(), outputs)?;
+    let files = found.files.as_slice();
+    let count = files.len();
+    let cut = cut_for(files, request)?;
+    let length = description_bytes(files, cut)?;
+    let volumes = begin(rt, rt.alloc(), request, outputs, cut, length)?;
+    write_volumes(rt, request, found, cut, &volumes)?;
+    Ok(count)
 }

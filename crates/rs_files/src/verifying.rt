@@ -1,10 +1,11 @@
 //! `verify`: looks for damage.
+use crate::json::{add, object_of, print};
 use crate::names::{folder_to_open, parent_of, text_of};
-use crate::scanning::{Counts, FileState, Scan, open_volumes, scan_set};
+use crate::scanning::{Counts, FileState, Scan, scan_request};
 use crate::settings::{Request, STATUS_LOST, STATUS_MENDED, STATUS_WHOLE};
 use crate::volume::Copies;
 use anyhow::{Result, bail};
-use serde_json::{Value, json};
+use serde_json::{Map, Value, json};
 use std::alloc::{AllocError, Global};
 use std::rt::Runtime;
 
@@ -64,6 +65,15 @@ fn tell_files<R: Runtime>(rt: &R, scan: &Scan) -> Result<()> {
     Ok(())
 }
 
+// Returns where a volume is damaged, and which head was used. Returns `None` if both copies are whole.
+fn damage_of(copies: Copies) -> Option<&'static str> {
+    match copies {
+        Copies::Whole => None,
+        Copies::FirstDamaged => Some(", its second head was used"),
+        Copies::SecondDamaged => Some(" at its end, its first head was used"),
+    }
+}
+
 // Prints which volumes do not have two equal copies of their head and their description.
 fn tell_volumes<R: Runtime>(rt: &R, scan: &Scan) -> Result<()> {
     let files = scan.description.files.len();
@@ -72,14 +82,8 @@ fn tell_volumes<R: Runtime>(rt: &R, scan: &Scan) -> Result<()> {
             Some(path) => path.as_str(),
             None => "",
         };
-        match *copies {
-            Copies::Whole => {}
-            Copies::FirstDamaged => {
-                println!(rt; "{path}: the volume is damaged, its second head was used")?;
-            }
-            Copies::SecondDamaged => {
-                println!(rt; "{path}: the volume is damaged at its end, its first head was used")?;
-            }
+        if let Some(damage) = damage_of(*copies) {
+            println!(rt; "{path}: the volume is damaged{damage}")?;
         }
     }
     Ok(())
@@ -198,17 +202,30 @@ fn volumes_json(alloc: Global, scan: &Scan) -> std::result::Result<Vec<Value>, s
 // Prints the result of a scan as JSON.
 fn tell_json<R: Runtime + AllocGlobal>(rt: &R, scan: &Scan, counts: Counts) -> Result<()> {
     let alloc = rt.alloc();
-    let files = Value::Array(files_json(alloc, scan)?);
-    let volumes = Value::Array(volumes_json(alloc, scan)?);
-    let lost = counts.lost as u64;
-    let found = counts.recovery as u64;
-    let count = counts.recovery_count as u64;
-    let status = u64::from(status_of(scan, counts));
-    let value =
-        json!(in alloc; {"status": status, "lost_blocks": lost, "recovery_blocks": count, "whole_recovery_blocks": found, "files": files, "volumes": volumes})?;
-    let text = value.to_string(alloc)?;
-    println!(rt; "{text}")?;
-    Ok(())
+    let files = files_json(alloc, scan)?;
+    let volumes = volumes_json(alloc, scan)?;
+    let object = result_json(alloc, scan, counts, files, volumes)?;
+    print(rt, alloc, object)
+}
+
+// Returns the result of a scan as JSON.
+fn result_json(
+    alloc: Global,
+    scan: &Scan,
+    counts: Counts,
+    files: Vec<Value>,
+    volumes: Vec<Value>,
+) -> std::result::Result<Map<String, Value>, AllocError> {
+    let numbers = [
+        ("status", u64::from(status_of(scan, counts))),
+        ("lost_blocks", counts.lost as u64),
+        ("recovery_blocks", counts.recovery_count as u64),
+        ("whole_recovery_blocks", counts.recovery as u64),
+    ];
+    let mut object = object_of(alloc, &numbers)?;
+    add(alloc, &mut object, "files", Value::Array(files))?;
+    add(alloc, &mut object, "volumes", Value::Array(volumes))?;
+    Ok(object)
 }
 
 /// Runs `verify`: looks for damage in the files of a set and in its volumes. Returns the exit status.
@@ -224,8 +241,7 @@ fn tell_json<R: Runtime + AllocGlobal>(rt: &R, scan: &Scan, counts: Counts) -> R
 /// Every step fails if memory cannot be allocated.
 pub fn verify<R: Runtime + AllocGlobal>(rt: &R, request: &Request) -> Result<u8> {
     let folder = folder_of(request)?;
-    let volumes = open_volumes(rt, request.paths.as_slice())?;
-    let found = scan_set(rt, volumes, Some(folder), request.progress)?;
+    let found = scan_request(rt, request, Some(folder))?;
     let counts = found.counts();
     if request.json {
         tell_json(rt, &found, counts)?;

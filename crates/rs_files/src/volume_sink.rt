@@ -8,50 +8,71 @@ use rs_volumes::head::{HEAD_BYTES, Head, write_head};
 use rs_volumes::pieces::BlockSink;
 use std::alloc::Global;
 use std::io;
-use std::io::ErrorKind;
+use std::io::{ErrorKind, Seek, Write};
 use std::rt::{Files, Runtime};
 
 /// The number of bytes of a record before its block: 4 for the index of the block, and 4 that are zero.
 pub const RECORD_HEAD_BYTES: u64 = 8;
 
+/// The volumes that a command writes.
+#[derive(Drop)]
+pub struct Volumes {
+    /// The file of each volume, which does not have its final name yet.
+    pub parts: Vec<Part>,
+    /// The index of the first block that is written into the volumes.
+    pub first: usize,
+    /// The number of block records of each volume.
+    pub counts: Vec<u64>,
+    /// The number of bytes of the description.
+    pub description_bytes: u64,
+}
+
+impl Volumes {
+    /// Gives all volumes their final names. A file with such a name is only replaced if `overwrite` is set.
+    ///
+    /// # Errors
+    ///
+    /// For each volume in turn, fails for a reason of [`Part::finish`].
+    pub fn finish<R: Runtime>(&self, rt: &R, overwrite: bool) -> Result<()> {
+        for part in &self.parts {
+            part.finish(rt, overwrite)?;
+        }
+        Ok(())
+    }
+}
+
 /// The volumes that are being written. This sink deals the blocks from the index `first` on to the volumes in turn.
 #[derive(Drop)]
-pub struct VolumeSink<'a, R: Runtime> {
-    rt: &'a R,
+pub struct VolumeSink<R: Runtime> {
     alloc: Global,
-    parts: &'a [Part],
     files: Vec<R::File>,
     first: usize,
     block_bytes: u64,
     description_bytes: u64,
 }
 
-impl<'a, R: Runtime> VolumeSink<'a, R> {
+impl<R: Runtime> VolumeSink<R> {
     /// Opens the parts of all volumes.
     ///
     /// # Errors
     ///
     /// Fails if a file cannot be opened, or if memory cannot be allocated.
     pub fn new(
-        rt: &'a R,
+        rt: &R,
         alloc: Global,
-        parts: &'a [Part],
-        first: usize,
+        volumes: &Volumes,
         block_bytes: u64,
-        description_bytes: u64,
-    ) -> Result<VolumeSink<'a, R>> {
+    ) -> Result<VolumeSink<R>> {
         let mut files = Vec::new(alloc);
-        for part in parts {
+        for part in &volumes.parts {
             files.push(part.open(rt)?)?;
         }
         Ok(VolumeSink {
-            rt,
             alloc,
-            parts,
             files,
-            first,
+            first: volumes.first,
             block_bytes,
-            description_bytes,
+            description_bytes: volumes.description_bytes,
         })
     }
 
@@ -82,20 +103,26 @@ impl<'a, R: Runtime> VolumeSink<'a, R> {
             let end = (HEAD_BYTES as u64)
                 .wrapping_add(description.len() as u64)
                 .wrapping_add(record_count.wrapping_mul(record));
-            write_at(file, HEAD_BYTES as u64, description)?;
-            write_at(file, end, description)?;
-            write_at(
-                file,
-                end.wrapping_add(description.len() as u64),
-                head.as_slice(),
-            )?;
-            write_at(file, 0, head.as_slice())?;
+            write_copies(file, description, head.as_slice(), end)?;
         }
         Ok(())
     }
 }
 
-impl<'a, R: Runtime> BlockSink for VolumeSink<'a, R> {
+// Writes both copies of the description and the head of a volume. `end` is the offset in bytes of the second copy.
+fn write_copies<F: Seek + Write>(
+    file: &mut F,
+    description: &[u8],
+    head: &[u8],
+    end: u64,
+) -> io::Result<()> {
+    write_at(file, HEAD_BYTES as u64, description)?;
+    write_at(file, end, description)?;
+    write_at(file, end.wrapping_add(description.len() as u64), head)?;
+    write_at(file, 0, head)
+}
+
+impl<R: Runtime> BlockSink for VolumeSink<R> {
     ghost written = { λ _. nothing };
 
     fn put(&mut self, index: usize, start: usize, piece: &[u8]) -> io::Result<()> {

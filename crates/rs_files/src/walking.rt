@@ -1,6 +1,6 @@
 //! Finds the files of a set.
 use crate::names::{folder_to_open, last_of, parent_of, path_in, text_of, trimmed};
-use crate::output::{Identity, at_path, identity_of};
+use crate::output::{Identity, at_path, identities, identity_of};
 use anyhow::{Result, bail};
 use rs_volumes::checking::is_name;
 use rs_volumes::description::FileEntry;
@@ -46,7 +46,7 @@ fn folder_of(path: &str) -> &str {
 
 /// Finds all regular files at the paths and below them, in order of their names.
 ///
-/// The files with the identities `written` are old volumes, which new volumes replace. Below a path, they are left out.
+/// The files at `outputs` are old volumes, which new volumes replace. Below a path, they are left out.
 ///
 /// # Errors
 ///
@@ -56,32 +56,52 @@ fn folder_of(path: &str) -> &str {
 pub fn find<R: Runtime + AllocGlobal>(
     rt: &R,
     paths: &[String],
-    written: &[Identity],
+    outputs: &[String],
 ) -> Result<Found> {
     let alloc = rt.alloc();
+    let written = identities(rt, alloc, outputs)?;
     let Some(first) = paths.first() else {
         bail!("no file is given");
     };
     let folder = folder_of(trimmed(first.as_str()));
-    let mut files = Vec::new(alloc);
-    for path in paths {
-        let path = trimmed(path.as_str());
-        if folder_of(path) != folder {
-            bail!("the files must be in one folder: give that folder, or the files in it");
-        }
-        if is_written(rt, path, written) {
-            bail!(
-                "{path} is a volume that is written: name another place with -o, or another file"
-            );
-        }
-        walk(rt, path, name_in_set(path), written, &mut files)?;
-    }
-    sort_files(&mut files)?;
-    check_once(files.as_slice())?;
+    let files = files_in(rt, folder, paths, written.as_slice())?;
     Ok(Found {
         folder: String::from_str(alloc, folder_to_open(folder))?,
         files,
     })
+}
+
+// Returns all regular files at the paths and below them, in order of their names. The paths must be in `folder`.
+fn files_in<R: Runtime + AllocGlobal>(
+    rt: &R,
+    folder: &str,
+    paths: &[String],
+    written: &[Identity],
+) -> Result<Vec<FileEntry>> {
+    let mut files = Vec::new(rt.alloc());
+    for path in paths {
+        add_path(rt, folder, trimmed(path.as_str()), written, &mut files)?;
+    }
+    sort_files(&mut files)?;
+    check_once(files.as_slice())?;
+    Ok(files)
+}
+
+// Appends all regular files at a path and below that path. The path must be in `folder`, and not an old volume.
+fn add_path<R: Runtime + AllocGlobal>(
+    rt: &R,
+    folder: &str,
+    path: &str,
+    written: &[Identity],
+    files: &mut Vec<FileEntry>,
+) -> Result<()> {
+    if folder_of(path) != folder {
+        bail!("the files must be in one folder: give that folder, or the files in it");
+    }
+    if is_written(rt, path, written) {
+        bail!("{path} is a volume that is written: name another place with -o, or another file");
+    }
+    walk(rt, path, name_in_set(path), written, files)
 }
 
 // Sorts files by their names.
