@@ -82,7 +82,7 @@ library() {
     proved "$room/$name.log" "$project/crates/rs_bench" "${flags[@]}"
     cc -std=c11 -O2 -fPIC -c -o "$room/heap.o" "$project/c/heap.c"
     object "$room/$name.c.o" "${name}_" "$project/crates/rs_c/out/librs_c.a" "$room/heap.o" \
-        rs_tables_make rs_encode rs_decode rs_encode_shards rs_decode_shards
+        rs_tables_make rs_encode rs_decode rs_encode_shards rs_decode_shards rs_verify rs_reconstruct rs_update
     object "$room/$name.rattle.o" "${name}_" "$project/crates/rs_bench/out/librs_bench.a" "$room/heap.o" \
         rs_bench_encode rs_bench_decode rs_bench_tables
     mv "$project/crates/rs_c/out" "$project/proved/$build"
