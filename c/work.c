@@ -98,7 +98,8 @@ static size_t block_bytes(size_t number, size_t bytes) {
 /* The requests of the calls. An encode requests 16 bytes for each original, and 4096 bytes, or as many as a shard has, for each of its rows.
    A decode requests 24 bytes for each original and for each recovery shard, and for each of its rows 1 byte, 2 bytes, and 2048 bytes, or as
    many as a shard has. A decode that restores to vectors first also requests 24 bytes for each vector, and the vectors. Each row takes a
-   multiple of 64 bytes. Calls that request less serve themselves from the same memory. */
+   multiple of 64 bytes. Calls that request less serve themselves from the same memory: an encode, or a decode of few lost shards, which sums
+   the received shards and has no rows. */
 size_t rs_work_bytes(size_t original_count, size_t recovery_count, size_t shard_bytes, size_t restored) {
     if (!rs_supports(original_count, recovery_count) || !shard_bytes || shard_bytes % 2) return 0;
     if (restored > original_count || shard_bytes > SIZE_MAX / 2 / (restored + 1)) return 0;

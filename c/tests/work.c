@@ -147,6 +147,20 @@ static size_t needed(struct message *m, int call, size_t enough) {
     return many;
 }
 
+static size_t power(size_t count) {
+    size_t power = 1;
+    while (power < count) power *= 2;
+    return power;
+}
+
+/* Whether a decode of shards works over rows, if so many shards are lost or surplus. It sums few shards without rows, and needs less. */
+static int has_rows(const struct message *m, size_t number) {
+    size_t low = power(m->k), high = power(m->r), rows, exponent = 0;
+    rows = power(low < high || (low == high && m->k > m->r) ? low + m->r : high + m->k);
+    while ((size_t)1 << exponent < rows) exponent++;
+    return 2 * number * m->k >= rows * exponent;
+}
+
 /* Counts and a size. rs_work_bytes is what the call needs that needs most. */
 static void shape(size_t k, size_t r, size_t size) {
     size_t used = heap_used, most = 0;
@@ -155,8 +169,9 @@ static void shape(size_t k, size_t r, size_t size) {
         size_t restored = has_surplus(call) ? lost(&m, call) : 0, enough = rs_work_bytes(k, r, size, restored);
         size_t least_number = needed(&m, call, enough), offsets = k + r < 40 && size < 200 ? 64 : 3;
         if (least_number > most) most = least_number;
-        if (call == DECODE_SHARDS && most != enough) wrong("rs_work_bytes is larger than what calls need");
-        if (call == DECODE_SHARDS_SURPLUS && most != enough) wrong("rs_work_bytes is larger than what a decode with surplus needs");
+        if (call == DECODE_SHARDS && has_rows(&m, lost(&m, call)) && most != enough) wrong("rs_work_bytes is larger than what calls need");
+        if (call == DECODE_SHARDS_SURPLUS && has_rows(&m, lost(&m, call) + 1) && most != enough)
+            wrong("rs_work_bytes is larger than what a decode with surplus needs");
         for (size_t i = 0; i < offsets; i++) {
             size_t offset = offsets == 64 ? i : 31 * i, before = heap_used;
             unsigned char *work = guarded(offset, enough);
