@@ -54,7 +54,7 @@ words-last n j xs ys long past =
     (let e : j % 32 ≡ (j - 32 * n) % 32 = omega (arith, past) in e)
 
 -- A slice that was lent by a vector is its list of elements afterwards, if it has as many elements.
-pub written-back : (xs ys : List ℕ) (n : ℕ) → length xs ≡ n → length ys ≡ n
+pub written-back : {X : Type 0} (xs ys : List X) (n : ℕ) → length xs ≡ n → length ys ≡ n
     → take n (xs ++ drop (length xs) ys) ≡ xs
 written-back xs ys n own other =
     ap (λ m. take m (xs ++ drop (length xs) ys)) (sym own) ∙ take-append_seam xs (drop (length xs) ys)

@@ -50,7 +50,10 @@ pub(crate) fn decode_rows<E: Engine>(
     ensures counts { DecodeCounts (rows_to_decode rows.old.configuration) steps.old steps.new }
 {
     let tally = rows.tally();
-    let agrees = restore(engine, steps, &mut rows.memory, tally);
+    let memory = &mut rows.memory;
+    let chunks = memory.chunks.as_mut_slice();
+    let entries = memory.entries.as_mut_slice();
+    let agrees = restore(engine, steps, chunks, &mut memory.marks, entries, tally);
     let answer = if agrees {
         Ok(tally.missing)
     } else {
@@ -71,35 +74,39 @@ pub(crate) fn decode_rows<E: Engine>(
 
 // Restores the missing originals in their rows if some message agrees with all given shards, and returns whether one does. If
 // all originals and no recovery shards are given, there is nothing to restore. Afterwards the marks are those of restored
-// originals.
+// originals. `entries` is memory for the locator.
+#[tactic(auto, unfolding(crate::specs::ShardRows::chunk_count))]
 fn restore<E: Engine>(
     engine: &E,
     steps: &mut Steps,
-    memory: &mut DecoderMemory,
+    chunks: &mut [[u8; 64]],
+    marks: &mut Marks,
+    entries: &mut [GfElement],
     tally: Tally,
 ) -> bool
     requires whole { chunk_count
-        (rows_to_decode tally.configuration) tally.configuration.shard_bytes
-        ≤ length memory.old.chunks.items }
-    requires entries { length memory.old.entries.items ≡ rows_to_decode tally.configuration }
-    requires facts { CanBeRestored tally memory.old.marks }
-    ensures marks { WantsMissing tally.configuration memory.old.marks memory.new.marks }
-    ensures length { length memory.new.chunks.items ≡ length memory.old.chunks.items }
-    ensures entries { length memory.new.entries.items ≡ length memory.old.entries.items }
-    ensures room { memory_room memory.new ≡ memory_room memory.old }
+        (rows_to_decode tally.configuration) tally.configuration.shard_bytes ≤ length chunks.old }
+    requires facts { CanBeRestored tally marks.old }
+    requires entries { length entries.old ≡ rows_to_decode tally.configuration }
+    ensures marks { WantsMissing tally.configuration marks.old marks.new }
     ensures nothing { tally.missing ≡ 0 → tally.surplus ≡ 0 → result ≡ true }
     ensures restored { 0 < tally.missing + tally.surplus
-        → RestoresShards tally.configuration (given_marks memory.old.marks) tally.surplus
-        memory.old.chunks.items memory.new.chunks.items result }
+        → RestoresShards tally.configuration (given_marks marks.old) tally.surplus
+        chunks.old chunks.new result }
     ensures counts { DecodeCounts (rows_to_decode tally.configuration) steps.old steps.new }
 {
+    let configuration = tally.configuration;
     if tally.missing == 0 && tally.surplus == 0 {
-        memory.marks.want_missing(tally.configuration);
+        marks.want_missing(configuration);
         return true;
     }
-    let chunks = memory.chunks.as_mut_slice();
-    let entries = memory.entries.as_mut_slice();
-    restore_chunks(engine, steps, chunks, &mut memory.marks, entries, tally)
+    let len = row_len(configuration.shard_bytes);
+    let mut rows = ShardsRefMut::new(configuration.frame.row_count(), len, chunks);
+    let agrees = find_words(engine, steps, &mut rows, marks, entries, tally);
+    if agrees {
+        move_restored_tails(steps, chunks, marks, configuration);
+    }
+    agrees
 }
 
 // Computes the locator of the erased rows, at all rows.
@@ -140,36 +147,6 @@ fn erased_at(given: &[bool], frame: Frame, row: usize) -> GfElement
 {
     let is_zero = frame.zeros_from <= row && row < frame.zeros_to;
     if is_zero || given[row] { 0 } else { 1 }
-}
-
-// Restores the missing originals over all chunks if some message agrees, and moves their tails. `entries` is memory for the
-// locator.
-#[tactic(auto, unfolding(crate::specs::ShardRows::chunk_count))]
-fn restore_chunks<E: Engine>(
-    engine: &E,
-    steps: &mut Steps,
-    chunks: &mut [[u8; 64]],
-    marks: &mut Marks,
-    entries: &mut [GfElement],
-    tally: Tally,
-) -> bool
-    requires whole { chunk_count
-        (rows_to_decode tally.configuration) tally.configuration.shard_bytes ≤ length chunks.old }
-    requires facts { CanBeRestored tally marks.old }
-    requires entries { length entries.old ≡ rows_to_decode tally.configuration }
-    ensures marks { WantsMissing tally.configuration marks.old marks.new }
-    ensures shards { RestoresShards tally.configuration
-        (given_marks marks.old) tally.surplus chunks.old chunks.new result }
-    ensures counts { DecodeCounts (rows_to_decode tally.configuration) steps.old steps.new }
-{
-    let configuration = tally.configuration;
-    let len = row_len(configuration.shard_bytes);
-    let mut rows = ShardsRefMut::new(configuration.frame.row_count(), len, chunks);
-    let agrees = find_words(engine, steps, &mut rows, marks, entries, tally);
-    if agrees {
-        move_restored_tails(steps, chunks, marks, configuration);
-    }
-    agrees
 }
 
 // Restores the words of the missing originals if some message agrees with all given shards, and returns whether one does.

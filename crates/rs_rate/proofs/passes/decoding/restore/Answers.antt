@@ -10,10 +10,10 @@ use Rattle.rs_rate.specs.Marks.{given_marks}
 use Rattle.rs_rate.specs.ShardRows.{word_in}
 use Rattle.rs_rate.proofs.RestoredRows.{found_read}
 use Rattle.rs_rate.proofs.ShardRowsLemmas.{column-put}
-use Rattle.rs_rate.proofs.passes.decoding.restore_chunks.Goals as goal
+use Rattle.rs_rate.proofs.passes.decoding.restore.Goals as goal
 
-pub returns-then-agrees-clause-shards : goal.returns-then-agrees-clause-shards
-returns-then-agrees-clause-shards g c =
+pub returns-then-agrees-clause-restored : goal.returns-then-agrees-clause-restored
+returns-then-agrees-clause-restored g c some =
     let s = c.args.tally.configuration in
     let n : ℕ = row_len s.shard_bytes in
     let mid = c.chunks-1.given.0 in
@@ -32,8 +32,8 @@ returns-then-agrees-clause-shards g c =
           (s.frame.originals_from + i) j c.requires.facts.configured.even hj;
     }
 
-pub returns-else-agrees-clause-shards : goal.returns-else-agrees-clause-shards
-returns-else-agrees-clause-shards g c =
+pub returns-else-agrees-clause-restored : goal.returns-else-agrees-clause-restored
+returns-else-agrees-clause-restored g c some =
     let s = c.args.tally.configuration in
     let n : ℕ = row_len s.shard_bytes in
     let mid = c.chunks-1.given.0 in
