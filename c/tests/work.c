@@ -240,7 +240,7 @@ static void faults(void) {
         wrong("NULL in arrays of a call that fails");
     from[1].bytes = bytes, from[1].length = 4;
     if (rs_decode_shards_with_work(tables, 3, 2, &own, 1, other, 2, to, 1, work, rs_work_bytes(3, 2, 4, 2), &fault) != RS_WRONG_NUMBER_OF_ROOMS ||
-        rs_decode_shards_with_work(tables, 3, 2, &own, 1, other, 2, to, 1, work, enough, &fault) != RS_OUT_OF_MEMORY)
+        rs_decode_shards_with_work(tables, 3, 2, &own, 1, other, 2, to, 1, work, enough - 256, &fault) != RS_OUT_OF_MEMORY)
         wrong("rooms that don't fit");
     if (requests != before) wrong("a call that fails requests memory from malloc");
     if (rs_encode_shards(tables, 3, 2, from, 3, to, 2, NULL) || requests != before + 1) wrong("a call without work memory");
