@@ -58,7 +58,7 @@ pub bytes-shards : (array : List RsShard) → shards_in (items_of array) ≡ byt
 bytes-shards [] = refl
 bytes-shards (shard ∷ shards) = ap (λ (others : List Shard). shard.bytes.now ∷ others) (bytes-shards shards)
 
--- The same of two arrays, one after the other.
+-- The shards of the items of two arrays, one array after the other, are the bytes of their shards.
 pub both-shards : (first second : List RsShard)
     → bytes_of first ++ bytes_of second ≡ shards_in (items_of first) ++ shards_in (items_of second)
 both-shards first second =
