@@ -6,49 +6,28 @@
 
 #include <stdatomic.h>
 
-/* The proved calls of one build. Each has the type of the call of the header. */
-struct build {
-    __typeof__(rs_tables_make) *tables_make;
-    __typeof__(rs_encode) *encode;
-    __typeof__(rs_decode) *decode;
-    __typeof__(rs_encode_shards) *encode_shards;
-    __typeof__(rs_decode_shards) *decode_shards;
-    __typeof__(rs_verify) *verify;
-    __typeof__(rs_reconstruct) *reconstruct;
-    __typeof__(rs_update) *update;
-};
+/* The proved calls of a build: X(call, level) for each. They have the types of the calls of the header. */
+#define PROVED(X, level)                                                                                   \
+    X(tables_make, level) X(encode, level) X(decode, level) X(encode_shards, level) X(decode_shards, level) \
+    X(verify, level) X(reconstruct, level) X(update, level)
+#define FIELD(call, level) __typeof__(rs_##call) *call;
+#define DECLARED(call, level) __typeof__(rs_##call) rs_##call##_##level;
+#define NAMED(call, level) rs_##call##_##level,
+struct build { PROVED(FIELD, any) };
+PROVED(DECLARED, v1)
 
-#define PROVED(level)                                      \
-    __typeof__(rs_tables_make) rs_tables_make_##level;     \
-    __typeof__(rs_encode) rs_encode_##level;               \
-    __typeof__(rs_decode) rs_decode_##level;               \
-    __typeof__(rs_encode_shards) rs_encode_shards_##level; \
-    __typeof__(rs_decode_shards) rs_decode_shards_##level; \
-    __typeof__(rs_verify) rs_verify_##level;               \
-    __typeof__(rs_reconstruct) rs_reconstruct_##level;     \
-    __typeof__(rs_update) rs_update_##level
-#define BUILD(level)                                                                                                            \
-    {rs_tables_make_##level,   rs_encode_##level, rs_decode_##level,     rs_encode_shards_##level, rs_decode_shards_##level, \
-     rs_verify_##level,        rs_reconstruct_##level, rs_update_##level}
-
-/* These calls have nothing to gain from newer instructions. */
-__typeof__(rs_supports) rs_supports_v1;
-__typeof__(rs_version) rs_version_v1;
+/* This call has nothing to gain from newer instructions. Nor do rs_supports and rs_version, whose names c/rename keeps in the build v1. */
 size_t rs_fault_text_v1(const struct rs_fault *fault, uint8_t *text, size_t text_length);
-
-PROVED(v1);
 
 #ifdef __x86_64__
 #include <cpuid.h>
 
-PROVED(v2);
-PROVED(v3);
-static const struct build builds[] = {BUILD(v1), BUILD(v2), BUILD(v3)};
+PROVED(DECLARED, v2)
+PROVED(DECLARED, v3)
+static const struct build builds[] = {{PROVED(NAMED, v1)}, {PROVED(NAMED, v2)}, {PROVED(NAMED, v3)}};
 
 /* What cpuid and xgetbv say of the processor and the system: registers of cpuid 1, 7 and 0x80000001, and the register XCR0. */
-struct processor {
-    unsigned ecx1, ebx7, extended_ecx, states;
-};
+struct processor { unsigned ecx1, ebx7, extended_ecx, states; };
 
 /* Every processor of x86-64 has cpuid 1 and 0x80000001, and some have no cpuid 7. */
 static struct processor asked(void) {
@@ -76,7 +55,7 @@ static unsigned level_of(struct processor told) {
 #define RS_LEVEL level_of(asked())
 #endif
 #else
-static const struct build builds[] = {BUILD(v1)};
+static const struct build builds[] = {{PROVED(NAMED, v1)}};
 #define RS_LEVEL 1
 #endif
 
@@ -87,8 +66,6 @@ static _Atomic(const struct build *) found;
    the build that it wants. */
 static const struct build *fitting(void) {
     const struct build *now = atomic_load_explicit(&found, memory_order_relaxed);
-    if (now) return now;
-    now = &builds[RS_LEVEL - 1];
-    atomic_store_explicit(&found, now, memory_order_relaxed);
+    if (!now) atomic_store_explicit(&found, now = &builds[RS_LEVEL - 1], memory_order_relaxed);
     return now;
 }

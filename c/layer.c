@@ -1,15 +1,12 @@
 /* The calls of the header. Each call allows what the proved calls do not: NULL where the length is 0, and NULL as the fault. Then it makes
-   the proved call of the same name, from the build of the library that fits the processor. */
+   the proved call of the same name, from the build that fits the processor. Two of the calls over arrays do so at once if nothing is NULL. */
 #include "choice.h"
 
 #include <stdbool.h>
 #include <string.h>
 
 /* The memory of calls, in c/work.c. */
-struct tried {
-    bool ok;
-    void *at;
-} rs_alloc(size_t size, size_t align);
+struct tried { bool ok; void *at; } rs_alloc(size_t size, size_t align);
 void rs_dealloc(void *at);
 
 /* The proved calls take no NULL. A pointer to nothing becomes a pointer to this object, of which no byte is read or written. */
@@ -19,15 +16,16 @@ static void *at(const void *pointer, size_t length) {
     return length ? (void *)pointer : nowhere;
 }
 
-/* An array of shards or rooms. An entry has `size` bytes and ends with a pointer and a length, as struct rs_bytes. */
-struct array {
-    const void *entries;
-    size_t number, size;
-    unsigned char *copy;
+/* What a call over arrays keeps: the place of its fault, its copies of arrays, and whether there was no memory for a copy. */
+struct call {
+    struct rs_fault *fault, unread;
+    void *copies[3];
+    unsigned number;
+    bool failed;
 };
 
-/* Whether the array is empty, or one of its pointers is NULL. Most calls have no such array, and make the proved call at once. */
-static inline bool has_nothing(const void *entries, size_t number, size_t size) {
+/* Whether the array is empty, or one of its pointers is NULL. An entry has `size` bytes, and ends as struct rs_bytes. */
+static inline bool has_null(const void *entries, size_t number, size_t size) {
     const unsigned char *next = entries;
     const uint8_t *bytes = NULL;
     for (size_t i = 0; i < number; i++, next += size) {
@@ -37,39 +35,29 @@ static inline bool has_nothing(const void *entries, size_t number, size_t size) 
     return !bytes;
 }
 
-/* Copies an array, and replaces the pointers of all entries without bytes. Returns false if there is no memory. */
-static bool copied(struct array *array) {
-    const size_t length = array->number * array->size;
-    struct tried block = rs_alloc(length, 8);
-    if (!block.ok) return false;
-    array->copy = memcpy(block.at, array->entries, length);
-    for (unsigned char *next = array->copy + array->size; next <= array->copy + length; next += array->size) {
+/* The array that the proved call takes: the caller's, or if a pointer is NULL, a copy with other pointers in all entries without bytes. */
+static const void *taken(struct call *call, const void *entries, size_t number, size_t size) {
+    if (!number || !has_null(entries, number, size)) return at(entries, number);
+    struct tried block = rs_alloc(number * size, 8);
+    if (!block.ok) {
+        *call->fault = (struct rs_fault){RS_OUT_OF_MEMORY, 0, 0, 0};
+        call->failed = true;
+        return NULL;
+    }
+    unsigned char *copy = call->copies[call->number++] = memcpy(block.at, entries, number * size);
+    for (unsigned char *next = copy; next < copy + number * size; next += size) {
         struct rs_bytes end;
-        memcpy(&end, next - sizeof end, sizeof end);
+        memcpy(&end, next + size - sizeof end, sizeof end);
         end.bytes = at(end.bytes, end.length);
-        memcpy(next - sizeof end, &end, sizeof end);
+        memcpy(next + size - sizeof end, &end, sizeof end);
     }
-    return true;
+    return copy;
 }
 
-/* Gives back the copies of arrays, and returns what the call has returned. */
-static uint32_t unshielded(struct array *arrays, size_t number, uint32_t answer) {
-    for (size_t i = 0; i < number; i++)
-        if (arrays[i].copy) rs_dealloc(arrays[i].copy);
+/* Gives back the copies, and returns what the call has returned. */
+static inline uint32_t ended(struct call *call, uint32_t answer) {
+    while (call->number) rs_dealloc(call->copies[--call->number]);
     return answer;
-}
-
-/* Makes arrays that the proved calls take from arrays of which some may be empty or have NULL. Returns false, and writes the fault, if there
-   is no memory. */
-static bool shielded(struct array *arrays, size_t number, struct rs_fault *to) {
-    bool ok = true;
-    for (size_t i = 0; i < number; i++) {
-        if (ok && arrays[i].number && has_nothing(arrays[i].entries, arrays[i].number, arrays[i].size)) ok = copied(&arrays[i]);
-        arrays[i].entries = arrays[i].copy ? arrays[i].copy : at(arrays[i].entries, arrays[i].number);
-    }
-    if (ok) return true;
-    *to = (struct rs_fault){unshielded(arrays, number, RS_OUT_OF_MEMORY), 0, 0, 0};
-    return false;
 }
 
 uint32_t rs_tables_make(struct rs_tables *tables) {
@@ -78,10 +66,6 @@ uint32_t rs_tables_make(struct rs_tables *tables) {
 
 size_t rs_tables_bytes(void) {
     return sizeof(struct rs_tables);
-}
-
-uint32_t rs_supports(size_t original_count, size_t recovery_count) {
-    return rs_supports_v1(original_count, recovery_count);
 }
 
 size_t rs_shard_bytes(size_t total, size_t original_count) {
@@ -108,66 +92,64 @@ uint32_t rs_decode(const struct rs_tables *tables, size_t original_count, size_t
 
 uint32_t rs_encode_shards(const struct rs_tables *tables, size_t original_count, size_t recovery_count, const struct rs_bytes *originals,
                           size_t originals_number, const struct rs_room *recovery, size_t recovery_number, struct rs_fault *fault) {
-    const struct build *build = atomic_load_explicit(&found, memory_order_relaxed);
-    if (!build || !fault || has_nothing(originals, originals_number, sizeof *originals) ||
-        has_nothing(recovery, recovery_number, sizeof *recovery)) {
-        struct array arrays[] = {{originals, originals_number, sizeof *originals, NULL}, {recovery, recovery_number, sizeof *recovery, NULL}};
-        struct rs_fault unread, *to = fault ? fault : &unread;
-        if (!shielded(arrays, 2, to)) return RS_OUT_OF_MEMORY;
-        return unshielded(arrays, 2, fitting()->encode_shards(tables, original_count, recovery_count, arrays[0].entries, originals_number,
-                                                              arrays[1].entries, recovery_number, to));
-    }
-    return build->encode_shards(tables, original_count, recovery_count, originals, originals_number, recovery, recovery_number, fault);
+    if (fault && !has_null(originals, originals_number, sizeof *originals) && !has_null(recovery, recovery_number, sizeof *recovery))
+        return fitting()->encode_shards(tables, original_count, recovery_count, originals, originals_number, recovery, recovery_number,
+                                        fault);
+    struct call call = {.fault = fault ? fault : &call.unread};
+    originals = taken(&call, originals, originals_number, sizeof *originals);
+    recovery = taken(&call, recovery, recovery_number, sizeof *recovery);
+    if (call.failed) return ended(&call, RS_OUT_OF_MEMORY);
+    return ended(&call, fitting()->encode_shards(tables, original_count, recovery_count, originals, originals_number, recovery,
+                                                 recovery_number, call.fault));
 }
 
 uint32_t rs_decode_shards(const struct rs_tables *tables, size_t original_count, size_t recovery_count, const struct rs_shard *originals,
                           size_t originals_number, const struct rs_shard *recovery, size_t recovery_number,
                           const struct rs_room *restored, size_t restored_number, struct rs_fault *fault) {
-    const struct build *build = atomic_load_explicit(&found, memory_order_relaxed);
-    if (!build || !fault || has_nothing(originals, originals_number, sizeof *originals) ||
-        has_nothing(recovery, recovery_number, sizeof *recovery) || has_nothing(restored, restored_number, sizeof *restored)) {
-        struct array arrays[] = {{originals, originals_number, sizeof *originals, NULL},
-                                 {recovery, recovery_number, sizeof *recovery, NULL},
-                                 {restored, restored_number, sizeof *restored, NULL}};
-        struct rs_fault unread, *to = fault ? fault : &unread;
-        if (!shielded(arrays, 3, to)) return RS_OUT_OF_MEMORY;
-        return unshielded(arrays, 3, fitting()->decode_shards(tables, original_count, recovery_count, arrays[0].entries, originals_number,
-                                                              arrays[1].entries, recovery_number, arrays[2].entries, restored_number, to));
-    }
-    return build->decode_shards(tables, original_count, recovery_count, originals, originals_number, recovery, recovery_number, restored,
-                                restored_number, fault);
+    if (fault && !has_null(originals, originals_number, sizeof *originals) && !has_null(recovery, recovery_number, sizeof *recovery) &&
+        !has_null(restored, restored_number, sizeof *restored))
+        return fitting()->decode_shards(tables, original_count, recovery_count, originals, originals_number, recovery, recovery_number,
+                                        restored, restored_number, fault);
+    struct call call = {.fault = fault ? fault : &call.unread};
+    originals = taken(&call, originals, originals_number, sizeof *originals);
+    recovery = taken(&call, recovery, recovery_number, sizeof *recovery);
+    restored = taken(&call, restored, restored_number, sizeof *restored);
+    if (call.failed) return ended(&call, RS_OUT_OF_MEMORY);
+    return ended(&call, fitting()->decode_shards(tables, original_count, recovery_count, originals, originals_number, recovery,
+                                                 recovery_number, restored, restored_number, call.fault));
 }
 
 uint32_t rs_verify(const struct rs_tables *tables, size_t original_count, size_t recovery_count, const struct rs_shard *originals,
                    size_t originals_number, const struct rs_shard *recovery, size_t recovery_number, struct rs_fault *fault) {
-    struct array arrays[] = {{originals, originals_number, sizeof *originals, NULL}, {recovery, recovery_number, sizeof *recovery, NULL}};
-    struct rs_fault unread, *to = fault ? fault : &unread;
-    if (!shielded(arrays, 2, to)) return RS_OUT_OF_MEMORY;
-    return unshielded(arrays, 2, fitting()->verify(tables, original_count, recovery_count, arrays[0].entries, originals_number,
-                                                   arrays[1].entries, recovery_number, to));
+    struct call call = {.fault = fault ? fault : &call.unread};
+    originals = taken(&call, originals, originals_number, sizeof *originals);
+    recovery = taken(&call, recovery, recovery_number, sizeof *recovery);
+    if (call.failed) return ended(&call, RS_OUT_OF_MEMORY);
+    return ended(&call, fitting()->verify(tables, original_count, recovery_count, originals, originals_number, recovery, recovery_number,
+                                          call.fault));
 }
 
 uint32_t rs_reconstruct(const struct rs_tables *tables, size_t original_count, size_t recovery_count, const struct rs_shard *originals,
                         size_t originals_number, const struct rs_shard *recovery, size_t recovery_number, const struct rs_wanted *wanted,
                         size_t wanted_number, const struct rs_room *rooms, size_t rooms_number, struct rs_fault *fault) {
-    struct array arrays[] = {{originals, originals_number, sizeof *originals, NULL},
-                             {recovery, recovery_number, sizeof *recovery, NULL},
-                             {rooms, rooms_number, sizeof *rooms, NULL}};
-    struct rs_fault unread, *to = fault ? fault : &unread;
-    if (!shielded(arrays, 3, to)) return RS_OUT_OF_MEMORY;
-    return unshielded(arrays, 3, fitting()->reconstruct(tables, original_count, recovery_count, arrays[0].entries, originals_number,
-                                                        arrays[1].entries, recovery_number, at(wanted, wanted_number), wanted_number,
-                                                        arrays[2].entries, rooms_number, to));
+    struct call call = {.fault = fault ? fault : &call.unread};
+    originals = taken(&call, originals, originals_number, sizeof *originals);
+    recovery = taken(&call, recovery, recovery_number, sizeof *recovery);
+    rooms = taken(&call, rooms, rooms_number, sizeof *rooms);
+    if (call.failed) return ended(&call, RS_OUT_OF_MEMORY);
+    return ended(&call, fitting()->reconstruct(tables, original_count, recovery_count, originals, originals_number, recovery,
+                                               recovery_number, at(wanted, wanted_number), wanted_number, rooms, rooms_number,
+                                               call.fault));
 }
 
 uint32_t rs_update(const struct rs_tables *tables, size_t original_count, size_t recovery_count, size_t index, const uint8_t *before,
                    size_t before_length, const uint8_t *after, size_t after_length, const struct rs_room *recovery, size_t recovery_number,
                    struct rs_fault *fault) {
-    struct array array = {recovery, recovery_number, sizeof *recovery, NULL};
-    struct rs_fault unread, *to = fault ? fault : &unread;
-    if (!shielded(&array, 1, to)) return RS_OUT_OF_MEMORY;
-    return unshielded(&array, 1, fitting()->update(tables, original_count, recovery_count, index, at(before, before_length), before_length,
-                                                   at(after, after_length), after_length, array.entries, recovery_number, to));
+    struct call call = {.fault = fault ? fault : &call.unread};
+    recovery = taken(&call, recovery, recovery_number, sizeof *recovery);
+    if (call.failed) return ended(&call, RS_OUT_OF_MEMORY);
+    return ended(&call, fitting()->update(tables, original_count, recovery_count, index, at(before, before_length), before_length,
+                                          at(after, after_length), after_length, recovery, recovery_number, call.fault));
 }
 
 size_t rs_fault_text(const struct rs_fault *fault, char *text, size_t text_length) {
@@ -193,8 +175,4 @@ const char *rs_status_name(uint32_t number) {
                                         "RS_INCONSISTENT_SHARDS", "RS_WRONG_LENGTH", "RS_WRONG_NUMBER_OF_ROOMS", "RS_TABLES_NOT_MADE",
                                         "RS_WANTED_INDEX_TOO_LARGE", "RS_WANTED_TWICE", "RS_WANTED_RECEIVED"};
     return number < sizeof names / sizeof *names ? names[number] : "unknown";
-}
-
-uint32_t rs_version(void) {
-    return rs_version_v1();
 }
