@@ -35,6 +35,7 @@ check: all
 	$(RUN) c/out/test threads
 	$(RUN) c/out/received refusals
 	$(RUN) c/out/received rounds 1 500 12
+	$(RUN) c/out/received pairs c/tests/codewords.txt
 	$(RUN) c/out/memory
 	$(RUN) c/out/work few
 

@@ -1,15 +1,17 @@
-/* A malloc of the test's own, which counts the requests of each thread. Its memory is not used again. */
+/* A malloc of the test's own, which counts the requests of each thread, and those of one size. Its memory is not used again. */
 #include <stddef.h>
 #include <string.h>
 
 static unsigned char heap[(size_t)1 << 28];
 static size_t heap_used;
-static __thread long requests;
+static __thread long requests, requests_watched;
+static __thread size_t watched;
 
 /* A block has its size in the 64 bytes before it. */
 static void *heap_block(size_t size) {
     size_t whole = 64 + (size + 63) / 64 * 64, from = __sync_fetch_and_add(&heap_used, whole);
     requests++;
+    requests_watched += size == watched;
     if (size > sizeof heap || from > sizeof heap - whole) return NULL;
     memcpy(heap + from, &size, sizeof size);
     return heap + from + 64;

@@ -1,37 +1,11 @@
 /* rs_verify, rs_reconstruct and rs_update. Words: `rounds SEED COUNT MOST`, with at most MOST originals and recovery shards, and MOST at
-   most 1000; `pairs`; `refusals`. */
-#include "reed_solomon_simd.h"
+   most 1000; `pairs FILE`; `refusals`. */
+#define TEST "received"
+#include "helpers.h"
 
-#include <stdio.h>
-#include <stdlib.h>
-#include <string.h>
+#include <inttypes.h>
 
 enum { MOST_SHARDS = 1000 };
-
-static struct rs_tables *tables;
-
-static void wrong(const char *what) {
-    printf("received: %s\n", what);
-    exit(1);
-}
-
-static void *room(size_t size) {
-    void *at = malloc(size ? size : 1);
-    if (!at) wrong("no memory for the test");
-    return at;
-}
-
-static uint64_t drawn(uint64_t *state) {
-    uint64_t x = *state;
-    x ^= x << 13;
-    x ^= x >> 7;
-    x ^= x << 17;
-    return *state = x;
-}
-
-static int told(const struct rs_fault *fault, uint32_t number, size_t first, size_t second, size_t third) {
-    return fault->number == number && fault->first == first && fault->second == second && fault->third == third;
-}
 
 /* A message of k originals and r recovery shards, one after the other, and an order of these shards. */
 struct message {
@@ -141,31 +115,47 @@ static void round_of(uint64_t *state, size_t most) {
     free(m.order);
 }
 
-/* The original and the recovery shard with these indexes are lost, and come back. */
-static void pair(struct message *m, size_t own, size_t other) {
-    size_t count = 0;
-    for (size_t i = 0; i < m->k + m->r; i++)
-        if (i != own && i != m->k + other) m->order[count++] = i;
-    m->order[count] = own;
-    m->order[count + 1] = m->k + other;
-    struct received a = first_of(m, count);
-    struct rs_fault fault = {99, 99, 99, 99};
-    if (verified(m, &a, &fault) || reconstructed(m, &a, count, &fault) || !told(&fault, RS_OK, 0, 0, 0)) wrong("a pair doesn't come back");
+/* A digest of bytes: FNV-1a with 64 bits. */
+static uint64_t digest(const uint8_t *from, size_t length) {
+    uint64_t digest = 14695981039346656037u;
+    for (size_t i = 0; i < length; i++) digest = (digest ^ from[i]) * 1099511628211u;
+    return digest;
 }
 
-/* Every pair of a lost original and a lost recovery shard, for all counts up to 12:12. */
-static void pairs(void) {
-    uint64_t state = 12;
+/* The shards of a codeword at these two places are lost, and come back. If both places are the same, one shard is lost. */
+static void lose(struct message *m, size_t first, size_t second) {
+    struct rs_fault fault = {99, 99, 99, 99};
     size_t count = 0;
-    for (size_t k = 1; k <= 12; k++)
-        for (size_t r = 2; r <= 12; r++) {
-            struct message m = made_of(k, r, 66, &state);
-            for (size_t own = 0; own < k; own++)
-                for (size_t other = 0; other < r; other++, count++) pair(&m, own, other);
-            free(m.shards);
-            free(m.order);
-        }
-    printf("received: %zu pairs of lost shards come back\n", count);
+    for (size_t i = 0; i < m->k + m->r; i++)
+        if (i != first && i != second) m->order[count++] = i;
+    m->order[count] = first;
+    m->order[m->k + m->r - 1] = second;
+    struct received a = first_of(m, count);
+    if (verified(m, &a, &fault) || reconstructed(m, &a, count, &fault) || !told(&fault, RS_OK, 0, 0, 0)) wrong("lost shards don't come back");
+}
+
+/* Every lost shard, and every pair of lost shards, for all counts up to 12:12. The file has a digest of each codeword, which the Rust crate
+   has made. So the shards that come back are compared with those of the crate. */
+static void pairs(const char *name) {
+    FILE *file = fopen(name, "r");
+    char line[160];
+    size_t k, r, codewords = 0, count = 0;
+    uint64_t wanted;
+    if (!file) wrong(name);
+    while (fgets(line, sizeof line, file)) {
+        if (sscanf(line, "%zu %zu %" SCNx64, &k, &r, &wanted) != 3) continue;
+        uint64_t state = 1000 * k + r;
+        struct message m = made_of(k, r, 66, &state);
+        if (digest(m.shards, (k + r) * 66) != wanted) wrong("a codeword isn't that of the Rust crate");
+        for (size_t first = 0; first < k + r; first++)
+            for (size_t second = first; second < (r > 1 ? k + r : first + 1); second++, count++) lose(&m, first, second);
+        free(m.shards);
+        free(m.order);
+        codewords++;
+    }
+    fclose(file);
+    if (codewords != 144) wrong("another number of codewords");
+    printf("received: %zu times one or two lost shards of the Rust crate's codewords come back\n", count);
 }
 
 /* The shards that the refusals below pass: three originals and two recovery shards of four bytes, and one of six. */
@@ -251,15 +241,15 @@ static void refusals(void) {
 }
 
 int main(int count, char **words) {
-    struct rs_tables *at = tables = room(sizeof *tables);
-    if (rs_tables_make(tables)) wrong("no memory for the tables");
+    make_tables();
+    struct rs_tables *at = tables;
     size_t most = count == 5 ? strtoul(words[4], NULL, 10) : 0;
     if (0 < most && most <= MOST_SHARDS && !strcmp(words[1], "rounds")) {
         uint64_t state = strtoull(words[2], NULL, 10);
         for (unsigned long n = strtoul(words[3], NULL, 10); n > 0; n--) round_of(&state, most);
         puts("received: rounds");
-    } else if (count == 2 && !strcmp(words[1], "pairs"))
-        pairs();
+    } else if (count == 3 && !strcmp(words[1], "pairs"))
+        pairs(words[2]);
     else if (count == 2 && !strcmp(words[1], "refusals"))
         refusals();
     else

@@ -1,34 +1,11 @@
 /* The library from C. Words: `rows FILE..` reads cases of rs_cases; `refusals`; `rounds SEED COUNT`; `pieces SEED COUNT`; `mixes SEED COUNT`; `threads`. */
 #define _DEFAULT_SOURCE
-#include "reed_solomon_simd.h"
+#define TEST "test"
+#include "helpers.h"
 
 #include <inttypes.h>
 #include <pthread.h>
-#include <stdio.h>
-#include <stdlib.h>
-#include <string.h>
 #include <sys/mman.h>
-
-static struct rs_tables *tables;
-
-static void wrong(const char *what) {
-    printf("test: %s\n", what);
-    exit(1);
-}
-
-static void *room(size_t size) {
-    void *at = malloc(size ? size : 1);
-    if (!at) wrong("no memory for the test");
-    return at;
-}
-
-static uint64_t drawn(uint64_t *state) {
-    uint64_t x = *state;
-    x ^= x << 13;
-    x ^= x >> 7;
-    x ^= x << 17;
-    return *state = x;
-}
 
 /* A message with its recovery shards, and which shards are there. */
 struct message {
@@ -48,10 +25,6 @@ static void let_go(struct message *m) {
     free(m->originals);
     free(m->recovery);
     free(m->marks);
-}
-
-static int told(const struct rs_fault *fault, uint32_t number, size_t first, size_t second, size_t third) {
-    return fault->number == number && fault->first == first && fault->second == second && fault->third == third;
 }
 
 static uint8_t *copied(const uint8_t *from, size_t size) {
@@ -762,8 +735,7 @@ static void threads(void) {
 }
 
 int main(int count, char **words) {
-    tables = room(sizeof *tables);
-    if (rs_tables_make(tables)) wrong("no memory for the tables");
+    make_tables();
     if (count > 2 && !strcmp(words[1], "rows"))
         for (int i = 2; i < count; i++) rows(words[i]);
     else if (count == 2 && !strcmp(words[1], "refusals"))

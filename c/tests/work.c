@@ -4,22 +4,14 @@
    small. */
 #define _DEFAULT_SOURCE
 #include "counted.h"
-#include "reed_solomon_simd.h"
+#define TEST "work"
+#include "helpers.h"
 
 #include <pthread.h>
-#include <stdio.h>
-#include <stdlib.h>
 
 enum { ENCODE, ENCODE_SHARDS, DECODE, DECODE_SHARDS, DECODE_SURPLUS, DECODE_SHARDS_SURPLUS, CALLS };
 static const char *const names[] = {"rs_encode",        "rs_encode_shards",          "rs_decode", "rs_decode_shards", "rs_decode with surplus",
                                     "rs_decode_shards with surplus"};
-
-static struct rs_tables *tables;
-
-static void wrong(const char *what) {
-    printf("work: %s\n", what);
-    exit(1);
-}
 
 /* A message, its recovery shards, and what the calls write: recovery shards or originals. The first originals are lost, and the last recovery
    shards are there: as many as are lost, and one more in a call with surplus. */
@@ -30,12 +22,6 @@ struct message {
     struct rs_shard *own, *other;
     struct rs_room *rooms;
 };
-
-static void *room(size_t size) {
-    void *at = malloc(size);
-    if (!at) wrong("no memory for the test");
-    return at;
-}
 
 static size_t least(size_t one, size_t other) {
     return one < other ? one : other;
@@ -147,18 +133,15 @@ static size_t needed(struct message *m, int call, size_t enough) {
     return many;
 }
 
-static size_t power(size_t count) {
-    size_t power = 1;
-    while (power < count) power *= 2;
-    return power;
-}
-
-/* Whether a decode of shards works over rows, if so many shards are lost or surplus. It sums few shards without rows, and needs less. */
-static int has_rows(const struct message *m, size_t number) {
-    size_t low = power(m->k), high = power(m->r), rows, exponent = 0;
-    rows = power(low < high || (low == high && m->k > m->r) ? low + m->r : high + m->k);
-    while ((size_t)1 << exponent < rows) exponent++;
-    return 2 * number * m->k >= rows * exponent;
+/* Whether a decode of shards works over rows: it requests them, and c/heap.c adds 64 bytes. It sums few shards without rows, and needs less. */
+static int has_rows(struct message *m, int call) {
+    size_t gone = lost(m, call);
+    set_up(m, call);
+    watched = bytes_of_rows(m->k, m->r, m->size) + 64;
+    requests_watched = 0;
+    if (rs_decode_shards(tables, m->k, m->r, m->own, m->k - gone, m->other, gone + (size_t)has_surplus(call), m->rooms, gone, NULL))
+        wrong("a decode without work memory fails");
+    return requests_watched > 0;
 }
 
 /* Counts and a size. rs_work_bytes is what the call needs that needs most. */
@@ -169,8 +152,8 @@ static void shape(size_t k, size_t r, size_t size) {
         size_t restored = has_surplus(call) ? lost(&m, call) : 0, enough = rs_work_bytes(k, r, size, restored);
         size_t least_number = needed(&m, call, enough), offsets = k + r < 40 && size < 200 ? 64 : 3;
         if (least_number > most) most = least_number;
-        if (call == DECODE_SHARDS && has_rows(&m, lost(&m, call)) && most != enough) wrong("rs_work_bytes is larger than what calls need");
-        if (call == DECODE_SHARDS_SURPLUS && has_rows(&m, lost(&m, call) + 1) && most != enough)
+        if (call == DECODE_SHARDS && most != enough && has_rows(&m, call)) wrong("rs_work_bytes is larger than what calls need");
+        if (call == DECODE_SHARDS_SURPLUS && most != enough && has_rows(&m, call))
             wrong("rs_work_bytes is larger than what a decode with surplus needs");
         for (size_t i = 0; i < offsets; i++) {
             size_t offset = offsets == 64 ? i : 31 * i, before = heap_used;
@@ -285,8 +268,7 @@ static void threads(void) {
 }
 
 int main(int count, char **words) {
-    tables = room(sizeof *tables);
-    if (rs_tables_make(tables)) wrong("no tables");
+    make_tables();
     of_tables();
     faults();
     shapes(count == 2 && !strcmp(words[1], "few"));
