@@ -1,6 +1,6 @@
 -- Facts about the configuration of an object that was set up: it uses the low or the high rate, and its rows and its
 -- frame have room for its shards.
-use Rattle.std.proofs.Common.{◌≡◌, ℕ, ◌+◌, ◌%◌, ◌<◌, ◌≤◌, Bool, true, false, refl, sym, ap, ◌∙◌, subst, arith}
+use Rattle.std.proofs.Common.{◌^◌, ◌≡◌, ℕ, ◌+◌, ◌%◌, ◌<◌, ◌≤◌, Bool, true, false, refl, sym, ap, ◌∙◌, subst, arith}
 use Rattle.std.specs.Prelude.{cond, Result, Ok, Err, OnOk, OnErr, if◌then◌else◌}
 use Rattle.std.proofs.lemmas.Nat.{pow_pos}
 use Rattle.rs_field.specs.declared.code.error.Error.{Error}
@@ -69,7 +69,7 @@ configuration-by c low is choice = (
 
 -- The blocks that an encoder codes have places for all shards and fit the field.
 pub record HasBlocks (c : Configuration) (coded : ℕ) : Type 0 where
-  pub some : 0 < block_of c
+  pub power : (d : ℕ) × (block_of c ≡ 2 ^ d)
   pub few : block_of c + coded ≤ 65536
   pub rows : next_multiple coded (block_of c) ≡ rows_to_encode c
 
@@ -78,9 +78,8 @@ pub blocks-known : (c : Configuration) → IsConfigured c → (low : Bool) → c
 blocks-known c is low choice =
     let known = configuration-by c low is choice in
     let fit = rows-fit low c.original_count c.recovery_count known.0 in
-    let positive = pow_pos fit.power.0 in
     record {
-      some = omega (arith, positive, fit.power.1, known.1);
+      power = (fit.power.0, known.1 ∙ fit.power.1);
       few = omega (arith, fit.points, fit.enough, known.1);
       rows = ap (next_multiple (cond low c.recovery_count c.original_count)) known.1
           ∙ next_multiple-by low c.original_count c.recovery_count

@@ -4,7 +4,6 @@ use Rattle.std.proofs.Common.{◌∙◌, arith, inl, inr}
 use Rattle.std.proofs.lemmas.Bool.{cases_lt, le-leb, lt-ltb}
 use Rattle.std.proofs.lemmas.Nat.{pow-add, div-add-mod'}
 use Rattle.std.proofs.Math.Nat.{div-eq_of_lt-le, zero-mod, mul-mod_left, mul-le-mul_right}
-use Rattle.std.specs.Int.{next_multiple_of}
 use Rattle.rs_field.proofs.of_code.NextPower.{next_power-large}
 use Rattle.rs_field.specs.code.Counts.{next_power, supports, is_low, low_rate}
 use Rattle.rs_field.specs.code.Frame.{next_multiple, encoder_rows}
@@ -33,10 +32,6 @@ pub next_multiple-by : (low : Bool) (k r : ℕ)
 unfolding encoder_rows is_low
 next_multiple-by true k r = refl
 next_multiple-by false k r = refl
-
--- The next multiple of m, from n on, is below n + m.
-pub next_multiple_of-below : (n m : ℕ) → 0 < m → next_multiple_of n m < n + m
-next_multiple_of-below n m some = let rest : (m - n % m) % m < m = omega arith in omega arith
 
 -- If the low rate supports k and r, k is at most 65536.
 pub low_small : (k r : ℕ) → supports low_rate k r ≡ true → k ≤ 65536

@@ -6,6 +6,7 @@ ghost use Rattle.rs_rate.specs.Configured.{rate_configuration, IsConfigured, blo
 ghost use Rattle.rs_rate.specs.SetUp.{IsSetUp};
 ghost use Rattle.rs_rate.specs.ShardRows.{chunk_count};
 
+use crate::values::frames::next_multiple_of_power;
 use crate::values::rate_marker::RateMarker;
 use crate::values::supported_counts::SupportedCounts;
 use rs_field::engine::layout::row_len;
@@ -102,7 +103,7 @@ impl Configuration {
         } else {
             self.original_count
         };
-        coded.next_multiple_of(self.block_rows())
+        next_multiple_of_power(coded, self.block_rows())
     }
 }
 

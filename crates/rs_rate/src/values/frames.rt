@@ -1,5 +1,5 @@
 //! Powers of two, the frame of each rate for the counts that it supports, and what a decode costs in a frame.
-ghost use Rattle.std.specs.Prelude.{◌≡◌, ◌↔◌, ◌+◌, ◌*◌, ◌^◌, ◌<◌, ◌≤◌, true, IsTrue, if◌then◌else◌};
+ghost use Rattle.std.specs.Prelude.{◌≡◌, ◌↔◌, ◌+◌, ◌*◌, ◌^◌, ◌<◌, ◌≤◌, true, IsTrue, if◌then◌else◌, ℕ, ◌%◌};
 ghost use Rattle.rs_field.specs.code.Counts.{next_power, exponent_of, is_low};
 ghost use Rattle.rs_field.specs.code.Counts.{low_rate, high_rate, default_rate};
 ghost use Rattle.rs_field.specs.code.Frame.{low_frame, high_frame, row_count};
@@ -24,6 +24,20 @@ fn exponent_of(n: usize) -> usize
     ensures { result ≡ exponent_of n }
 {
     power_of_two(n).trailing_zeros() as usize
+}
+
+// Returns the least multiple of a power of two that is not below n. It needs no division: one division takes as long as
+// the other steps that set up an encoder of few short rows.
+pub(crate) fn next_multiple_of_power(n: usize, power: usize) -> usize
+    requires power { (d : ℕ) × (power ≡ 2 ^ d) }
+    requires fits { n + power ≤ 65536 }
+    ensures lower_bound { n ≤ result }
+    ensures upper_bound { result < n + power }
+    ensures multiple { result % power ≡ 0 }
+{
+    let mask = power - 1;
+    let last = n + mask;
+    last - (last & mask)
 }
 
 // Returns whether both counts are at least 1 and at most 65536, the number of elements of the field.
