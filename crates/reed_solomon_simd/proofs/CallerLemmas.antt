@@ -14,7 +14,7 @@ use Rattle.rs_field.specs.code.Configuration.{Configuration, validation_outcome}
 use Rattle.rs_field.proofs.of_code.Entries.{count-nothing}
 use Rattle.rs_rate.proofs.StateLemmas.{valid-supported}
 
-some_originals : (rate : Rate) (k r : ℕ) → supports rate k r ≡ true → 0 < k
+pub some_originals : (rate : Rate) (k r : ℕ) → supports rate k r ≡ true → 0 < k
 unfolding supports
 some_originals low_rate k r is =
     ltb-true 0 k (and_parts (nat_lt 0 k) (nat_lt 0 r)

@@ -7,7 +7,7 @@ use Rattle.std.proofs.lemmas.List.Elements.{recursion_from_All}
 use Rattle.rs_field.specs.declared.code.error.Error.{Error}
 use Rattle.rs_field.specs.declared.code.error.Error.TheVariants.{TooFewOriginalShards, OutOfMemory}
 use Rattle.rs_field.specs.code.Code.{AreRecovery}
-use Rattle.rs_field.specs.code.Column.{Shard}
+use Rattle.rs_field.specs.code.Column.{Shard, IsShard}
 use Rattle.rs_field.specs.code.Configuration.{start_outcome, validation_outcome}
 use Rattle.rs_field.specs.code.Counts.{default_rate}
 use Rattle.rs_field.specs.code.Encoder.{EncoderState, fresh_encoder, with_shard, message_of}
@@ -106,6 +106,19 @@ module _ (k r size : ℕ) (shards : List Shard) (some : 0 < length shards)
         (Err (TooFewOriginalShards k (length shards)))
         (encode_answers-refused (record { configuration = default_of k r size; given = shards })
         (TooFewOriginalShards k (length shards)) (rw (lt-ltb (length shards) k less) refl))
+
+-- If k shards have a valid size and can be set up, they are checked originals.
+pub are-checked : (k r size : ℕ) (shards : List Shard) → 0 < k → length shards ≡ k → All (IsShard size) shards
+    → Ok tt ≡ start_outcome (encoder_rows default_rate k r) (default_of k r size) → AreChecked k r size shards
+are-checked k r size shards some number sized made =
+    let first : 0 < length shards = omega (arith, some, number) in
+    record {
+      led = checked-all k r size shards first (sized 0 [] first).length_is made (omega (arith, number))
+          (λ i d h. (sized i d h).length_is);
+      number = number;
+      sized = sized;
+      set_up = sym made;
+    }
 
 module _ (k r size : ℕ) (shards : List Shard) (is : AreChecked k r size shards) where
   -- The encoder to which the checked originals were added.

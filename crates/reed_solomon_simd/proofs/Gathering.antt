@@ -20,13 +20,6 @@ use Rattle.reed_solomon_simd.specs.LentState.{lent_state}
 use Rattle.reed_solomon_simd.specs.Rooms.{shards_of}
 use Rattle.reed_solomon_simd.proofs.SetUp.{started-parts, valid-even}
 
--- Each shard of a list of shards of one size has this length.
-pub shards-long : (size : ℕ) (xs : List (Bor (List ℕ))) → All (IsShard size) (shards_of xs)
-    → All (λ x. length x.now ≡ size) xs
-shards-long size xs sized k d h =
-    ap length (sym (get_or-map (λ (x : Bor (List ℕ)). x.now) xs k d [] h))
-    ∙ (sized k [] (let n = length-map xs (λ (x : Bor (List ℕ)). x.now) in omega (arith, h, n))).length_is
-
 -- Gathered originals represent a state that an encoder can have.
 pub gathered-is : (x : LentOriginals) → IsEncoder default_rate (lent_state x)
 gathered-is x =

@@ -7,6 +7,7 @@ ghost use Rattle.reed_solomon_simd.specs.Into.{EncodesInto, DecodesInto};
 ghost use Rattle.reed_solomon_simd.specs.Rooms.{shards_of, bytes_in, loans_of};
 
 use crate::checked_originals::check_originals;
+use crate::originals::LentShards;
 use crate::receiving::received_shards;
 use crate::restoring::restore_into;
 use crate::rooms::{LentRooms, check_rooms};
@@ -77,11 +78,11 @@ fn encode_lent<E: Engine>(
     originals: &[&[u8]],
     recovery: &mut [&mut [u8]],
 ) -> Result<(), Error>
-    requires originals { length originals.now ≡ counts.original_count }
+    requires originals { length (shards_of originals.now) ≡ counts.original_count }
     requires number { length recovery.old ≡ counts.recovery_count }
     requires valid { validation_outcome
         (default_of counts.original_count counts.recovery_count shard_bytes) ≡ Ok tt }
-    requires sized { All (λ shard. length shard.now ≡ shard_bytes) originals.now }
+    requires sized { All (λ shard. length shard ≡ shard_bytes) (shards_of originals.now) }
     requires fit { All (λ room. length room ≡ shard_bytes) (bytes_in recovery.old) }
     ensures coded { OnOk result
         (AreRecovery (default_of counts.original_count counts.recovery_count shard_bytes)
@@ -90,8 +91,9 @@ fn encode_lent<E: Engine>(
     ensures untouched { OnErr result (bytes_in recovery.new ≡ bytes_in recovery.old) }
     ensures kept { loans_of recovery.new ≡ loans_of recovery.old }
 {
+    let shards = LentShards { shards: originals };
     let mut rooms = LentRooms { rooms: recovery };
-    encode_strips(alloc, counts, shard_bytes, engine, originals, &mut rooms)
+    encode_strips(alloc, counts, shard_bytes, engine, &shards, &mut rooms)
 }
 
 /// Decodes the received shards, and writes the missing originals into `restored`, in order of their index.

@@ -8,6 +8,7 @@ ghost use Rattle.rs_field.specs.code.OneCall.{default_of};
 ghost use Rattle.rs_field.specs.code.Frame.{encoder_rows};
 ghost use Rattle.reed_solomon_simd.specs.Rooms.{shards_of};
 
+use crate::originals::LentShards;
 use crate::rooms::Rooms;
 use crate::strip_encoder::encode_strips;
 use rs_field::bytes::are_bytes;
@@ -184,14 +185,10 @@ impl<'a> LentOriginals<'a> {
         ensures places { R.places rooms.new ≡ R.places rooms.old }
         ensures loan { R.loan rooms.new ≡ R.loan rooms.old }
     {
-        encode_strips(
-            alloc,
-            self.counts,
-            self.shard_bytes,
-            engine,
-            self.shards.as_slice(),
-            rooms,
-        )
+        let shards = LentShards {
+            shards: self.shards.as_slice(),
+        };
+        encode_strips(alloc, self.counts, self.shard_bytes, engine, &shards, rooms)
     }
 
     /// Returns the recovery shards as vectors.

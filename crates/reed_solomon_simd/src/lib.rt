@@ -19,6 +19,7 @@ mod into;
 pub mod lent_originals;
 mod messages;
 mod one_call;
+pub mod originals;
 pub mod pieces;
 pub mod received_shards;
 pub mod receiving;

@@ -11,8 +11,8 @@ ghost use Rattle.rs_field.specs.code.Pieces.{pieces, ArePut, room_length};
 ghost use Rattle.rs_rate.specs.EncoderView.{encoder_state};
 ghost use Rattle.rs_rate.specs.Giving.{Reaches};
 ghost use Rattle.rs_rate.specs.ResultView.{recovery_shards};
-ghost use Rattle.reed_solomon_simd.specs.Rooms.{shards_of};
 
+use crate::originals::Originals;
 use crate::rooms::Rooms;
 use rs_field::engine::{Engine, Steps};
 use rs_field::error::Error;
@@ -29,25 +29,25 @@ pub(crate) const STRIP_BYTES: usize = 4096;
 /// # Errors
 ///
 /// [`Error::OutOfMemory`] if the work area cannot be allocated, or if a room cannot grow.
-pub fn encode_strips<E: Engine, R: Rooms>(
+pub fn encode_strips<E: Engine, O: Originals, R: Rooms>(
     alloc: Global,
     counts: DefaultRateCounts,
     shard_bytes: usize,
     engine: E,
-    originals: &[&[u8]],
+    originals: &O,
     rooms: &mut R,
 ) -> Result<(), Error>
-    requires originals { length originals.now ≡ counts.original_count }
+    requires originals { length (O.shards originals.now) ≡ counts.original_count }
     requires number { length (R.held rooms.old) ≡ counts.recovery_count }
     requires valid { validation_outcome
         (default_of counts.original_count counts.recovery_count shard_bytes)
         ≡ Ok tt }
-    requires sized { All (λ shard. length shard.now ≡ shard_bytes) originals.now }
+    requires sized { All (λ shard. length shard ≡ shard_bytes) (O.shards originals.now) }
     requires fit { All (λ room. length room ≡ room_length R.grows 0 shard_bytes)
         (R.held rooms.old) }
     ensures coded { OnOk result
         (AreRecovery (default_of counts.original_count counts.recovery_count shard_bytes)
-        (shards_of originals.now) (R.held rooms.new)) }
+        (O.shards originals.now) (R.held rooms.new)) }
     ensures refused { OnErr result (result ≡ Err Error.OutOfMemory) }
     ensures untouched { R.grows ≡ false → OnErr result (R.held rooms.new ≡ R.held rooms.old) }
     ensures places { R.places rooms.new ≡ R.places rooms.old }
@@ -69,26 +69,26 @@ pub fn encode_strips<E: Engine, R: Rooms>(
 }
 
 // Encodes one strip of the originals, and writes this strip of the recovery shards into the rooms.
-fn encode_strip<E: Engine, R: Rooms>(
+fn encode_strip<E: Engine, O: Originals, R: Rooms>(
     encoder: &mut DefaultRateEncoder<E>,
-    originals: &[&[u8]],
+    originals: &O,
     start: usize,
     end: usize,
     rooms: &mut R,
 ) -> Result<(), Error>
     requires fresh { encoder_state default_rate encoder.old.rows
-        ≡ fresh_encoder (default_of (length originals.now) (length (R.held rooms.old))
-        (end - start)) }
+        ≡ fresh_encoder (default_of (length (O.shards originals.now))
+        (length (R.held rooms.old)) (end - start)) }
     requires order { start ≤ end }
-    requires originals { All (λ shard. end ≤ length shard.now) originals.now }
+    requires originals { All (λ shard. end ≤ length shard) (O.shards originals.now) }
     requires fit { (size : ℕ) × (end ≤ size)
         × All (λ room. length room ≡ room_length R.grows start size) (R.held rooms.old) }
     ensures refused { OnErr result ((R.grows ≡ true) × (result ≡ Err Error.OutOfMemory)) }
     ensures fresh { encoder_state default_rate encoder.new.rows
         ≡ encoder_state default_rate encoder.old.rows }
     ensures coded { OnOk result ((made : List Shard)
-        × AreRecovery (default_of (length originals.now) (length (R.held rooms.old)) (end - start))
-        (pieces start end (shards_of originals.now)) made
+        × AreRecovery (default_of (length (O.shards originals.now)) (length (R.held rooms.old))
+        (end - start)) (pieces start end (O.shards originals.now)) made
         × ArePut start end made (R.held rooms.old) (R.held rooms.new)) }
     ensures places { R.places rooms.new ≡ R.places rooms.old }
     ensures loan { R.loan rooms.new ≡ R.loan rooms.old }
@@ -99,21 +99,21 @@ fn encode_strip<E: Engine, R: Rooms>(
 }
 
 // Adds a strip of each original to an encoder.
-fn add_pieces<E: Engine>(
+fn add_pieces<E: Engine, O: Originals>(
     encoder: &mut DefaultRateEncoder<E>,
-    originals: &[&[u8]],
+    originals: &O,
     start: usize,
     end: usize,
 ) -> Result<(), Error>
     requires order { start ≤ end }
-    requires inside { All (λ shard. end ≤ length shard.now) originals.now }
+    requires inside { All (λ shard. end ≤ length shard) (O.shards originals.now) }
     ensures { Reaches (with_shards (encoder_state default_rate encoder.old.rows)
-        (pieces start end (shards_of originals.now)))
+        (pieces start end (O.shards originals.now)))
         result
         (λ s. encoder_state default_rate encoder.new.rows ≡ s) }
 {
-    for shard in originals {
-        encoder.add_original_shard(&shard[start..end])?;
+    for index in 0..originals.count() {
+        encoder.add_original_shard(originals.piece(index, start, end))?;
     }
     Ok(())
 }

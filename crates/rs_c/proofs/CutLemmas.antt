@@ -26,6 +26,13 @@ cut-at (suc n) size bytes (suc i) inside =
     ∙ ap (take size) (drop-drop (i * size) size bytes
     ∙ ap (λ (m : ℕ). drop m bytes) (let e : size + i * size ≡ suc i * size = omega (arith, more) in e))
 
+-- If a buffer has the length of n shards, each of its shards ends inside the buffer.
+pub cut-inside : (n size i : ℕ) (bytes : List ℕ) → length bytes ≡ n * size → i < n → i * size + size ≤ length bytes
+cut-inside n size i bytes whole inside =
+    let more = suc-mul i size in
+    let below = mul-le-mul_right size (let k : suc i ≤ n = omega (arith, inside) in k) in
+    omega (arith, whole, below, more)
+
 -- If a buffer has the length of n shards, its n shards, one after the other, are the buffer.
 pub joined-cut : (n size : ℕ) (bytes : List ℕ) → length bytes ≡ n * size
     → concatenation (shards_in_buffer n size bytes) ≡ bytes

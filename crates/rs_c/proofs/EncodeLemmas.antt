@@ -1,19 +1,22 @@
 -- Lemmas that lead from the results of inner calls to the result of an encode over buffers.
-use Rattle.std.proofs.Common.{◌≡◌, inl, inr, ℕ, zero, suc, ◌*◌, ◌<◌, true, List, length, take, drop, Result, Ok, sym}
-use Rattle.std.proofs.Common.{ap, ◌∙◌, refl, arith}
-use Rattle.std.proofs.Math.Nat.{suc-mul}
+use Rattle.std.proofs.Common.{◌≡◌, inl, inr, ℕ, ◌*◌, ◌<◌, true, List, [], length, Result, Ok, Err, All, sym}
+use Rattle.std.proofs.Common.{subst, ◌∙◌, refl, arith}
 use Rattle.std.proofs.lemmas.Bool.{cases_eq, ne_eqb}
-use Rattle.std.proofs.lemmas.List.{length-take-le}
+use Rattle.std.proofs.lemmas.List.{get_or_default}
 use Rattle.rs_field.specs.declared.code.error.Error.{Error}
-use Rattle.rs_field.specs.code.Column.{Shard}
+use Rattle.rs_field.specs.code.Column.{Shard, IsShard}
+use Rattle.rs_field.specs.code.Configuration.{start_outcome}
 use Rattle.rs_field.specs.code.Counts.{default_rate, supports}
+use Rattle.rs_field.specs.code.Frame.{encoder_rows}
 use Rattle.rs_field.specs.code.OneCall.{default_of, OneEncodeAnswers}
-use Rattle.rs_field.specs.code.Encoder.{EncoderState}
-use Rattle.rs_rate.specs.Giving.{IsEncoding}
-use Rattle.rs_rate.proofs.OneCall.{encoding-size}
+use Rattle.reed_solomon_simd.specs.Checked.{AreChecked}
+use Rattle.reed_solomon_simd.proofs.CallerLemmas.{some_originals}
+use Rattle.reed_solomon_simd.proofs.Checking.{are-checked, checked-unset}
 use Rattle.rs_c.specs.declared.fault.Fault.{Fault}
 use Rattle.rs_c.specs.Buffers.{length_outcome, shards_in_buffer, concatenation}
 use Rattle.rs_c.specs.Answers.{EncodesBuffer, Writes, encode_lengths}
+use Rattle.rs_c.proofs.CutLemmas.{cut-length, cut-at, cut-sized}
+use Rattle.rs_c.proofs.MarkedState.{place-long, place-bytes}
 
 -- If the check of a length finds no fault, the length is right.
 pub fits-length : (place count size got : ℕ) → Ok tt ≡ length_outcome place count size got → got ≡ count * size
@@ -29,14 +32,34 @@ pub lengths-ok : (k r size originals recovery : ℕ) → supports default_rate k
     → encode_lengths k r size originals recovery ≡ Ok tt
 lengths-ok k r size originals recovery supported own other = rw (supported, ← own, ← other) refl
 
--- If the shards of a buffer were added to an encoder, the configuration of the encoder has their size.
-pub gathered-size : (k r size : ℕ) (bytes : List ℕ) (s : EncoderState) → 0 < k → length bytes ≡ k * size
-    → IsEncoding k r (shards_in_buffer k size bytes) (Ok s) → s.configuration ≡ default_of k r size
-gathered-size zero r size bytes s some whole is = absurd (let no : ⊥ = omega (arith, some) in no)
-gathered-size (suc n) r size bytes s some whole is =
-    let more = suc-mul n size in
-    encoding-size (suc n) r (take size bytes) (shards_in_buffer n size (drop size bytes)) s is
-    ∙ ap (λ (m : ℕ). default_of (suc n) r m) (length-take-le size bytes (omega (arith, whole, more)))
+-- If the counts are supported, the length is right and the size can be set up, the shards of a buffer are checked
+-- originals.
+pub buffer-checked : (k r size : ℕ) (bytes : List ℕ) → supports default_rate k r ≡ true → length bytes ≡ k * size
+    → All (λ b. b < 256) bytes
+    → Ok tt ≡ start_outcome (encoder_rows default_rate k r) (default_of k r size)
+    → AreChecked k r size (shards_in_buffer k size bytes)
+buffer-checked k r size bytes supported whole all made =
+    are-checked k r size (shards_in_buffer k size bytes) (some_originals default_rate k r supported)
+    (cut-length k size bytes) each made
+  where
+    each : All (IsShard size) (shards_in_buffer k size bytes)
+    each i d h =
+        let inside : i < k = (let number = cut-length k size bytes in omega (arith, h, number)) in
+        let long = place-long size bytes k i whole inside in
+        subst (IsShard size)
+        (sym (get_or_default (shards_in_buffer k size bytes) i d [] h ∙ cut-at k size bytes i inside))
+        (record { length_is = long; bytes = place-bytes size bytes i all long })
+
+-- If the size cannot be set up, one call for the shards of a buffer fails with the same error.
+pub buffer-unset : (k r size : ℕ) (bytes : List ℕ) (e : Error) → supports default_rate k r ≡ true
+    → length bytes ≡ k * size
+    → Err e ≡ start_outcome (encoder_rows default_rate k r) (default_of k r size)
+    → OneEncodeAnswers k r (shards_in_buffer k size bytes) (Err e)
+buffer-unset k r size bytes e supported whole refused =
+    let some = some_originals default_rate k r supported in
+    let number = cut-length k size bytes in
+    checked-unset k r size (shards_in_buffer k size bytes) (omega (arith, some, number))
+    (cut-sized k size bytes whole 0 [] (omega (arith, some, number))) e refused
 
 -- If the counts and lengths are right, the result of the encode over buffers is the result of one call.
 pub encodes : (k r size : ℕ) (originals old new : List ℕ) (answer : Result (Unit {0}) Fault)

@@ -1,9 +1,8 @@
 //! The two calls that encode: one for shards in buffers, and one for shards anywhere in memory.
 ghost use Rattle.std.specs.Prelude.{◌≡◌, ◌*◌, length, Ok, Err, OnOk, OnErr};
 ghost use Rattle.rs_field.specs.code.Code.{AreRecovery};
-ghost use Rattle.rs_field.specs.code.Encoder.{message_of};
-ghost use Rattle.rs_field.specs.code.Outcome.{answer_of};
-ghost use Rattle.reed_solomon_simd.specs.LentState.{lent_state};
+ghost use Rattle.rs_field.specs.code.Configuration.{validation_outcome};
+ghost use Rattle.rs_field.specs.code.OneCall.{default_of};
 ghost use Rattle.rs_c.specs.Buffers.{shards_in_buffer};
 ghost use Rattle.rs_c.specs.Answers.{EncodesBuffer};
 ghost use Rattle.rs_c.specs.Arrays.{shards_of, EncodesArrays, KeepsRooms, bytes_in};
@@ -14,8 +13,9 @@ use crate::engine::TableEngine;
 use crate::fault::Fault;
 use crate::layouts::BufferShards;
 use crate::places::placed_fault;
-use reed_solomon_simd::lent_originals::LentOriginals;
+use reed_solomon_simd::strip_encoder::encode_strips;
 use reed_solomon_simd::{Error, encode_into};
+use rs_field::bytes::are_bytes;
 use rs_rate::rate::DefaultRateCounts;
 use std::alloc::Global;
 
@@ -27,7 +27,7 @@ use std::alloc::Global;
 /// - [`Fault::WrongLength`] for `originals`, then for `recovery`.
 /// - [`Fault::Refused`] with [`Error::InvalidShardSize`] if `shard_bytes` is zero or odd.
 /// - [`Fault::Refused`] with [`Error::OutOfMemory`] if the rows for the whole shards would take more than `usize::MAX`
-///   bytes, if the list of references cannot be allocated, or if the work area cannot be allocated.
+///   bytes, or if the work area cannot be allocated.
 ///
 /// After an error the buffer is unchanged.
 pub fn encode_buffer(
@@ -45,17 +45,9 @@ pub fn encode_buffer(
     let counts = DefaultRateCounts::new(original_count, recovery_count)?;
     check_length(0, original_count, shard_bytes, originals.len())?;
     check_length(1, recovery_count, shard_bytes, recovery.len())?;
-    let shards = BufferShards::new(original_count, shard_bytes, originals);
-    let gathered = LentOriginals::gather(alloc, counts, shards)?;
-    gathered.check_all_given()?;
-    write_recovery(
-        alloc,
-        engine,
-        &gathered,
-        recovery_count,
-        shard_bytes,
-        recovery,
-    )?;
+    counts.check_encoder_rows(shard_bytes)?;
+    are_bytes(originals);
+    write_recovery(alloc, engine, counts, shard_bytes, originals, recovery)?;
     Ok(())
 }
 
@@ -92,32 +84,39 @@ pub fn encode_arrays(
     Ok(())
 }
 
-// Writes the recovery shards of gathered originals into a buffer, one after the other. Fails with `OutOfMemory` if the
-// work area cannot be allocated.
+// Writes the recovery shards of the originals in a buffer into another buffer, one after the other. Fails with
+// `OutOfMemory` if the work area cannot be allocated.
 fn write_recovery(
     alloc: Global,
     engine: TableEngine<'_>,
-    originals: &LentOriginals<'_>,
-    recovery_count: usize,
+    counts: DefaultRateCounts,
     shard_bytes: usize,
+    originals: &[u8],
     recovery: &mut [u8],
 ) -> Result<(), Error>
-    requires all { answer_of (message_of (lent_state originals.now)) ≡ Ok tt }
-    requires counts { (lent_state originals.now).configuration.recovery_count ≡ recovery_count }
-    requires size { (lent_state originals.now).configuration.shard_bytes ≡ shard_bytes }
-    requires whole { length recovery.old ≡ recovery_count * shard_bytes }
+    requires valid { validation_outcome
+        (default_of counts.original_count counts.recovery_count shard_bytes) ≡ Ok tt }
+    requires own { length originals.now ≡ counts.original_count * shard_bytes }
+    requires whole { length recovery.old ≡ counts.recovery_count * shard_bytes }
     ensures coded { OnOk result
-        (AreRecovery (lent_state originals.now).configuration (lent_state originals.now).given
-        (shards_in_buffer recovery_count shard_bytes recovery.new)) }
+        (AreRecovery (default_of counts.original_count counts.recovery_count shard_bytes)
+        (shards_in_buffer counts.original_count shard_bytes originals.now)
+        (shards_in_buffer counts.recovery_count shard_bytes recovery.new)) }
     ensures whole { length recovery.new ≡ length recovery.old }
     ensures refused { OnErr result (result ≡ Err Error.OutOfMemory) }
-    ensures untouched { OnErr result (shards_in_buffer recovery_count shard_bytes recovery.new
-        ≡ shards_in_buffer recovery_count shard_bytes recovery.old) }
+    ensures untouched { OnErr result
+        (shards_in_buffer counts.recovery_count shard_bytes recovery.new
+        ≡ shards_in_buffer counts.recovery_count shard_bytes recovery.old) }
 {
+    let shards = BufferShards {
+        count: counts.original_count,
+        size: shard_bytes,
+        bytes: originals,
+    };
     let mut rooms = BufferRooms {
-        count: recovery_count,
+        count: counts.recovery_count,
         size: shard_bytes,
         bytes: recovery,
     };
-    originals.encode(alloc, engine, &mut rooms)
+    encode_strips(alloc, counts, shard_bytes, engine, &shards, &mut rooms)
 }

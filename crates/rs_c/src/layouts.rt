@@ -1,64 +1,34 @@
 //! The two ways in which shards lie in memory, one after the other in a buffer or anywhere, and their names.
 ghost use Rattle.std.specs.Prelude.{◌≡◌, ◌*◌, length};
-ghost use Rattle.std.specs.Iterator.{YieldsFirstRef, item_count};
 ghost use Rattle.rs_c.specs.Buffers.{shards_in_buffer};
 ghost use Rattle.rs_c.specs.Faults.{named};
 
 use reed_solomon_simd::ShardIndex;
-use std::marker::Model;
+use reed_solomon_simd::originals::Originals;
+use reed_solomon_simd::pieces::piece_of;
 
-/// An iterator over the shards of a buffer, which lie one after the other.
-#[derive(Drop)]
+/// The shards of a buffer, which lie one after the other.
+#[derive(Clone, Copy)]
 pub struct BufferShards<'a> {
-    // The bytes of the shards that are still to come.
-    bytes: &'a [u8],
-    // The size of each shard, in bytes.
-    size: usize,
-    // The number of shards that are still to come.
-    left: usize,
+    /// The number of shards.
+    pub count: usize,
+    /// The size of each shard, in bytes.
+    pub size: usize,
+    /// The bytes of the shards.
+    pub bytes: &'a [u8],
+    pub ghost whole: { length bytes.now ≡ count * size },
 }
 
-impl<'a> Model for BufferShards<'a> {
-    ghost use Rattle.std.specs.Prelude.{◌≡◌, ◌*◌, List, length};
-    ghost use Rattle.rs_field.specs.code.Column.{Shard};
-    ghost use Rattle.rs_c.specs.Buffers.{shards_in_buffer};
+impl<'a> Originals for BufferShards<'a> {
+    ghost shards = { λ x. shards_in_buffer x.count x.size x.bytes.now };
 
-    ghost Value = { List Shard };
-
-    ghost view = { λ x. shards_in_buffer x.left x.size x.bytes.now };
-
-    ghost invariant = { λ x. length x.bytes.now ≡ x.left * x.size };
-}
-
-impl<'a> BufferShards<'a> {
-    /// Makes an iterator over the `count` shards of `size` bytes that are in `bytes`.
-    pub fn new(count: usize, size: usize, bytes: &'a [u8]) -> BufferShards<'a>
-        requires { length bytes.now ≡ count * size }
-        ensures { result ≡ shards_in_buffer count size bytes.now }
-    {
-        BufferShards {
-            bytes,
-            size,
-            left: count,
-        }
+    fn count(&self) -> usize {
+        self.count
     }
-}
 
-impl<'a> Iterator for BufferShards<'a> {
-    type Item = &'a [u8];
-
-    ghost next_gives = { YieldsFirstRef (λ shards. shards) };
-
-    ghost remaining = { item_count (λ shards. shards) };
-
-    fn next(&mut self) -> Option<&'a [u8]> {
-        if self.left == 0 {
-            return None;
-        }
-        let (shard, bytes) = self.bytes.split_at(self.size);
-        self.bytes = bytes;
-        self.left -= 1;
-        Some(shard)
+    fn piece(&self, index: usize, start: usize, end: usize) -> &[u8] {
+        let at = index * self.size;
+        piece_of(&self.bytes[at..at + self.size], start, end)
     }
 }
 

@@ -9,7 +9,6 @@ use Rattle.std.proofs.lemmas.List.{get_or-take, get_or-drop, get_or-map, get_or_
 use Rattle.std.proofs.lemmas.List.{length-map, length-append, take_all, take_at, drop_at, take_more, drop_more}
 use Rattle.std.proofs.lemmas.List.{take-append-drop, map-append, append_assoc, ext_get_or as same_from}
 use Rattle.std.specs.Prelude.{Result, Ok, Err}
-use Rattle.std.specs.Borrow.{Bor}
 use Rattle.std.proofs.lemmas.List.Elements.{All-map, All-append, All-nil}
 use Rattle.rs_field.specs.declared.code.error.Error.{Error}
 use Rattle.rs_field.specs.code.Column.{Shard, AreShards, column, columns, chunk_words}
@@ -352,26 +351,16 @@ done-all grows rate k r size originals rooms done =
 
 -- ---- pieces that are added
 
-pub pieces-count : (start end : ℕ) (xs : List (Bor Shard)) → length (pieces start end (map (λ x. x.now) xs)) ≡ length xs
-pieces-count start end xs = length-map (map (λ (x : Bor Shard). x.now) xs) (λ (s : Shard). between start end s)
-    ∙ length-map xs (λ (x : Bor Shard). x.now)
+pub pieces-count : (start end : ℕ) (xs : List Shard) → length (pieces start end xs) ≡ length xs
+pieces-count start end xs = length-map xs (λ (s : Shard). between start end s)
 
-pub pieces-sized : (start end : ℕ) (xs : List (Bor Shard)) → start ≤ end → All (λ x. end ≤ length x.now) xs
-    → All (λ s. length s ≡ end - start) (pieces start end (map (λ x. x.now) xs))
+pub pieces-sized : (start end : ℕ) (xs : List Shard) → start ≤ end → All (λ s. end ≤ length s) xs
+    → All (λ s. length s ≡ end - start) (pieces start end xs)
 pieces-sized start end xs order inside =
-    All-map (λ s. length s ≡ end - start) (λ s. between start end s) (map (λ (x : Bor Shard). x.now) xs)
-    (All-map (λ s. length (between start end s) ≡ end - start) (λ (x : Bor Shard). x.now) xs (λ i d h.
+    All-map (λ s. length s ≡ end - start) (λ s. between start end s) xs (λ i d h.
     let room = inside i d h in
-    let left = length-drop start (get_or xs i d).now in
-    length-take-le (end - start) (drop start (get_or xs i d).now) (omega (arith, left, room, order))))
-
-pieces-append : (start end : ℕ) (xs ys : List (Bor Shard))
-    → pieces start end (map (λ x. x.now) (xs ++ ys)) ≡ pieces start end (map (λ x. x.now) xs)
-    ++ pieces start end (map (λ x. x.now) ys)
-pieces-append start end xs ys =
-    ap (λ (l : List Shard). map (λ (s : Shard). between start end s) l) (map-append (λ (x : Bor Shard). x.now) xs ys)
-    ∙ map-append (λ (s : Shard). between start end s) (map (λ (x : Bor Shard). x.now) xs)
-    (map (λ (x : Bor Shard). x.now) ys)
+    let left = length-drop start (get_or xs i d) in
+    length-take-le (end - start) (drop start (get_or xs i d)) (omega (arith, left, room, order)))
 
 -- Adding two lists of shards is adding the second list after the first.
 adds-append : (s t : EncoderState) (xs ys : List Shard) → with_shards s xs ≡ Ok t
@@ -386,26 +375,24 @@ adds-append s t (x ∷ xs) ys is = by_outcome (with_shard s x) (λ n led. adds-a
     by_outcome (Ok n) more is = more n is
     by_outcome (Err e) more is = absurd (let no : ⊥ = cc in no)
 
-module _ (start end i : ℕ) (xs : List (Bor Shard)) (d : Bor Shard) (first now : EncoderState) (inside : i < length xs)
-    (led : with_shards first (pieces start end (map (λ x. x.now) (take i xs))) ≡ Ok now) where
+module _ (start end i : ℕ) (xs : List Shard) (first now : EncoderState) (inside : i < length xs)
+    (led : with_shards first (pieces start end (take i xs)) ≡ Ok now) where
   -- Adding the next piece adds the pieces of one more shard.
-  pub given-next : (next : EncoderState) → with_shard now (between start end (get_or xs i d).now) ≡ Ok next
-      → with_shards first (pieces start end (map (λ x. x.now) (take (i + 1) xs))) ≡ Ok next
+  pub given-next : (next : EncoderState) → with_shard now (between start end (get_or xs i [])) ≡ Ok next
+      → with_shards first (pieces start end (take (i + 1) xs)) ≡ Ok next
   given-next next taken =
-      ap (λ (l : List (Bor Shard)). with_shards first (pieces start end (map (λ x. x.now) l))) (take_more xs i d inside)
-      ∙ ap (with_shards first) (pieces-append start end (take i xs) (get_or xs i d ∷ []))
-      ∙ adds-append first now (pieces start end (map (λ x. x.now) (take i xs)))
-      (pieces start end (map (λ x. x.now) (get_or xs i d ∷ []))) led
+      ap (λ (l : List Shard). with_shards first (pieces start end l)) (take_more xs i [] inside)
+      ∙ ap (with_shards first) (map-append (λ (s : Shard). between start end s) (take i xs) (get_or xs i [] ∷ []))
+      ∙ adds-append first now (pieces start end (take i xs)) (pieces start end (get_or xs i [] ∷ [])) led
       ∙ ap (result_and_then (λ (s : EncoderState). Ok s)) taken
 
   -- The error of the first piece that cannot be added is the outcome of adding all pieces.
-  pub given-refused : (e : Error) → with_shard now (between start end (get_or xs i d).now) ≡ Err e
-      → with_shards first (pieces start end (map (λ x. x.now) xs)) ≡ Err e
+  pub given-refused : (e : Error) → with_shard now (between start end (get_or xs i [])) ≡ Err e
+      → with_shards first (pieces start end xs) ≡ Err e
   given-refused e refused =
-      ap (λ (l : List (Bor Shard)). with_shards first (pieces start end (map (λ x. x.now) l)))
-      (sym (take-append-drop i xs) ∙ ap (λ (l : List (Bor Shard)). take i xs ++ l) (drop_more xs i d inside))
-      ∙ ap (with_shards first) (pieces-append start end (take i xs) (get_or xs i d ∷ drop (i + 1) xs))
-      ∙ adds-append first now (pieces start end (map (λ x. x.now) (take i xs)))
-      (pieces start end (map (λ x. x.now) (get_or xs i d ∷ drop (i + 1) xs))) led
-      ∙ ap (result_and_then
-      (λ (s : EncoderState). with_shards s (pieces start end (map (λ x. x.now) (drop (i + 1) xs))))) refused
+      ap (λ (l : List Shard). with_shards first (pieces start end l))
+      (sym (take-append-drop i xs) ∙ ap (λ (l : List Shard). take i xs ++ l) (drop_more xs i [] inside))
+      ∙ ap (with_shards first)
+      (map-append (λ (s : Shard). between start end s) (take i xs) (get_or xs i [] ∷ drop (i + 1) xs))
+      ∙ adds-append first now (pieces start end (take i xs)) (pieces start end (get_or xs i [] ∷ drop (i + 1) xs)) led
+      ∙ ap (result_and_then (λ (s : EncoderState). with_shards s (pieces start end (drop (i + 1) xs)))) refused

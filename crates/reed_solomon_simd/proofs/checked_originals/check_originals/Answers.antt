@@ -8,7 +8,7 @@ use Rattle.rs_field.specs.code.Encoder.{with_shard}
 use Rattle.rs_field.specs.code.OneCall.{default_of, OneEncodeAnswers}
 use Rattle.rs_field.specs.code.Outcome.{answer_of}
 use Rattle.reed_solomon_simd.specs.Rooms.{shards_of}
-use Rattle.reed_solomon_simd.proofs.Checking.{checked-refused, checked-all, checked-few}
+use Rattle.reed_solomon_simd.proofs.Checking.{checked-refused, checked-few, are-checked}
 use Rattle.reed_solomon_simd.proofs.checked_originals.check_originals.Goals as goal
 
 -- The bytes of the original with index i are element i of `shards_of`.
@@ -98,11 +98,5 @@ returns c =
     let enough = c.if-originals-original_count.false in
     let sized = all-long size c.loop-index.index (shards_of xs)
     (omega (arith, all, done)) c.loop-index.invariant.sized in
-    record {
-      led = checked-all k r size (shards_of xs) (omega (arith, some, all))
-          (ap length (at xs 0 d some)) c.in_ok-check_encoder_rows.ensures (omega (arith, all, done, few))
-          (λ j f h. (sized j f h).length_is);
-      number = omega (arith, all, done, few, enough);
-      sized = sized;
-      set_up = sym c.in_ok-check_encoder_rows.ensures;
-    }
+    are-checked k r size (shards_of xs) (omega (arith, some, all, done, few))
+    (omega (arith, all, done, few, enough)) sized c.in_ok-check_encoder_rows.ensures

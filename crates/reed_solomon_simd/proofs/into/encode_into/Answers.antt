@@ -1,10 +1,8 @@
 use Rattle.std.proofs.Common.{rules, ◌≡◌, List, Ok, Err, sym, ◌∙◌, refl}
-use Rattle.std.proofs.lemmas.List.{length-map}
 use Rattle.rs_field.specs.declared.code.error.Error.TheVariants.{OutOfMemory}
 use Rattle.rs_field.specs.code.Column.{Shard}
 use Rattle.rs_rate.proofs.OneCall.{encoding-uncounted, encoding-refused}
 use Rattle.reed_solomon_simd.specs.Rooms.{shards_of, bytes_in}
-use Rattle.reed_solomon_simd.proofs.Gathering.{shards-long}
 use Rattle.reed_solomon_simd.proofs.Checking.{checked-valid, checked-made, checked-encodes}
 use Rattle.reed_solomon_simd.proofs.RoomFits.{fills}
 use Rattle.reed_solomon_simd.proofs.into.encode_into.Goals as goal
@@ -42,8 +40,7 @@ returns-in_err-check_rooms-clause-answer g c =
     )
 
 pub encode_lent-requires-clause-originals : goal.encode_lent-requires-clause-originals
-encode_lent-requires-clause-originals g c = sym (length-map c.args.original.now (λ x. x.now))
-    ∙ c.in_ok-shard_bytes.ensures.number
+encode_lent-requires-clause-originals g c = c.in_ok-shard_bytes.ensures.number
 
 pub encode_lent-requires-clause-number : goal.encode_lent-requires-clause-number
 encode_lent-requires-clause-number g c = c.in_ok-check_rooms.ensures.number ∙ sym c.in_ok-counts.ensures.1
@@ -52,8 +49,7 @@ pub encode_lent-requires-clause-valid : goal.encode_lent-requires-clause-valid
 encode_lent-requires-clause-valid g c = checked-valid _ _ _ _ c.in_ok-shard_bytes.ensures
 
 pub encode_lent-requires-clause-sized : goal.encode_lent-requires-clause-sized
-encode_lent-requires-clause-sized g c =
-    shards-long c.in_ok-shard_bytes.shard_bytes c.args.original.now c.in_ok-shard_bytes.ensures.sized
+encode_lent-requires-clause-sized g c = λ i d h. (c.in_ok-shard_bytes.ensures.sized i d h).length_is
 
 pub returns-in_err-encode_lent-clause-answer : goal.returns-in_err-encode_lent-clause-answer
 returns-in_err-encode_lent-clause-answer g c =

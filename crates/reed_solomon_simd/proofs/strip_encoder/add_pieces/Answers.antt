@@ -1,22 +1,46 @@
-use Rattle.std.proofs.Common.{rules, ◌≡◌}
+use Rattle.std.proofs.Common.{rules, ◌≡◌, ◌<◌, ◌≤◌, List, length, sym, ap, ◌∙◌, refl, arith}
+use Rattle.std.proofs.lemmas.List.{take_all}
+use Rattle.rs_field.specs.code.Column.{Shard}
 use Rattle.rs_field.specs.code.Counts.{default_rate}
+use Rattle.rs_field.specs.code.Encoder.{EncoderState, with_shard}
+use Rattle.rs_field.specs.code.OneCall.{with_shards}
+use Rattle.rs_field.specs.code.Pieces.{pieces}
 use Rattle.rs_field.proofs.of_code.Pieces.{given-next, given-refused}
 use Rattle.rs_rate.specs.EncoderView.{encoder_state}
-use Rattle.rs_rate.proofs.Giving.{outcome-ok, outcome-err, reaches-err}
+use Rattle.rs_rate.proofs.Giving.{outcome-ok, outcome-err, reaches-ok, reaches-err}
 use Rattle.reed_solomon_simd.proofs.strip_encoder.add_pieces.Goals as goal
 
 pub returns-in_err-add_original_shard : goal.returns-in_err-add_original_shard
 returns-in_err-add_original_shard g c =
+    let xs : List Shard = g.O.Originals.shards c.args.originals.now in
+    let now : EncoderState = encoder_state default_rate c.loop-index.encoder.rows in
+    let inside : c.loop-index.index < length (g.O.Originals.shards c.args.originals.now) =
+    omega (arith, c.count-index-end.ensures, c.loop-index-test.true) in
     reaches-err _ (λ s. encoder_state default_rate c.add_original_shard.new.self.rows ≡ s) _
     c.in_err-add_original_shard.field-0.0
-    (given-refused c.args.start c.args.end c.loop-shard.shard-index c.args.originals.now _
-    (encoder_state default_rate c.args.encoder.now.rows) (encoder_state default_rate c.loop-shard.encoder.rows)
-    c.loop-shard-test.true c.loop-shard.invariant _ (outcome-err _ _ c.in_err-add_original_shard.ensures.answer))
+    (given-refused c.args.start c.args.end c.loop-index.index xs
+    (encoder_state default_rate c.args.encoder.now.rows) now inside c.loop-index.invariant _
+    (ap (with_shard now) (sym c.piece.ensures) ∙ outcome-err _ _ c.in_err-add_original_shard.ensures.answer))
     (search rules)
 
-pub loop-shard-preserved : goal.loop-shard-preserved
-loop-shard-preserved g c =
-    given-next c.args.start c.args.end c.loop-shard.shard-index c.args.originals.now _
-    (encoder_state default_rate c.args.encoder.now.rows) (encoder_state default_rate c.loop-shard.encoder.rows)
-    c.loop-shard-test.true c.loop-shard.invariant (encoder_state default_rate c.add_original_shard.new.self.rows)
-    (outcome-ok _ _ _ c.in_ok-add_original_shard.ensures.answer c.in_ok-add_original_shard.ensures.left)
+pub loop-index-preserved : goal.loop-index-preserved
+loop-index-preserved g c =
+    let xs : List Shard = g.O.Originals.shards c.args.originals.now in
+    let now : EncoderState = encoder_state default_rate c.loop-index.encoder.rows in
+    let inside : c.loop-index.index < length (g.O.Originals.shards c.args.originals.now) =
+    omega (arith, c.count-index-end.ensures, c.loop-index-test.true) in
+    given-next c.args.start c.args.end c.loop-index.index xs
+    (encoder_state default_rate c.args.encoder.now.rows) now inside c.loop-index.invariant
+    (encoder_state default_rate c.add_original_shard.new.self.rows)
+    (ap (with_shard now) (sym c.piece.ensures)
+    ∙ outcome-ok _ _ _ c.in_ok-add_original_shard.ensures.answer c.in_ok-add_original_shard.ensures.left)
+
+pub returns : goal.returns
+returns g c =
+    let xs : List Shard = g.O.Originals.shards c.args.originals.now in
+    let past : length (g.O.Originals.shards c.args.originals.now) ≤ c.loop-index.index =
+    omega (arith, c.count-index-end.ensures, c.loop-index-test.false) in
+    reaches-ok _ (λ s. encoder_state default_rate c.loop-index.encoder.rows ≡ s) _
+    (ap (λ (l : List Shard). with_shards (encoder_state default_rate c.args.encoder.now.rows)
+    (pieces c.args.start c.args.end l)) (sym (take_all c.loop-index.index xs past))
+    ∙ c.loop-index.invariant) refl

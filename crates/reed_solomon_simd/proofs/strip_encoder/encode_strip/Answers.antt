@@ -9,14 +9,14 @@ use Rattle.rs_rate.proofs.Giving.{reached-ok}
 use Rattle.rs_rate.specs.EncoderView.{encoder_state, lent_shards}
 use Rattle.rs_rate.specs.ObjectLaws.{is_encoder}
 use Rattle.rs_rate.specs.ResultView.{recovery_shards}
-use Rattle.reed_solomon_simd.specs.Rooms.{shards_of}
 use Rattle.reed_solomon_simd.proofs.StripLemmas.{strip-added, strip-encoded, strip-ends, strip-codes}
 use Rattle.reed_solomon_simd.proofs.strip_encoder.encode_strip.Goals as goal
 
 pub returns-in_err-add_pieces-clause-refused : goal.returns-in_err-add_pieces-clause-refused
 returns-in_err-add_pieces-clause-refused g c =
     absurd (strip-added c.args.start c.args.end
-    (length (g.R.Rooms.held c.args.rooms.now)) c.args.originals.now c.requires.order c.requires.originals
+    (length (g.R.Rooms.held c.args.rooms.now)) (g.O.Originals.shards c.args.originals.now)
+    c.requires.order c.requires.originals
     (encoder_state default_rate c.args.encoder.now.rows) c.requires.fresh
     (λ s. encoder_state default_rate c.add_pieces.new.encoder.rows ≡ s)
     c.in_err-add_pieces.field-0.0 c.in_err-add_pieces.ensures)
@@ -24,7 +24,8 @@ returns-in_err-add_pieces-clause-refused g c =
 pub returns-in_err-add_pieces-clause-fresh : goal.returns-in_err-add_pieces-clause-fresh
 returns-in_err-add_pieces-clause-fresh g c =
     absurd (strip-added c.args.start c.args.end
-    (length (g.R.Rooms.held c.args.rooms.now)) c.args.originals.now c.requires.order c.requires.originals
+    (length (g.R.Rooms.held c.args.rooms.now)) (g.O.Originals.shards c.args.originals.now)
+    c.requires.order c.requires.originals
     (encoder_state default_rate c.args.encoder.now.rows) c.requires.fresh
     (λ s. encoder_state default_rate c.add_pieces.new.encoder.rows ≡ s)
     c.in_err-add_pieces.field-0.0 c.in_err-add_pieces.ensures)
@@ -33,7 +34,8 @@ pub returns-in_err-encode_round-clause-refused : goal.returns-in_err-encode_roun
 returns-in_err-encode_round-clause-refused g c =
     let led = reached-ok _ (encoder_state default_rate c.add_pieces.new.encoder.rows) c.in_ok-add_pieces.ensures in
     absurd (strip-encoded c.args.start c.args.end
-    (length (g.R.Rooms.held c.args.rooms.now)) c.args.originals.now c.requires.order c.requires.originals
+    (length (g.R.Rooms.held c.args.rooms.now)) (g.O.Originals.shards c.args.originals.now)
+    c.requires.order c.requires.originals
     (encoder_state default_rate c.args.encoder.now.rows) c.requires.fresh
     (encoder_state default_rate c.add_pieces.new.encoder.rows) led
     c.in_err-encode_round.field-0.0 c.in_err-encode_round.ensures.answer)
@@ -42,7 +44,8 @@ pub returns-in_err-encode_round-clause-fresh : goal.returns-in_err-encode_round-
 returns-in_err-encode_round-clause-fresh g c =
     let led = reached-ok _ (encoder_state default_rate c.add_pieces.new.encoder.rows) c.in_ok-add_pieces.ensures in
     absurd (strip-encoded c.args.start c.args.end
-    (length (g.R.Rooms.held c.args.rooms.now)) c.args.originals.now c.requires.order c.requires.originals
+    (length (g.R.Rooms.held c.args.rooms.now)) (g.O.Originals.shards c.args.originals.now)
+    c.requires.order c.requires.originals
     (encoder_state default_rate c.args.encoder.now.rows) c.requires.fresh
     (encoder_state default_rate c.add_pieces.new.encoder.rows) led
     c.in_err-encode_round.field-0.0 c.in_err-encode_round.ensures.answer)
@@ -52,7 +55,8 @@ put_pieces-requires-clause-number g c =
     let led = reached-ok _ (encoder_state default_rate c.add_pieces.new.encoder.rows) c.in_ok-add_pieces.ensures in
     let object = c.add_pieces.new.encoder in
     let coded = strip-codes c.args.start c.args.end
-    (length (g.R.Rooms.held c.args.rooms.now)) c.args.originals.now c.requires.order c.requires.originals
+    (length (g.R.Rooms.held c.args.rooms.now)) (g.O.Originals.shards c.args.originals.now)
+    c.requires.order c.requires.originals
     (encoder_state default_rate c.args.encoder.now.rows) c.requires.fresh
     (encoder_state default_rate c.add_pieces.new.encoder.rows) led
     (lent_shards c.encode_round.new.encoder.rows)
@@ -64,7 +68,8 @@ put_pieces-requires-clause-sized g c =
     let led = reached-ok _ (encoder_state default_rate c.add_pieces.new.encoder.rows) c.in_ok-add_pieces.ensures in
     let object = c.add_pieces.new.encoder in
     let coded = strip-codes c.args.start c.args.end
-    (length (g.R.Rooms.held c.args.rooms.now)) c.args.originals.now c.requires.order c.requires.originals
+    (length (g.R.Rooms.held c.args.rooms.now)) (g.O.Originals.shards c.args.originals.now)
+    c.requires.order c.requires.originals
     (encoder_state default_rate c.args.encoder.now.rows) c.requires.fresh
     (encoder_state default_rate c.add_pieces.new.encoder.rows) led
     (lent_shards c.encode_round.new.encoder.rows)
@@ -77,7 +82,8 @@ returns-clause-fresh g c =
     let led = reached-ok _ (encoder_state default_rate c.add_pieces.new.encoder.rows) c.in_ok-add_pieces.ensures in
     c.in_ok-encode_round.ensures.state
     ∙ strip-ends c.args.start c.args.end
-    (length (g.R.Rooms.held c.args.rooms.now)) c.args.originals.now c.requires.order c.requires.originals
+    (length (g.R.Rooms.held c.args.rooms.now)) (g.O.Originals.shards c.args.originals.now)
+    c.requires.order c.requires.originals
     (encoder_state default_rate c.args.encoder.now.rows) c.requires.fresh
     (encoder_state default_rate c.add_pieces.new.encoder.rows) led
 
@@ -86,7 +92,8 @@ returns-clause-coded g c =
     let led = reached-ok _ (encoder_state default_rate c.add_pieces.new.encoder.rows) c.in_ok-add_pieces.ensures in
     let object = c.add_pieces.new.encoder in
     let coded = strip-codes c.args.start c.args.end
-    (length (g.R.Rooms.held c.args.rooms.now)) c.args.originals.now c.requires.order c.requires.originals
+    (length (g.R.Rooms.held c.args.rooms.now)) (g.O.Originals.shards c.args.originals.now)
+    c.requires.order c.requires.originals
     (encoder_state default_rate c.args.encoder.now.rows) c.requires.fresh
     (encoder_state default_rate c.add_pieces.new.encoder.rows) led
     (lent_shards c.encode_round.new.encoder.rows)
@@ -94,8 +101,9 @@ returns-clause-coded g c =
     on_ok_weaker c.put_pieces.result (λ put. (
       recovery_shards c.lent_recovery.result,
       subst (λ (l : List Shard).
-          AreRecovery (default_of (length c.args.originals.now) (length (g.R.Rooms.held c.args.rooms.now))
-          (c.args.end - c.args.start))
-          (pieces c.args.start c.args.end (shards_of c.args.originals.now)) l) (sym c.lent_recovery.ensures) coded,
+          AreRecovery (default_of (length (g.O.Originals.shards c.args.originals.now))
+          (length (g.R.Rooms.held c.args.rooms.now)) (c.args.end - c.args.start))
+          (pieces c.args.start c.args.end (g.O.Originals.shards c.args.originals.now)) l)
+          (sym c.lent_recovery.ensures) coded,
       put,
     )) c.put_pieces.ensures.put

@@ -1,7 +1,6 @@
-use Rattle.std.proofs.Common.{◌≡◌, ℕ, ◌+◌, ◌-◌, ◌<◌, Bool, List, length, All, Bor, ap, subst, ◌∙◌, refl, inl}
+use Rattle.std.proofs.Common.{◌≡◌, ℕ, ◌+◌, ◌-◌, ◌<◌, Bool, List, length, All, ap, subst, ◌∙◌, refl, inl}
 use Rattle.std.proofs.Common.{arith}
 use Rattle.std.proofs.Math.Nat.{min-eq_right}
-use Rattle.std.proofs.lemmas.List.Elements.{All-map}
 use Rattle.rs_field.specs.code.Code.{AreRecovery}
 use Rattle.rs_field.specs.code.Column.{Shard}
 use Rattle.rs_field.specs.code.Counts.{default_rate}
@@ -9,24 +8,23 @@ use Rattle.rs_field.specs.code.OneCall.{default_of}
 use Rattle.rs_field.specs.code.Pieces.{pieces, IsStrip, ArePut}
 use Rattle.rs_field.proofs.of_code.Pieces.{IsDone, is_strip, done-none, done-further, done-all}
 use Rattle.rs_rate.specs.EncoderView.{encoder_state}
-use Rattle.reed_solomon_simd.specs.Rooms.{shards_of}
 use Rattle.reed_solomon_simd.proofs.strip_encoder.encode_strips.Goals.{then-left-width+in_ok-reset, else-left-width}
 use Rattle.reed_solomon_simd.proofs.strip_encoder.encode_strips.Goals as goal
 
 -- Coding the strip from `start` to `end` and putting its recovery pieces codes all bytes before `end`.
-further : (grows : Bool) (k r size start end : ℕ) (originals : List (Bor Shard)) (made old new : List Shard)
+further : (grows : Bool) (k r size start end : ℕ) (originals made old new : List Shard)
     → length originals ≡ k → IsStrip start end size
-    → All (λ shard. length shard.now ≡ size) originals
-    → IsDone k r size start grows default_rate (shards_of originals) old
+    → All (λ shard. length shard ≡ size) originals
+    → IsDone k r size start grows default_rate originals old
     → AreRecovery (default_of (length originals) (length old) (end - start))
-    (pieces start end (shards_of originals)) made → ArePut start end made old new
-    → IsDone k r size end grows default_rate (shards_of originals) new
+    (pieces start end originals) made → ArePut start end made old new
+    → IsDone k r size end grows default_rate originals new
 further grows k r size start end originals made old new count strip sized done recovery put =
-    done-further grows default_rate k r size start end (shards_of originals) made old new strip
-    (All-map (λ s. length s ≡ size) (λ (x : Bor Shard). x.now) originals sized) done
-    (subst (λ (n : ℕ). AreRecovery (default_of n r (end - start)) (pieces start end (shards_of originals)) made) count
+    done-further grows default_rate k r size start end originals made old new strip
+    sized done
+    (subst (λ (n : ℕ). AreRecovery (default_of n r (end - start)) (pieces start end originals) made) count
     (subst (λ (n : ℕ). AreRecovery (default_of (length originals) n (end - start))
-    (pieces start end (shards_of originals)) made) done.number recovery)) put
+    (pieces start end originals) made) done.number recovery)) put
 
 pub loop-start-init : goal.loop-start-init
 loop-start-init g c =
@@ -35,7 +33,7 @@ loop-start-init g c =
       begins = inl refl;
       fresh = λ more. c.in_ok-encoder.ensures.made.0;
       done = done-none g.R.Rooms.grows default_rate c.args.counts.original_count c.args.counts.recovery_count
-          c.args.shard_bytes (shards_of c.args.originals.now)
+          c.args.shard_bytes (g.O.Originals.shards c.args.originals.now)
           (g.R.Rooms.held c.args.rooms.now) c.requires.number c.requires.fit;
       places = refl;
       loan = refl;
@@ -70,7 +68,7 @@ loop-start-preserved g c =
             ∙ held.fresh c.loop-start-test.true
       ];
       done = further g.R.Rooms.grows c.args.counts.original_count c.args.counts.recovery_count size start end
-          c.args.originals.now now.coded.0
+          (g.O.Originals.shards c.args.originals.now) now.coded.0
           (g.R.Rooms.held c.loop-start.rooms)
           (g.R.Rooms.held c.encode_strip.new.rooms) c.requires.originals strip c.requires.sized held.done
           now.coded.1 now.coded.2;
@@ -83,8 +81,8 @@ returns-clause-coded g c =
     let held = c.loop-start.invariant in
     let ends : c.loop-start.start ≡ c.args.shard_bytes = omega (arith, held.inside, c.loop-start-test.false) in
     done-all g.R.Rooms.grows default_rate c.args.counts.original_count c.args.counts.recovery_count c.args.shard_bytes
-    (shards_of c.args.originals.now)
+    (g.O.Originals.shards c.args.originals.now)
     (g.R.Rooms.held c.loop-start.rooms)
     (subst (λ (n : ℕ). IsDone c.args.counts.original_count c.args.counts.recovery_count c.args.shard_bytes n
     g.R.Rooms.grows default_rate
-    (shards_of c.args.originals.now) (g.R.Rooms.held c.loop-start.rooms)) ends held.done)
+    (g.O.Originals.shards c.args.originals.now) (g.R.Rooms.held c.loop-start.rooms)) ends held.done)

@@ -4,7 +4,6 @@ use Rattle.rs_field.specs.code.Encoder.{fresh_encoder}
 use Rattle.rs_field.specs.code.OneCall.{default_of}
 use Rattle.rs_field.proofs.of_code.Pieces.{IsDone}
 use Rattle.rs_rate.specs.EncoderView.{encoder_state}
-use Rattle.reed_solomon_simd.specs.Rooms.{shards_of}
 use Rattle.reed_solomon_simd.proofs.strip_encoder.encode_strips.Given as goal
 
 -- All bytes before `start` are coded. A chunk begins at `start`, or the shards end there. If bytes are left, the
@@ -18,7 +17,7 @@ invariant-loop-start g l =
           → encoder_state default_rate l.encoder.rows
           ≡ fresh_encoder (default_of l.counts.original_count l.counts.recovery_count l.width);
       done : IsDone l.counts.original_count l.counts.recovery_count l.shard_bytes l.start g.R.Rooms.grows default_rate
-          (shards_of l.originals) (g.R.Rooms.held l.rooms);
+          (g.O.Originals.shards l.originals) (g.R.Rooms.held l.rooms);
       places : g.R.Rooms.places l.rooms ≡ g.R.Rooms.places l.initial.rooms;
       loan : g.R.Rooms.loan l.rooms ≡ g.R.Rooms.loan l.initial.rooms;
     }

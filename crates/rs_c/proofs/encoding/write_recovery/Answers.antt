@@ -1,11 +1,16 @@
-use Rattle.std.proofs.Common.{sym, ◌∙◌}
 use Rattle.rs_c.proofs.CutLemmas.{cut-length, cut-sized}
 use Rattle.rs_c.proofs.encoding.write_recovery.Goals as goal
 
-pub encode-requires-clause-number : goal.encode-requires-clause-number
-encode-requires-clause-number c = cut-length c.args.recovery_count c.args.shard_bytes c.args.recovery.now
-    ∙ sym c.requires.counts
+pub encode_strips-requires-clause-originals : goal.encode_strips-requires-clause-originals
+encode_strips-requires-clause-originals c = cut-length c.args.counts.original_count c.args.shard_bytes c.args.originals.now
 
-pub encode-requires-clause-fit : goal.encode-requires-clause-fit
-encode-requires-clause-fit c = λ i d h.
-    cut-sized c.args.recovery_count c.args.shard_bytes c.args.recovery.now c.requires.whole i d h ∙ sym c.requires.size
+pub encode_strips-requires-clause-number : goal.encode_strips-requires-clause-number
+encode_strips-requires-clause-number c = cut-length c.args.counts.recovery_count c.args.shard_bytes c.args.recovery.now
+
+pub encode_strips-requires-clause-sized : goal.encode_strips-requires-clause-sized
+encode_strips-requires-clause-sized c =
+    cut-sized c.args.counts.original_count c.args.shard_bytes c.args.originals.now c.requires.own
+
+pub encode_strips-requires-clause-fit : goal.encode_strips-requires-clause-fit
+encode_strips-requires-clause-fit c =
+    cut-sized c.args.counts.recovery_count c.args.shard_bytes c.args.recovery.now c.requires.whole
