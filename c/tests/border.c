@@ -66,12 +66,14 @@ static size_t swept(size_t k, size_t r, size_t size, size_t surplus) {
 int main(void) {
     static const size_t counts[][2] = {{10, 4}, {4, 10}, {12, 12}, {32, 32}, {33, 31}, {100, 30}};
     make_tables();
-    for (size_t i = 0; i < sizeof counts / sizeof *counts; i++)
+    for (size_t i = 0; i < sizeof counts / sizeof *counts; i++) {
+        size_t k = counts[i][0], r = counts[i][1], summed[3];
         for (size_t surplus = 0; surplus < 3; surplus++) {
-            size_t k = counts[i][0], r = counts[i][1], summed = swept(k, r, 4130, surplus);
-            if (swept(k, r, 66, surplus) != summed) wrong("the size of shards decides, too");
-            if (surplus == 0 && (summed == 0 || summed == r)) wrong("the numbers of wanted shards are all on one side");
-            printf("border: %zu:%zu with %zu surplus shards: sums for up to %zu of %zu wanted shards\n", k, r, surplus, summed, r - surplus);
+            summed[surplus] = swept(k, r, 4130, surplus);
+            if (swept(k, r, 66, surplus) != summed[surplus]) wrong("the size of shards decides, too");
         }
+        if (summed[0] == 0 || summed[0] == r) wrong("the numbers of wanted shards are all on one side");
+        printf("border: %zu:%zu: sums for up to %zu of %zu wanted shards, and for up to %zu with a surplus shard\n", k, r, summed[0], r, summed[1]);
+    }
     return 0;
 }
