@@ -1,13 +1,7 @@
 /* The calls of the header. Each call allows what the proved calls do not: NULL where the length is 0, and NULL as the fault. Then it makes
    the proved call of the same name, from the build that fits the processor. Two of the calls over arrays do so at once if nothing is NULL. */
 #include "choice.h"
-
-#include <stdbool.h>
-#include <string.h>
-
-/* The memory of calls, in c/work.c. */
-struct tried { bool ok; void *at; } rs_alloc(size_t size, size_t align);
-void rs_dealloc(void *at);
+#include "memory.h"
 
 /* The proved calls take no NULL. A pointer to nothing becomes a pointer to this object, of which no byte is read or written. */
 static _Alignas(16) unsigned char nowhere[16];
@@ -24,20 +18,19 @@ struct call {
     bool failed;
 };
 
-/* Whether the array is empty, or one of its pointers is NULL. An entry has `size` bytes, and ends as struct rs_bytes. */
+/* Whether one of the pointers of an array is NULL. An entry has `size` bytes, and ends as struct rs_bytes. */
 static inline bool has_null(const void *entries, size_t number, size_t size) {
-    const unsigned char *next = entries;
-    const uint8_t *bytes = NULL;
+    const unsigned char *next = entries, *bytes;
     for (size_t i = 0; i < number; i++, next += size) {
         memcpy(&bytes, next + size - sizeof(struct rs_bytes), sizeof bytes);
-        if (!bytes) break;
+        if (!bytes) return true;
     }
-    return !bytes;
+    return false;
 }
 
 /* The array that the proved call takes: the caller's, or if a pointer is NULL, a copy with other pointers in all entries without bytes. */
 static const void *taken(struct call *call, const void *entries, size_t number, size_t size) {
-    if (!number || !has_null(entries, number, size)) return at(entries, number);
+    if (!has_null(entries, number, size)) return at(entries, number);
     struct tried block = rs_alloc(number * size, 8);
     if (!block.ok) {
         *call->fault = (struct rs_fault){RS_OUT_OF_MEMORY, 0, 0, 0};
@@ -54,10 +47,10 @@ static const void *taken(struct call *call, const void *entries, size_t number, 
     return copy;
 }
 
-/* Gives back the copies, and returns what the call has returned. */
+/* Gives back the copies and the lent memory, and returns what the call has returned. */
 static inline uint32_t ended(struct call *call, uint32_t answer) {
     while (call->number) rs_dealloc(call->copies[--call->number]);
-    return answer;
+    return taken_back(answer);
 }
 
 uint32_t rs_tables_make(struct rs_tables *tables) {
@@ -76,25 +69,27 @@ size_t rs_shard_bytes(size_t total, size_t original_count) {
 
 uint32_t rs_encode(const struct rs_tables *tables, size_t original_count, size_t recovery_count, size_t shard_bytes,
                    const uint8_t *originals, size_t originals_length, uint8_t *recovery, size_t recovery_length, struct rs_fault *fault) {
-    struct rs_fault unread;
-    return fitting()->encode(tables, original_count, recovery_count, shard_bytes, at(originals, originals_length), originals_length,
-                             at(recovery, recovery_length), recovery_length, fault ? fault : &unread);
+    LEND_STACK;
+    return taken_back(fitting()->encode(tables, original_count, recovery_count, shard_bytes, at(originals, originals_length),
+                                        originals_length, at(recovery, recovery_length), recovery_length,
+                                        fault ? fault : &(struct rs_fault){0}));
 }
 
 uint32_t rs_decode(const struct rs_tables *tables, size_t original_count, size_t recovery_count, size_t shard_bytes, uint8_t *originals,
                    size_t originals_length, const uint8_t *recovery, size_t recovery_length, const uint8_t *marks, size_t marks_length,
                    struct rs_fault *fault) {
-    struct rs_fault unread;
-    return fitting()->decode(tables, original_count, recovery_count, shard_bytes, at(originals, originals_length), originals_length,
-                             at(recovery, recovery_length), recovery_length, at(marks, marks_length), marks_length,
-                             fault ? fault : &unread);
+    LEND_STACK;
+    return taken_back(fitting()->decode(tables, original_count, recovery_count, shard_bytes, at(originals, originals_length),
+                                        originals_length, at(recovery, recovery_length), recovery_length, at(marks, marks_length),
+                                        marks_length, fault ? fault : &(struct rs_fault){0}));
 }
 
 uint32_t rs_encode_shards(const struct rs_tables *tables, size_t original_count, size_t recovery_count, const struct rs_bytes *originals,
                           size_t originals_number, const struct rs_room *recovery, size_t recovery_number, struct rs_fault *fault) {
+    LEND_STACK;
     if (fault && !has_null(originals, originals_number, sizeof *originals) && !has_null(recovery, recovery_number, sizeof *recovery))
-        return fitting()->encode_shards(tables, original_count, recovery_count, originals, originals_number, recovery, recovery_number,
-                                        fault);
+        return taken_back(fitting()->encode_shards(tables, original_count, recovery_count, at(originals, originals_number),
+                                                   originals_number, at(recovery, recovery_number), recovery_number, fault));
     struct call call = {.fault = fault ? fault : &call.unread};
     originals = taken(&call, originals, originals_number, sizeof *originals);
     recovery = taken(&call, recovery, recovery_number, sizeof *recovery);
@@ -106,10 +101,12 @@ uint32_t rs_encode_shards(const struct rs_tables *tables, size_t original_count,
 uint32_t rs_decode_shards(const struct rs_tables *tables, size_t original_count, size_t recovery_count, const struct rs_shard *originals,
                           size_t originals_number, const struct rs_shard *recovery, size_t recovery_number,
                           const struct rs_room *restored, size_t restored_number, struct rs_fault *fault) {
+    LEND_STACK;
     if (fault && !has_null(originals, originals_number, sizeof *originals) && !has_null(recovery, recovery_number, sizeof *recovery) &&
         !has_null(restored, restored_number, sizeof *restored))
-        return fitting()->decode_shards(tables, original_count, recovery_count, originals, originals_number, recovery, recovery_number,
-                                        restored, restored_number, fault);
+        return taken_back(fitting()->decode_shards(tables, original_count, recovery_count, at(originals, originals_number),
+                                                   originals_number, at(recovery, recovery_number), recovery_number,
+                                                   at(restored, restored_number), restored_number, fault));
     struct call call = {.fault = fault ? fault : &call.unread};
     originals = taken(&call, originals, originals_number, sizeof *originals);
     recovery = taken(&call, recovery, recovery_number, sizeof *recovery);
@@ -121,6 +118,7 @@ uint32_t rs_decode_shards(const struct rs_tables *tables, size_t original_count,
 
 uint32_t rs_verify(const struct rs_tables *tables, size_t original_count, size_t recovery_count, const struct rs_shard *originals,
                    size_t originals_number, const struct rs_shard *recovery, size_t recovery_number, struct rs_fault *fault) {
+    LEND_STACK;
     struct call call = {.fault = fault ? fault : &call.unread};
     originals = taken(&call, originals, originals_number, sizeof *originals);
     recovery = taken(&call, recovery, recovery_number, sizeof *recovery);
@@ -132,6 +130,7 @@ uint32_t rs_verify(const struct rs_tables *tables, size_t original_count, size_t
 uint32_t rs_reconstruct(const struct rs_tables *tables, size_t original_count, size_t recovery_count, const struct rs_shard *originals,
                         size_t originals_number, const struct rs_shard *recovery, size_t recovery_number, const struct rs_wanted *wanted,
                         size_t wanted_number, const struct rs_room *rooms, size_t rooms_number, struct rs_fault *fault) {
+    LEND_STACK;
     struct call call = {.fault = fault ? fault : &call.unread};
     originals = taken(&call, originals, originals_number, sizeof *originals);
     recovery = taken(&call, recovery, recovery_number, sizeof *recovery);
@@ -145,6 +144,7 @@ uint32_t rs_reconstruct(const struct rs_tables *tables, size_t original_count, s
 uint32_t rs_update(const struct rs_tables *tables, size_t original_count, size_t recovery_count, size_t index, const uint8_t *before,
                    size_t before_length, const uint8_t *after, size_t after_length, const struct rs_room *recovery, size_t recovery_number,
                    struct rs_fault *fault) {
+    LEND_STACK;
     struct call call = {.fault = fault ? fault : &call.unread};
     recovery = taken(&call, recovery, recovery_number, sizeof *recovery);
     if (call.failed) return ended(&call, RS_OUT_OF_MEMORY);

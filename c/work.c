@@ -1,37 +1,17 @@
 /* The memory of calls. A call whose name ends in _with_work takes each block from the work memory that its caller passes. Any other call
-   takes its blocks from the allocator: c/heap.c, or the host's own. c/rename makes the proved calls request their blocks here: in their
-   objects, rattle_alloc, rattle_realloc and rattle_dealloc become rs_alloc, rs_realloc and rs_dealloc. */
+   takes its blocks from a few bytes of the stack, and if these are used up, from the allocator: c/heap.c, or the host's own. c/rename makes
+   the proved calls request their blocks here: in their objects, rattle_alloc, rattle_realloc and rattle_dealloc become rs_alloc, rs_realloc
+   and rs_dealloc. */
+#include "memory.h"
 #include "reed_solomon_simd.h"
 
-#include <stdbool.h>
-#include <string.h>
-
 /* The allocator, as in c/heap.c. */
-struct tried {
-    bool ok;
-    void *at;
-} rattle_alloc(size_t size, size_t align);
+struct tried rattle_alloc(size_t size, size_t align);
 struct tried rattle_realloc(void *old, size_t kept, size_t size, size_t align);
 void rattle_dealloc(void *at);
+struct tried rs_realloc(void *old, size_t kept, size_t size, size_t align);
 
-/* Each block of work memory begins at a multiple of 64, and takes a multiple of 64 bytes. */
-enum { UNIT = 64 };
-
-/* With glibc, a thread has the memory for a thread-local variable of this model from its start. For the default model, the first use in a
-   thread would call malloc if the library was opened by dlopen. Other C libraries never call malloc for it, and some of them cannot open a
-   library that has a variable of this model. */
-#ifdef __GLIBC__
-#define FROM_THE_START __attribute__((tls_model("initial-exec")))
-#else
-#define FROM_THE_START
-#endif
-
-/* The work memory of the call that runs in this thread. */
-static FROM_THE_START _Thread_local struct {
-    bool is_lent;
-    unsigned char *next; /* the place of the next block */
-    size_t left;         /* the number of bytes from there to the end, a multiple of 64 */
-} lent;
+FROM_THE_START _Thread_local struct lent rs_lent;
 
 static size_t least(size_t one, size_t other) {
     return one < other ? one : other;
@@ -41,46 +21,49 @@ static size_t rounded_up(size_t number, size_t multiple) {
     return (number + multiple - 1) / multiple * multiple;
 }
 
-/* Lends memory to the call that comes next in this thread. */
+/* Lends work memory to the call that comes next in this thread. */
 static void lend(void *work, size_t work_length) {
     size_t before = (UNIT - (uintptr_t)work % UNIT) % UNIT;
-    lent.is_lent = true;
-    lent.next = before < work_length ? (unsigned char *)work + before : NULL;
-    lent.left = before < work_length ? (work_length - before) / UNIT * UNIT : 0;
+    if (before > work_length) before = work_length;
+    rs_lent = (struct lent){(unsigned char *)work + before, (work_length - before) / UNIT * UNIT, 0, true};
 }
 
-/* Ends the loan, and returns what the call has returned. */
+/* Ends the loan of work memory, and returns what the call has returned. */
 static uint32_t ended(uint32_t answer) {
-    lent.is_lent = false;
+    rs_lent = (struct lent){NULL, 0, 0, false};
     return answer;
 }
 
-/* The next block of the work memory. Each block has a byte at least. Where there is no memory, the pointer is any one but NULL. */
-static struct tried next_block(size_t size) {
-    static unsigned char nowhere;
-    struct tried block = {true, lent.next};
-    if (!size) size = 1;
-    if (size > lent.left) return (struct tried){false, &nowhere};
-    size = rounded_up(size, UNIT);
-    lent.next += size;
-    lent.left -= size;
-    return block;
+/* Whether a block is in the lent memory. */
+static bool is_lent(const void *block) {
+    return (uintptr_t)block - (uintptr_t)rs_lent.begin < rs_lent.length;
 }
 
+/* A block that does not fit into the lent memory. */
+static struct tried block_elsewhere(size_t size, size_t align) {
+    static unsigned char nowhere;
+    return rs_lent.is_all ? (struct tried){false, &nowhere} : rattle_alloc(size, align);
+}
+
+/* Each block has a byte at least. */
 struct tried rs_alloc(size_t size, size_t align) {
-    return lent.is_lent ? next_block(size) : rattle_alloc(size, align);
+    unsigned char *at = rs_lent.begin + rs_lent.used;
+    if (!size) size = 1;
+    if (size > rs_lent.length - rs_lent.used) return block_elsewhere(size, align);
+    rs_lent.used += rounded_up(size, UNIT);
+    return (struct tried){true, at};
 }
 
 struct tried rs_realloc(void *old, size_t kept, size_t size, size_t align) {
-    if (!lent.is_lent) return rattle_realloc(old, kept, size, align);
-    struct tried block = next_block(size);
+    if (!is_lent(old)) return rattle_realloc(old, kept, size, align);
+    struct tried block = rs_alloc(size, align);
     if (block.ok) memcpy(block.at, old, least(kept, size));
     return block;
 }
 
-/* The bytes of a block of work memory serve no other block of the same call. */
+/* The bytes of a block of lent memory serve no other block of the same call. */
 void rs_dealloc(void *at) {
-    if (!lent.is_lent) rattle_dealloc(at);
+    if (!is_lent(at)) rattle_dealloc(at);
 }
 
 /* The least power of two that is not below the count. */
@@ -95,8 +78,7 @@ static size_t block_bytes(size_t number, size_t bytes) {
     return rounded_up(number * bytes, UNIT);
 }
 
-/* The requests of the calls. An encode requests 16 bytes for each original, and 4096 bytes, or as many as a shard has, for each of its rows.
-   A decode requests 24 bytes for each original and for each recovery shard, and for each of its rows 1 byte, 2 bytes, and 2048 bytes, or as
+/* The requests of the calls. An encode requests 4096 bytes, or as many as a shard has, for each of its rows. A decode requests 24 bytes for each original and for each recovery shard, and for each of its rows 1 byte, 2 bytes, and 2048 bytes, or as
    many as a shard has. A decode that restores to vectors first also requests 24 bytes for each vector, and the vectors. Each row takes a
    multiple of 64 bytes. Calls that request less serve themselves from the same memory: an encode, or a decode of few lost shards, which sums
    the received shards and has no rows. */
@@ -107,7 +89,7 @@ size_t rs_work_bytes(size_t original_count, size_t recovery_count, size_t shard_
     bool is_low = low < high || (low == high && original_count > recovery_count);
     size_t rows = is_low ? low : high, others = is_low ? recovery_count : original_count;
     size_t encoder_rows = rounded_up(others, rows), decoder_rows = power(rows + others);
-    size_t encode = block_bytes(original_count, 16) + encoder_rows * block_bytes(1, least(shard_bytes, 4096));
+    size_t encode = encoder_rows * block_bytes(1, least(shard_bytes, 4096));
     size_t decode = block_bytes(original_count, 24) + block_bytes(recovery_count, 24) + block_bytes(decoder_rows, 1) +
                     block_bytes(decoder_rows, 2) + decoder_rows * block_bytes(1, least(shard_bytes, 2048)) +
                     block_bytes(restored, 24) + restored * block_bytes(1, shard_bytes);

@@ -14,14 +14,14 @@
  * AVX2). At its first call, it asks the processor and the system which of them they can run, and all calls use the newest of these. All
  * builds write the same bytes, and tables that one build filled serve the others. On arm64, the library holds one build.
  *
- * Beside its rows, rs_encode takes a list of 16 bytes for each original. rs_decode takes a list of 8 bytes for each original.
+ * rs_encode and rs_encode_shards take memory for their rows alone. Beside its rows, rs_decode takes a list of 8 bytes for each original.
  * rs_decode_shards, rs_verify and rs_reconstruct take two lists of references to shards, 24 bytes for each of the k + r shards.
  * rs_reconstruct also takes 16 bytes for each wanted shard, and 1 byte for each of the k + r shards. rs_update takes 2 bytes for each
  * recovery shard, 5 bytes for each row of a decode, and a list of 8 bytes for each original. A decode without recovery shards
  * takes no memory. If an entry of an array of shards or rooms has NULL as its pointer, the call makes a copy of this array, and fails with
  * RS_OUT_OF_MEMORY before all other checks if it cannot allocate the copy.
  *
- * Calls allocate their memory by malloc, or by an allocator of the program. A program that must not allocate uses the calls whose names
+ * Calls take up to 4096 bytes from their stack, and allocate the rest by malloc, or by an allocator of the program. A program that must not allocate uses the calls whose names
  * end in _with_work, for rs_tables_make and the four calls that encode or decode: they take all their memory from work memory, which the caller passes.
  *
  * The caller must keep these rules. Nothing checks them:

@@ -70,7 +70,7 @@ int main(void) {
         size_t k = counts[i][0], r = counts[i][1], summed[3];
         for (size_t surplus = 0; surplus < 3; surplus++) {
             summed[surplus] = swept(k, r, 4130, surplus);
-            if (swept(k, r, 66, surplus) != summed[surplus]) wrong("the size of shards decides, too");
+            if (swept(k, r, 300, surplus) != summed[surplus]) wrong("the size of shards decides, too");
         }
         if (summed[0] == 0 || summed[0] == r) wrong("the numbers of wanted shards are all on one side");
         printf("border: %zu:%zu: sums for up to %zu of %zu wanted shards, and for up to %zu with a surplus shard\n", k, r, summed[0], r, summed[1]);

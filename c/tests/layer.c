@@ -2,6 +2,8 @@
    layer, so that it also sees functions which the library doesn't export. */
 #include "../layer.c"
 
+FROM_THE_START _Thread_local struct lent rs_lent;
+
 #include <stdio.h>
 #include <stdlib.h>
 
@@ -51,6 +53,16 @@ static void record(size_t place, const void *array, size_t number, size_t size) 
     }
 }
 
+static struct rs_tables *tables;
+
+/* A call that encodes or decodes is lent bytes of the stack, or keeps the work memory that its caller has lent. */
+static void check_loan(void) {
+    if (rs_lent.is_all ? rs_lent.begin != nowhere || rs_lent.length != 16 || rs_lent.used != 3
+                       : rs_lent.length != RS_STACK_BYTES || rs_lent.used || (uintptr_t)rs_lent.begin % UNIT)
+        wrong("a call has other memory");
+    memset(rs_lent.begin, 0, rs_lent.length);
+}
+
 static uint32_t answered(unsigned level, const void *first, const void *second, const void *third, struct rs_fault *fault) {
     const struct rs_fault some = {ANSWER, 1, 2, 3};
     got.level = level;
@@ -58,6 +70,7 @@ static uint32_t answered(unsigned level, const void *first, const void *second, 
     got.second = second;
     got.third = third;
     if (!first || !second || !third) wrong("a proved call gets NULL");
+    if (first != tables) check_loan();
     *fault = some;
     got.fault = fault;
     return ANSWER;
@@ -157,8 +170,6 @@ static void levels(void) {
 #endif
 }
 
-static struct rs_tables *tables;
-
 static void over_buffers(void) {
     uint8_t o[12] = {0}, q[8] = {0}, m[5] = {0};
     struct rs_fault fault;
@@ -201,12 +212,20 @@ static void over_arrays(void) {
     atomic_store(&found, NULL);
     if (rs_decode_shards(tables, 3, 2, own, 2, other, 2, q, 2, &fault) != ANSWER || got.first != own || got.third != q || !found)
         wrong("a first call that decodes");
-    o[1].bytes = NULL, q[0].bytes = NULL, q[0].length = 0;
+    q[0].bytes = NULL, q[0].length = 0;
+    if (rs_encode_shards(tables, 3, 2, o, 2, q, 2, &fault) != ANSWER || got.first != o || got.second == q ||
+        rs_decode_shards(tables, 3, 2, own, 2, other, 2, q, 2, &fault) != ANSWER || got.second != other || got.third == q)
+        wrong("NULL in the last array");
+    other[0].bytes = NULL, other[0].length = 0;
+    if (rs_decode_shards(tables, 3, 2, own, 2, other, 2, q + 1, 1, &fault) != ANSWER || got.first != own || got.second == other ||
+        got.third != q + 1)
+        wrong("NULL in the second array");
+    o[1].bytes = NULL;
     if (rs_encode_shards(tables, 3, 2, o, 2, q, 2, &fault) != ANSWER || got.first == o || got.second == q) wrong("NULL in arrays");
     if (got.entries[0][0].bytes != &byte || got.entries[0][0].length != 1 || got.entries[0][1].length || got.entries[1][0].length ||
         got.entries[1][1].bytes != &byte)
         wrong("a copy of an array has other entries");
-    own[1].bytes = NULL, own[1].length = 0, other[0].bytes = NULL, other[0].length = 0;
+    own[1].bytes = NULL, own[1].length = 0;
     if (rs_decode_shards(tables, 3, 2, own, 2, other, 2, q, 2, &fault) != ANSWER || got.first == own || got.second == other || got.third == q)
         wrong("NULL in arrays of a decode");
     if (o[1].bytes || q[0].bytes || own[1].bytes || other[0].bytes) wrong("an array of the caller has changed");
@@ -308,6 +327,12 @@ int main(void) {
     over_buffers();
     over_arrays();
     over_received();
+    if (rs_lent.length || rs_lent.used) wrong("a call leaves memory lent");
+    rs_lent = (struct lent){nowhere, 16, 3, true};
+    over_buffers();
+    over_arrays();
+    over_received();
+    if (rs_lent.begin != nowhere || rs_lent.length != 16 || rs_lent.used != 3 || !rs_lent.is_all) wrong("a call ends a loan of work memory");
     texts();
     sizes();
     free(tables);

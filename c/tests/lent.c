@@ -10,11 +10,13 @@ static void wrong(const char *what) {
     exit(1);
 }
 
+enum { ANSWER = 77 };
+
 /* The allocator of the host: how often each of its functions was called, and a block that it gives. */
 static struct {
     int allocs, reallocs, deallocs;
 } host;
-static uint64_t of_host[2];
+static uint64_t of_host[16];
 
 struct tried rattle_alloc(size_t size, size_t align) {
     host.allocs++;
@@ -29,8 +31,6 @@ struct tried rattle_realloc(void *old, size_t kept, size_t size, size_t align) {
 void rattle_dealloc(void *at) {
     host.deallocs += at == of_host;
 }
-
-enum { ANSWER = 77 };
 
 /* What the next call does with its memory. */
 static void (*does)(void);
@@ -80,14 +80,35 @@ uint32_t rs_supports(size_t k, size_t r) {
     return k && r && k + r <= 65536;
 }
 
-/* Without work memory, requests go to the host's allocator, with the same arguments and answers. */
+/* Without memory that is lent, requests go to the host's allocator, with the same arguments and answers. */
 static void without(void) {
+    host.allocs = host.reallocs = host.deallocs = 0;
     struct tried block = rs_alloc(100, 8), again = rs_realloc(of_host, 50, 200, 8);
     if (!block.ok || block.at != of_host || !again.ok || again.at != of_host + 1) wrong("a request reaches the host otherwise");
     block = rs_alloc(101, 8), again = rs_realloc(of_host, 50, 201, 8);
     if (block.ok || !block.at || again.ok || !again.at) wrong("a refusal of the host comes otherwise");
     rs_dealloc(of_host);
     if (host.allocs != 2 || host.reallocs != 2 || host.deallocs != 1) wrong("the host gets other requests");
+}
+
+/* Blocks lie in the lent bytes of the stack while they fit. Then they come from the host's allocator. */
+static void on_stack(void) {
+    LEND_STACK;
+    struct tried first = rs_alloc(100, 8), longer = rs_realloc(first.at, 100, 200, 8), rest = rs_alloc(RS_STACK_BYTES - 384, 8);
+    host.allocs = host.reallocs = host.deallocs = 0;
+    if (!first.ok || first.at != stack || !longer.ok || longer.at != stack + 128 || !rest.ok || rest.at != stack + 384)
+        wrong("blocks on the stack lie elsewhere");
+    memset(first.at, 9, 100);
+    struct tried moved = rs_realloc(first.at, 50, 100, 8), refused = rs_realloc(first.at, 50, 101, 8);
+    if (host.allocs != 2 || !moved.ok || moved.at != of_host || memcmp(moved.at, first.at, 50) || refused.ok || !refused.at)
+        wrong("a block that does not fit the stack comes otherwise");
+    if (rs_realloc(of_host, 50, 200, 8).at != of_host + 1 || host.reallocs != 1) wrong("a block of the host grows otherwise");
+    rs_dealloc(first.at);
+    rs_dealloc(stack + RS_STACK_BYTES - 1);
+    if (host.deallocs) wrong("the host gets back a block of the stack");
+    rs_dealloc(of_host);
+    if (host.deallocs != 1) wrong("the host does not get back its block");
+    if (taken_back(ANSWER) != ANSWER || rs_lent.length || rs_lent.used) wrong("the stack stays lent");
 }
 
 /* The memory that a call is lent: `bytes` bytes from `start` on, between guards. */
@@ -147,10 +168,17 @@ static void lengths(void) {
     if (rs_tables_make_with_work((struct rs_tables *)tables, NULL, 0) != ANSWER || got_number) wrong("no work memory");
 }
 
+/* Work memory stays lent in a call that would lend bytes of the stack. */
+static void takes_within(void) {
+    LEND_STACK;
+    if (rs_lent.begin == stack || !rs_lent.is_all || taken_back(ANSWER) != ANSWER) wrong("another loan of work memory");
+    takes_again();
+}
+
 /* Each call with work memory passes its arguments, and its memory comes from there. */
 static void each_call(void) {
     start = 300, bytes = 640, calls = 0;
-    does = takes_again;
+    does = takes_within;
     host.allocs = host.reallocs = host.deallocs = 0;
     if (rs_tables_make_with_work((struct rs_tables *)tables, memory + start, bytes) != ANSWER ||
         rs_encode_with_work(tables, 3, 2, 4, o, 12, q, 8, memory + start, bytes, &fault) != ANSWER ||
@@ -183,7 +211,7 @@ static void numbers(void) {
         for (size_t n = 0; n < sizeof sizes / sizeof *sizes; n++)
             for (size_t restored = 0; restored < 2; restored++) {
                 size_t k = rows[i][0], r = rows[i][1], size = sizes[n];
-                size_t encode = block_of(k, 16) + rows[i][2] * block_of(1, size < 4096 ? size : 4096);
+                size_t encode = rows[i][2] * block_of(1, size < 4096 ? size : 4096);
                 size_t decode = block_of(k, 24) + block_of(r, 24) + block_of(rows[i][3], 1) + block_of(rows[i][3], 2) +
                                 rows[i][3] * block_of(1, size < 2048 ? size : 2048) + restored * (64 + block_of(1, size));
                 if (rs_work_bytes(k, r, size, restored) != 63 + (encode < decode ? decode : encode)) wrong("another number");
@@ -194,6 +222,8 @@ static void numbers(void) {
 int main(void) {
     static const uint64_t any[1];
     tables = (const struct rs_tables *)any;
+    without();
+    on_stack();
     without();
     lengths();
     each_call();

@@ -1,5 +1,6 @@
 /* The library over an allocator of this program's. Each request for memory is refused in turn, a call makes as many requests as are
-   recorded here, and all that was taken comes back, after a refusal too. */
+   recorded here, and all that was taken comes back, after a refusal too. The C layer is built with RS_STACK_BYTES=1, so that no block lies
+   on the stack. */
 #include "reed_solomon_simd.h"
 
 #include <stdbool.h>
@@ -13,7 +14,7 @@ struct tried {
 };
 
 /* How many requests for memory the calls make. rs_decode has rows, and rs_decode_shards sums the received shards, because few are lost. */
-enum { TABLES = 6, ENCODE = 2, ENCODE_SHARDS = 1, DECODE = 4, DECODE_SHARDS = 7, RECONSTRUCT = 9, VERIFY = 3, VERIFY_FEWER = 5, UPDATE = 5 };
+enum { TABLES = 6, ENCODE = 1, ENCODE_SHARDS = 1, DECODE = 4, DECODE_SHARDS = 7, RECONSTRUCT = 9, VERIFY = 3, VERIFY_FEWER = 5, UPDATE = 5 };
 /* With a surplus shard, a decode restores to vectors first: the list of them, and each vector. rs_decode then sums, too: it has two requests
    more than with rows. */
 enum { LIST = 1, SUMS = 2 };

@@ -133,13 +133,15 @@ static size_t needed(struct message *m, int call, size_t enough) {
     return many;
 }
 
-/* Whether a decode of shards works over rows: it requests them, and c/heap.c adds 64 bytes. It sums few shards without rows, and needs less. */
-static int has_rows(struct message *m, int call) {
-    size_t gone = lost(m, call);
-    set_up(m, call);
-    watched = bytes_of_rows(m->k, m->r, m->size) + 64;
+/* Whether a decode of shards works over rows: it requests them, and c/heap.c adds 64 bytes. It sums few shards without rows, and needs less.
+   Which of both it does depends on the counts alone. Rows of 4096 bytes or less could lie on the stack, so the shards are longer then. */
+static int has_rows(const struct message *of, int call) {
+    struct message m = made(of->k, of->r, bytes_of_rows(of->k, of->r, of->size) > 4096 ? of->size : 2048);
+    size_t gone = lost(&m, call);
+    set_up(&m, call);
+    watched = bytes_of_rows(m.k, m.r, m.size) + 64;
     requests_watched = 0;
-    if (rs_decode_shards(tables, m->k, m->r, m->own, m->k - gone, m->other, gone + (size_t)has_surplus(call), m->rooms, gone, NULL))
+    if (rs_decode_shards(tables, m.k, m.r, m.own, m.k - gone, m.other, gone + (size_t)has_surplus(call), m.rooms, gone, NULL))
         wrong("a decode without work memory fails");
     return requests_watched > 0;
 }
@@ -201,7 +203,7 @@ static void of_tables(void) {
 /* Faults come as in the calls without work memory, NULL in arrays is allowed, and the next call without work memory allocates. */
 static void faults(void) {
     uint8_t bytes[20] = {0}, marks[5] = {1, 1, 1, 0, 0};
-    static unsigned char work[1 << 16];
+    static unsigned char work[1 << 16], longer[5 * 4096];
     struct rs_bytes from[3] = {{bytes, 4}, {bytes, 4}, {bytes, 4}};
     struct rs_room to[2] = {{bytes, 4}, {bytes + 4, 4}};
     struct rs_shard nothing[3] = {{2, NULL, 0}, {0, NULL, 0}, {1, NULL, 0}}, own = {0, bytes, 4}, other[2] = {{0, bytes, 4}, {1, bytes, 4}};
@@ -226,7 +228,9 @@ static void faults(void) {
         rs_decode_shards_with_work(tables, 3, 2, &own, 1, other, 2, to, 1, work, enough - 256, &fault) != RS_OUT_OF_MEMORY)
         wrong("rooms that don't fit");
     if (requests != before) wrong("a call that fails requests memory from malloc");
-    if (rs_encode_shards(tables, 3, 2, from, 3, to, 2, NULL) || requests != before + 1) wrong("a call without work memory");
+    if (rs_encode_shards(tables, 3, 2, from, 3, to, 2, NULL) || requests != before) wrong("few short shards need memory from malloc");
+    if (rs_encode(tables, 3, 2, 4096, longer, 3 * 4096, longer + 3 * 4096, 2 * 4096, NULL) || requests != before + 1)
+        wrong("a call without work memory");
     puts("work: faults");
 }
 
