@@ -39,10 +39,15 @@ extern FROM_THE_START _Thread_local struct lent {
     bool is_all;         /* whether the call must take nothing from the allocator */
 } rs_lent;
 
+/* The first address from this one on that is a multiple of 64. */
+static inline unsigned char *aligned(unsigned char *from) {
+    return from + (UNIT - (uintptr_t)from % UNIT) % UNIT;
+}
+
 /* Lends bytes of the stack to the proved call that this function makes, unless its caller has lent work memory. */
-#define LEND_STACK                                        \
-    _Alignas(UNIT) unsigned char stack[RS_STACK_BYTES]; \
-    if (!rs_lent.is_all) rs_lent = (struct lent){stack, RS_STACK_BYTES, 0, false}
+#define LEND_STACK                                    \
+    unsigned char stack[RS_STACK_BYTES + UNIT - 1]; \
+    if (!rs_lent.is_all) rs_lent = (struct lent){aligned(stack), RS_STACK_BYTES, 0, false}
 
 /* Ends the loan of bytes of the stack, and returns what the call has returned. */
 static inline uint32_t taken_back(uint32_t answer) {

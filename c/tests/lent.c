@@ -94,9 +94,11 @@ static void without(void) {
 /* Blocks lie in the lent bytes of the stack while they fit. Then they come from the host's allocator. */
 static void on_stack(void) {
     LEND_STACK;
+    unsigned char *begin = rs_lent.begin;
     struct tried first = rs_alloc(100, 8), longer = rs_realloc(first.at, 100, 200, 8), rest = rs_alloc(RS_STACK_BYTES - 384, 8);
     host.allocs = host.reallocs = host.deallocs = 0;
-    if (!first.ok || first.at != stack || !longer.ok || longer.at != stack + 128 || !rest.ok || rest.at != stack + 384)
+    if ((uintptr_t)begin % UNIT || begin < stack || begin + RS_STACK_BYTES > stack + sizeof stack) wrong("other memory of the stack is lent");
+    if (!first.ok || first.at != begin || !longer.ok || longer.at != begin + 128 || !rest.ok || rest.at != begin + 384)
         wrong("blocks on the stack lie elsewhere");
     memset(first.at, 9, 100);
     struct tried moved = rs_realloc(first.at, 50, 100, 8), refused = rs_realloc(first.at, 50, 101, 8);
@@ -104,7 +106,7 @@ static void on_stack(void) {
         wrong("a block that does not fit the stack comes otherwise");
     if (rs_realloc(of_host, 50, 200, 8).at != of_host + 1 || host.reallocs != 1) wrong("a block of the host grows otherwise");
     rs_dealloc(first.at);
-    rs_dealloc(stack + RS_STACK_BYTES - 1);
+    rs_dealloc(begin + RS_STACK_BYTES - 1);
     if (host.deallocs) wrong("the host gets back a block of the stack");
     rs_dealloc(of_host);
     if (host.deallocs != 1) wrong("the host does not get back its block");
@@ -171,7 +173,7 @@ static void lengths(void) {
 /* Work memory stays lent in a call that would lend bytes of the stack. */
 static void takes_within(void) {
     LEND_STACK;
-    if (rs_lent.begin == stack || !rs_lent.is_all || taken_back(ANSWER) != ANSWER) wrong("another loan of work memory");
+    if (rs_lent.begin == aligned(stack) || !rs_lent.is_all || taken_back(ANSWER) != ANSWER) wrong("another loan of work memory");
     takes_again();
 }
 
