@@ -15,9 +15,10 @@ use std::convert::AsSlice;
 /// Puts received and restored originals together, and returns all originals in order of their index.
 ///
 /// `received` has the received originals with their indexes. Each of them is a vector, an array or a slice of bytes.
-/// `restored` is the map that [`decode`](crate::decode) or [`decode_slice`](crate::decode_slice) returned for them: it
-/// has exactly the originals that are not in `received`. The call copies the received originals and moves the restored
-/// ones. It does not check their sizes, but [`join`](crate::join) does.
+/// `restored` has exactly the originals that are not in `received`, by their indexes. It is the map that
+/// [`decode`](crate::decode) or [`decode_slice`](crate::decode_slice) returned for them, or a map of the originals that
+/// [`reconstruct`](crate::reconstruct) returned. The call copies the received originals and moves the restored ones. It
+/// does not check their sizes, but [`join`](crate::join) does.
 ///
 /// # Errors
 ///
@@ -39,6 +40,15 @@ use std::convert::AsSlice;
 /// let originals = complete(alloc, 3, &received, restored)?;
 /// let message = join(alloc, &originals, 10)?;
 /// assert_eq!(rt; message.as_slice(), b"ten bytes.".as_slice());
+/// ```
+///
+/// Originals 0 and 2 may also come from [`reconstruct`](crate::reconstruct), which returns them as a list:
+///
+/// ```
+/// let wanted = [ShardIndex::Original(0), ShardIndex::Original(2)];
+/// let made = reconstruct(alloc, 3, 2, &received, &recovery, &wanted, engine)?;
+/// let restored = [0, 2].iter().copied().zip(made).collect(alloc)?;
+/// let originals = complete(alloc, 3, &received, restored)?;
 /// ```
 pub fn complete<O: AsSlice<u8>>(
     alloc: Global,

@@ -2,6 +2,7 @@
 use crate::room_error::RoomError;
 use crate::shard_index::ShardIndex;
 use rs_field::error::Error;
+use std::alloc::AllocError;
 use std::fmt;
 
 /// The reason why a call that reconstructs wanted shards failed.
@@ -81,6 +82,18 @@ impl From<Error> for ReconstructError {
 
     fn from(error: Error) -> ReconstructError {
         ReconstructError::Refused(error)
+    }
+}
+
+impl From<AllocError> for ReconstructError {
+    ghost use Rattle.std.specs.Prelude.{◌≡◌};
+    ghost use Rattle.rs_field.specs.declared.code.error.Error.TheVariants.{OutOfMemory};
+    ghost use Rattle.reed_solomon_simd.specs.declared.reconstruct_error.ReconstructError.TheVariants.{Refused as refused};
+
+    ghost from_gives = { λ _ result. result ≡ refused OutOfMemory };
+
+    fn from(_error: AllocError) -> ReconstructError {
+        ReconstructError::Refused(Error::OutOfMemory)
     }
 }
 

@@ -1,6 +1,6 @@
 //! Reconstructing few wanted shards strip by strip, by direct sums. As many received shards as there are originals are the
 //! base. Each word of a wanted shard is the sum of the words of the base, each times a factor.
-ghost use Rattle.std.specs.Prelude.{◌≡◌, ◌⊎◌, ◌↔◌, ℕ, ◌+◌, ◌-◌, ◌*◌, ◌/◌, ◌^◌, ◌<◌, ◌≤◌, All, true, false, List};
+ghost use Rattle.std.specs.Prelude.{◌≡◌, ◌⊎◌, ◌↔◌, ℕ, ◌+◌, ◌-◌, ◌/◌, ◌^◌, ◌<◌, ◌≤◌, All, true, false, List};
 ghost use Rattle.std.specs.Prelude.{length, Ok, Some, None, MatchOption, IsTrue, OnOk, IfOk, IfErr, option_copied};
 ghost use Rattle.rs_field.specs.code.Column.{Shard};
 ghost use Rattle.rs_field.specs.code.Counts.{default_rate};
@@ -12,7 +12,7 @@ ghost use Rattle.rs_field.specs.code.PieceStates.{state_of_pieces, HoldRestored}
 ghost use Rattle.rs_field.specs.rows.Layout.{row_len};
 ghost use Rattle.rs_field.specs.rows.MarkedRows.{is_marked};
 ghost use Rattle.rs_rate.specs.ShardRows.{shard_in_order};
-ghost use Rattle.rs_rate.specs.Sums.{sum_word};
+ghost use Rattle.rs_rate.specs.Sums.{sum_word, AreSumsCheaper};
 ghost use Rattle.reed_solomon_simd.specs.Base.{frame_in, row_of, shard_in_row, MarkBase, CanSum};
 ghost use Rattle.reed_solomon_simd.specs.Base.{base_sum, IsBaseSum, AgreesInRow};
 ghost use Rattle.reed_solomon_simd.specs.Reconstructed.{AreReconstructed, CanBeRebuilt, NamesMissing};
@@ -34,9 +34,8 @@ use std::alloc::Global;
 /// than a transform.
 pub(crate) fn are_sums_used(counts: DefaultRateCounts, wanted: usize, surplus: usize) -> bool
     requires few { surplus ≤ 65536 }
-    ensures { result ≡ true
-        → 2 * ((wanted + surplus) * counts.original_count)
-        < row_count counts.frame * counts.frame.exponent }
+    ensures { IsTrue result ↔ (wanted ≤ row_count counts.frame)
+        × AreSumsCheaper counts.frame counts.original_count (wanted + surplus) }
 {
     wanted <= counts.frame.row_count()
         && are_sums_cheaper(counts.frame, counts.original_count, wanted + surplus)

@@ -1,5 +1,6 @@
--- Direct sums over a base: the given shards in marked rows.
-use Rattle.std.specs.Prelude.{◌≡◌, ℕ, ◌/◌, ◌%◌, ◌<◌, Bool, true, List, length, slice_index, is_some, if◌then◌else◌}
+-- Direct sums over a base: the given shards in marked rows, and when sums cost less than a transform.
+use Rattle.std.specs.Prelude.{◌≡◌, ℕ, ◌*◌, ◌/◌, ◌%◌, ◌<◌, Bool, true, List, length, slice_index, is_some}
+use Rattle.std.specs.Prelude.{if◌then◌else◌}
 use Rattle.rs_field.specs.words.Transform.{sum_below}
 use Rattle.rs_field.specs.code.DirectLaws.{given_at}
 use Rattle.rs_field.specs.code.Frame.{row_count}
@@ -22,3 +23,8 @@ pub record ListsMarked (marks : List Bool) (n : ℕ) (rows : List ℕ) : Type 0 
 -- word j of a sum that is kept in chunks
 abbrev pub sum_word : Chunks → ℕ → ℕ
 sum_word chunks j = symbol (chunk chunks (j / 32)) (j % 32)
+
+-- so many direct sums over k received shards take fewer row steps than one transform of the rows of a decoder: a sum takes
+-- one for each of the k shards
+unfoldable pub AreSumsCheaper : Frame → ℕ → ℕ → Type 0
+AreSumsCheaper frame k sums = 2 * (sums * k) < row_count frame * frame.exponent

@@ -17,6 +17,7 @@ ghost use Rattle.rs_field.specs.words.StepBounds.{CountsUpTo};
 ghost use Rattle.rs_rate.specs.Configured.{IsConfigured, rows_to_decode};
 ghost use Rattle.rs_rate.specs.Decoding.{AreRowsOf, is_outside, IsBaseOf, SumsWords};
 ghost use Rattle.rs_rate.specs.Marks.{how_many};
+ghost use Rattle.rs_rate.specs.Sums.{AreSumsCheaper};
 
 use crate::values::configuration::{Configuration, Tally};
 use crate::values::frames::are_sums_cheaper;
@@ -63,8 +64,8 @@ pub(crate) fn are_sums_used(tally: Tally) -> bool
     requires few_surplus { tally.surplus ≤ 65536 }
     ensures rows { result ≡ true → rows_to_decode tally.configuration ≤ 2048 }
     ensures cheaper { result ≡ true
-        → 2 * ((tally.missing + tally.surplus) * tally.configuration.original_count)
-        < rows_to_decode tally.configuration * tally.configuration.frame.exponent }
+        → AreSumsCheaper tally.configuration.frame tally.configuration.original_count
+        (tally.missing + tally.surplus) }
 {
     let frame = tally.configuration.frame;
     let sums = tally.missing + tally.surplus;

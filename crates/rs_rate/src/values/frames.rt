@@ -1,9 +1,10 @@
 //! Powers of two, the frame of each rate for the counts that it supports, and what a decode costs in a frame.
-ghost use Rattle.std.specs.Prelude.{◌≡◌, ◌↔◌, ◌+◌, ◌*◌, ◌^◌, ◌<◌, ◌≤◌, true, IsTrue, if◌then◌else◌, ℕ, ◌%◌};
+ghost use Rattle.std.specs.Prelude.{◌≡◌, ◌↔◌, ℕ, ◌+◌, ◌%◌, ◌^◌, ◌<◌, ◌≤◌, true, IsTrue, if◌then◌else◌};
 ghost use Rattle.rs_field.specs.code.Counts.{next_power, exponent_of, is_low};
 ghost use Rattle.rs_field.specs.code.Counts.{low_rate, high_rate, default_rate};
-ghost use Rattle.rs_field.specs.code.Frame.{low_frame, high_frame, row_count};
+ghost use Rattle.rs_field.specs.code.Frame.{low_frame, high_frame};
 ghost use Rattle.rs_rate.specs.Configured.{frame_if};
+ghost use Rattle.rs_rate.specs.Sums.{AreSumsCheaper};
 
 use rs_field::engine::GF_ORDER;
 use rs_field::frame::Frame;
@@ -140,11 +141,12 @@ pub(crate) fn default_frame(original_count: usize, recovery_count: usize) -> Opt
 
 /// Returns whether so many direct sums take fewer row steps than one transform of the rows of a decoder. A sum takes one
 /// product for each original. A transform takes half of the number of rows times its exponent.
+#[tactic(auto, unfolding(crate::specs::Sums::AreSumsCheaper))]
 pub fn are_sums_cheaper(frame: Frame, original_count: usize, sums: usize) -> bool
     requires few { frame.exponent ≤ 16 }
     requires originals { original_count ≤ 65536 }
     requires sums { sums ≤ 131072 }
-    ensures { result ≡ true → 2 * (sums * original_count) < row_count frame * frame.exponent }
+    ensures { IsTrue result ↔ AreSumsCheaper frame original_count sums }
 {
     2 * (sums * original_count) < frame.row_count() * frame.exponent
 }

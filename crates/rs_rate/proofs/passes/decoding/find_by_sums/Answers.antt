@@ -2,7 +2,8 @@ use Rattle.std.proofs.Common.{rules, Bool, ◌≡◌, ℕ, ◌+◌, ◌*◌, ◌
 use Rattle.std.proofs.Common.{arith, pow_mono, subst}
 use Rattle.std.proofs.Math.Nat.{mod-eq_of_lt}
 use Rattle.std.specs.Prelude.{not}
-use Rattle.rs_field.specs.code.Frame.{original_row}
+use Rattle.rs_field.specs.code.Frame.{original_row, row_count}
+use Rattle.rs_field.specs.declared.code.frame.Frame.{Frame}
 use Rattle.rs_field.specs.rows.MarkedRows.{is_marked}
 use Rattle.rs_field.specs.words.Field.{log}
 use Rattle.rs_field.specs.words.StepBounds.{transform_steps, CountsUpTo, LocatorCounts}
@@ -13,15 +14,18 @@ use Rattle.rs_field.proofs.of_words.Halves.{steps_twice}
 use Rattle.rs_rate.specs.Configured.{rows_to_decode}
 use Rattle.rs_rate.specs.Decoding.{restore_steps, sum_steps, is_outside}
 use Rattle.rs_rate.specs.Marks.{given_marks, how_many}
+use Rattle.rs_rate.specs.Sums.{AreSumsCheaper}
 use Rattle.rs_rate.proofs.HowMany.{how_many-most, how_many-rest}
 use Rattle.rs_rate.proofs.passes.decoding.find_by_sums.Goals as goal
 
--- Direct sums that are cheaper than transforms take no more row steps than these.
-sums_within : (w e k missing surplus : ℕ) → e < 64 → w ≡ 2 ^ e → missing ≤ k → k ≤ w
-    → 2 * ((missing + surplus) * k) < w * e
-    → (missing + surplus) * (1 + k) ≤ w + (transform_steps w + (surplus + (2 * transform_steps w + k)))
-sums_within w e k missing surplus few power most fit cheaper =
-    let twice = steps_twice w e few power in
+-- Direct sums that are cheaper than a transform take no more row steps than these.
+sums_within : (f : Frame) (k missing surplus : ℕ) → f.exponent < 64 → missing ≤ k → k ≤ row_count f
+    → AreSumsCheaper f k (missing + surplus)
+    → (missing + surplus) * (1 + k)
+    ≤ row_count f + (transform_steps (row_count f) + (surplus + (2 * transform_steps (row_count f) + k)))
+unfolding AreSumsCheaper
+sums_within f k missing surplus few most fit cheaper =
+    let twice = steps_twice (row_count f) f.exponent few refl in
     let each : (missing + surplus) * (1 + k) ≡ missing + surplus + (missing + surplus) * k = omega arith in
     omega arith
 
@@ -82,8 +86,8 @@ returns-clause-counts g c =
     (rw c.given-2.ensures.marks at c.sum_rows-agrees.ensures.counts) in
     both_counted (sum_steps own tally.missing tally.surplus) (restore_steps own tally.surplus) c.args.steps.now
     c.make_locator.new.steps c.sum_rows-agrees.new.steps
-    (sums_within rows own.frame.exponent own.original_count tally.missing tally.surplus
-    (omega (arith, facts.configured.few)) refl (omega (arith, most, facts.missing))
+    (sums_within own.frame own.original_count tally.missing tally.surplus
+    (omega (arith, facts.configured.few)) (omega (arith, most, facts.missing))
     (omega (arith, facts.configured.own_rows))
     (c.are_sums_used.ensures.cheaper c.if-not-are_sums_used.false))
     c.make_locator.ensures.counts sums
