@@ -16,7 +16,7 @@ mod completing;
 mod decoder;
 mod encoder;
 mod into;
-pub mod lent_originals;
+mod lent_originals;
 mod messages;
 mod one_call;
 pub mod originals;

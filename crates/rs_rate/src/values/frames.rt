@@ -1,5 +1,5 @@
 //! Powers of two, the frame of each rate for the counts that it supports, and what a decode costs in a frame.
-ghost use Rattle.std.specs.Prelude.{◌≡◌, ◌↔◌, ℕ, ◌+◌, ◌%◌, ◌^◌, ◌<◌, ◌≤◌, true, IsTrue, if◌then◌else◌};
+ghost use Rattle.std.specs.Prelude.{◌≡◌, ◌↔◌, ℕ, ◌+◌, ◌%◌, ◌^◌, ◌<◌, ◌≤◌, IsTrue, if◌then◌else◌};
 ghost use Rattle.rs_field.specs.code.Counts.{next_power, exponent_of, is_low};
 ghost use Rattle.rs_field.specs.code.Counts.{low_rate, high_rate, default_rate};
 ghost use Rattle.rs_field.specs.code.Frame.{low_frame, high_frame};
