@@ -5,6 +5,7 @@ pub mod InTurn
 pub mod LeftCount
 pub mod MessageBack
 pub mod LeftReceived
+pub mod LostIndexes
 pub mod VerifyLaws
 pub mod ReconstructLaws
 mod UpdatedCode

@@ -2,7 +2,9 @@
 use Rattle.std.proofs.Common.{
   ◌≡◌,
   ℕ,
+  ◌+◌,
   ◌<◌,
+  ◌≤◌,
   ◌%◌,
   Bool,
   true,
@@ -35,17 +37,18 @@ use Rattle.reed_solomon_simd.proofs.CallerLemmas.{valid-some}
 use Rattle.reed_solomon_simd.proofs.Left.{kept_of, kept-left, lost-kept}
 use Rattle.reed_solomon_simd.proofs.MessageLaws.{completes_all}
 use Rattle.reed_solomon_simd.proofs.MessageLemmas.{joined-back}
-use Rattle.rs_callers.specs.Losing.{is_lost, left_of, lost_at}
+use Rattle.rs_callers.specs.Losing.{is_lost, left_of, left_below, lost_at}
 
 -- The originals of a message, joined to its length, are the message, or memory could not be allocated.
-pub message-joined : {Z : Type 0} (k : ℕ) (message : List ℕ) (originals all : List Shard)
-    (result : Result (Vec ℕ Z) Error) → AreShardsOf k message originals → all ≡ originals
-    → UpToMemory (join_outcome all (length message)) (collected_bytes result)
+pub message-joined : {Z : Type 0} (k total : ℕ) (message : List ℕ) (originals all : List Shard)
+    (result : Result (Vec ℕ Z) Error) → AreShardsOf k message originals → length message ≡ total → all ≡ originals
+    → UpToMemory (join_outcome all total) (collected_bytes result)
     → IfOk result (λ back. back.items ≡ message) × IfErr result (λ e. e ≡ OutOfMemory)
-message-joined k message originals all result are same answer =
+message-joined k total message originals all result are long same answer =
     by_result result
     (subst (λ (wanted : Result (List ℕ) Error). UpToMemory wanted (collected_bytes result))
-    (ap (λ shards. join_outcome shards (length message)) same ∙ joined-back k message originals are) answer)
+    (ap (join_outcome all) (sym long) ∙ ap (λ shards. join_outcome shards (length message)) same
+    ∙ joined-back k message originals are) answer)
   where
     by_result : {Z : Type 0} (r : Result (Vec ℕ Z) Error) → UpToMemory (Ok message) (collected_bytes r)
         → IfOk r (λ back. back.items ≡ message) × IfErr r (λ e. e ≡ OutOfMemory)
@@ -75,43 +78,57 @@ counted-valid k r size counted some even = by_test (supports default_rate k r) r
 pub counted-some : (k r : ℕ) → counts_outcome k r ≡ Ok tt → 0 < k
 counted-some k r counted = valid-some (default_of k r 2) (counted-valid k r 2 counted (omega arith) refl)
 
--- Supported counts and the size of the shards of a message are a valid configuration.
-pub message-valid : (k r : ℕ) (message : List ℕ) (originals : List Shard) (are : AreShardsOf k message originals)
-    → counts_outcome k r ≡ Ok tt → validation_outcome (default_of k r are.size) ≡ Ok tt
-message-valid k r message originals are counted =
-    counted-valid k r are.size counted are.least.holds.some are.least.holds.even
-
 -- The originals of a message that are left, and the lost ones, are completed to all originals, or memory could not be
--- allocated. The originals are vectors, which were lent twice, and the kept ones were collected and then lent.
-pub vectors-completed : {Y : Type 0} (k : ℕ) (message : List ℕ) (originals first second : List (Vec ℕ Y))
-    (lost : List ℕ) (collected kept : List (ℕ × Bor (List ℕ))) (restored : Shards) (result : Result (List Shard) Error)
-    → AreShardsOf k message (map (λ v. v.items) originals) → first ≡ originals → second ≡ originals → kept ≡ collected
-    → map (λ item. (item.0, item.1.now)) collected ≡ left_of (map (λ v. v.items) second) lost
-    → ((i : ℕ) → restored i ≡ lost_at (map (λ v. v.items) first) lost i)
+-- allocated. The originals are vectors, and those that are left were collected and then lent.
+pub vectors-completed : {Y : Type 0} (k : ℕ) (message : List ℕ) (originals : List (Vec ℕ Y)) (lost : List ℕ)
+    (collected kept : List (ℕ × Bor (List ℕ))) (restored : Shards) (result : Result (List Shard) Error)
+    → AreShardsOf k message (map (λ v. v.items) originals) → kept ≡ collected
+    → map (λ item. (item.0, item.1.now)) collected ≡ left_of (map (λ v. v.items) originals) lost
+    → ((i : ℕ) → restored i ≡ lost_at (map (λ v. v.items) originals) lost i)
     → Completes k (map (λ item. (item.0, item.1.now)) kept) restored result
     → MatchResult result (λ all. all ≡ map (λ v. v.items) originals) (λ e. e ≡ OutOfMemory)
-vectors-completed k message originals first second lost collected kept restored result are lent again same left gone
-    answer =
+vectors-completed k message originals lost collected kept restored result are same left gone answer =
     let items : map (λ item. (item.0, item.1.now)) kept ≡ kept_of (map (λ v. v.items) originals) (is_lost lost) =
-    ap (map (λ item. (item.0, item.1.now))) same
-    ∙ left
-    ∙ ap (λ vectors. left_of (map (λ v. v.items) vectors) lost) again
-    in
+    ap (map (λ item. (item.0, item.1.now))) same ∙ left in
     completes_all (map (λ v. v.items) originals) (kept_of (map (λ v. v.items) originals) (is_lost lost)) restored
     (kept-left (map (λ v. v.items) originals) (is_lost lost))
-    (λ i. gone i
-    ∙ ap (λ vectors. lost_at (map (λ v. v.items) vectors) lost i) lent
-    ∙ sym (lost-kept (map (λ v. v.items) originals) (is_lost lost) i)) result
+    (λ i. gone i ∙ sym (lost-kept (map (λ v. v.items) originals) (is_lost lost) i)) result
     (subst (λ xs. Completes (length (map (λ v. v.items) originals)) xs restored result) items
     (subst (λ n. Completes n (map (λ item. (item.0, item.1.now)) kept) restored result) (sym are.number) answer))
 
+-- The shards of a message are still its shards after the vectors that hold them were lent.
+pub lent-shards : {Y : Type 0} (k : ℕ) (message : List ℕ) (vectors lent : List (Vec ℕ Y)) → lent ≡ vectors
+    → AreShardsOf k message (map (λ v. v.items) vectors)
+    → AreShardsOf (length lent) message (map (λ v. v.items) lent)
+lent-shards k message vectors lent same are =
+    subst (λ xs. AreShardsOf (length xs) message (map (λ v. v.items) xs)) (sym same)
+    (subst (λ n. AreShardsOf n message (map (λ v. v.items) vectors))
+    (sym are.number ∙ length-map vectors (λ v. v.items)) are)
+
 -- Vectors whose shards have a size have this size.
-pub vectors-sized : {Y : Type 0} (size : ℕ) (vectors others : List (Vec ℕ Y)) → others ≡ vectors
+vectors-sized : {Y : Type 0} (size : ℕ) (vectors others : List (Vec ℕ Y)) → others ≡ vectors
     → All (λ shard. length shard ≡ size) (map (λ v. v.items) vectors) → All (λ v. length v.items ≡ size) others
 vectors-sized size vectors others is sized =
     subst (λ xs. All (λ v. length v.items ≡ size) xs) (sym is)
     (λ j d inside. ap length (sym (get_or-map (λ v. v.items) vectors j d [] inside))
     ∙ sized j [] (let long = length-map vectors (λ v. v.items) in omega (arith, inside, long)))
+
+-- The shards of a message for supported counts have a valid size. If enough shards are left for k originals, then enough
+-- are left for the lent ones.
+pub lent-valid : {Y : Type 0} (k r : ℕ) (message lost recovery_lost : List ℕ) (vectors lent : List (Vec ℕ Y))
+    → lent ≡ vectors → AreShardsOf k message (map (λ v. v.items) vectors) → counts_outcome k r ≡ Ok tt
+    → k ≤ left_below k lost + left_below r recovery_lost
+    → (size : ℕ) × (validation_outcome (default_of (length lent) r size) ≡ Ok tt)
+    × All (λ v. length v.items ≡ size) lent
+    × (length lent ≤ left_below (length lent) lost + left_below r recovery_lost)
+lent-valid k r message lost recovery_lost vectors lent same are counted many =
+    let long : length lent ≡ k = ap length same ∙ sym (length-map vectors (λ v. v.items)) ∙ are.number in (
+      are.size,
+      subst (λ n. validation_outcome (default_of n r are.size) ≡ Ok tt) (sym long)
+          (counted-valid k r are.size counted are.least.holds.some are.least.holds.even),
+      vectors-sized are.size vectors lent same are.sized,
+      subst (λ n. n ≤ left_below n lost + left_below r recovery_lost) (sym long) many,
+    )
 
 -- If a message was split, there is an original.
 pub split-some : {T : Type 0} (k : ℕ) (x : T) (e : Error) → (k ≡ 0 → Ok x ≡ Err e) → 0 < k

@@ -1,7 +1,7 @@
 -- Shards that are lost.
-use Rattle.std.specs.Prelude.{ℕ, zero, suc, ◌+◌, Bool, ◌&&◌, not, List, length, map, nat_lt, nat_eq, Some, None}
+use Rattle.std.specs.Prelude.{◌≡◌, ℕ, zero, suc, ◌+◌, Bool, ◌&&◌, not, List, length, map, nat_lt, nat_eq, Some, None}
 use Rattle.std.specs.Prelude.{if◌then◌else◌}
-use Rattle.std.specs.List.{list_any, filter, enumerate_from}
+use Rattle.std.specs.List.{list_any, filter, enumerate_from, IsDistinct}
 use Rattle.std.specs.Borrow.{Bor}
 use Rattle.std.specs.declared.vec.Vec.{Vec}
 use Rattle.reed_solomon_simd.specs.CodeLaws.{changed_shards}
@@ -48,3 +48,8 @@ left_from from (suc n) lost = (if is_lost lost from then 0 else 1) + left_from (
 -- the number of indexes below n that are not lost
 abbrev pub left_below : ℕ → List ℕ → ℕ
 left_below n lost = left_from 0 n lost
+
+-- a list has exactly the lost indexes below n, each of them once
+pub record ListsLost (n : ℕ) (lost indexes : List ℕ) : Type 0 where
+  pub each : (i : ℕ) → list_any (nat_eq i) indexes ≡ (nat_lt i n && is_lost lost i)
+  pub once : IsDistinct nat_eq indexes

@@ -9,6 +9,7 @@ pub mod message_round_trip;
 pub mod one_call;
 pub mod plain_callers;
 pub mod rate_round_trip;
+pub mod reconstruct_round_trip;
 pub mod round_trip;
 pub mod stripes;
 pub mod surface;

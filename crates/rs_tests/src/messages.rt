@@ -4,8 +4,10 @@ use rand_chacha::ChaCha8Rng;
 use rand_core::{Rng, SeedableRng};
 use reed_solomon_simd::engine::tables::Tables;
 use reed_solomon_simd::engine::{DefaultEngine, EngineKind};
-use reed_solomon_simd::{complete, encode, join, shard_bytes, split};
-use rs_callers::message_round_trip::round_trip_of_a_message;
+use reed_solomon_simd::{
+    ShardIndex, complete, encode, join, reconstruct, shard_bytes, split,
+};
+use rs_callers::message_round_trip::{reconstruction_of_a_message, round_trip_of_a_message};
 use std::alloc::{AllocError, Global};
 use std::collections::BTreeMap;
 use std::process::Abort;
@@ -61,6 +63,23 @@ fn two_restored_originals_are_completed(rt: HostRuntime) -> Result<(), Fail> {
 }
 
 #[test]
+fn two_reconstructed_originals_are_completed(rt: HostRuntime) -> Result<(), Fail> {
+    let alloc = rt.alloc();
+    let tables = Tables::new(alloc)?;
+    let engine = DefaultEngine::fastest(&tables);
+    let message: [&[u8]; 3] = [b"ten ", b"byte", b"s.\0\0"];
+    let made = encode(alloc, 3, 2, message.into_iter(), engine)?;
+    let received: [(usize, &[u8]); 1] = [(1, b"byte")];
+    let recovery: [(usize, &[u8]); 2] = [(0, made[0].as_slice()), (1, made[1].as_slice())];
+    let wanted = [ShardIndex::Original(0), ShardIndex::Original(2)];
+    let made = reconstruct(alloc, 3, 2, &received, &recovery, &wanted, engine)?;
+    let restored = [0, 2].iter().copied().zip(made).collect(alloc)?;
+    let originals = complete(alloc, 3, &received, restored)?;
+    assert_eq!(rt; join(alloc, &originals, 10)?.as_slice(), b"ten bytes.".as_slice());
+    Ok(())
+}
+
+#[test]
 fn the_fastest_engine_encodes(rt: HostRuntime) -> Result<(), Fail> {
     let alloc = rt.alloc();
     let tables = Tables::new(alloc)?;
@@ -102,6 +121,8 @@ fn check_length(
     for (k, r, own, other) in LOSSES {
         let back = round_trip_of_a_message(alloc, &file, k, r, own, other, engine)?;
         assert!(rt; back == file, "{length} bytes by {k}:{r}");
+        let back = reconstruction_of_a_message(alloc, &file, k, r, own, other, engine)?;
+        assert!(rt; back == file, "{length} bytes by {k}:{r}, reconstructed");
     }
     Ok(())
 }

@@ -3,7 +3,7 @@ use Rattle.std.proofs.lemmas.Iterator.{YieldsList-from_slice, YieldsList-from_ma
 use Rattle.std.proofs.lemmas.Iterator.Consumers.{map_from_collect}
 use Rattle.rs_callers.specs.Losing.{is_left}
 use Rattle.rs_callers.proofs.Chains.{numbered, filtered}
-use Rattle.rs_callers.proofs.message_round_trip.kept_originals.Goals as goal
+use Rattle.rs_callers.proofs.reconstruct_round_trip.left_shards.Goals as goal
 
 pub returns : goal.returns
 returns c =
@@ -11,6 +11,6 @@ returns c =
     (filtered c.filter.result _ (is_left c.args.lost.now) _
     (numbered c.enumerate.result
     (YieldsList-from_map_by _ (λ shard. shard.now) (λ vector. vector.items)
-    (YieldsList-from_slice c.args.originals.now cc) c.map.ensures.closure (λ x r q k. search rules))
+    (YieldsList-from_slice c.args.shards.now cc) c.map.ensures.closure (λ x r q k. search rules))
     c.enumerate.ensures.source c.enumerate.ensures.count)
     c.filter.ensures.source c.filter.ensures.closure (λ x b q k. search rules))
