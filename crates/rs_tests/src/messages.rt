@@ -4,9 +4,7 @@ use rand_chacha::ChaCha8Rng;
 use rand_core::{Rng, SeedableRng};
 use reed_solomon_simd::engine::tables::Tables;
 use reed_solomon_simd::engine::{DefaultEngine, EngineKind};
-use reed_solomon_simd::{
-    ShardIndex, complete, encode, join, reconstruct, shard_bytes, split,
-};
+use reed_solomon_simd::{ShardIndex, complete, encode, join, reconstruct, shard_bytes, split};
 use rs_callers::message_round_trip::{reconstruction_of_a_message, round_trip_of_a_message};
 use std::alloc::{AllocError, Global};
 use std::collections::BTreeMap;
@@ -75,7 +73,10 @@ fn two_reconstructed_originals_are_completed(rt: HostRuntime) -> Result<(), Fail
     let made = reconstruct(alloc, 3, 2, &received, &recovery, &wanted, engine)?;
     let restored = [0, 2].iter().copied().zip(made).collect(alloc)?;
     let originals = complete(alloc, 3, &received, restored)?;
-    assert_eq!(rt; join(alloc, &originals, 10)?.as_slice(), b"ten bytes.".as_slice());
+    assert_eq!(rt;
+        join(alloc, &originals, 10)?.as_slice(),
+        b"ten bytes.".as_slice()
+    );
     Ok(())
 }
 
