@@ -41,15 +41,6 @@ use std::convert::AsSlice;
 /// let message = join(alloc, &originals, 10)?;
 /// assert_eq!(rt; message.as_slice(), b"ten bytes.".as_slice());
 /// ```
-///
-/// Originals 0 and 2 may also come from [`reconstruct`](crate::reconstruct), which returns them as a list:
-///
-/// ```
-/// let wanted = [ShardIndex::Original(0), ShardIndex::Original(2)];
-/// let made = reconstruct(alloc, 3, 2, &received, &recovery, &wanted, engine)?;
-/// let restored = [0, 2].iter().copied().zip(made).collect(alloc)?;
-/// let originals = complete(alloc, 3, &received, restored)?;
-/// ```
 pub fn complete<O: AsSlice<u8>>(
     alloc: Global,
     original_count: usize,
