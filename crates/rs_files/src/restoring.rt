@@ -2,24 +2,22 @@
 ghost use Rattle.rs_field.specs.code.Given.{nothing};
 
 use crate::folder::{piece_bytes, shape_of};
-use crate::output::{Part, at_path, write_at};
+use crate::output::{Part, write_at};
 use crate::progress::Progress;
 use crate::scanning::Scan;
-use crate::source::FileBlocks;
+use crate::source::{FileBlocks, failure};
 use anyhow::Result;
 use reed_solomon_simd::engine::tables::Tables;
 use reed_solomon_simd::engine::{DefaultEngine, EngineKind};
-use rs_volumes::description::{Description, FileEntry};
+use rs_volumes::coding_error::CodingError;
+use rs_volumes::description::Description;
 use rs_volumes::pieces::BlockSink;
 use rs_volumes::placement::Place;
 use rs_volumes::restoring::{Plan, restore};
 use std::alloc::Global;
-use std::fs::{FileTimes, OpenFile, Permissions};
 use std::io;
 use std::io::ErrorKind;
-use std::os::unix::fs::PermissionsExt;
 use std::rt::{Files, Runtime};
-use std::time::{Duration, UNIX_EPOCH};
 
 /// A part that is open to be written.
 #[derive(Drop)]
@@ -42,6 +40,20 @@ struct FileSink<'a, R: Runtime> {
 }
 
 impl<'a, R: Runtime> FileSink<'a, R> {
+    // Returns the path of the file into which a block could not be written. The path is empty after another error.
+    fn path_of(&self, error: &CodingError) -> &str {
+        let CodingError::Write(index, _) = error else {
+            return "";
+        };
+        let Some(place) = self.places.get(*index) else {
+            return "";
+        };
+        match self.parts.get(place.file) {
+            Some(Some(part)) => part.part.as_str(),
+            _ => "",
+        }
+    }
+
     // Writes bytes into the part of a file, from byte `offset` on. `file` is the index of the file in the description.
     fn write(&mut self, file: usize, part: &Part, offset: u64, bytes: &[u8]) -> io::Result<()> {
         let mut opened = match self.opened.take() {
@@ -207,7 +219,7 @@ fn restore_blocks<R: Runtime>(
     let shape = shape_of(description);
     let piece = piece_bytes(&shape, memory);
     let digests = description.digests.as_slice();
-    restore(
+    let outcome = restore(
         alloc,
         shape,
         piece,
@@ -216,29 +228,10 @@ fn restore_blocks<R: Runtime>(
         digests,
         &mut source,
         &mut sink,
-    )?;
+    );
     source.end();
-    Ok(())
-}
-
-/// Gives a restored file its permission bits and the time of its last change, and syncs it. A time before 1970 is not
-/// set. The file is opened only once, because its permission bits can forbid to open it again.
-///
-/// # Errors
-///
-/// In this order, fails if the file cannot be opened, if its permission bits or its time cannot be set, or if it cannot be
-/// synced.
-pub fn complete<R: Runtime>(rt: &R, part: &Part, file: &FileEntry) -> Result<()> {
-    let path = part.part.as_str();
-    let handle = at_path(path, part.open(rt))?;
-    let permissions = Permissions::from_mode(file.mode & 0o7777);
-    at_path(path, handle.set_permissions(permissions))?;
-    let seconds = i64::from_le_bytes(file.modified.to_le_bytes());
-    if let Ok(seconds) = u64::try_from(seconds) {
-        if let Some(time) = UNIX_EPOCH.checked_add(Duration::from_secs(seconds)) {
-            let times = FileTimes::new().set_modified(time);
-            at_path(path, handle.set_times(times))?;
-        }
+    match outcome {
+        Ok(()) => Ok(()),
+        Err(error) => failure(source.path_of(&error), sink.path_of(&error), error),
     }
-    at_path(path, handle.sync_all())
 }

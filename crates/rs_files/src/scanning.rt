@@ -1,4 +1,5 @@
 //! Looks for the blocks of a set, in its files and in volumes.
+use crate::output::at_path;
 use crate::progress::Progress;
 use crate::settings::Request;
 use crate::source::Origin;
@@ -19,7 +20,7 @@ use std::rt::{Files, Runtime};
 const CHUNK: usize = 1 << 18;
 
 /// The state of a file of a set.
-#[derive(Clone, Copy, Debug, PartialEq, Eq)]
+#[derive(Clone, Copy, PartialEq, Eq)]
 pub enum FileState {
     /// The file has its length, and each block has its digest.
     Whole,
@@ -423,7 +424,7 @@ impl Scanner {
         path: &str,
         records: (u64, u64),
     ) -> Result<()> {
-        let mut file = fs::open(rt, path)?;
+        let mut file = at_path(path, fs::open(rt, path))?;
         let size = description.block_bytes;
         let record = size.saturating_add(RECORD_HEAD_BYTES);
         for number in 0..records.0 {

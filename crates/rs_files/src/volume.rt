@@ -17,7 +17,7 @@ use std::rt::{Files, Runtime};
 pub const LARGEST_DESCRIPTION: u64 = 1 << 30;
 
 /// The state of the two copies of the head and the description of a volume.
-#[derive(Clone, Copy, Debug, PartialEq, Eq)]
+#[derive(Clone, Copy, PartialEq, Eq)]
 pub enum Copies {
     /// Both copies are there, and they are equal.
     Whole,
@@ -74,7 +74,7 @@ fn described<F: Read + Seek>(
     copies: Copies,
 ) -> Result<Volume> {
     let length = head.description_bytes;
-    if length > LARGEST_DESCRIPTION || length > size {
+    if length > LARGEST_DESCRIPTION || length > size.saturating_sub(offset) {
         bail!("its description is too long");
     }
     let bytes = read_at(file, alloc, offset, length as usize)?;
@@ -169,7 +169,7 @@ fn back<F: Read + Seek>(file: &mut F, alloc: Global, size: u64) -> Result<Volume
 pub fn open_volume<R: Runtime + AllocGlobal>(rt: &R, path: &str) -> Result<Volume> {
     let alloc = rt.alloc();
     let mut file = at_path(path, fs::open(rt, path))?;
-    let size = file.metadata()?.len();
+    let size = at_path(path, file.metadata())?.len();
     match front(&mut file, alloc, size) {
         Ok(volume) => Ok(volume),
         Err(error) => match back(&mut file, alloc, size) {
