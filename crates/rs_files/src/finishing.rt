@@ -1,8 +1,10 @@
 //! Restores files, and gives them their final names.
 use crate::counted::Counted;
+use crate::creating::check_free;
+use crate::names::{path_in, text_of};
 use crate::output::{Part, at_path, exists, free_path};
 use crate::restoring::{begin_parts, write_blocks};
-use crate::scanning::Scan;
+use crate::scanning::{FileState, Scan};
 use crate::settings::Request;
 use anyhow::Result;
 use rs_volumes::description::FileEntry;
@@ -90,17 +92,30 @@ fn tell<R: Runtime>(rt: &R, restored: Restored) -> Result<()> {
     Ok(())
 }
 
-/// Restores files of a set, and prints how many they are. `paths` holds the path of each file that is restored, and `None`
-/// for the other files. If `in_place` is set, a damaged file at such a path is kept as `NAME.damaged`.
+// Checks that no file exists where a file is restored.
+fn check_targets<R: Runtime>(rt: &R, alloc: Global, found: &Scan, folder: &str) -> Result<()> {
+    let files = found.description.files.as_slice();
+    for (file, state) in files.iter().zip(found.states.as_slice()) {
+        if *state != FileState::Whole {
+            let path = path_in(alloc, folder, text_of(file.name.as_slice()))?;
+            check_free(rt, path.as_str(), false)?;
+        }
+    }
+    Ok(())
+}
+
+/// Restores the files of a set that are not whole, below `folder`, and prints how many they are. If `in_place` is set, a
+/// damaged file is kept as `NAME.damaged`.
 ///
 /// # Errors
 ///
 /// In this order, fails if:
 ///
+/// - a file exists, `in_place` is not set and `--force` is not given,
 /// - a file cannot be begun,
 /// - a block cannot be read, restored or written, or does not have its digest,
 /// - for each file, its permission bits or its time cannot be set, it cannot be synced, the damaged file cannot be kept, or
-///   the restored file cannot get its final name, for example because a file with this name exists,
+///   the restored file cannot get its final name,
 /// - the result cannot be printed.
 ///
 /// Every step fails if memory cannot be allocated.
@@ -109,10 +124,13 @@ pub fn restore_files<R: Runtime>(
     alloc: Global,
     request: &Request,
     found: &Scan,
-    paths: &[Option<String>],
+    folder: &str,
     in_place: bool,
 ) -> Result<()> {
-    let parts = begin_parts(rt, alloc, found, paths)?;
+    if !in_place && !request.force {
+        check_targets(rt, alloc, found, folder)?;
+    }
+    let parts = begin_parts(rt, alloc, found, folder)?;
     let parts = parts.as_slice();
     write_blocks(rt, alloc, found, parts, request.memory, request.progress)?;
     let restored = finish(rt, alloc, found, parts, in_place, request.force)?;

@@ -1,30 +1,10 @@
 //! `join`: restores all files of a set from volumes.
-use crate::creating::check_free;
 use crate::finishing::restore_files;
-use crate::names::{path_in, text_of};
 use crate::scanning::{Scan, scan_request};
 use crate::settings::{Request, STATUS_LOST, STATUS_MENDED, STATUS_WHOLE};
 use crate::verifying::{tell_lost, tell_volumes};
 use anyhow::{Result, bail};
-use std::alloc::Global;
 use std::rt::Runtime;
-
-// Returns the path of each file of a set below a folder. Fails if a file exists and `force` is not set.
-fn targets<R: Runtime>(
-    rt: &R,
-    alloc: Global,
-    found: &Scan,
-    folder: &str,
-    force: bool,
-) -> Result<Vec<Option<String>>> {
-    let mut paths = Vec::new(alloc);
-    for file in found.description.files.as_slice() {
-        let path = path_in(alloc, folder, text_of(file.name.as_slice()))?;
-        check_free(rt, path.as_str(), force)?;
-        paths.push(Some(path))?;
-    }
-    Ok(paths)
-}
 
 /// Runs `join`: restores all files of a set from volumes. Returns the exit status.
 ///
@@ -34,7 +14,6 @@ fn targets<R: Runtime>(
 ///
 /// - `--to` is not given,
 /// - no volume can be read, or volumes belong to different sets,
-/// - a file exists and `--force` is not given,
 /// - the files cannot be restored, for a reason of [`restore_files`].
 ///
 /// Every step fails if memory cannot be allocated.
@@ -61,9 +40,7 @@ fn join_into<R: Runtime + AllocGlobal>(
         tell_lost(rt, counts)?;
         return Ok(STATUS_LOST);
     }
-    let alloc = rt.alloc();
-    let paths = targets(rt, alloc, found, folder, request.force)?;
-    restore_files(rt, alloc, request, found, paths.as_slice(), false)?;
+    restore_files(rt, rt.alloc(), request, found, folder, false)?;
     Ok(if counts.lost == 0 {
         STATUS_WHOLE
     } else {

@@ -1,50 +1,10 @@
 //! `repair`: restores damaged and missing files.
 use crate::finishing::restore_files;
-use crate::names::{path_in, text_of};
-use crate::scanning::{FileState, Scan, scan_request};
+use crate::scanning::{Scan, scan_request};
 use crate::settings::{Request, STATUS_LOST, STATUS_MENDED, STATUS_WHOLE};
 use crate::verifying::{folder_of, report};
 use anyhow::Result;
-use std::alloc::Global;
 use std::rt::Runtime;
-
-// Returns the path below a folder of each file that must be restored, and `None` for each whole file.
-fn targets(alloc: Global, found: &Scan, folder: &str) -> Result<Vec<Option<String>>> {
-    let mut paths = Vec::new(alloc);
-    for (file, state) in found
-        .description
-        .files
-        .as_slice()
-        .iter()
-        .zip(found.states.as_slice())
-    {
-        let path = if *state == FileState::Whole {
-            None
-        } else {
-            Some(path_in(alloc, folder, text_of(file.name.as_slice()))?)
-        };
-        paths.push(path)?;
-    }
-    Ok(paths)
-}
-
-// Restores the damaged and missing files of a set. The files are in `folder`, and the restored files are written into
-// this folder, or into the folder after `--to`.
-fn mend<R: Runtime>(
-    rt: &R,
-    alloc: Global,
-    request: &Request,
-    found: &Scan,
-    folder: &str,
-) -> Result<()> {
-    let target = match &request.to {
-        Some(to) => to.as_str(),
-        None => folder,
-    };
-    let paths = targets(alloc, found, target)?;
-    let in_place = request.to.is_none();
-    restore_files(rt, alloc, request, found, paths.as_slice(), in_place)
-}
 
 /// Runs `repair`: restores the damaged and missing files of a set. Returns the exit status.
 ///
@@ -63,7 +23,8 @@ pub fn repair<R: Runtime + AllocGlobal>(rt: &R, request: &Request) -> Result<u8>
     repair_found(rt, request, &found, folder)
 }
 
-// Restores the damaged and missing files of a set, if there are some and enough blocks were found. Returns the exit status.
+// Restores the damaged and missing files of a set, if there are some and enough blocks were found. The files are written into
+// `folder`, where they were searched, or into the folder after `--to`. Returns the exit status.
 fn repair_found<R: Runtime + AllocGlobal>(
     rt: &R,
     request: &Request,
@@ -72,7 +33,12 @@ fn repair_found<R: Runtime + AllocGlobal>(
 ) -> Result<u8> {
     let counts = found.counts();
     if counts.lost <= counts.recovery && !found.has_whole_files() {
-        mend(rt, rt.alloc(), request, found, folder)?;
+        let target = match &request.to {
+            Some(to) => to.as_str(),
+            None => folder,
+        };
+        let in_place = request.to.is_none();
+        restore_files(rt, rt.alloc(), request, found, target, in_place)?;
         return Ok(STATUS_MENDED);
     }
     report(rt, request, found, counts, folder)?;

@@ -2,9 +2,10 @@
 ghost use Rattle.rs_field.specs.code.Given.{nothing};
 
 use crate::folder::{piece_bytes, shape_of};
+use crate::names::{path_in, text_of};
 use crate::output::{Part, write_at};
 use crate::progress::Progress;
-use crate::scanning::Scan;
+use crate::scanning::{FileState, Scan};
 use crate::source::{FileBlocks, failure};
 use anyhow::Result;
 use reed_solomon_simd::engine::tables::Tables;
@@ -142,8 +143,7 @@ fn recovery_blocks(alloc: Global, scan: &Scan, k: usize, count: usize) -> Result
     Ok(recovery)
 }
 
-/// Begins a part for each file that must be restored. `paths` holds the path of each such file, and `None` for the
-/// other files.
+/// Begins a part below `folder` for each file that is not whole.
 ///
 /// # Errors
 ///
@@ -152,13 +152,16 @@ pub fn begin_parts<R: Runtime>(
     rt: &R,
     alloc: Global,
     scan: &Scan,
-    paths: &[Option<String>],
+    folder: &str,
 ) -> Result<Vec<Option<Part>>> {
     let mut parts = Vec::new(alloc);
-    for (file, path) in scan.description.files.as_slice().iter().zip(paths) {
-        let part = match path {
-            Some(path) => Some(Part::begin(rt, alloc, path.as_str(), file.size)?),
-            None => None,
+    let files = scan.description.files.as_slice();
+    for (file, state) in files.iter().zip(scan.states.as_slice()) {
+        let part = if *state == FileState::Whole {
+            None
+        } else {
+            let path = path_in(alloc, folder, text_of(file.name.as_slice()))?;
+            Some(Part::begin(rt, alloc, path.as_str(), file.size)?)
         };
         parts.push(part)?;
     }

@@ -430,7 +430,7 @@ impl Scanner {
         for number in 0..records.0 {
             let at = records.1.wrapping_add(number.wrapping_mul(record));
             let offset = at.wrapping_add(RECORD_HEAD_BYTES);
-            let Ok(index) = index_at::<R>(&mut file, at) else {
+            let Ok(index) = index_at(&mut file, at, &mut self.buffer) else {
                 continue;
             };
             let Ok(own) = hash_block(&mut file, offset, size, size, &mut self.buffer) else {
@@ -450,12 +450,19 @@ impl Scanner {
     }
 }
 
-// Reads the index of the block in the record at `offset`.
-fn index_at<R: Runtime>(file: &mut R::File, offset: u64) -> std::io::Result<usize> {
-    let mut bytes = [0u8; 4];
+// Reads the index of the block in the record at `offset`, into a buffer of at least four bytes.
+fn index_at<F: Read + Seek>(
+    file: &mut F,
+    offset: u64,
+    buffer: &mut Vec<u8>,
+) -> std::io::Result<usize> {
+    let count = buffer.len().min(4);
     file.seek(SeekFrom::Start(offset))?;
-    file.read_exact(&mut bytes)?;
-    Ok(u32::from_le_bytes(bytes) as usize)
+    file.read_exact(&mut buffer[..count])?;
+    match buffer.as_slice() {
+        [a, b, c, d, ..] => Ok(u32::from_le_bytes([*a, *b, *c, *d]) as usize),
+        _ => Err(std::io::Error::from(ErrorKind::UnexpectedEof)),
+    }
 }
 
 /// The numbers of blocks that a scan found and did not find.

@@ -177,7 +177,7 @@ fn check_files(rt: &impl Abort, files: &[Vec<u8>], places: &[Place], blocks: &[V
 
 // A set in memory: its files, its description, the places of its original blocks, and all its blocks.
 #[derive(Drop)]
-struct Stored {
+struct StoredSet {
     files: Vec<Vec<u8>>,
     description: Description,
     places: Vec<Place>,
@@ -197,13 +197,13 @@ fn shape_of(description: &Description) -> Shape {
 }
 
 // Makes a set. Its description is written and read again.
-fn stored(
+fn make_set(
     rt: &impl Abort,
     alloc: Global,
     block_bytes: usize,
     piece_bytes: usize,
     engine: DefaultEngine<'_>,
-) -> Result<Stored, Fail>
+) -> Result<StoredSet, Fail>
     requires some { 0 < piece_bytes }
     requires chunks { piece_bytes % 64 ≡ 0 }
 {
@@ -216,14 +216,14 @@ fn stored(
         digests: Vec::new(alloc),
     };
     let places = places_of(alloc, &description)?;
-    description.original_count = places.len() as u32;
+    description.original_count = places.len().min(65536) as u32;
     let shape = shape_of(&description);
     let mut source = blocks_of(alloc, files.as_slice(), places.as_slice(), block_bytes)?;
     let mut blocks = Blocks::empty(alloc, places.len().saturating_add(RECOVERY_COUNT))?;
     description.digests = create(alloc, shape, piece_bytes, engine, &mut source, &mut blocks)?;
     assert!(rt; fits(&description));
     let bytes = write_description(alloc, &description)?;
-    Ok(Stored {
+    Ok(StoredSet {
         files,
         description: read_description(alloc, bytes.as_slice())?,
         places,
@@ -244,7 +244,7 @@ const LOSSES: [Loss<'static>; 4] = [
 // Restores a set after a loss.
 fn restored(
     alloc: Global,
-    set: &mut Stored,
+    set: &mut StoredSet,
     piece_bytes: usize,
     loss: Loss<'_>,
     engine: DefaultEngine<'_>,
@@ -284,7 +284,7 @@ fn check_set(
     requires chunks { piece_bytes % 64 ≡ 0 }
 {
     for loss in LOSSES {
-        let mut set = stored(rt, alloc, block_bytes, piece_bytes, engine)?;
+        let mut set = make_set(rt, alloc, block_bytes, piece_bytes, engine)?;
         let files = restored(alloc, &mut set, piece_bytes, loss, engine)?;
         check_files(
             rt,
@@ -313,7 +313,7 @@ fn too_few_blocks_restore_nothing(rt: HostRuntime) -> Result<(), Fail> {
     let alloc = rt.alloc();
     let tables = Tables::new(alloc)?;
     let engine = DefaultEngine::fastest(&tables);
-    let mut set = stored(&rt, alloc, 64, 64, engine)?;
+    let mut set = make_set(&rt, alloc, 64, 64, engine)?;
     let outcome = restored(alloc, &mut set, 64, (&[0, 3, 4], &[0, 1]), engine);
     assert!(rt; matches!(outcome, Err(CodingError::Code(_))));
     Ok(())
