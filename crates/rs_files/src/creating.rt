@@ -28,8 +28,8 @@ const OPENING_BYTES: u64 = 28;
 /// The number of bytes of a file in a description, without its name.
 const ENTRY_BYTES: u64 = 22;
 
-// Returns the number of bytes of the description of a set. Fails if the description is larger than 1 GiB: `open_volume` does
-// not read such a description.
+// Returns the number of bytes of the description of a set. Fails if the description is larger than 1 GiB: `open_volume`
+// does not read such a description.
 fn description_bytes(files: &[FileEntry], cut: Cut) -> Result<u64> {
     let mut bytes = OPENING_BYTES;
     for file in files {
@@ -226,8 +226,8 @@ pub struct Made {
 /// In this order, fails if:
 ///
 /// - a volume exists and `--force` is not given,
-/// - there is no file, the files cannot be found, are not in one folder, one of them is given twice, or one of them is a
-///   volume that is written,
+/// - there is no file, the files cannot be found, are not in one folder, one of them is given twice, or one of them is
+///   a volume that is written,
 /// - the files cannot be cut into blocks as the request asks,
 /// - the description is larger than 1 GiB,
 /// - a volume cannot be begun or opened,

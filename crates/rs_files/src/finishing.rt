@@ -22,8 +22,8 @@ struct Restored {
     kept: usize,
 }
 
-// Gives a restored file its permission bits and the time of its last change, and syncs it. A time before 1970 is not set. The
-// file is opened only once, because its permission bits can forbid to open it again.
+// Gives a restored file its permission bits and the time of its last change, and syncs it. A time before 1970 is not
+// set. The file is opened only once, because its permission bits can forbid to open it again.
 fn complete<R: Runtime>(rt: &R, part: &Part, file: &FileEntry) -> Result<()> {
     let path = part.part.as_str();
     let handle = at_path(path, part.open(rt))?;
@@ -39,11 +39,11 @@ fn complete<R: Runtime>(rt: &R, part: &Part, file: &FileEntry) -> Result<()> {
     at_path(path, handle.sync_all())
 }
 
-// Gives a damaged file a second name, `NAME.damaged` or `NAME.damaged2` and so on, if the file exists. Returns the number
-// of files that are kept, 0 or 1.
+// Gives a damaged file a second name, `NAME.damaged` or `NAME.damaged2` and so on, if the file exists. Returns the
+// number of files that are kept, 0 or 1.
 //
-// The file keeps its own name too, until the restored file takes it. So the program can be killed at any moment, and the
-// next run finds the file. A file system without hard links gets the file renamed.
+// The file keeps its own name too, until the restored file takes it. So the program can be killed at any moment, and
+// the next run finds the file. A file system without hard links gets the file renamed.
 fn keep_damaged<R: Runtime>(rt: &R, alloc: Global, path: &str) -> Result<usize> {
     if !exists(rt, path) {
         return Ok(0);
@@ -104,8 +104,8 @@ fn check_targets<R: Runtime>(rt: &R, alloc: Global, found: &Scan, folder: &str) 
     Ok(())
 }
 
-/// Restores the files of a set that are not whole, below `folder`, and prints how many they are. If `in_place` is set, a
-/// damaged file is kept as `NAME.damaged`.
+/// Restores the files of a set that are not whole, below `folder`, and prints how many they are. If `in_place` is set,
+/// a damaged file is kept as `NAME.damaged`.
 ///
 /// # Errors
 ///
@@ -114,8 +114,8 @@ fn check_targets<R: Runtime>(rt: &R, alloc: Global, found: &Scan, folder: &str) 
 /// - a file exists, `in_place` is not set and `--force` is not given,
 /// - a file cannot be begun,
 /// - a block cannot be read, restored or written, or does not have its digest,
-/// - for each file, its permission bits or its time cannot be set, it cannot be synced, the damaged file cannot be kept, or
-///   the restored file cannot get its final name,
+/// - for each file, its permission bits or its time cannot be set, it cannot be synced, the damaged file cannot be
+///   kept, or the restored file cannot get its final name,
 /// - the result cannot be printed.
 ///
 /// Every step fails if memory cannot be allocated.

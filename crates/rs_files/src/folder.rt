@@ -10,7 +10,7 @@ use rs_volumes::description::{Description, FileEntry};
 /// The largest number of blocks by default, if at most 1000 files are not empty.
 const BLOCKS: u64 = 2000;
 
-/// The largest number of original blocks that a message suggests. The code supports fewer.
+/// The code supports fewer original blocks than this.
 const MOST_BLOCKS: u64 = 65536;
 
 /// The block size of a set and its numbers of blocks.
@@ -61,8 +61,8 @@ fn blocks_wanted(files: &[FileEntry]) -> u64 {
     }
 }
 
-/// Returns the default block size: the smallest multiple of 4096 bytes for which the files do not have too many blocks, and
-/// the code supports the numbers of blocks.
+/// Returns the default block size: the smallest multiple of 4096 bytes for which the files do not have too many blocks,
+/// and the code supports the numbers of blocks.
 ///
 /// The largest number of blocks is 2000 if at most 1000 files are not empty. Otherwise it is twice the number of files
 /// that are not empty, but at most 65536.
@@ -90,8 +90,8 @@ pub fn default_block(files: &[FileEntry], recovery: Recovery) -> Result<u64> {
     }
 }
 
-// Returns the smallest multiple of 4096 bytes with which the files can be cut into at most `wanted` blocks. Returns `None`
-// if blocks of 2^40 bytes are too small.
+// Returns the smallest multiple of 4096 bytes with which the files can be cut into at most `wanted` blocks. Returns
+// `None` if blocks of 2^40 bytes are too small.
 fn smallest_block(files: &[FileEntry], wanted: u64, recovery: Recovery) -> Option<u64> {
     let mut low = 0u64;
     let mut high = 1u64 << 28;
@@ -113,8 +113,8 @@ fn smallest_block(files: &[FileEntry], wanted: u64, recovery: Recovery) -> Optio
     Some(high.saturating_mul(4096))
 }
 
-// Returns whether the files can be cut into blocks of `pages` * 4096 bytes: they have at most `wanted` blocks, and the code
-// supports the numbers of blocks. If this holds for some size, it holds for each larger size up to 2^40 bytes.
+// Returns whether the files can be cut into blocks of `pages` * 4096 bytes: they have at most `wanted` blocks, and the
+// code supports the numbers of blocks. If this holds for some size, it holds for each larger size up to 2^40 bytes.
 fn can_cut(files: &[FileEntry], pages: u64, wanted: u64, recovery: Recovery) -> bool {
     if pages == 0 || pages > 1 << 28 {
         return false;
@@ -135,8 +135,8 @@ fn can_cut(files: &[FileEntry], pages: u64, wanted: u64, recovery: Recovery) -> 
 ///
 /// - no default block size is possible,
 /// - the block size is odd, 0, or above 2^40,
-/// - the files have more than 65536 blocks, or a file has 2^62 bytes or more, or the code does not support the numbers of
-///   blocks. The message says which block size would do.
+/// - the files have more than 65536 blocks, or a file has 2^62 bytes or more, or the code does not support the numbers
+///   of blocks. The message says which block size would do.
 pub fn cut_files(files: &[FileEntry], block: Option<u64>, recovery: Recovery) -> Result<Cut> {
     let block_bytes = match block {
         Some(bytes) => bytes,

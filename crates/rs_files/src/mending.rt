@@ -23,8 +23,8 @@ pub fn repair<R: Runtime + AllocGlobal>(rt: &R, request: &Request) -> Result<u8>
     repair_found(rt, request, &found, folder)
 }
 
-// Restores the damaged and missing files of a set, if there are some and enough blocks were found. The files are written into
-// `folder`, where they were searched, or into the folder after `--to`. Returns the exit status.
+// Restores the damaged and missing files of a set, if there are some and enough blocks were found. The files are
+// written into `folder`, where they were searched, or into the folder after `--to`. Returns the exit status.
 fn repair_found<R: Runtime + AllocGlobal>(
     rt: &R,
     request: &Request,

@@ -22,8 +22,8 @@ const COMMANDS: [(&str, &str, &str); 6] = [
     ("info", "VOLUME", "Show what a volume describes"),
 ];
 
-/// An option: the command that has it, or an empty text if all commands have it; its name; its letter or none; the name of
-/// its value, or none if it takes no value; and its help text.
+/// An option: the command that has it, or an empty text if all commands have it; its name; its letter or none; the name
+/// of its value, or none if it takes no value; and its help text.
 type Choice = (
     &'static str,
     &'static str,

@@ -58,9 +58,9 @@ pub struct Scan {
 ///
 /// # Errors
 ///
-/// For each volume in turn, fails if a message cannot be printed, or if the volume belongs to another set. Then fails if
-/// no volume can be read, if the block size is 0, or if a volume cannot be opened again. Every step fails if memory cannot
-/// be allocated.
+/// For each volume in turn, fails if a message cannot be printed, or if the volume belongs to another set. Then fails
+/// if no volume can be read, if the block size is 0, or if a volume cannot be opened again. Every step fails if memory
+/// cannot be allocated.
 pub fn scan_request<R: Runtime + AllocGlobal>(
     rt: &R,
     request: &Request,

@@ -91,8 +91,8 @@ impl<'a, R: Runtime> FileBlocks<'a, R> {
         Ok(Opened { holder, file })
     }
 
-    // Fills `piece` with the bytes of a block from byte `start` of the block on. Bytes that the file or volume does not hold
-    // stay as they are.
+    // Fills `piece` with the bytes of a block from byte `start` of the block on. Bytes that the file or volume does not
+    // hold stay as they are.
     fn read(&mut self, index: usize, start: u64, piece: &mut [u8]) -> io::Result<()> {
         let Some(Some(origin)) = self.origins.get(index).copied() else {
             return Err(io::Error::from(ErrorKind::NotFound));
@@ -130,8 +130,8 @@ impl<'a, R: Runtime> BlockSource for FileBlocks<'a, R> {
     }
 }
 
-/// Fails with an error of coding. `read` is the path of the file that could not be read, and `written` the path of the file
-/// that could not be written, or both are empty. The message begins with the path that is not empty.
+/// Fails with an error of coding. `read` is the path of the file that could not be read, and `written` the path of the
+/// file that could not be written, or both are empty. The message begins with the path that is not empty.
 ///
 /// # Errors
 ///

@@ -143,8 +143,8 @@ fn tell_folder<R: Runtime>(rt: &R, scan: &Scan, folder: &str) -> Result<()> {
     Ok(())
 }
 
-/// Prints which files and volumes are damaged or missing, and what can be done, unless only errors are printed. If the files
-/// cannot be restored, this is an error, which is always printed.
+/// Prints which files and volumes are damaged or missing, and what can be done, unless only errors are printed. If the
+/// files cannot be restored, this is an error, which is always printed.
 ///
 /// # Errors
 ///
@@ -198,10 +198,20 @@ fn volumes_json(alloc: Global, scan: &Scan) -> std::result::Result<Value, AllocE
         };
         volumes.push(volume_json(alloc, path.as_str(), word)?)?;
     }
+    add_unreadable(alloc, scan, &mut volumes)?;
+    Ok(Value::Array(volumes))
+}
+
+// Appends the volumes that cannot be read, as JSON.
+fn add_unreadable(
+    alloc: Global,
+    scan: &Scan,
+    volumes: &mut Vec<Value>,
+) -> std::result::Result<(), AllocError> {
     for path in &scan.unreadable {
         volumes.push(volume_json(alloc, path.as_str(), "unreadable")?)?;
     }
-    Ok(Value::Array(volumes))
+    Ok(())
 }
 
 // Prints the result of a scan as JSON.

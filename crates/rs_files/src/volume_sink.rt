@@ -68,7 +68,8 @@ impl Volumes {
         self.block_bytes.saturating_add(RECORD_HEAD_BYTES)
     }
 
-    // Returns the offset in bytes of the record with this number in a volume. A number that is too large becomes 2^64 - 1.
+    // Returns the offset in bytes of the record with this number in a volume. A number that is too large becomes 2^64 -
+    // 1.
     fn record_at(&self, number: u64) -> u64 {
         number
             .saturating_mul(self.record_bytes())
@@ -149,8 +150,8 @@ impl<'a, R: Runtime> VolumeSink<'a, R> {
     ///
     /// # Errors
     ///
-    /// Fails if the description has another length than the volumes have room for. Then, for each volume, fails if memory
-    /// cannot be allocated, or if the volume cannot be written.
+    /// Fails if the description has another length than the volumes have room for. Then, for each volume, fails if
+    /// memory cannot be allocated, or if the volume cannot be written.
     pub fn describe(&mut self, description: &[u8]) -> Result<()> {
         let volumes = self.volumes;
         ensure!(

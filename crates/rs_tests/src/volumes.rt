@@ -123,8 +123,8 @@ fn blocks_of(
     Ok(Blocks { alloc, blocks })
 }
 
-// Loses the blocks with even numbers of a list, and changes a byte of those with odd numbers. Block `number` has the index
-// `first` + `number`.
+// Loses the blocks with even numbers of a list, and changes a byte of those with odd numbers. Block `number` has the
+// index `first` + `number`.
 fn damage(blocks: &mut Vec<Vec<u8>>, first: usize, numbers: &[usize]) {
     for number in numbers {
         if let Some(block) = blocks.get_mut(first.saturating_add(*number)) {
