@@ -22,7 +22,7 @@ pub fn bytes_of(text: &str) -> Option<u64> {
 
 /// Reads the number of recovery blocks that the user wants, as `5%` or `300`.
 ///
-/// Returns `None` if the text has another form, if a percentage is above 10000, or if a number is 2^32 or larger.
+/// Returns `None` if the text has another form, if a percentage is above 10000, or if a number is 0, or 2^32 or larger.
 pub fn recovery_of(text: &str) -> Option<Recovery> {
     if let Some(front) = text.strip_suffix('%') {
         return match front.parse::<u32>() {
@@ -31,7 +31,7 @@ pub fn recovery_of(text: &str) -> Option<Recovery> {
         };
     }
     match text.parse::<u32>() {
-        Ok(count) => Some(Recovery::Count(count)),
-        Err(_) => None,
+        Ok(count) if count > 0 => Some(Recovery::Count(count)),
+        _ => None,
     }
 }

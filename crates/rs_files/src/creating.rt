@@ -1,18 +1,18 @@
 //! `create`: makes a volume with the recovery blocks of files.
+use crate::counted::Counted;
 use crate::folder::{Cut, cut_files, piece_bytes, shape_of};
-use crate::names::{last_of, parent_of, path_in, text_of};
-use crate::output::{Part, exists};
+use crate::names::{last_of, path_in, text_of, trimmed};
+use crate::output::{at_path, exists};
 use crate::progress::Progress;
-use crate::settings::{Request, STATUS_WHOLE};
-use crate::source::{FileBlocks, Origin};
+use crate::settings::{Recovery, Request, STATUS_WHOLE};
+use crate::source::{FileBlocks, Origin, failure};
 use crate::volume::LARGEST_DESCRIPTION;
-use crate::volume_sink::{RECORD_HEAD_BYTES, VolumeSink, Volumes};
+use crate::volume_sink::{VolumeSink, Volumes};
 use crate::walking::{Found, find};
 use anyhow::{Result, bail, ensure};
 use reed_solomon_simd::engine::tables::Tables;
 use reed_solomon_simd::engine::{DefaultEngine, EngineKind};
 use rs_volumes::checking::fits;
-use rs_volumes::coding_error::CodingError;
 use rs_volumes::creating::{Shape, create as create_blocks};
 use rs_volumes::description::{Description, FileEntry};
 use rs_volumes::placement::places_of;
@@ -28,12 +28,9 @@ const OPENING_BYTES: u64 = 28;
 /// The number of bytes of a file in a description, without its name.
 const ENTRY_BYTES: u64 = 22;
 
-/// Returns the number of bytes of the description of a set.
-///
-/// # Errors
-///
-/// Fails if the description is larger than 1 GiB: `open_volume` does not read such a description.
-pub fn description_bytes(files: &[FileEntry], cut: Cut) -> Result<u64> {
+// Returns the number of bytes of the description of a set. Fails if the description is larger than 1 GiB: `open_volume`
+// does not read such a description.
+fn description_bytes(files: &[FileEntry], cut: Cut) -> Result<u64> {
     let mut bytes = OPENING_BYTES;
     for file in files {
         bytes = bytes
@@ -49,15 +46,6 @@ pub fn description_bytes(files: &[FileEntry], cut: Cut) -> Result<u64> {
     Ok(bytes)
 }
 
-/// Returns the number of bytes of a volume. A number that is too large becomes 2^64 - 1.
-pub fn volume_bytes(description_bytes: u64, records: u64, block_bytes: u64) -> u64 {
-    let record = block_bytes.saturating_add(RECORD_HEAD_BYTES);
-    records
-        .saturating_mul(record)
-        .saturating_add(description_bytes.saturating_mul(2))
-        .saturating_add(128)
-}
-
 // Returns the path of the volume that `create` writes: the path after `-o`, or the only FILE with `.rsv` at its end.
 fn output_of(alloc: Global, request: &Request) -> Result<String> {
     if let Some(path) = &request.output {
@@ -65,7 +53,7 @@ fn output_of(alloc: Global, request: &Request) -> Result<String> {
     }
     match request.paths.as_slice() {
         [path] => {
-            let path = crate::names::trimmed(path.as_str());
+            let path = trimmed(path.as_str());
             let name = last_of(path);
             if name == "." || name == ".." || name.is_empty() {
                 bail!("say which volume to write, as -o SET.rsv");
@@ -102,12 +90,8 @@ pub fn paths_of(alloc: Global, folder: &str, files: &[FileEntry]) -> Result<Vec<
     Ok(paths)
 }
 
-/// Returns where each original block of a set lies in its files. The list is empty if the block size is 0.
-///
-/// # Errors
-///
-/// Fails if memory cannot be allocated.
-pub fn origins_of(alloc: Global, description: &Description) -> Result<Vec<Option<Origin>>> {
+// Returns where each original block of a set lies in its files. The list is empty if the block size is 0.
+fn origins_of(alloc: Global, description: &Description) -> Result<Vec<Option<Origin>>> {
     let mut origins = Vec::new(alloc);
     if description.block_bytes == 0 {
         return Ok(origins);
@@ -125,11 +109,13 @@ pub fn origins_of(alloc: Global, description: &Description) -> Result<Vec<Option
 // Fails if the length of a file, or the time of its last change in seconds, is not the one in its description.
 fn check_unchanged<R: Runtime>(rt: &R, paths: &[String], files: &[FileEntry]) -> Result<()> {
     for (path, file) in paths.iter().zip(files) {
-        let metadata = fs::metadata(rt, path.as_str())?;
+        let path = path.as_str();
+        let metadata = at_path(path, fs::metadata(rt, path))?;
         let modified = u64::from_le_bytes(metadata.mtime().to_le_bytes());
-        if metadata.len() != file.size || modified != file.modified {
-            bail!("{} changed while it was read: try again", path.as_str());
-        }
+        ensure!(
+            metadata.len() == file.size && modified == file.modified,
+            "{path} changed while it was read: try again"
+        );
     }
     Ok(())
 }
@@ -142,7 +128,7 @@ fn code_files<R: Runtime>(
     request: &Request,
     description: &Description,
     paths: &[String],
-    sink: &mut VolumeSink<R>,
+    sink: &mut VolumeSink<'_, R>,
 ) -> Result<Vec<u8>> {
     let shape = shape_of(description);
     if shape.original_count == 0 {
@@ -154,8 +140,7 @@ fn code_files<R: Runtime>(
     let total = (shape.original_count as u64).saturating_mul(description.block_bytes);
     let progress = Progress::new(rt, request.progress, total);
     let source = FileBlocks::new(rt, alloc, paths, origins.as_slice(), progress);
-    let outcome = code_blocks(alloc, shape, request.memory, engine, source, sink);
-    named(paths, origins.as_slice(), outcome)
+    code_blocks(alloc, shape, request.memory, engine, source, sink)
 }
 
 // Makes the recovery blocks of the blocks of a source, and writes blocks into the sink. Returns the digests of all
@@ -166,58 +151,15 @@ fn code_blocks<R: Runtime>(
     memory: u64,
     engine: DefaultEngine<'_>,
     mut source: FileBlocks<'_, R>,
-    sink: &mut VolumeSink<R>,
-) -> std::result::Result<Vec<u8>, CodingError> {
+    sink: &mut VolumeSink<'_, R>,
+) -> Result<Vec<u8>> {
     let piece = piece_bytes(&shape, memory);
     let outcome = create_blocks(alloc, shape, piece, engine, &mut source, sink);
     source.end();
-    outcome
-}
-
-// Returns the digests. If a block could not be read, the message of the error names its file.
-fn named(
-    paths: &[String],
-    origins: &[Option<Origin>],
-    outcome: std::result::Result<Vec<u8>, CodingError>,
-) -> Result<Vec<u8>> {
-    let (index, error) = match outcome {
-        Err(CodingError::Read(index, error)) => (index, error),
-        other => return Ok(other?),
-    };
-    if let Some(Some(origin)) = origins.get(index) {
-        if let Some(path) = paths.get(origin.holder) {
-            bail!("{}: block {index} cannot be read: {error}", path.as_str());
-        }
+    match outcome {
+        Ok(digests) => Ok(digests),
+        Err(error) => failure(source.path_of(&error), sink.path_of(&error), error),
     }
-    bail!("block {index} cannot be read: {error}")
-}
-
-/// Makes the recovery blocks of files, writes the volumes, and gives them their final names.
-///
-/// # Errors
-///
-/// In this order, fails if:
-///
-/// - a volume cannot be opened,
-/// - a file cannot be read, a volume cannot be written, or the library fails,
-/// - a file has another length or time of change than before,
-/// - the description has too many files or too long a name, or is not sound,
-/// - the description or a head cannot be written,
-/// - a volume cannot be synced, or cannot get its final name.
-///
-/// Every step fails if memory cannot be allocated.
-pub fn write_volumes<R: Runtime + AllocGlobal>(
-    rt: &R,
-    request: &Request,
-    found: Found,
-    cut: Cut,
-    volumes: &Volumes,
-) -> Result<()> {
-    let alloc = rt.alloc();
-    let paths = paths_of(alloc, found.folder.as_str(), found.files.as_slice())?;
-    let mut description = description_of(alloc, found.files, cut);
-    fill(rt, request, &mut description, paths.as_slice(), volumes)?;
-    volumes.finish(rt, request.force)
 }
 
 // Returns the description of a set, without the digests of its blocks.
@@ -240,25 +182,20 @@ fn fill<R: Runtime + AllocGlobal>(
     volumes: &Volumes,
 ) -> Result<()> {
     let alloc = rt.alloc();
-    let mut sink = VolumeSink::new(rt, alloc, volumes, description.block_bytes)?;
+    let mut sink = VolumeSink::new(rt, alloc, volumes)?;
     description.digests = code_files(rt, alloc, request, description, paths, &mut sink)?;
     check_unchanged(rt, paths, description.files.as_slice())?;
-    describe(alloc, description, volumes, &mut sink)
+    describe(alloc, description, &mut sink)
 }
 
 // Writes the description and the heads into the volumes.
 fn describe<R: Runtime>(
     alloc: Global,
     description: &Description,
-    volumes: &Volumes,
-    sink: &mut VolumeSink<R>,
+    sink: &mut VolumeSink<'_, R>,
 ) -> Result<()> {
     let bytes = written(alloc, description)?;
-    ensure!(
-        bytes.len() as u64 == volumes.description_bytes,
-        "the description has another length than expected"
-    );
-    sink.describe(bytes.as_slice(), volumes.counts.as_slice())
+    sink.describe(bytes.as_slice())
 }
 
 // Returns the bytes of a description. Fails if `read_description` does not accept these bytes, so that no volume
@@ -272,78 +209,111 @@ fn written(alloc: Global, description: &Description) -> Result<Vec<u8>> {
     Ok(bytes)
 }
 
-/// Runs `create`: makes the recovery blocks of files, and writes them into one volume. Returns the exit status.
+/// What `create` or `split` made.
+#[derive(Clone, Copy)]
+pub struct Made {
+    /// The number of files.
+    pub files: usize,
+    /// The block size and the numbers of blocks.
+    pub cut: Cut,
+}
+
+/// Makes the recovery blocks of the files of a request, and writes volumes at the paths `outputs`. One volume gets the
+/// recovery blocks. Several volumes get all blocks, which are dealt to them in turn.
 ///
 /// # Errors
 ///
 /// In this order, fails if:
 ///
-/// - the name of the volume is not known,
-/// - the volume exists and `--force` is not given,
-/// - the files cannot be found, are not in one folder, one of them is given twice, or one of them is the
-///   volume,
+/// - a volume exists and `--force` is not given,
+/// - there is no file, the files cannot be found, are not in one folder, one of them is given twice, or one of them is
+///   a volume that is written,
 /// - the files cannot be cut into blocks as the request asks,
 /// - the description is larger than 1 GiB,
-/// - the volume cannot be begun, written or finished, or a file cannot be read or has changed.
+/// - a volume cannot be begun or opened,
+/// - a file cannot be read, a volume cannot be written, or the library fails,
+/// - a file has another length or time of change than before,
+/// - the description has too many files or too long a name, or is not sound,
+/// - the description or a head cannot be written,
+/// - a volume cannot be synced, or cannot get its final name.
 ///
 /// Every step fails if memory cannot be allocated.
-pub fn create<R: Runtime + AllocGlobal>(rt: &R, request: &Request) -> Result<u8> {
-    let output = output_of(rt.alloc(), request)?;
-    check_free(rt, output.as_str(), request.force)?;
-    create_at(rt, request, output.as_str())?;
-    Ok(STATUS_WHOLE)
-}
-
-// Makes the recovery blocks of files, and writes them into the volume at `output`.
-fn create_at<R: Runtime + AllocGlobal>(rt: &R, request: &Request, output: &str) -> Result<()> {
-    let found = files_for(rt, request, output)?;
-    let files = found.files.as_slice();
-    let count = files.len();
-    let cut = cut_files(files, request.block_bytes, request.recovery)?;
-    let volumes = begin(rt, rt.alloc(), output, files, cut)?;
-    write_volumes(rt, request, found, cut, &volumes)?;
-    if request.quiet {
-        return Ok(());
+pub fn make<R: Runtime + AllocGlobal>(
+    rt: &R,
+    request: &Request,
+    recovery: Recovery,
+    outputs: &[String],
+) -> Result<Made> {
+    for output in outputs {
+        check_free(rt, output.as_str(), request.force)?;
     }
-    tell(rt, output, count, cut)
+    let found = find(rt, request.paths.as_slice(), outputs)?;
+    let files = found.files.as_slice();
+    let cut = cut_files(files, request.block_bytes, recovery)?;
+    let made = Made {
+        files: files.len(),
+        cut,
+    };
+    write_volumes(rt, request, found, cut, outputs)?;
+    Ok(made)
 }
 
-// Finds the files of a request. The volume at `output`, which is written, is not one of them.
-fn files_for<R: Runtime + AllocGlobal>(rt: &R, request: &Request, output: &str) -> Result<Found> {
+// Writes the volumes of the files that were found, and gives them their final names.
+fn write_volumes<R: Runtime + AllocGlobal>(
+    rt: &R,
+    request: &Request,
+    found: Found,
+    cut: Cut,
+    outputs: &[String],
+) -> Result<()> {
     let alloc = rt.alloc();
-    let outputs = vec![in alloc; String::from_str(alloc, output)?]?;
-    find(rt, request.paths.as_slice(), outputs.as_slice())
+    let paths = paths_of(alloc, found.folder.as_str(), found.files.as_slice())?;
+    let mut description = description_of(alloc, found.files, cut);
+    let volumes = begin(rt, alloc, description.files.as_slice(), cut, outputs)?;
+    fill(rt, request, &mut description, paths.as_slice(), &volumes)?;
+    volumes.finish(rt, request.force)
 }
 
-// Begins the volume at `output`, which has room for all recovery blocks.
+// Begins all volumes, with room for their blocks.
 fn begin<R: Runtime>(
     rt: &R,
     alloc: Global,
-    output: &str,
     files: &[FileEntry],
     cut: Cut,
+    outputs: &[String],
 ) -> Result<Volumes> {
     let length = description_bytes(files, cut)?;
-    let records = u64::from(cut.recovery_count);
-    let size = volume_bytes(length, records, cut.block_bytes);
-    let part = Part::begin(rt, alloc, output, size)?;
-    Ok(Volumes {
-        parts: vec![in alloc; part]?,
-        first: cut.original_count as usize,
-        counts: vec![in alloc; records]?,
-        description_bytes: length,
-    })
+    let mut volumes = Volumes::new(alloc, cut, outputs.len(), length);
+    for output in outputs {
+        volumes.begin(rt, alloc, output.as_str())?;
+    }
+    Ok(volumes)
 }
 
-// Prints what was made: the volume at `output`, for `count` files.
-fn tell<R: Runtime>(rt: &R, output: &str, count: usize, cut: Cut) -> Result<()> {
-    let Cut {
-        block_bytes,
-        original_count,
-        recovery_count,
-    } = cut;
-    println!(rt;
-        "{output}: {count} files in {original_count} blocks of {block_bytes} bytes, {recovery_count} recovery blocks"
-    )?;
+/// Runs `create`: makes the recovery blocks of files, and writes them into one volume. Returns the exit status.
+///
+/// # Errors
+///
+/// Fails if the name of the volume is not known. Then fails for a reason of [`make`].
+pub fn create<R: Runtime + AllocGlobal>(rt: &R, request: &Request) -> Result<u8> {
+    let alloc = rt.alloc();
+    let outputs = vec![in alloc; output_of(alloc, request)?]?;
+    let made = make(rt, request, request.recovery, outputs.as_slice())?;
+    if !request.quiet {
+        tell(rt, outputs.as_slice(), made)?;
+    }
+    Ok(STATUS_WHOLE)
+}
+
+// Prints what was made.
+fn tell<R: Runtime>(rt: &R, outputs: &[String], made: Made) -> Result<()> {
+    let files = Counted(made.files as u64, "file");
+    let originals = Counted(u64::from(made.cut.original_count), "block");
+    let recovery = Counted(u64::from(made.cut.recovery_count), "recovery block");
+    let bytes = made.cut.block_bytes;
+    for output in outputs {
+        let path = output.as_str();
+        println!(rt; "{path}: {files} in {originals} of {bytes} bytes, {recovery}")?;
+    }
     Ok(())
 }

@@ -10,6 +10,9 @@ use rs_volumes::description::{Description, FileEntry};
 /// The largest number of blocks by default, if at most 1000 files are not empty.
 const BLOCKS: u64 = 2000;
 
+/// The code supports fewer original blocks than this.
+const MOST_BLOCKS: u64 = 65536;
+
 /// The block size of a set and its numbers of blocks.
 #[derive(Clone, Copy)]
 pub struct Cut {
@@ -54,11 +57,12 @@ fn blocks_wanted(files: &[FileEntry]) -> u64 {
     if filled <= BLOCKS / 2 {
         BLOCKS
     } else {
-        filled.saturating_mul(2).min(65536)
+        filled.saturating_mul(2).min(MOST_BLOCKS)
     }
 }
 
-/// Returns the default block size: the smallest multiple of 4096 bytes for which the files do not have too many blocks.
+/// Returns the default block size: the smallest multiple of 4096 bytes for which the files do not have too many blocks,
+/// and the code supports the numbers of blocks.
 ///
 /// The largest number of blocks is 2000 if at most 1000 files are not empty. Otherwise it is twice the number of files
 /// that are not empty, but at most 65536.
@@ -67,29 +71,31 @@ fn blocks_wanted(files: &[FileEntry]) -> u64 {
 ///
 /// In this order, fails if:
 ///
-/// - more than 65536 files are not empty,
-/// - the files have too many blocks even with blocks of 2^40 bytes, or a file has 2^62 bytes or more.
-pub fn default_block(files: &[FileEntry]) -> Result<u64> {
-    if filled_count(files) > 65536 {
+/// - 65536 files or more are not empty,
+/// - the files have too many blocks even with blocks of 2^40 bytes, or a file has 2^62 bytes or more,
+/// - the code does not support the numbers of blocks with any block size.
+pub fn default_block(files: &[FileEntry], recovery: Recovery) -> Result<u64> {
+    if filled_count(files) >= MOST_BLOCKS {
         bail!(
-            "there are too many files: make several sets of at most 65536 files that are not empty"
+            "there are too many files: make several sets of at most 65535 files that are not empty"
         );
     }
     let wanted = blocks_wanted(files);
-    match smallest_block(files, wanted) {
+    match smallest_block(files, wanted, recovery) {
         Some(bytes) => Ok(bytes),
-        None => bail!(
+        None if smallest_block(files, MOST_BLOCKS, recovery).is_some() => bail!(
             "the files are too large for {wanted} blocks, the largest number by default: use --block 1024G, or make several sets of fewer files"
         ),
+        None => too_much(recovery),
     }
 }
 
-// Returns the smallest multiple of 4096 bytes for which the files have at most `wanted` blocks. Returns `None` if blocks
-// of 2^40 bytes are too small.
-fn smallest_block(files: &[FileEntry], wanted: u64) -> Option<u64> {
+// Returns the smallest multiple of 4096 bytes with which the files can be cut into at most `wanted` blocks. Returns
+// `None` if blocks of 2^40 bytes are too small.
+fn smallest_block(files: &[FileEntry], wanted: u64, recovery: Recovery) -> Option<u64> {
     let mut low = 0u64;
     let mut high = 1u64 << 28;
-    if !has_at_most(files, high, wanted) {
+    if !can_cut(files, high, wanted, recovery) {
         return None;
     }
     for _ in 0..64 {
@@ -98,7 +104,7 @@ fn smallest_block(files: &[FileEntry], wanted: u64) -> Option<u64> {
             break;
         }
         let middle = low.saturating_add(gap / 2);
-        if has_at_most(files, middle, wanted) {
+        if can_cut(files, middle, wanted, recovery) {
             high = middle;
         } else {
             low = middle;
@@ -107,13 +113,16 @@ fn smallest_block(files: &[FileEntry], wanted: u64) -> Option<u64> {
     Some(high.saturating_mul(4096))
 }
 
-// Returns whether the files have at most `wanted` blocks, if a block has `pages` * 4096 bytes.
-fn has_at_most(files: &[FileEntry], pages: u64, wanted: u64) -> bool {
+// Returns whether the files can be cut into blocks of `pages` * 4096 bytes: they have at most `wanted` blocks, and the
+// code supports the numbers of blocks. If this holds for some size, it holds for each larger size up to 2^40 bytes.
+fn can_cut(files: &[FileEntry], pages: u64, wanted: u64, recovery: Recovery) -> bool {
     if pages == 0 || pages > 1 << 28 {
         return false;
     }
     match blocks_of(files, pages * 4096) {
-        Some(blocks) => blocks <= wanted,
+        Some(blocks) => {
+            blocks <= wanted && allows_counts(blocks as u32, recovery_count(blocks, recovery))
+        }
         None => false,
     }
 }
@@ -126,41 +135,43 @@ fn has_at_most(files: &[FileEntry], pages: u64, wanted: u64) -> bool {
 ///
 /// - no default block size is possible,
 /// - the block size is odd, 0, or above 2^40,
-/// - the files have more than 65536 blocks, or a file has 2^62 bytes or more,
-/// - the code does not support the numbers of blocks.
+/// - the files have more than 65536 blocks, or a file has 2^62 bytes or more, or the code does not support the numbers
+///   of blocks. The message says which block size would do.
 pub fn cut_files(files: &[FileEntry], block: Option<u64>, recovery: Recovery) -> Result<Cut> {
     let block_bytes = match block {
         Some(bytes) => bytes,
-        None => default_block(files)?,
+        None => default_block(files, recovery)?,
     };
     if !allows_block(block_bytes) {
         bail!("a block must have an even number of bytes, from 2 to 2^40");
     }
-    let Some(blocks) = blocks_of(files, block_bytes) else {
-        return too_small(files, block_bytes);
-    };
-    let original_count = blocks as u32;
-    let recovery_count = recovery_count(blocks, recovery);
-    if !allows_counts(original_count, recovery_count) {
-        bail!(
-            "{original_count} blocks with {recovery_count} recovery blocks are not supported: write another number of recovery blocks with -r, or larger blocks with --block"
-        );
+    if let Some(blocks) = blocks_of(files, block_bytes) {
+        let original_count = blocks as u32;
+        let recovery_count = recovery_count(blocks, recovery);
+        if allows_counts(original_count, recovery_count) {
+            return Ok(Cut {
+                block_bytes,
+                original_count,
+                recovery_count,
+            });
+        }
     }
-    Ok(Cut {
-        block_bytes,
-        original_count,
-        recovery_count,
-    })
+    match smallest_block(files, MOST_BLOCKS, recovery) {
+        Some(needed) => bail!(
+            "blocks of {block_bytes} bytes are too small for these files and this many recovery blocks: use --block {needed} or a larger number"
+        ),
+        None => too_much(recovery),
+    }
 }
 
-// Fails, and says which block size would do.
-fn too_small(files: &[FileEntry], block_bytes: u64) -> Result<Cut> {
-    match smallest_block(files, 65536) {
-        Some(needed) => bail!(
-            "blocks of {block_bytes} bytes are too small for these files: use --block {needed} or a larger number"
+// Fails, because no block size is large enough.
+fn too_much<T>(recovery: Recovery) -> Result<T> {
+    match recovery {
+        Recovery::Spread { volumes, lose } => bail!(
+            "no block size allows {lose} of {volumes} volumes to be lost: allow fewer with --lose, or make several sets of fewer files"
         ),
-        None => bail!(
-            "blocks of {block_bytes} bytes are too small for these files: make several sets of fewer files"
+        _ => bail!(
+            "no block size allows this many recovery blocks: ask for fewer with -r, or make several sets of fewer files"
         ),
     }
 }
@@ -178,6 +189,13 @@ fn recovery_count(blocks: u64, recovery: Recovery) -> u32
         Recovery::Percent(percent) => {
             let count = blocks * u64::from(percent) / 100;
             count.max(1).min(65536) as u32
+        }
+        Recovery::Spread { volumes, lose } => {
+            // With this share, the volumes that are left hold at least as many blocks as there are original blocks, and
+            // a lost volume holds at most one share.
+            let left = u64::from(volumes.saturating_sub(lose)).max(1);
+            let share = blocks.div_ceil(left);
+            share.saturating_mul(u64::from(lose)).min(1 << 31) as u32
         }
     }
 }

@@ -1,34 +1,19 @@
 //! `info`: shows what a volume describes.
-use crate::json::{add, object_of, print};
+use crate::counted::Counted;
+use crate::json::{add, files_of, object_of, print};
 use crate::names::text_of;
 use crate::settings::{Request, STATUS_WHOLE};
 use crate::volume::{Volume, open_volume};
 use anyhow::{Result, bail};
 use rs_volumes::description::FileEntry;
-use serde_json::{Map, Value, json};
+use serde_json::{Map, Value};
 use std::alloc::{AllocError, Global};
 use std::rt::Runtime;
-
-// Returns the names and sizes of the files of a volume as JSON.
-fn files_json(
-    alloc: Global,
-    volume: &Volume,
-) -> std::result::Result<Vec<Value>, serde_json::Error> {
-    let mut files = Vec::new(alloc);
-    for file in volume.description.files.as_slice() {
-        let name = text_of(file.name.as_slice());
-        let size = file.size;
-        let value = json!(in alloc; {"name": name, "size": size})?;
-        files.push(value).map_err(AllocError::from)?;
-    }
-    Ok(files)
-}
 
 // Prints what a volume describes as JSON.
 fn tell_json<R: Runtime + AllocGlobal>(rt: &R, volume: &Volume) -> Result<()> {
     let alloc = rt.alloc();
-    let files = files_json(alloc, volume)?;
-    let object = volume_json(alloc, volume, files)?;
+    let object = volume_json(alloc, volume)?;
     print(rt, alloc, object)
 }
 
@@ -36,7 +21,6 @@ fn tell_json<R: Runtime + AllocGlobal>(rt: &R, volume: &Volume) -> Result<()> {
 fn volume_json(
     alloc: Global,
     volume: &Volume,
-    files: Vec<Value>,
 ) -> std::result::Result<Map<String, Value>, AllocError> {
     let numbers = [
         ("block_bytes", volume.description.block_bytes),
@@ -51,19 +35,24 @@ fn volume_json(
         ("blocks_here", volume.record_count),
     ];
     let mut object = object_of(alloc, &numbers)?;
-    add(alloc, &mut object, "files", Value::Array(files))?;
+    let files = files_of(alloc, volume.description.files.as_slice(), &[])?;
+    add(alloc, &mut object, "files", files)?;
     Ok(object)
 }
 
 // Prints what a volume describes.
 fn tell<R: Runtime>(rt: &R, path: &str, volume: &Volume) -> Result<()> {
     let block = volume.description.block_bytes;
-    let k = volume.description.original_count;
-    let r = volume.description.recovery_count;
+    let k = Counted(
+        u64::from(volume.description.original_count),
+        "original block",
+    );
+    let r = Counted(
+        u64::from(volume.description.recovery_count),
+        "recovery block",
+    );
     let records = volume.record_count;
-    println!(rt;
-        "{path}: {k} original blocks and {r} recovery blocks of {block} bytes, {records} of them here"
-    )?;
+    println!(rt; "{path}: {k} and {r} of {block} bytes, {records} of them here")?;
     tell_files(rt, volume.description.files.as_slice())
 }
 

@@ -1,5 +1,7 @@
 //! JSON that is printed.
+use crate::names::text_of;
 use anyhow::Result;
+use rs_volumes::description::FileEntry;
 use serde_json::{Map, Value};
 use std::alloc::{AllocError, Global};
 use std::rt::Runtime;
@@ -34,6 +36,43 @@ pub fn add(
     let name = String::from_str(alloc, name)?;
     object.insert(name, value)?;
     Ok(())
+}
+
+/// Adds a member with a text to an object.
+///
+/// # Errors
+///
+/// [`AllocError`] if memory cannot be allocated.
+pub fn add_text(
+    alloc: Global,
+    object: &mut Map<String, Value>,
+    name: &str,
+    text: &str,
+) -> std::result::Result<(), AllocError> {
+    let value = Value::String(String::from_str(alloc, text)?);
+    add(alloc, object, name, value)
+}
+
+/// Returns a list of files with their names and sizes. A file with a word in `states` also has this word as its state.
+///
+/// # Errors
+///
+/// [`AllocError`] if memory cannot be allocated.
+pub fn files_of(
+    alloc: Global,
+    files: &[FileEntry],
+    states: &[&'static str],
+) -> std::result::Result<Value, AllocError> {
+    let mut list = Vec::new(alloc);
+    for (index, file) in files.iter().enumerate() {
+        let mut object = object_of(alloc, &[("size", file.size)])?;
+        add_text(alloc, &mut object, "name", text_of(file.name.as_slice()))?;
+        if let Some(state) = states.get(index) {
+            add_text(alloc, &mut object, "state", *state)?;
+        }
+        list.push(Value::Object(object))?;
+    }
+    Ok(Value::Array(list))
 }
 
 /// Prints an object on a line.

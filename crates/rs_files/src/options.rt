@@ -22,8 +22,8 @@ const COMMANDS: [(&str, &str, &str); 6] = [
     ("info", "VOLUME", "Show what a volume describes"),
 ];
 
-/// An option: the command that has it, or an empty text if all commands have it; its name; its letter or none; the name of
-/// its value, or none if it takes no value; and its help text.
+/// An option: the command that has it, or an empty text if all commands have it; its name; its letter or none; the name
+/// of its value, or none if it takes no value; and its help text.
 type Choice = (
     &'static str,
     &'static str,
@@ -48,7 +48,7 @@ const OPTIONS: [Choice; 17] = [
         "memory",
         None,
         Some("BYTES"),
-        "Use at most so much memory, as 64M [default: 1G]",
+        "Use about this much memory, as 64M [default: 1G]",
     ),
     (
         "create",
@@ -62,7 +62,7 @@ const OPTIONS: [Choice; 17] = [
         "recovery",
         Some('r'),
         Some("COUNT"),
-        "Make so many recovery blocks, as 10% or 300",
+        "Make this many recovery blocks, as 10% or 300",
     ),
     (
         "create",
@@ -83,14 +83,14 @@ const OPTIONS: [Choice; 17] = [
         "volumes",
         Some('n'),
         Some("COUNT"),
-        "Make so many volumes",
+        "Make this many volumes",
     ),
     (
         "split",
         "lose",
         None,
         Some("COUNT"),
-        "Allow that so many volumes are lost [default: 1]",
+        "Allow this many volumes to be lost [default: 1]",
     ),
     (
         "split",
@@ -344,7 +344,7 @@ fn set_numbers(
         match recovery_of(text) {
             Some(recovery) => request.recovery = recovery,
             None => return Err(
-                "--recovery: write a percentage up to 10000%, as 10%, or a number of blocks",
+                "--recovery: write a percentage up to 10000%, as 10%, or a number of blocks above 0",
             ),
         }
     }

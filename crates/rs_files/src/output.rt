@@ -39,7 +39,7 @@ pub fn free_path<R: Runtime>(rt: &R, alloc: Global, path: &str, suffix: &str) ->
 }
 
 /// What tells a file apart from all other files: its device, and its number on this device.
-#[derive(Clone, Copy, Debug, PartialEq, Eq)]
+#[derive(Clone, Copy, PartialEq, Eq)]
 pub struct Identity {
     device: u64,
     number: u64,

@@ -2,24 +2,23 @@
 ghost use Rattle.rs_field.specs.code.Given.{nothing};
 
 use crate::folder::{piece_bytes, shape_of};
-use crate::output::{Part, at_path, write_at};
+use crate::names::{path_in, text_of};
+use crate::output::{Part, write_at};
 use crate::progress::Progress;
-use crate::scanning::Scan;
-use crate::source::FileBlocks;
+use crate::scanning::{FileState, Scan};
+use crate::source::{FileBlocks, failure};
 use anyhow::Result;
 use reed_solomon_simd::engine::tables::Tables;
 use reed_solomon_simd::engine::{DefaultEngine, EngineKind};
-use rs_volumes::description::{Description, FileEntry};
+use rs_volumes::coding_error::CodingError;
+use rs_volumes::description::Description;
 use rs_volumes::pieces::BlockSink;
 use rs_volumes::placement::Place;
 use rs_volumes::restoring::{Plan, restore};
 use std::alloc::Global;
-use std::fs::{FileTimes, OpenFile, Permissions};
 use std::io;
 use std::io::ErrorKind;
-use std::os::unix::fs::PermissionsExt;
 use std::rt::{Files, Runtime};
-use std::time::{Duration, UNIX_EPOCH};
 
 /// A part that is open to be written.
 #[derive(Drop)]
@@ -42,6 +41,20 @@ struct FileSink<'a, R: Runtime> {
 }
 
 impl<'a, R: Runtime> FileSink<'a, R> {
+    // Returns the path of the file into which a block could not be written. The path is empty after another error.
+    fn path_of(&self, error: &CodingError) -> &str {
+        let CodingError::Write(index, _) = error else {
+            return "";
+        };
+        let Some(place) = self.places.get(*index) else {
+            return "";
+        };
+        match self.parts.get(place.file) {
+            Some(Some(part)) => part.part.as_str(),
+            _ => "",
+        }
+    }
+
     // Writes bytes into the part of a file, from byte `offset` on. `file` is the index of the file in the description.
     fn write(&mut self, file: usize, part: &Part, offset: u64, bytes: &[u8]) -> io::Result<()> {
         let mut opened = match self.opened.take() {
@@ -130,8 +143,7 @@ fn recovery_blocks(alloc: Global, scan: &Scan, k: usize, count: usize) -> Result
     Ok(recovery)
 }
 
-/// Begins a part for each file that must be restored. `paths` holds the path of each such file, and `None` for the
-/// other files.
+/// Begins a part below `folder` for each file that is not whole.
 ///
 /// # Errors
 ///
@@ -140,13 +152,16 @@ pub fn begin_parts<R: Runtime>(
     rt: &R,
     alloc: Global,
     scan: &Scan,
-    paths: &[Option<String>],
+    folder: &str,
 ) -> Result<Vec<Option<Part>>> {
     let mut parts = Vec::new(alloc);
-    for (file, path) in scan.description.files.as_slice().iter().zip(paths) {
-        let part = match path {
-            Some(path) => Some(Part::begin(rt, alloc, path.as_str(), file.size)?),
-            None => None,
+    let files = scan.description.files.as_slice();
+    for (file, state) in files.iter().zip(scan.states.as_slice()) {
+        let part = if *state == FileState::Whole {
+            None
+        } else {
+            let path = path_in(alloc, folder, text_of(file.name.as_slice()))?;
+            Some(Part::begin(rt, alloc, path.as_str(), file.size)?)
         };
         parts.push(part)?;
     }
@@ -207,7 +222,7 @@ fn restore_blocks<R: Runtime>(
     let shape = shape_of(description);
     let piece = piece_bytes(&shape, memory);
     let digests = description.digests.as_slice();
-    restore(
+    let outcome = restore(
         alloc,
         shape,
         piece,
@@ -216,29 +231,10 @@ fn restore_blocks<R: Runtime>(
         digests,
         &mut source,
         &mut sink,
-    )?;
+    );
     source.end();
-    Ok(())
-}
-
-/// Gives a restored file its permission bits and the time of its last change, and syncs it. A time before 1970 is not
-/// set. The file is opened only once, because its permission bits can forbid to open it again.
-///
-/// # Errors
-///
-/// In this order, fails if the file cannot be opened, if its permission bits or its time cannot be set, or if it cannot be
-/// synced.
-pub fn complete<R: Runtime>(rt: &R, part: &Part, file: &FileEntry) -> Result<()> {
-    let path = part.part.as_str();
-    let handle = at_path(path, part.open(rt))?;
-    let permissions = Permissions::from_mode(file.mode & 0o7777);
-    at_path(path, handle.set_permissions(permissions))?;
-    let seconds = i64::from_le_bytes(file.modified.to_le_bytes());
-    if let Ok(seconds) = u64::try_from(seconds) {
-        if let Some(time) = UNIX_EPOCH.checked_add(Duration::from_secs(seconds)) {
-            let times = FileTimes::new().set_modified(time);
-            at_path(path, handle.set_times(times))?;
-        }
+    match outcome {
+        Ok(()) => Ok(()),
+        Err(error) => failure(source.path_of(&error), sink.path_of(&error), error),
     }
-    at_path(path, handle.sync_all())
 }

@@ -1,4 +1,5 @@
 //! Looks for the blocks of a set, in its files and in volumes.
+use crate::output::at_path;
 use crate::progress::Progress;
 use crate::settings::Request;
 use crate::source::Origin;
@@ -19,7 +20,7 @@ use std::rt::{Files, Runtime};
 const CHUNK: usize = 1 << 18;
 
 /// The state of a file of a set.
-#[derive(Clone, Copy, Debug, PartialEq, Eq)]
+#[derive(Clone, Copy, PartialEq, Eq)]
 pub enum FileState {
     /// The file has its length, and each block has its digest.
     Whole,
@@ -57,9 +58,9 @@ pub struct Scan {
 ///
 /// # Errors
 ///
-/// For each volume in turn, fails if a message cannot be printed, or if the volume belongs to another set. Then fails if
-/// no volume can be read, if the block size is 0, or if a volume cannot be opened again. Every step fails if memory cannot
-/// be allocated.
+/// For each volume in turn, fails if a message cannot be printed, or if the volume belongs to another set. Then fails
+/// if no volume can be read, if the block size is 0, or if a volume cannot be opened again. Every step fails if memory
+/// cannot be allocated.
 pub fn scan_request<R: Runtime + AllocGlobal>(
     rt: &R,
     request: &Request,
@@ -423,13 +424,13 @@ impl Scanner {
         path: &str,
         records: (u64, u64),
     ) -> Result<()> {
-        let mut file = fs::open(rt, path)?;
+        let mut file = at_path(path, fs::open(rt, path))?;
         let size = description.block_bytes;
         let record = size.saturating_add(RECORD_HEAD_BYTES);
         for number in 0..records.0 {
             let at = records.1.wrapping_add(number.wrapping_mul(record));
             let offset = at.wrapping_add(RECORD_HEAD_BYTES);
-            let Ok(index) = index_at::<R>(&mut file, at) else {
+            let Ok(index) = index_at(&mut file, at, &mut self.buffer) else {
                 continue;
             };
             let Ok(own) = hash_block(&mut file, offset, size, size, &mut self.buffer) else {
@@ -449,12 +450,19 @@ impl Scanner {
     }
 }
 
-// Reads the index of the block in the record at `offset`.
-fn index_at<R: Runtime>(file: &mut R::File, offset: u64) -> std::io::Result<usize> {
-    let mut bytes = [0u8; 4];
+// Reads the index of the block in the record at `offset`, into a buffer of at least four bytes.
+fn index_at<F: Read + Seek>(
+    file: &mut F,
+    offset: u64,
+    buffer: &mut Vec<u8>,
+) -> std::io::Result<usize> {
+    let count = buffer.len().min(4);
     file.seek(SeekFrom::Start(offset))?;
-    file.read_exact(&mut bytes)?;
-    Ok(u32::from_le_bytes(bytes) as usize)
+    file.read_exact(&mut buffer[..count])?;
+    match buffer.as_slice() {
+        [a, b, c, d, ..] => Ok(u32::from_le_bytes([*a, *b, *c, *d]) as usize),
+        _ => Err(std::io::Error::from(ErrorKind::UnexpectedEof)),
+    }
 }
 
 /// The numbers of blocks that a scan found and did not find.

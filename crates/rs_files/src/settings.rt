@@ -16,7 +16,7 @@ pub const STATUS_LOST: u8 = 3;
 pub const STATUS_FAILED: u8 = 4;
 
 /// A command of the program.
-#[derive(Clone, Copy, Debug, PartialEq, Eq)]
+#[derive(Clone, Copy)]
 pub enum Action {
     /// Makes a volume with the recovery blocks of files.
     Create,
@@ -33,12 +33,15 @@ pub enum Action {
 }
 
 /// The number of recovery blocks that the user wants.
-#[derive(Clone, Copy, Debug, PartialEq, Eq)]
+#[derive(Clone, Copy)]
 pub enum Recovery {
     /// A percentage of the number of original blocks.
     Percent(u32),
     /// This number of blocks.
     Count(u32),
+    /// The smallest number with which any `lose` of `volumes` volumes may be lost, if the blocks are dealt to the
+    /// volumes in turn.
+    Spread { volumes: u32, lose: u32 },
 }
 
 /// A command with its options.

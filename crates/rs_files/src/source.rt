@@ -2,6 +2,8 @@
 ghost use Rattle.rs_field.specs.code.Given.{nothing};
 
 use crate::progress::Progress;
+use anyhow::{Result, bail};
+use rs_volumes::coding_error::CodingError;
 use rs_volumes::pieces::BlockSource;
 use std::alloc::Global;
 use std::io::{ErrorKind, Read, Seek, SeekFrom};
@@ -66,6 +68,20 @@ impl<'a, R: Runtime> FileBlocks<'a, R> {
         self.progress.end(self.rt);
     }
 
+    /// Returns the path of the file from which a block could not be read. The path is empty after another error.
+    pub fn path_of(&self, error: &CodingError) -> &str {
+        let CodingError::Read(index, _) = error else {
+            return "";
+        };
+        let Some(Some(origin)) = self.origins.get(*index) else {
+            return "";
+        };
+        match self.paths.get(origin.holder) {
+            Some(path) => path.as_str(),
+            None => "",
+        }
+    }
+
     // Opens the file with the index `holder` in the list of paths.
     fn open(&self, holder: usize) -> io::Result<Opened<R::File>> {
         let Some(path) = self.paths.get(holder) else {
@@ -75,8 +91,8 @@ impl<'a, R: Runtime> FileBlocks<'a, R> {
         Ok(Opened { holder, file })
     }
 
-    // Fills `piece` with the bytes of a block from byte `start` of the block on. Bytes that the file or volume does not hold
-    // stay as they are.
+    // Fills `piece` with the bytes of a block from byte `start` of the block on. Bytes that the file or volume does not
+    // hold stay as they are.
     fn read(&mut self, index: usize, start: u64, piece: &mut [u8]) -> io::Result<()> {
         let Some(Some(origin)) = self.origins.get(index).copied() else {
             return Err(io::Error::from(ErrorKind::NotFound));
@@ -112,4 +128,18 @@ impl<'a, R: Runtime> BlockSource for FileBlocks<'a, R> {
         self.progress.advance(self.rt, (end - start) as u64);
         Ok(piece)
     }
+}
+
+/// Fails with an error of coding. `read` is the path of the file that could not be read, and `written` the path of the
+/// file that could not be written, or both are empty. The message begins with the path that is not empty.
+///
+/// # Errors
+///
+/// Always fails.
+pub fn failure<T>(read: &str, written: &str, error: CodingError) -> Result<T> {
+    let path = if read.is_empty() { written } else { read };
+    if path.is_empty() {
+        bail!("{error}");
+    }
+    bail!("{path}: {error}")
 }

@@ -1,11 +1,12 @@
 //! `verify`: looks for damage.
-use crate::json::{add, object_of, print};
+use crate::counted::Counted;
+use crate::json::{add, add_text, files_of, object_of, print};
 use crate::names::{folder_to_open, parent_of, text_of};
 use crate::scanning::{Counts, FileState, Scan, scan_request};
 use crate::settings::{Request, STATUS_LOST, STATUS_MENDED, STATUS_WHOLE};
 use crate::volume::Copies;
 use anyhow::{Result, bail};
-use serde_json::{Map, Value, json};
+use serde_json::{Map, Value};
 use std::alloc::{AllocError, Global};
 use std::rt::Runtime;
 
@@ -74,8 +75,12 @@ fn damage_of(copies: Copies) -> Option<&'static str> {
     }
 }
 
-// Prints which volumes do not have two equal copies of their head and their description.
-fn tell_volumes<R: Runtime>(rt: &R, scan: &Scan) -> Result<()> {
+/// Prints which volumes do not have two equal copies of their head and their description.
+///
+/// # Errors
+///
+/// Fails if the result cannot be printed.
+pub fn tell_volumes<R: Runtime>(rt: &R, scan: &Scan) -> Result<()> {
     let files = scan.description.files.len();
     for (number, copies) in scan.copies.iter().enumerate() {
         let path = match scan.paths.get(files.saturating_add(number)) {
@@ -89,56 +94,46 @@ fn tell_volumes<R: Runtime>(rt: &R, scan: &Scan) -> Result<()> {
     Ok(())
 }
 
-// Prints how many blocks are lost and how many recovery blocks are whole, and what can be done.
+// Prints whether the files can be restored, or what to do about damaged volumes.
 fn tell_blocks<R: Runtime>(rt: &R, scan: &Scan, counts: Counts) -> Result<()> {
-    let Counts {
-        lost,
-        recovery,
-        recovery_count,
-    } = counts;
-    let damaged = recovery_count.saturating_sub(recovery);
-    if lost > recovery {
-        let lacking = lost - recovery;
-        println!(rt;
-            "{lost} blocks are lost and {recovery} recovery blocks are whole: {lacking} more blocks are needed"
-        )?;
-    } else if !scan.has_whole_files() {
-        println!(rt;
-            "{lost} blocks are lost and {recovery} of {recovery_count} recovery blocks are whole: the files can be repaired"
-        )?;
+    let whole = counts.recovery;
+    let damaged = counts.recovery_count.saturating_sub(whole);
+    let recovery = Counted(counts.recovery_count as u64, "recovery block");
+    if !scan.has_whole_files() {
+        let lost = Counted(counts.lost as u64, "lost block");
+        println!(rt; "{lost}, and {whole} of {recovery} left: the files can be repaired")?;
     } else if damaged > 0 {
         println!(rt;
-            "all files are whole, but {damaged} of {recovery_count} recovery blocks are damaged or missing: make the volumes again, with create --force or split --force"
+            "all files are whole, but {damaged} of {recovery} cannot be used: make the volumes again, with create --force or split --force"
         )?;
     } else if !scan.has_whole_volumes() {
         println!(rt;
-            "all files and all {recovery_count} recovery blocks are whole, but a volume is damaged or cannot be read: make the volumes again, with create --force or split --force"
+            "all files and recovery blocks are whole, but a volume is damaged or cannot be read: make the volumes again, with create --force or split --force"
         )?;
     } else {
-        println!(rt; "all files and all {recovery_count} recovery blocks are whole")?;
+        println!(rt; "all files and volumes are whole, with {recovery}")?;
     }
     Ok(())
 }
 
-/// Prints which files are damaged or missing, which volumes are damaged, and whether the files can be repaired. If all
-/// files are whole, the function prints whether all recovery blocks and volumes are whole, and what to do if some are
-/// not.
+/// Prints on standard error that the files cannot be restored, and how many blocks are needed.
 ///
 /// # Errors
 ///
-/// Fails if the result cannot be printed.
-pub fn tell<R: Runtime>(rt: &R, scan: &Scan, counts: Counts) -> Result<()> {
-    tell_files(rt, scan)?;
-    tell_volumes(rt, scan)?;
-    tell_blocks(rt, scan, counts)
+/// Fails if the message cannot be printed.
+pub fn tell_lost<R: Runtime>(rt: &R, counts: Counts) -> Result<()> {
+    let lost = Counted(counts.lost as u64, "lost block");
+    let recovery = Counted(counts.recovery as u64, "recovery block");
+    let lacking = counts.lost.saturating_sub(counts.recovery);
+    let lacking = Counted(lacking as u64, "more block");
+    eprintln!(rt;
+        "rs_files: {lost}, and {recovery} left: the files cannot be restored without {lacking}"
+    )?;
+    Ok(())
 }
 
-/// Prints which folder was searched, if none of the files of the set was found there.
-///
-/// # Errors
-///
-/// Fails if the result cannot be printed.
-pub fn tell_folder<R: Runtime>(rt: &R, scan: &Scan, folder: &str) -> Result<()> {
+// Prints which folder was searched, if none of the files of the set was found there.
+fn tell_folder<R: Runtime>(rt: &R, scan: &Scan, folder: &str) -> Result<()> {
     let all_missing = scan.states.iter().all(|state| *state == FileState::Missing);
     if !scan.states.is_empty() && all_missing {
         println!(rt;
@@ -148,23 +143,63 @@ pub fn tell_folder<R: Runtime>(rt: &R, scan: &Scan, folder: &str) -> Result<()> 
     Ok(())
 }
 
-// Returns the files with their sizes and states as JSON.
-fn files_json(alloc: Global, scan: &Scan) -> std::result::Result<Vec<Value>, serde_json::Error> {
-    let mut files = Vec::new(alloc);
-    for (file, state) in scan
-        .description
-        .files
-        .as_slice()
-        .iter()
-        .zip(scan.states.as_slice())
-    {
-        let name = text_of(file.name.as_slice());
-        let word = word_of(*state);
-        let size = file.size;
-        let value = json!(in alloc; {"name": name, "size": size, "state": word})?;
-        files.push(value).map_err(AllocError::from)?;
+/// Prints which files and volumes are damaged or missing, and what can be done, unless only errors are printed. If the
+/// files cannot be restored, this is an error, which is always printed.
+///
+/// # Errors
+///
+/// Fails if the result cannot be printed.
+pub fn report<R: Runtime>(
+    rt: &R,
+    request: &Request,
+    scan: &Scan,
+    counts: Counts,
+    folder: &str,
+) -> Result<()> {
+    if !request.quiet {
+        tell_files(rt, scan)?;
+        tell_volumes(rt, scan)?;
+        tell_folder(rt, scan, folder)?;
     }
-    Ok(files)
+    if counts.lost > counts.recovery {
+        return tell_lost(rt, counts);
+    }
+    if request.quiet {
+        return Ok(());
+    }
+    tell_blocks(rt, scan, counts)
+}
+
+// Returns the words for the states of the files.
+fn words_of(alloc: Global, scan: &Scan) -> std::result::Result<Vec<&'static str>, AllocError> {
+    let mut words = Vec::new(alloc);
+    for state in &scan.states {
+        words.push(word_of(*state))?;
+    }
+    Ok(words)
+}
+
+// Returns the name of a volume and a word for its state as JSON.
+fn volume_json(alloc: Global, name: &str, word: &str) -> std::result::Result<Value, AllocError> {
+    let mut object = Map::new(alloc);
+    add_text(alloc, &mut object, "name", name)?;
+    add_text(alloc, &mut object, "state", word)?;
+    Ok(Value::Object(object))
+}
+
+// Returns the volumes with their states as JSON.
+fn volumes_json(alloc: Global, scan: &Scan) -> std::result::Result<Value, AllocError> {
+    let mut volumes = Vec::new(alloc);
+    let paths = scan.paths.iter().skip(scan.description.files.len());
+    for (path, copies) in paths.zip(scan.copies.as_slice()) {
+        let word = match copies {
+            Copies::Whole => "whole",
+            _ => "damaged",
+        };
+        volumes.push(volume_json(alloc, path.as_str(), word)?)?;
+    }
+    add_unreadable(alloc, scan, &mut volumes)?;
+    Ok(Value::Array(volumes))
 }
 
 // Appends the volumes that cannot be read, as JSON.
@@ -172,39 +207,17 @@ fn add_unreadable(
     alloc: Global,
     scan: &Scan,
     volumes: &mut Vec<Value>,
-) -> std::result::Result<(), serde_json::Error> {
+) -> std::result::Result<(), AllocError> {
     for path in &scan.unreadable {
-        let name = path.as_str();
-        let value = json!(in alloc; {"name": name, "state": "unreadable"})?;
-        volumes.push(value).map_err(AllocError::from)?;
+        volumes.push(volume_json(alloc, path.as_str(), "unreadable")?)?;
     }
     Ok(())
-}
-
-// Returns the volumes with their states as JSON.
-fn volumes_json(alloc: Global, scan: &Scan) -> std::result::Result<Vec<Value>, serde_json::Error> {
-    let mut volumes = Vec::new(alloc);
-    let paths = scan.paths.iter().skip(scan.description.files.len());
-    for (path, copies) in paths.zip(scan.copies.as_slice()) {
-        let name = path.as_str();
-        let word = if *copies == Copies::Whole {
-            "whole"
-        } else {
-            "damaged"
-        };
-        let value = json!(in alloc; {"name": name, "state": word})?;
-        volumes.push(value).map_err(AllocError::from)?;
-    }
-    add_unreadable(alloc, scan, &mut volumes)?;
-    Ok(volumes)
 }
 
 // Prints the result of a scan as JSON.
 fn tell_json<R: Runtime + AllocGlobal>(rt: &R, scan: &Scan, counts: Counts) -> Result<()> {
     let alloc = rt.alloc();
-    let files = files_json(alloc, scan)?;
-    let volumes = volumes_json(alloc, scan)?;
-    let object = result_json(alloc, scan, counts, files, volumes)?;
+    let object = result_json(alloc, scan, counts)?;
     print(rt, alloc, object)
 }
 
@@ -213,8 +226,6 @@ fn result_json(
     alloc: Global,
     scan: &Scan,
     counts: Counts,
-    files: Vec<Value>,
-    volumes: Vec<Value>,
 ) -> std::result::Result<Map<String, Value>, AllocError> {
     let numbers = [
         ("status", u64::from(status_of(scan, counts))),
@@ -222,9 +233,16 @@ fn result_json(
         ("recovery_blocks", counts.recovery_count as u64),
         ("whole_recovery_blocks", counts.recovery as u64),
     ];
+    let words = words_of(alloc, scan)?;
+    let files = scan.description.files.as_slice();
     let mut object = object_of(alloc, &numbers)?;
-    add(alloc, &mut object, "files", Value::Array(files))?;
-    add(alloc, &mut object, "volumes", Value::Array(volumes))?;
+    add(
+        alloc,
+        &mut object,
+        "files",
+        files_of(alloc, files, words.as_slice())?,
+    )?;
+    add(alloc, &mut object, "volumes", volumes_json(alloc, scan)?)?;
     Ok(object)
 }
 
@@ -245,9 +263,8 @@ pub fn verify<R: Runtime + AllocGlobal>(rt: &R, request: &Request) -> Result<u8>
     let counts = found.counts();
     if request.json {
         tell_json(rt, &found, counts)?;
-    } else if !request.quiet {
-        tell(rt, &found, counts)?;
-        tell_folder(rt, &found, folder)?;
+    } else {
+        report(rt, request, &found, counts, folder)?;
     }
     Ok(status_of(&found, counts))
 }

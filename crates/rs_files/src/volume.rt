@@ -6,7 +6,6 @@ use rs_volumes::description::Description;
 use rs_volumes::digest::digest_of;
 use rs_volumes::head::{HEAD_BYTES, Head, read_head};
 use rs_volumes::read_description;
-use sha2::{Digest, Sha256};
 use std::alloc::Global;
 use std::fs;
 use std::fs::OpenFile;
@@ -17,7 +16,7 @@ use std::rt::{Files, Runtime};
 pub const LARGEST_DESCRIPTION: u64 = 1 << 30;
 
 /// The state of the two copies of the head and the description of a volume.
-#[derive(Clone, Copy, Debug, PartialEq, Eq)]
+#[derive(Clone, Copy, PartialEq, Eq)]
 pub enum Copies {
     /// Both copies are there, and they are equal.
     Whole,
@@ -56,11 +55,12 @@ fn read_at<F: Read + Seek>(
 }
 
 // Reads the head of a volume at `offset`.
-fn head_at<F: Read + Seek>(file: &mut F, offset: u64) -> Result<Head> {
-    let mut bytes = [0u8; HEAD_BYTES];
-    file.seek(SeekFrom::Start(offset))?;
-    file.read_exact(&mut bytes)?;
-    Ok(read_head(&bytes)?)
+fn head_at<F: Read + Seek>(file: &mut F, alloc: Global, offset: u64) -> Result<Head> {
+    let bytes = read_at(file, alloc, offset, HEAD_BYTES)?;
+    match bytes.first_chunk::<HEAD_BYTES>() {
+        Some(bytes) => Ok(read_head(bytes)?),
+        None => bail!("it is too short"),
+    }
 }
 
 // Reads and checks the description that belongs to a head. The description begins at `offset`. `size` is the number of
@@ -74,7 +74,7 @@ fn described<F: Read + Seek>(
     copies: Copies,
 ) -> Result<Volume> {
     let length = head.description_bytes;
-    if length > LARGEST_DESCRIPTION || length > size {
+    if length > LARGEST_DESCRIPTION || length > size.saturating_sub(offset) {
         bail!("its description is too long");
     }
     let bytes = read_at(file, alloc, offset, length as usize)?;
@@ -97,40 +97,23 @@ fn described<F: Read + Seek>(
     })
 }
 
-// Returns the SHA-256 of `count` bytes of a file from `offset` on.
-fn digest_at<F: Read + Seek>(file: &mut F, offset: u64, count: u64) -> std::io::Result<[u8; 32]> {
-    let mut hasher = Sha256::new();
-    let mut buffer = [0u8; 4096];
-    let mut left = count;
-    file.seek(SeekFrom::Start(offset))?;
-    for _ in 0..u64::MAX {
-        if left == 0 {
-            break;
-        }
-        let part = left.min(4096) as usize;
-        file.read_exact(&mut buffer[..part])?;
-        hasher.update(&buffer[..part]);
-        left -= part as u64;
-    }
-    Ok(hasher.finalize())
-}
-
 // Returns whether a volume ends in a description with the digest of a head, and then in this head. `size` is the number
 // of bytes of the volume.
-fn ends_in<F: Read + Seek>(file: &mut F, head: &Head, size: u64) -> Result<bool> {
+fn ends_in<F: Read + Seek>(file: &mut F, alloc: Global, head: &Head, size: u64) -> Result<bool> {
     let head_bytes = HEAD_BYTES as u64;
-    if size < head_bytes || head.description_bytes > size - head_bytes {
+    let length = head.description_bytes;
+    if length > LARGEST_DESCRIPTION || size < head_bytes || length > size - head_bytes {
         return Ok(false);
     }
-    let last = head_at(file, size - head_bytes)?;
+    let last = head_at(file, alloc, size - head_bytes)?;
     if last.description_bytes != head.description_bytes
         || last.record_count != head.record_count
         || last.digest != head.digest
     {
         return Ok(false);
     }
-    let offset = size - head_bytes - head.description_bytes;
-    Ok(digest_at(file, offset, head.description_bytes)? == head.digest)
+    let bytes = read_at(file, alloc, size - head_bytes - length, length as usize)?;
+    Ok(digest_of(bytes.as_slice()) == head.digest)
 }
 
 // Reads the head and the description at the beginning of a volume.
@@ -138,8 +121,8 @@ fn front<F: Read + Seek>(file: &mut F, alloc: Global, size: u64) -> Result<Volum
     if size < HEAD_BYTES as u64 {
         bail!("it is too short");
     }
-    let head = head_at(file, 0)?;
-    let copies = match ends_in(file, &head, size) {
+    let head = head_at(file, alloc, 0)?;
+    let copies = match ends_in(file, alloc, &head, size) {
         Ok(true) => Copies::Whole,
         _ => Copies::SecondDamaged,
     };
@@ -152,7 +135,7 @@ fn back<F: Read + Seek>(file: &mut F, alloc: Global, size: u64) -> Result<Volume
     if size < head_bytes {
         bail!("it is too short");
     }
-    let head = head_at(file, size - head_bytes)?;
+    let head = head_at(file, alloc, size - head_bytes)?;
     if head.description_bytes > size - head_bytes {
         bail!("its description is too long");
     }
@@ -169,7 +152,7 @@ fn back<F: Read + Seek>(file: &mut F, alloc: Global, size: u64) -> Result<Volume
 pub fn open_volume<R: Runtime + AllocGlobal>(rt: &R, path: &str) -> Result<Volume> {
     let alloc = rt.alloc();
     let mut file = at_path(path, fs::open(rt, path))?;
-    let size = file.metadata()?.len();
+    let size = at_path(path, file.metadata())?.len();
     match front(&mut file, alloc, size) {
         Ok(volume) => Ok(volume),
         Err(error) => match back(&mut file, alloc, size) {

@@ -1,8 +1,10 @@
 //! Volumes that are being written.
 ghost use Rattle.rs_field.specs.code.Given.{nothing};
 
-use crate::output::{Part, write_at};
-use anyhow::Result;
+use crate::folder::Cut;
+use crate::output::{Part, at_path, write_at};
+use anyhow::{Result, ensure};
+use rs_volumes::coding_error::CodingError;
 use rs_volumes::digest::digest_of;
 use rs_volumes::head::{HEAD_BYTES, Head, write_head};
 use rs_volumes::pieces::BlockSink;
@@ -14,20 +16,81 @@ use std::rt::{Files, Runtime};
 /// The number of bytes of a record before its block: 4 for the index of the block, and 4 that are zero.
 pub const RECORD_HEAD_BYTES: u64 = 8;
 
-/// The volumes that a command writes.
+/// The volumes that a command writes. The blocks from the index `first` on are dealt to them in turn.
 #[derive(Drop)]
 pub struct Volumes {
-    /// The file of each volume, which does not have its final name yet.
-    pub parts: Vec<Part>,
-    /// The index of the first block that is written into the volumes.
-    pub first: usize,
-    /// The number of block records of each volume.
-    pub counts: Vec<u64>,
-    /// The number of bytes of the description.
-    pub description_bytes: u64,
+    // The file of each volume, which does not have its final name yet.
+    parts: Vec<Part>,
+    // The number of volumes.
+    count: u64,
+    // The index of the first block that is written.
+    first: usize,
+    // The number of blocks that are written.
+    blocks: u64,
+    block_bytes: u64,
+    description_bytes: u64,
 }
 
 impl Volumes {
+    /// Makes `count` volumes, of which none has begun yet. One volume gets the recovery blocks. Several volumes get all
+    /// blocks.
+    pub fn new(alloc: Global, cut: Cut, count: usize, description_bytes: u64) -> Volumes {
+        let originals = u64::from(cut.original_count);
+        let recovery = u64::from(cut.recovery_count);
+        let (first, blocks) = if count == 1 {
+            (cut.original_count as usize, recovery)
+        } else {
+            (0, originals + recovery)
+        };
+        Volumes {
+            parts: Vec::new(alloc),
+            count: count as u64,
+            first,
+            blocks,
+            block_bytes: cut.block_bytes,
+            description_bytes,
+        }
+    }
+
+    // Returns the number of blocks of the volume with a given number.
+    fn records_of(&self, number: usize) -> u64 {
+        let count = self.count.max(1);
+        let more = if (number as u64) < self.blocks % count {
+            1
+        } else {
+            0
+        };
+        (self.blocks / count).saturating_add(more)
+    }
+
+    // Returns the number of bytes of a record.
+    fn record_bytes(&self) -> u64 {
+        self.block_bytes.saturating_add(RECORD_HEAD_BYTES)
+    }
+
+    // Returns the offset in bytes of the record with this number in a volume. A number that is too large becomes 2^64 -
+    // 1.
+    fn record_at(&self, number: u64) -> u64 {
+        number
+            .saturating_mul(self.record_bytes())
+            .saturating_add(self.description_bytes)
+            .saturating_add(HEAD_BYTES as u64)
+    }
+
+    /// Begins the next volume, with room for its blocks, at `path`.
+    ///
+    /// # Errors
+    ///
+    /// Fails for a reason of [`Part::begin`], or if memory cannot be allocated.
+    pub fn begin<R: Runtime>(&mut self, rt: &R, alloc: Global, path: &str) -> Result<()> {
+        let size = self
+            .record_at(self.records_of(self.parts.len()))
+            .saturating_add(self.description_bytes)
+            .saturating_add(HEAD_BYTES as u64);
+        self.parts.push(Part::begin(rt, alloc, path, size)?)?;
+        Ok(())
+    }
+
     /// Gives all volumes their final names. A file with such a name is only replaced if `overwrite` is set.
     ///
     /// # Errors
@@ -41,69 +104,74 @@ impl Volumes {
     }
 }
 
-/// The volumes that are being written. This sink deals the blocks from the index `first` on to the volumes in turn.
+/// The volumes that are being written. This sink writes blocks into them.
 #[derive(Drop)]
-pub struct VolumeSink<R: Runtime> {
+pub struct VolumeSink<'a, R: Runtime> {
     alloc: Global,
+    volumes: &'a Volumes,
     files: Vec<R::File>,
-    first: usize,
-    block_bytes: u64,
-    description_bytes: u64,
 }
 
-impl<R: Runtime> VolumeSink<R> {
+impl<'a, R: Runtime> VolumeSink<'a, R> {
     /// Opens the parts of all volumes.
     ///
     /// # Errors
     ///
     /// Fails if a file cannot be opened, or if memory cannot be allocated.
-    pub fn new(
-        rt: &R,
-        alloc: Global,
-        volumes: &Volumes,
-        block_bytes: u64,
-    ) -> Result<VolumeSink<R>> {
+    pub fn new(rt: &R, alloc: Global, volumes: &'a Volumes) -> Result<VolumeSink<'a, R>> {
         let mut files = Vec::new(alloc);
         for part in &volumes.parts {
-            files.push(part.open(rt)?)?;
+            files.push(at_path(part.part.as_str(), part.open(rt))?)?;
         }
         Ok(VolumeSink {
             alloc,
+            volumes,
             files,
-            first: volumes.first,
-            block_bytes,
-            description_bytes: volumes.description_bytes,
         })
     }
 
-    // Returns the offset in bytes of the record with this number in a volume.
-    fn record_at(&self, number: u64) -> u64 {
-        let record = self.block_bytes.wrapping_add(RECORD_HEAD_BYTES);
-        (HEAD_BYTES as u64)
-            .wrapping_add(self.description_bytes)
-            .wrapping_add(number.wrapping_mul(record))
+    /// Returns the path of the file into which a block could not be written. The path is empty after another error.
+    pub fn path_of(&self, error: &CodingError) -> &str {
+        let CodingError::Write(index, _) = error else {
+            return "";
+        };
+        let slot = index.saturating_sub(self.volumes.first);
+        match self
+            .volumes
+            .parts
+            .get(slot % self.volumes.parts.len().max(1))
+        {
+            Some(part) => part.part.as_str(),
+            None => "",
+        }
     }
 
-    /// Writes the description and the heads of all volumes. `counts` holds the number of records of each volume.
+    /// Writes the description and the heads of all volumes.
     ///
     /// # Errors
     ///
-    /// For each volume, fails if memory cannot be allocated, or if the volume cannot be written.
-    pub fn describe(&mut self, description: &[u8], counts: &[u64]) -> Result<()> {
+    /// Fails if the description has another length than the volumes have room for. Then, for each volume, fails if
+    /// memory cannot be allocated, or if the volume cannot be written.
+    pub fn describe(&mut self, description: &[u8]) -> Result<()> {
+        let volumes = self.volumes;
+        ensure!(
+            description.len() as u64 == volumes.description_bytes,
+            "the description has another length than expected"
+        );
         let digest = digest_of(description);
-        for (number, file) in self.files.iter_mut().enumerate() {
-            let record_count = counts.get(number).copied().unwrap_or(0);
+        for (number, part) in volumes.parts.iter().enumerate() {
+            let record_count = volumes.records_of(number);
             let head = Head {
                 description_bytes: description.len() as u64,
                 record_count,
                 digest,
             };
             let head = write_head(self.alloc, &head)?;
-            let record = self.block_bytes.wrapping_add(RECORD_HEAD_BYTES);
-            let end = (HEAD_BYTES as u64)
-                .wrapping_add(description.len() as u64)
-                .wrapping_add(record_count.wrapping_mul(record));
-            write_copies(file, description, head.as_slice(), end)?;
+            let end = volumes.record_at(record_count);
+            if let Some(file) = self.files.get_mut(number) {
+                let written = write_copies(file, description, head.as_slice(), end);
+                at_path(part.part.as_str(), written)?;
+            }
         }
         Ok(())
     }
@@ -122,16 +190,17 @@ fn write_copies<F: Seek + Write>(
     write_at(file, 0, head)
 }
 
-impl<R: Runtime> BlockSink for VolumeSink<R> {
+impl<'a, R: Runtime> BlockSink for VolumeSink<'a, R> {
     ghost written = { λ _. nothing };
 
     fn put(&mut self, index: usize, start: usize, piece: &[u8]) -> io::Result<()> {
-        if index < self.first || self.files.is_empty() {
+        let first = self.volumes.first;
+        if index < first || self.files.is_empty() {
             return Ok(());
         }
-        let slot = index - self.first;
+        let slot = index - first;
         let number = slot % self.files.len();
-        let record = self.record_at((slot / self.files.len()) as u64);
+        let record = self.volumes.record_at((slot / self.files.len()) as u64);
         let Some(file) = self.files.get_mut(number) else {
             return Err(io::Error::from(ErrorKind::NotFound));
         };

@@ -52,7 +52,7 @@ fn folder_of(path: &str) -> &str {
 ///
 /// Fails if there is no path. Then, for each path in turn, fails if the path is not in the folder of the first path, if
 /// the path is an old volume, if a file or folder cannot be read, or if the name of a file is not allowed.
-/// At the end, fails if a file is given twice. Every step fails if memory cannot be allocated.
+/// At the end, fails if no file was found, or if a file is given twice. Every step fails if memory cannot be allocated.
 pub fn find<R: Runtime + AllocGlobal>(
     rt: &R,
     paths: &[String],
@@ -65,6 +65,9 @@ pub fn find<R: Runtime + AllocGlobal>(
     };
     let folder = folder_of(trimmed(first.as_str()));
     let files = files_in(rt, folder, paths, written.as_slice())?;
+    if files.is_empty() {
+        bail!("{}: there is no regular file to protect", first.as_str());
+    }
     Ok(Found {
         folder: String::from_str(alloc, folder_to_open(folder))?,
         files,
@@ -95,13 +98,22 @@ fn add_path<R: Runtime + AllocGlobal>(
     written: &[Identity],
     files: &mut Vec<FileEntry>,
 ) -> Result<()> {
-    if folder_of(path) != folder {
+    if !is_same_folder(rt, folder_of(path), folder) {
         bail!("the files must be in one folder: give that folder, or the files in it");
     }
     if is_written(rt, path, written) {
         bail!("{path} is a volume that is written: name another place with -o, or another file");
     }
     walk(rt, path, name_in_set(path), written, files)
+}
+
+// Returns whether two paths lead to the same folder. If the first one leads to no folder, this is reported later.
+fn is_same_folder<R: Runtime>(rt: &R, one: &str, other: &str) -> bool {
+    if one == other {
+        return true;
+    }
+    let own = identity_of(rt, folder_to_open(one));
+    own.is_none() || own == identity_of(rt, folder_to_open(other))
 }
 
 // Sorts files by their names.

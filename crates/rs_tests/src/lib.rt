@@ -23,3 +23,5 @@ mod stripes;
 mod tables;
 #[cfg(test)]
 mod verifying;
+#[cfg(test)]
+mod volumes;

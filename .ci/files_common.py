@@ -1,0 +1,110 @@
+"""What the tests of `rs_files` share: they run the program, and make files in temporary folders."""
+import json
+import os
+import random
+import shutil
+import subprocess
+import sys
+import tempfile
+
+HERE = os.path.dirname(os.path.abspath(__file__))
+TOP = os.path.dirname(HERE)
+PROGRAM = os.environ.get("RS_FILES", os.path.join(TOP, "crates/rs_files/out/rs_files"))
+RANDOM = random.Random(47)
+SKIPPED = []
+
+
+def wrong(text):
+    print("files: " + text)
+    sys.exit(1)
+
+
+def skipped(reason):
+    """Notes that a test, or a part of it, is skipped."""
+    SKIPPED.append(reason)
+
+
+def printed(*words, status=0, env=None, before=None, cwd=None):
+    """Runs the program, checks that its status is the wanted one or one of the wanted ones, and returns what it printed on standard output
+    and on standard error. `before` is called in the new process."""
+    done = subprocess.run([PROGRAM, *words], stdout=subprocess.PIPE, stderr=subprocess.PIPE, timeout=300, env=env, preexec_fn=before, cwd=cwd)
+    if done.returncode != status and not (isinstance(status, tuple) and done.returncode in status):
+        wrong(f"{words} ended with status {done.returncode} instead of {status}: {done.stdout!r} {done.stderr!r}")
+    return done.stdout.decode(errors="replace"), done.stderr.decode(errors="replace")
+
+
+def run(*words, **options):
+    """Does the same as `printed`, and returns both texts as one."""
+    return "".join(printed(*words, **options))
+
+
+def preloaded(name, **settings):
+    """Returns the environment in which a shared object of this folder is loaded before the program, or None if there is no C compiler."""
+    if shutil.which("cc") is None:
+        return skipped(f"no cc: {name}")
+    built = os.path.join(BUILT.path, name + ".so")
+    if not os.path.exists(built):
+        subprocess.run(["cc", "-shared", "-fPIC", "-O1", "-Wall", "-o", built, os.path.join(HERE, name + ".c"), "-ldl"], check=True)
+    return {**os.environ, "LD_PRELOAD": built, **{key: str(value) for key, value in settings.items()}}
+
+
+def write(path, data):
+    os.makedirs(os.path.dirname(path), exist_ok=True)
+    with open(path, "wb") as out:
+        out.write(data)
+
+
+def read(path):
+    with open(path, "rb") as file:
+        return file.read()
+
+
+def tree(folder):
+    """Returns the contents of all files below a folder, by their names."""
+    return {os.path.relpath(os.path.join(at, name), folder): read(os.path.join(at, name)) for at, _, names in os.walk(folder) for name in names}
+
+
+class Folder:
+    """A temporary folder."""
+
+    def __init__(self):
+        self.path = tempfile.mkdtemp(prefix="rs_files.")
+
+    def __enter__(self):
+        return self
+
+    def __exit__(self, *_):
+        shutil.rmtree(self.path, ignore_errors=True)
+
+    def __call__(self, *parts):
+        return os.path.join(self.path, *parts)
+
+
+def info(volume):
+    """Returns what `info --json` prints."""
+    return json.loads(run("info", volume, "--json"))
+
+
+def sparse(path, size):
+    """Makes a file of zeros that needs no room on the disk."""
+    with open(path, "wb") as out:
+        out.truncate(size)
+
+
+def as_nobody(folder):
+    """Gives a folder to the user nobody, and returns a function that makes a new process one of this user. Without root, changes nothing."""
+    if os.geteuid() != 0:
+        return None
+    for path, _, names in os.walk(folder):
+        for name in (path, *(os.path.join(path, name) for name in names)):
+            os.chown(name, 65534, 65534)
+
+    def become():
+        os.setgid(65534)
+        os.setuid(65534)
+
+    return become
+
+
+# The folder of the shared objects that `preloaded` builds.
+BUILT = Folder()

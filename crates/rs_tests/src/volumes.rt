@@ -1,0 +1,320 @@
+//! Tests of `rs_volumes` over sets of files in memory: the files come back after blocks were lost or damaged.
+ghost use Rattle.std.specs.Prelude.{◌≡◌, ◌<◌, ◌%◌};
+ghost use Rattle.rs_field.specs.code.Given.{nothing};
+
+use super::shards::drawn;
+use reed_solomon_simd::engine::DefaultEngine;
+use reed_solomon_simd::engine::tables::Tables;
+use rs_volumes::checking::fits;
+use rs_volumes::coding_error::CodingError;
+use rs_volumes::creating::{Shape, create};
+use rs_volumes::description::{Description, FileEntry};
+use rs_volumes::digest::{digest_of, is_digest};
+use rs_volumes::pieces::{BlockSink, BlockSource};
+use rs_volumes::placement::{Place, places_of};
+use rs_volumes::restoring::{Plan, restore};
+use rs_volumes::{read_description, write_description};
+use std::alloc::{AllocError, Global};
+use std::io;
+use std::io::ErrorKind;
+use std::process::Abort;
+use std::test::Fail;
+
+// Blocks in memory, by their indexes.
+#[derive(Drop)]
+struct Blocks {
+    alloc: Global,
+    blocks: Vec<Vec<u8>>,
+}
+
+impl Blocks {
+    // Makes blocks without bytes.
+    fn empty(alloc: Global, count: usize) -> Result<Blocks, AllocError> {
+        let mut blocks = Vec::new(alloc);
+        for _ in 0..count {
+            blocks.push(Vec::new(alloc))?;
+        }
+        Ok(Blocks { alloc, blocks })
+    }
+}
+
+impl BlockSource for Blocks {
+    ghost blocks = { λ _. nothing };
+
+    fn piece(&mut self, index: usize, start: usize, end: usize) -> io::Result<Vec<u8>> {
+        match self.blocks.get(index) {
+            Some(block) if end <= block.len() => {
+                Ok(Vec::from_slice(self.alloc, &block[start..end])?)
+            }
+            _ => Err(io::Error::from(ErrorKind::NotFound)),
+        }
+    }
+}
+
+impl BlockSink for Blocks {
+    ghost written = { λ _. nothing };
+
+    fn put(&mut self, index: usize, start: usize, piece: &[u8]) -> io::Result<()> {
+        match self.blocks.get_mut(index) {
+            Some(block) if block.len() == start => {
+                block.extend_from_slice(piece)?;
+                Ok(())
+            }
+            _ => Err(io::Error::from(ErrorKind::InvalidInput)),
+        }
+    }
+}
+
+// The names of the files of a set.
+const NAMES: [&[u8]; 6] = [b"a", b"b", b"b/c", b"d", b"e", b"f"];
+
+// Returns the contents of the files. Most of them have a length near the size of a block.
+fn files_of(alloc: Global, block_bytes: usize) -> Result<Vec<Vec<u8>>, AllocError> {
+    let longest = block_bytes.saturating_mul(3).saturating_add(7);
+    let less = block_bytes.saturating_sub(1);
+    let more = block_bytes.saturating_add(1);
+    let mut files = drawn(alloc, NAMES.len(), longest)?;
+    for (file, length) in files
+        .iter_mut()
+        .zip([0, 1, less, block_bytes, more, longest])
+    {
+        file.truncate(length);
+    }
+    Ok(files)
+}
+
+// Returns the entries of the files.
+fn entries_of(alloc: Global, files: &[Vec<u8>]) -> Result<Vec<FileEntry>, AllocError> {
+    let mut entries = Vec::new(alloc);
+    for (name, file) in NAMES.iter().zip(files) {
+        entries.push(FileEntry {
+            size: file.len() as u64,
+            modified: 0,
+            mode: 0o644,
+            name: Vec::from_slice(alloc, name)?,
+        })?;
+    }
+    Ok(entries)
+}
+
+// Returns the bytes of a file from `offset` on, at most `count` of them.
+fn bytes_at(file: &[u8], offset: u64, count: u64) -> &[u8] {
+    let start = (offset as usize).min(file.len());
+    let end = start.saturating_add(count as usize).min(file.len());
+    &file[start..end]
+}
+
+// Returns the original blocks of files, where the last block of a file is padded with zeros.
+fn blocks_of(
+    alloc: Global,
+    files: &[Vec<u8>],
+    places: &[Place],
+    block_bytes: usize,
+) -> Result<Blocks, AllocError> {
+    let mut blocks = Vec::new(alloc);
+    for place in places {
+        let mut block = Vec::with_capacity(alloc, block_bytes)?;
+        if let Some(file) = files.get(place.file) {
+            block.extend_from_slice(bytes_at(file.as_slice(), place.offset, place.bytes))?;
+        }
+        block.resize(block_bytes, 0)?;
+        blocks.push(block)?;
+    }
+    Ok(Blocks { alloc, blocks })
+}
+
+// Loses the blocks with even numbers of a list, and changes a byte of those with odd numbers. Block `number` has the
+// index `first` + `number`.
+fn damage(blocks: &mut Vec<Vec<u8>>, first: usize, numbers: &[usize]) {
+    for number in numbers {
+        if let Some(block) = blocks.get_mut(first.saturating_add(*number)) {
+            if *number % 2 == 0 {
+                block.clear();
+            } else if let Some(byte) = block.first_mut() {
+                *byte ^= 1;
+            }
+        }
+    }
+}
+
+// Returns the plan that reads all blocks that have their digest, and writes all `k` original blocks.
+fn plan_of(
+    alloc: Global,
+    blocks: &[Vec<u8>],
+    digests: &[u8],
+    k: usize,
+) -> Result<Plan, AllocError> {
+    let mut plan = Plan {
+        originals: Vec::new(alloc),
+        recovery: Vec::new(alloc),
+        wanted: vec![in alloc; true; k]?,
+    };
+    for (index, block) in blocks.iter().enumerate() {
+        let is_whole = is_digest(digests, index, &digest_of(block.as_slice()));
+        if is_whole && index < k {
+            plan.originals.push(index)?;
+        } else if is_whole {
+            plan.recovery.push(index - k)?;
+        }
+    }
+    Ok(plan)
+}
+
+// Checks that the blocks hold the files.
+fn check_files(rt: &impl Abort, files: &[Vec<u8>], places: &[Place], blocks: &[Vec<u8>]) {
+    assert_eq!(rt; places.len(), blocks.len());
+    for (place, block) in places.iter().zip(blocks) {
+        if let Some(file) = files.get(place.file) {
+            let own = bytes_at(file.as_slice(), place.offset, place.bytes);
+            assert!(rt;
+                bytes_at(block.as_slice(), 0, place.bytes) == own,
+                "file {}",
+                place.file
+            );
+        }
+    }
+}
+
+// A set in memory: its files, its description, the places of its original blocks, and all its blocks.
+#[derive(Drop)]
+struct StoredSet {
+    files: Vec<Vec<u8>>,
+    description: Description,
+    places: Vec<Place>,
+    blocks: Blocks,
+}
+
+// The number of recovery blocks of each set.
+const RECOVERY_COUNT: usize = 4;
+
+// Returns the numbers of blocks of a description, and the size of a block.
+fn shape_of(description: &Description) -> Shape {
+    Shape {
+        original_count: description.original_count as usize,
+        recovery_count: description.recovery_count as usize,
+        block_bytes: description.block_bytes as usize,
+    }
+}
+
+// Makes a set. Its description is written and read again.
+fn make_set(
+    rt: &impl Abort,
+    alloc: Global,
+    block_bytes: usize,
+    piece_bytes: usize,
+    engine: DefaultEngine<'_>,
+) -> Result<StoredSet, Fail>
+    requires some { 0 < piece_bytes }
+    requires chunks { piece_bytes % 64 ≡ 0 }
+{
+    let files = files_of(alloc, block_bytes)?;
+    let mut description = Description {
+        block_bytes: block_bytes.max(1) as u64,
+        original_count: 0,
+        recovery_count: RECOVERY_COUNT as u32,
+        files: entries_of(alloc, files.as_slice())?,
+        digests: Vec::new(alloc),
+    };
+    let places = places_of(alloc, &description)?;
+    description.original_count = places.len().min(65536) as u32;
+    let shape = shape_of(&description);
+    let mut source = blocks_of(alloc, files.as_slice(), places.as_slice(), block_bytes)?;
+    let mut blocks = Blocks::empty(alloc, places.len().saturating_add(RECOVERY_COUNT))?;
+    description.digests = create(alloc, shape, piece_bytes, engine, &mut source, &mut blocks)?;
+    assert!(rt; fits(&description));
+    let bytes = write_description(alloc, &description)?;
+    Ok(StoredSet {
+        files,
+        description: read_description(alloc, bytes.as_slice())?,
+        places,
+        blocks,
+    })
+}
+
+// The numbers of the original blocks and of the recovery blocks that are lost or damaged.
+type Loss<'a> = (&'a [usize], &'a [usize]);
+
+const LOSSES: [Loss<'static>; 4] = [
+    (&[], &[1]),
+    (&[0, 4, 7], &[1]),
+    (&[5], &[0, 2, 3]),
+    (&[1, 2, 6, 8], &[]),
+];
+
+// Restores a set after a loss.
+fn restored(
+    alloc: Global,
+    set: &mut StoredSet,
+    piece_bytes: usize,
+    loss: Loss<'_>,
+    engine: DefaultEngine<'_>,
+) -> Result<Blocks, CodingError>
+    requires some { 0 < piece_bytes }
+    requires chunks { piece_bytes % 64 ≡ 0 }
+{
+    let shape = shape_of(&set.description);
+    let k = shape.original_count;
+    damage(&mut set.blocks.blocks, 0, loss.0);
+    damage(&mut set.blocks.blocks, k, loss.1);
+    let digests = set.description.digests.as_slice();
+    let plan = plan_of(alloc, set.blocks.blocks.as_slice(), digests, k)?;
+    let mut files = Blocks::empty(alloc, k)?;
+    restore(
+        alloc,
+        shape,
+        piece_bytes,
+        engine,
+        &plan,
+        digests,
+        &mut set.blocks,
+        &mut files,
+    )?;
+    Ok(files)
+}
+
+// Checks that the files of a set come back after each loss.
+fn check_set(
+    rt: &impl Abort,
+    alloc: Global,
+    block_bytes: usize,
+    piece_bytes: usize,
+    engine: DefaultEngine<'_>,
+) -> Result<(), Fail>
+    requires some { 0 < piece_bytes }
+    requires chunks { piece_bytes % 64 ≡ 0 }
+{
+    for loss in LOSSES {
+        let mut set = make_set(rt, alloc, block_bytes, piece_bytes, engine)?;
+        let files = restored(alloc, &mut set, piece_bytes, loss, engine)?;
+        check_files(
+            rt,
+            set.files.as_slice(),
+            set.places.as_slice(),
+            files.blocks.as_slice(),
+        );
+    }
+    Ok(())
+}
+
+// The pieces have 64 bytes, so each block of more bytes is coded in several pieces.
+#[test]
+fn sets_in_memory_come_back(rt: HostRuntime) -> Result<(), Fail> {
+    let alloc = rt.alloc();
+    let tables = Tables::new(alloc)?;
+    let engine = DefaultEngine::fastest(&tables);
+    for block_bytes in [2, 62, 64, 66, 320, 1026] {
+        check_set(&rt, alloc, block_bytes, 64, engine)?;
+    }
+    check_set(&rt, alloc, 1026, 4096, engine)
+}
+
+#[test]
+fn too_few_blocks_restore_nothing(rt: HostRuntime) -> Result<(), Fail> {
+    let alloc = rt.alloc();
+    let tables = Tables::new(alloc)?;
+    let engine = DefaultEngine::fastest(&tables);
+    let mut set = make_set(&rt, alloc, 64, 64, engine)?;
+    let outcome = restored(alloc, &mut set, 64, (&[0, 3, 4], &[0, 1]), engine);
+    assert!(rt; matches!(outcome, Err(CodingError::Code(_))));
+    Ok(())
+}
