@@ -104,6 +104,8 @@ def restore(folder, *paths):
         target.write_bytes(b"".join(next(blocks) for _ in range(0, size, b))[:size])
 
 
+if len(sys.argv) < 3:
+    sys.exit(__doc__)
 try:
     restore(*sys.argv[1:])
 except ValueError as error:
