@@ -67,6 +67,7 @@ fn two_reconstructed_originals_are_completed(rt: HostRuntime) -> Result<(), Fail
     let engine = DefaultEngine::fastest(&tables);
     let message: [&[u8]; 3] = [b"ten ", b"byte", b"s.\0\0"];
     let made = encode(alloc, 3, 2, message.into_iter(), engine)?;
+    assert_eq!(rt; made.len(), 2);
     let received: [(usize, &[u8]); 1] = [(1, b"byte")];
     let recovery: [(usize, &[u8]); 2] = [(0, made[0].as_slice()), (1, made[1].as_slice())];
     let wanted = [ShardIndex::Original(0), ShardIndex::Original(2)];
