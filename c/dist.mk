@@ -23,7 +23,7 @@ c/out/libreed_solomon_simd.a: $(wildcard $(TARGET)/*.s) $(wildcard c/*.c c/*.h) 
 check: all
 	$(TEST) -o c/out/test c/tests/test.c c/out/libreed_solomon_simd.a -lpthread $(LDFLAGS)
 	$(TEST) -o c/out/received c/tests/received.c c/out/libreed_solomon_simd.a $(LDFLAGS)
-	$(CC) -std=c11 -Iinclude $(CFLAGS) -DRS_STACK_BYTES=1 -c -o c/out/layer_without_stack.o c/layer.c
+	$(CC) -std=c11 -Iinclude $(CFLAGS) -DRS_STACK_BYTES=0 -c -o c/out/layer_without_stack.o c/layer.c
 	$(TEST) -o c/out/memory c/tests/memory.c c/out/layer_without_stack.o $(PARTS)/work.o $(BUILDS:%=$(PARTS)/%.o) $(LDFLAGS)
 	$(TEST) -o c/out/work c/tests/work.c c/out/libreed_solomon_simd.a -lpthread $(LDFLAGS)
 	$(CC) -std=c11 -Iinclude $(CFLAGS) -o c/out/layer c/tests/layer.c $(LDFLAGS)

@@ -1,5 +1,5 @@
 /* The calls of the header. Each call allows what the proved calls do not: NULL where the length is 0, and NULL as the fault. Then it makes
-   the proved call of the same name, from the build that fits the processor. Two of the calls over arrays do so at once if nothing is NULL. */
+   the proved call of the same name, from the build that fits the processor. If nothing is NULL, two calls skip struct call, which is faster. */
 #include "choice.h"
 #include "memory.h"
 
@@ -47,10 +47,10 @@ static const void *taken(struct call *call, const void *entries, size_t number, 
     return copy;
 }
 
-/* Gives back the copies and the lent memory, and returns what the call has returned. */
-static inline uint32_t ended(struct call *call, uint32_t answer) {
+/* Gives back the copies, restores the loan of before, and returns what the call has returned. */
+static inline uint32_t ended(struct call *call, const struct lent *loan, uint32_t answer) {
     while (call->number) rs_dealloc(call->copies[--call->number]);
-    return taken_back(answer);
+    return taken_back(loan, answer);
 }
 
 uint32_t rs_tables_make(struct rs_tables *tables) {
@@ -70,32 +70,32 @@ size_t rs_shard_bytes(size_t total, size_t original_count) {
 uint32_t rs_encode(const struct rs_tables *tables, size_t original_count, size_t recovery_count, size_t shard_bytes,
                    const uint8_t *originals, size_t originals_length, uint8_t *recovery, size_t recovery_length, struct rs_fault *fault) {
     LEND_STACK;
-    return taken_back(fitting()->encode(tables, original_count, recovery_count, shard_bytes, at(originals, originals_length),
-                                        originals_length, at(recovery, recovery_length), recovery_length,
-                                        fault ? fault : &(struct rs_fault){0}));
+    return taken_back(&loan, fitting()->encode(tables, original_count, recovery_count, shard_bytes, at(originals, originals_length),
+                                               originals_length, at(recovery, recovery_length), recovery_length,
+                                               fault ? fault : &(struct rs_fault){0}));
 }
 
 uint32_t rs_decode(const struct rs_tables *tables, size_t original_count, size_t recovery_count, size_t shard_bytes, uint8_t *originals,
                    size_t originals_length, const uint8_t *recovery, size_t recovery_length, const uint8_t *marks, size_t marks_length,
                    struct rs_fault *fault) {
     LEND_STACK;
-    return taken_back(fitting()->decode(tables, original_count, recovery_count, shard_bytes, at(originals, originals_length),
-                                        originals_length, at(recovery, recovery_length), recovery_length, at(marks, marks_length),
-                                        marks_length, fault ? fault : &(struct rs_fault){0}));
+    return taken_back(&loan, fitting()->decode(tables, original_count, recovery_count, shard_bytes, at(originals, originals_length),
+                                               originals_length, at(recovery, recovery_length), recovery_length, at(marks, marks_length),
+                                               marks_length, fault ? fault : &(struct rs_fault){0}));
 }
 
 uint32_t rs_encode_shards(const struct rs_tables *tables, size_t original_count, size_t recovery_count, const struct rs_bytes *originals,
                           size_t originals_number, const struct rs_room *recovery, size_t recovery_number, struct rs_fault *fault) {
     LEND_STACK;
     if (fault && !has_null(originals, originals_number, sizeof *originals) && !has_null(recovery, recovery_number, sizeof *recovery))
-        return taken_back(fitting()->encode_shards(tables, original_count, recovery_count, at(originals, originals_number),
-                                                   originals_number, at(recovery, recovery_number), recovery_number, fault));
+        return taken_back(&loan, fitting()->encode_shards(tables, original_count, recovery_count, at(originals, originals_number),
+                                                          originals_number, at(recovery, recovery_number), recovery_number, fault));
     struct call call = {.fault = fault ? fault : &call.unread};
     originals = taken(&call, originals, originals_number, sizeof *originals);
     recovery = taken(&call, recovery, recovery_number, sizeof *recovery);
-    if (call.failed) return ended(&call, RS_OUT_OF_MEMORY);
-    return ended(&call, fitting()->encode_shards(tables, original_count, recovery_count, originals, originals_number, recovery,
-                                                 recovery_number, call.fault));
+    if (call.failed) return ended(&call, &loan, RS_OUT_OF_MEMORY);
+    return ended(&call, &loan, fitting()->encode_shards(tables, original_count, recovery_count, originals, originals_number, recovery,
+                                                        recovery_number, call.fault));
 }
 
 uint32_t rs_decode_shards(const struct rs_tables *tables, size_t original_count, size_t recovery_count, const struct rs_shard *originals,
@@ -104,16 +104,16 @@ uint32_t rs_decode_shards(const struct rs_tables *tables, size_t original_count,
     LEND_STACK;
     if (fault && !has_null(originals, originals_number, sizeof *originals) && !has_null(recovery, recovery_number, sizeof *recovery) &&
         !has_null(restored, restored_number, sizeof *restored))
-        return taken_back(fitting()->decode_shards(tables, original_count, recovery_count, at(originals, originals_number),
-                                                   originals_number, at(recovery, recovery_number), recovery_number,
-                                                   at(restored, restored_number), restored_number, fault));
+        return taken_back(&loan, fitting()->decode_shards(tables, original_count, recovery_count, at(originals, originals_number),
+                                                          originals_number, at(recovery, recovery_number), recovery_number, at(restored,
+                                                          restored_number), restored_number, fault));
     struct call call = {.fault = fault ? fault : &call.unread};
     originals = taken(&call, originals, originals_number, sizeof *originals);
     recovery = taken(&call, recovery, recovery_number, sizeof *recovery);
     restored = taken(&call, restored, restored_number, sizeof *restored);
-    if (call.failed) return ended(&call, RS_OUT_OF_MEMORY);
-    return ended(&call, fitting()->decode_shards(tables, original_count, recovery_count, originals, originals_number, recovery,
-                                                 recovery_number, restored, restored_number, call.fault));
+    if (call.failed) return ended(&call, &loan, RS_OUT_OF_MEMORY);
+    return ended(&call, &loan, fitting()->decode_shards(tables, original_count, recovery_count, originals, originals_number, recovery,
+                                                        recovery_number, restored, restored_number, call.fault));
 }
 
 uint32_t rs_verify(const struct rs_tables *tables, size_t original_count, size_t recovery_count, const struct rs_shard *originals,
@@ -122,9 +122,9 @@ uint32_t rs_verify(const struct rs_tables *tables, size_t original_count, size_t
     struct call call = {.fault = fault ? fault : &call.unread};
     originals = taken(&call, originals, originals_number, sizeof *originals);
     recovery = taken(&call, recovery, recovery_number, sizeof *recovery);
-    if (call.failed) return ended(&call, RS_OUT_OF_MEMORY);
-    return ended(&call, fitting()->verify(tables, original_count, recovery_count, originals, originals_number, recovery, recovery_number,
-                                          call.fault));
+    if (call.failed) return ended(&call, &loan, RS_OUT_OF_MEMORY);
+    return ended(&call, &loan, fitting()->verify(tables, original_count, recovery_count, originals, originals_number, recovery,
+                                                 recovery_number, call.fault));
 }
 
 uint32_t rs_reconstruct(const struct rs_tables *tables, size_t original_count, size_t recovery_count, const struct rs_shard *originals,
@@ -135,10 +135,10 @@ uint32_t rs_reconstruct(const struct rs_tables *tables, size_t original_count, s
     originals = taken(&call, originals, originals_number, sizeof *originals);
     recovery = taken(&call, recovery, recovery_number, sizeof *recovery);
     rooms = taken(&call, rooms, rooms_number, sizeof *rooms);
-    if (call.failed) return ended(&call, RS_OUT_OF_MEMORY);
-    return ended(&call, fitting()->reconstruct(tables, original_count, recovery_count, originals, originals_number, recovery,
-                                               recovery_number, at(wanted, wanted_number), wanted_number, rooms, rooms_number,
-                                               call.fault));
+    if (call.failed) return ended(&call, &loan, RS_OUT_OF_MEMORY);
+    return ended(&call, &loan, fitting()->reconstruct(tables, original_count, recovery_count, originals, originals_number, recovery,
+                                                      recovery_number, at(wanted, wanted_number), wanted_number, rooms, rooms_number,
+                                                      call.fault));
 }
 
 uint32_t rs_update(const struct rs_tables *tables, size_t original_count, size_t recovery_count, size_t index, const uint8_t *before,
@@ -147,9 +147,9 @@ uint32_t rs_update(const struct rs_tables *tables, size_t original_count, size_t
     LEND_STACK;
     struct call call = {.fault = fault ? fault : &call.unread};
     recovery = taken(&call, recovery, recovery_number, sizeof *recovery);
-    if (call.failed) return ended(&call, RS_OUT_OF_MEMORY);
-    return ended(&call, fitting()->update(tables, original_count, recovery_count, index, at(before, before_length), before_length,
-                                          at(after, after_length), after_length, recovery, recovery_number, call.fault));
+    if (call.failed) return ended(&call, &loan, RS_OUT_OF_MEMORY);
+    return ended(&call, &loan, fitting()->update(tables, original_count, recovery_count, index, at(before, before_length), before_length,
+                                                 at(after, after_length), after_length, recovery, recovery_number, call.fault));
 }
 
 size_t rs_fault_text(const struct rs_fault *fault, char *text, size_t text_length) {

@@ -5,7 +5,7 @@
 #include <stdint.h>
 #include <string.h>
 
-/* Whether there is memory, and where. Where there is none, the pointer is any one but NULL. */
+/* Whether there is memory, and where. If there is none, the pointer has any value but NULL. */
 struct tried {
     bool ok;
     void *at;
@@ -17,8 +17,8 @@ void rs_dealloc(void *at);
 /* A block of lent memory begins at a multiple of 64, and takes a multiple of 64 bytes. */
 enum { UNIT = 64 };
 
-/* How many bytes of the stack a call lends: enough for all blocks of a call with few short shards. A test lends one byte, so that each block
-   comes from the allocator. */
+/* How many bytes of the stack a call lends: enough for all blocks of a call with few short shards. A test lends none, so that each block comes
+   from the allocator. */
 #ifndef RS_STACK_BYTES
 #define RS_STACK_BYTES 4096
 #endif
@@ -44,13 +44,15 @@ static inline unsigned char *aligned(unsigned char *from) {
     return from + (UNIT - (uintptr_t)from % UNIT) % UNIT;
 }
 
-/* Lends bytes of the stack to the proved call that this function makes, unless its caller has lent work memory. */
-#define LEND_STACK                                    \
+/* Lends bytes of the stack to the proved call that this function makes, unless its caller has lent work memory. An allocator of the host may
+   make a call of the library, too, so the loan of the outer call is kept. */
+#define LEND_STACK                                  \
     unsigned char stack[RS_STACK_BYTES + UNIT - 1]; \
-    if (!rs_lent.is_all) rs_lent = (struct lent){aligned(stack), RS_STACK_BYTES, 0, false}
+    const struct lent loan = rs_lent;               \
+    if (!loan.is_all) rs_lent = (struct lent){aligned(stack), RS_STACK_BYTES, 0, false}
 
 /* Ends the loan of bytes of the stack, and returns what the call has returned. */
-static inline uint32_t taken_back(uint32_t answer) {
-    if (!rs_lent.is_all) rs_lent.length = rs_lent.used = 0;
+static inline uint32_t taken_back(const struct lent *loan, uint32_t answer) {
+    rs_lent = *loan;
     return answer;
 }

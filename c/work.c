@@ -21,17 +21,13 @@ static size_t rounded_up(size_t number, size_t multiple) {
     return (number + multiple - 1) / multiple * multiple;
 }
 
-/* Lends work memory to the call that comes next in this thread. */
-static void lend(void *work, size_t work_length) {
+/* Lends work memory to the call that comes next in this thread. Returns the loan of before. */
+static struct lent lend(void *work, size_t work_length) {
+    const struct lent loan = rs_lent;
     size_t before = (UNIT - (uintptr_t)work % UNIT) % UNIT;
     if (before > work_length) before = work_length;
-    rs_lent = (struct lent){(unsigned char *)work + before, (work_length - before) / UNIT * UNIT, 0, true};
-}
-
-/* Ends the loan of work memory, and returns what the call has returned. */
-static uint32_t ended(uint32_t answer) {
-    rs_lent = (struct lent){NULL, 0, 0, false};
-    return answer;
+    rs_lent = (struct lent){before ? (unsigned char *)work + before : work, (work_length - before) / UNIT * UNIT, 0, true};
+    return loan;
 }
 
 /* Whether a block is in the lent memory. */
@@ -45,13 +41,13 @@ static struct tried block_elsewhere(size_t size, size_t align) {
     return rs_lent.is_all ? (struct tried){false, &nowhere} : rattle_alloc(size, align);
 }
 
-/* Each block has a byte at least. */
+/* A block of at least one byte, from the lent memory if it fits there. */
 struct tried rs_alloc(size_t size, size_t align) {
-    unsigned char *at = rs_lent.begin + rs_lent.used;
+    size_t from = rs_lent.used;
     if (!size) size = 1;
-    if (size > rs_lent.length - rs_lent.used) return block_elsewhere(size, align);
+    if (size > rs_lent.length - from) return block_elsewhere(size, align);
     rs_lent.used += rounded_up(size, UNIT);
-    return (struct tried){true, at};
+    return (struct tried){true, rs_lent.begin + from};
 }
 
 struct tried rs_realloc(void *old, size_t kept, size_t size, size_t align) {
@@ -78,10 +74,10 @@ static size_t block_bytes(size_t number, size_t bytes) {
     return rounded_up(number * bytes, UNIT);
 }
 
-/* The requests of the calls. An encode requests 4096 bytes, or as many as a shard has, for each of its rows. A decode requests 24 bytes for each original and for each recovery shard, and for each of its rows 1 byte, 2 bytes, and 2048 bytes, or as
-   many as a shard has. A decode that restores to vectors first also requests 24 bytes for each vector, and the vectors. Each row takes a
-   multiple of 64 bytes. Calls that request less serve themselves from the same memory: an encode, or a decode of few lost shards, which sums
-   the received shards and has no rows. */
+/* The requests of the calls. An encode requests 4096 bytes, or as many as a shard has, for each of its rows. A decode requests 24 bytes for each
+   original and for each recovery shard, and for each of its rows 1 byte, 2 bytes, and 2048 bytes, or as many as a shard has. A decode that
+   restores to vectors first also requests 24 bytes for each vector, and the vectors. Each row takes a multiple of 64 bytes. A decode of few lost
+   shards requests less: it sums the received shards and has no rows. */
 size_t rs_work_bytes(size_t original_count, size_t recovery_count, size_t shard_bytes, size_t restored) {
     if (!rs_supports(original_count, recovery_count) || !shard_bytes || shard_bytes % 2) return 0;
     if (restored > original_count || shard_bytes > SIZE_MAX / 2 / (restored + 1)) return 0;
@@ -103,37 +99,39 @@ size_t rs_tables_work_bytes(void) {
 }
 
 uint32_t rs_tables_make_with_work(struct rs_tables *tables, void *work, size_t work_length) {
-    lend(work, work_length);
-    return ended(rs_tables_make(tables));
+    const struct lent loan = lend(work, work_length);
+    return taken_back(&loan, rs_tables_make(tables));
 }
 
 uint32_t rs_encode_with_work(const struct rs_tables *tables, size_t original_count, size_t recovery_count, size_t shard_bytes,
                              const uint8_t *originals, size_t originals_length, uint8_t *recovery, size_t recovery_length, void *work,
                              size_t work_length, struct rs_fault *fault) {
-    lend(work, work_length);
-    return ended(rs_encode(tables, original_count, recovery_count, shard_bytes, originals, originals_length, recovery, recovery_length, fault));
+    const struct lent loan = lend(work, work_length);
+    return taken_back(&loan, rs_encode(tables, original_count, recovery_count, shard_bytes, originals, originals_length, recovery,
+                                       recovery_length, fault));
 }
 
 uint32_t rs_decode_with_work(const struct rs_tables *tables, size_t original_count, size_t recovery_count, size_t shard_bytes,
                              uint8_t *originals, size_t originals_length, const uint8_t *recovery, size_t recovery_length,
                              const uint8_t *marks, size_t marks_length, void *work, size_t work_length, struct rs_fault *fault) {
-    lend(work, work_length);
-    return ended(rs_decode(tables, original_count, recovery_count, shard_bytes, originals, originals_length, recovery, recovery_length, marks,
-                           marks_length, fault));
+    const struct lent loan = lend(work, work_length);
+    return taken_back(&loan, rs_decode(tables, original_count, recovery_count, shard_bytes, originals, originals_length, recovery,
+                                       recovery_length, marks, marks_length, fault));
 }
 
 uint32_t rs_encode_shards_with_work(const struct rs_tables *tables, size_t original_count, size_t recovery_count,
                                     const struct rs_bytes *originals, size_t originals_number, const struct rs_room *recovery,
                                     size_t recovery_number, void *work, size_t work_length, struct rs_fault *fault) {
-    lend(work, work_length);
-    return ended(rs_encode_shards(tables, original_count, recovery_count, originals, originals_number, recovery, recovery_number, fault));
+    const struct lent loan = lend(work, work_length);
+    return taken_back(&loan, rs_encode_shards(tables, original_count, recovery_count, originals, originals_number, recovery,
+                                              recovery_number, fault));
 }
 
 uint32_t rs_decode_shards_with_work(const struct rs_tables *tables, size_t original_count, size_t recovery_count,
                                     const struct rs_shard *originals, size_t originals_number, const struct rs_shard *recovery,
                                     size_t recovery_number, const struct rs_room *restored, size_t restored_number, void *work,
                                     size_t work_length, struct rs_fault *fault) {
-    lend(work, work_length);
-    return ended(rs_decode_shards(tables, original_count, recovery_count, originals, originals_number, recovery, recovery_number, restored,
-                                  restored_number, fault));
+    const struct lent loan = lend(work, work_length);
+    return taken_back(&loan, rs_decode_shards(tables, original_count, recovery_count, originals, originals_number, recovery,
+                                              recovery_number, restored, restored_number, fault));
 }

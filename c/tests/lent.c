@@ -110,7 +110,25 @@ static void on_stack(void) {
     if (host.deallocs) wrong("the host gets back a block of the stack");
     rs_dealloc(of_host);
     if (host.deallocs != 1) wrong("the host does not get back its block");
-    if (taken_back(ANSWER) != ANSWER || rs_lent.length || rs_lent.used) wrong("the stack stays lent");
+    if (taken_back(&loan, ANSWER) != ANSWER || rs_lent.length || rs_lent.used) wrong("the stack stays lent");
+}
+
+static void on_stack_again(void) {
+    LEND_STACK;
+    struct tried inner = rs_alloc(1, 1);
+    if (!inner.ok || inner.at != aligned(stack)) wrong("a block of an inner call lies elsewhere");
+    taken_back(&loan, ANSWER);
+}
+
+/* A call that the host's allocator makes has bytes of its own, and then the outer call has its bytes again. */
+static void inside_another(void) {
+    LEND_STACK;
+    struct tried outer = rs_alloc(100, 8);
+    on_stack_again();
+    host.deallocs = 0;
+    rs_dealloc(outer.at);
+    if (host.deallocs || rs_lent.begin != aligned(stack) || rs_lent.used != 128) wrong("an inner call ends the loan of the outer one");
+    taken_back(&loan, ANSWER);
 }
 
 /* The memory that a call is lent: `bytes` bytes from `start` on, between guards. */
@@ -173,7 +191,7 @@ static void lengths(void) {
 /* Work memory stays lent in a call that would lend bytes of the stack. */
 static void takes_within(void) {
     LEND_STACK;
-    if (rs_lent.begin == aligned(stack) || !rs_lent.is_all || taken_back(ANSWER) != ANSWER) wrong("another loan of work memory");
+    if (rs_lent.begin == aligned(stack) || !rs_lent.is_all || taken_back(&loan, ANSWER) != ANSWER) wrong("another loan of work memory");
     takes_again();
 }
 
@@ -226,6 +244,7 @@ int main(void) {
     tables = (const struct rs_tables *)any;
     without();
     on_stack();
+    inside_another();
     without();
     lengths();
     each_call();

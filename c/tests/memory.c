@@ -1,5 +1,5 @@
 /* The library over an allocator of this program's. Each request for memory is refused in turn, a call makes as many requests as are
-   recorded here, and all that was taken comes back, after a refusal too. The C layer is built with RS_STACK_BYTES=1, so that no block lies
+   recorded here, and all that was taken comes back, after a refusal too. The C layer is built with RS_STACK_BYTES=0, so that no block lies
    on the stack. */
 #include "reed_solomon_simd.h"
 
