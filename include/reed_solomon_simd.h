@@ -21,8 +21,9 @@
  * takes no memory. If an entry of an array of shards or rooms has NULL as its pointer, the call makes a copy of this array, and fails with
  * RS_OUT_OF_MEMORY before all other checks if it cannot allocate the copy.
  *
- * Calls take up to 4096 bytes from their stack, and allocate the rest by malloc, or by an allocator of the program. A program that must not allocate uses the calls whose names
- * end in _with_work, for rs_tables_make and the four calls that encode or decode: they take all their memory from work memory, which the caller passes.
+ * A call that encodes, decodes, verifies, reconstructs or updates takes its first blocks from about 4 KB of its stack. It allocates the
+ * others by malloc, or by an allocator of the program. A program that must not allocate uses the calls whose names end in _with_work, for
+ * rs_tables_make and the four calls that encode or decode: they take all their memory from work memory, which the caller passes.
  *
  * The caller must keep these rules. Nothing checks them:
  *   - Pointers: each pointer points to as many bytes or entries as the length that belongs to it says, and is aligned for its type. If

@@ -1,6 +1,7 @@
-/* rs_reconstruct on both sides of the rule by which the library chooses its way. It sums few wanted and surplus shards over the received ones,
-   and needs no rows. It decodes more of them over rows. The counts alone decide. This test doesn't know where the border is: for each of some
-   counts it wants one shard, two shards, and so on up to all that are lost, and finds out by the requests for memory which way was taken. */
+/* rs_reconstruct on both sides of the rule by which the library chooses between sums and a decode over rows. It sums few wanted and surplus
+   shards over the received ones, and needs no rows. It decodes more of them over rows. The counts alone decide. This test doesn't know where
+   the border is: for each of some counts it wants one shard, two shards, and so on up to all that are lost, and finds out by the requests for
+   memory which way was taken. */
 #include "counted.h"
 #define TEST "border"
 #include "helpers.h"
