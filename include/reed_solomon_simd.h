@@ -128,10 +128,11 @@ size_t rs_tables_bytes(void);
 uint32_t rs_supports(size_t original_count, size_t recovery_count);
 
 /* Four calls encode and decode: rs_encode, rs_decode, rs_encode_shards and rs_decode_shards. rs_verify checks received shards, and
- * rs_reconstruct makes wanted shards from received ones. rs_update updates recovery shards. All seven return RS_OK or the number of the fault. They write the number and its values to *fault. If they return RS_OK, they write zeros to *fault. If they fail, they write
+ * rs_reconstruct makes wanted shards from received ones. rs_update updates recovery shards. All seven return RS_OK or the number of the
+ * fault. They write the number and its values to *fault. If they return RS_OK, they write zeros to *fault. If they fail, they write
  * nothing but *fault. The comment of each call lists its faults in the order in which the call checks for them. This order is proved,
- * except for the place of RS_OUT_OF_MEMORY: the contracts allow it at any place after the checks of the counts, of the lengths of buffers
- * and of the size of the first shard that the call looks at.
+ * except for the place of RS_OUT_OF_MEMORY: the contracts allow it at any place after the checks of the counts, of the lengths of
+ * buffers and of the size of the first shard that the call looks at.
  *
  * Before all checks that these comments list, each call checks the tables. It fails with RS_TABLES_NOT_MADE if rs_tables_make has not
  * filled them: for example, if they hold only zeros, or if a version with another layout, such as 1.1, filled them. The stamp is no
