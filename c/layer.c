@@ -1,5 +1,5 @@
-/* The calls of the header. Each call allows what the proved calls do not: NULL where the length is 0, and NULL as the fault. Then it makes
-   the proved call of the same name, from the build that fits the processor. If nothing is NULL, two calls skip struct call, which is faster. */
+/* The calls of the header. Each call allows NULL where a length is 0, and NULL as the fault, which the proved calls do not. Then it makes the
+   proved call of the same name, from the build that fits. If nothing is NULL, rs_encode_shards and rs_decode_shards do so at once. */
 #include "choice.h"
 #include "memory.h"
 
