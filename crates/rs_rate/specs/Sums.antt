@@ -24,7 +24,7 @@ pub record ListsMarked (marks : List Bool) (n : ℕ) (rows : List ℕ) : Type 0 
 abbrev pub sum_word : Chunks → ℕ → ℕ
 sum_word chunks j = symbol (chunk chunks (j / 32)) (j % 32)
 
--- so many direct sums over k received shards take fewer row steps than one transform of the rows of a decoder: a sum takes
--- one for each of the k shards
+-- direct sums over k received shards are used instead of transforms: their products, one for each sum and each of the k
+-- shards, are fewer than four for each row of a decoder
 unfoldable pub AreSumsCheaper : Frame → ℕ → ℕ → Type 0
-AreSumsCheaper frame k sums = 2 * (sums * k) < row_count frame * frame.exponent
+AreSumsCheaper frame k sums = sums * k < 4 * row_count frame

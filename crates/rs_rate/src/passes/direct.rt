@@ -1,12 +1,12 @@
 //! The decoding of a round by direct sums: each word of a missing original is the sum of the words of k given shards, the
 //! base, each times a factor. So is each word of a given shard outside the base, which is checked in this way. If there are
-//! few such shards and few missing originals, this takes fewer row steps than transforms.
+//! few such shards and few missing originals, this takes less time than transforms.
 //!
 //! The factors come from Lagrange's formula for the polynomial of a column times the locator of the erased rows. The points
 //! of the rows are all words below a power of two, so the formula needs no weights. At an erased row, the derivative of this
 //! product is the missing word times the derivative of the locator.
 ghost use Rattle.std.specs.Prelude.{◌≡◌, ◌≢◌, ℕ, ◌+◌, ◌*◌, ◌/◌, ◌%◌, ◌^◌, ◌<◌, ◌≤◌, ◌↔◌, not, true, false, length};
-ghost use Rattle.std.specs.Prelude.{slice_index, bit_xor, if◌then◌else◌};
+ghost use Rattle.std.specs.Prelude.{slice_index, bit_xor, if◌then◌else◌, IsTrue};
 ghost use Rattle.rs_field.specs.code.Frame.{original_row};
 ghost use Rattle.rs_field.specs.rows.MarkedRows.{is_marked};
 ghost use Rattle.rs_field.specs.rows.Layout.{row_len};
@@ -56,15 +56,14 @@ impl Logarithms<'_> {
     }
 }
 
-// Returns whether direct sums are used: the decoder has few rows, and the sums, one for each missing original and for each
-// surplus shard, are cheaper than a transform.
+// Returns whether direct sums are used: the decoder has few rows, and the sums are cheaper than transforms. There is one sum for
+// each missing original and one for each surplus shard.
 pub(crate) fn are_sums_used(tally: Tally) -> bool
     requires configured { IsConfigured tally.configuration }
     requires few { tally.missing ≤ 65536 }
     requires few_surplus { tally.surplus ≤ 65536 }
-    ensures rows { result ≡ true → rows_to_decode tally.configuration ≤ 2048 }
-    ensures cheaper { result ≡ true
-        → AreSumsCheaper tally.configuration.frame tally.configuration.original_count
+    ensures { IsTrue result ↔ (rows_to_decode tally.configuration ≤ 2048)
+        × AreSumsCheaper tally.configuration.frame tally.configuration.original_count
         (tally.missing + tally.surplus) }
 {
     let frame = tally.configuration.frame;

@@ -1,6 +1,6 @@
-use Rattle.std.proofs.Common.{rules, Bool, ◌≡◌, ℕ, ◌+◌, ◌*◌, ◌%◌, ◌^◌, ◌<◌, ◌≤◌, refl, sym, ap, ap₂, ◌∙◌}
+use Rattle.std.proofs.Common.{rules, Bool, zero, suc, ◌≡◌, ℕ, ◌+◌, ◌*◌, ◌%◌, ◌^◌, ◌<◌, ◌≤◌, refl, sym, ap, ap₂, ◌∙◌}
 use Rattle.std.proofs.Common.{arith, pow_mono, subst}
-use Rattle.std.proofs.Math.Nat.{mod-eq_of_lt}
+use Rattle.std.proofs.Math.Nat.{mod-eq_of_lt, mul-le-mul_left}
 use Rattle.std.specs.Prelude.{not}
 use Rattle.rs_field.specs.code.Frame.{original_row, row_count}
 use Rattle.rs_field.specs.declared.code.frame.Frame.{Frame}
@@ -18,14 +18,28 @@ use Rattle.rs_rate.specs.Sums.{AreSumsCheaper}
 use Rattle.rs_rate.proofs.HowMany.{how_many-most, how_many-rest}
 use Rattle.rs_rate.proofs.passes.decoding.find_by_sums.Goals as goal
 
--- Direct sums that are cheaper than a transform take no more row steps than these.
+-- Fewer than four products for each row are no more than three transforms and one product for each row. If there are at most two
+-- rows, this is so because there are at most as many sums, and as many products in each, as there are rows.
+products_within : (rows e steps sums k : ℕ) → rows ≡ 2 ^ e → 2 * steps ≡ rows * e → sums ≤ rows → k ≤ rows
+    → sums * k < 4 * rows → sums * k ≤ rows + 3 * steps
+products_within rows zero steps sums k is twice few most fewer =
+    let most_one : k ≤ 1 = omega (arith, is) in
+    omega (arith, is, mul-le-mul_left sums most_one)
+products_within rows (suc zero) steps sums k is twice few most fewer =
+    let most_two : k ≤ 2 = omega (arith, is) in
+    omega (arith, is, mul-le-mul_left sums most_two)
+products_within rows (suc (suc e)) steps sums k is twice few most fewer = omega arith
+
+-- Direct sums that are cheaper than transforms take no more row steps than these.
 sums_within : (f : Frame) (k missing surplus : ℕ) → f.exponent < 64 → missing ≤ k → k ≤ row_count f
-    → AreSumsCheaper f k (missing + surplus)
+    → missing + surplus ≤ row_count f → AreSumsCheaper f k (missing + surplus)
     → (missing + surplus) * (1 + k)
     ≤ row_count f + (transform_steps (row_count f) + (surplus + (2 * transform_steps (row_count f) + k)))
 unfolding AreSumsCheaper
-sums_within f k missing surplus few most fit cheaper =
+sums_within f k missing surplus few most fit within cheaper =
     let twice = steps_twice (row_count f) f.exponent few refl in
+    let products = products_within (row_count f) f.exponent (transform_steps (row_count f)) (missing + surplus) k
+    refl twice within fit cheaper in
     let each : (missing + surplus) * (1 + k) ≡ missing + surplus + (missing + surplus) * k = omega arith in
     omega arith
 
@@ -89,5 +103,6 @@ returns-clause-counts g c =
     (sums_within own.frame own.original_count tally.missing tally.surplus
     (omega (arith, facts.configured.few)) (omega (arith, most, facts.missing))
     (omega (arith, facts.configured.own_rows))
-    (c.are_sums_used.ensures.cheaper c.if-not-are_sums_used.false))
+    (omega (arith, most, facts.missing, facts.given, how_many-most rows given, facts.configured.own_rows))
+    (c.are_sums_used.ensures.0 c.if-not-are_sums_used.false).1)
     c.make_locator.ensures.counts sums
