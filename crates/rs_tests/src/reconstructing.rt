@@ -1,5 +1,4 @@
-//! Tests of `reconstruct`: wanted originals and recovery shards come back, with each engine. Few wanted shards are found by
-//! direct sums, and more by transforms.
+//! Tests of `reconstruct`: wanted originals and recovery shards come back, with each engine.
 use super::shards::{drawn, left};
 use reed_solomon_simd::engine::tables::Tables;
 use reed_solomon_simd::engine::{DefaultEngine, EngineKind};
@@ -11,12 +10,16 @@ use std::test::Fail;
 // The indexes of lost originals and of lost recovery shards, and the same shards as they are wanted.
 type Loss<'a> = (&'a [usize], &'a [usize], &'a [ShardIndex]);
 
+// The numbers of originals and of recovery shards. The wanted and the surplus shards are four with the first counts, which are
+// found by direct sums, and eight with the second ones, which are found by transforms.
+const COUNTS: [(usize, usize); 2] = [(10, 4), (8, 8)];
+
 const LOSSES: [Loss<'static>; 4] = [
     (&[3], &[], &[ShardIndex::Original(3)]),
     (
-        &[9],
+        &[7],
         &[0],
-        &[ShardIndex::Recovery(0), ShardIndex::Original(9)],
+        &[ShardIndex::Recovery(0), ShardIndex::Original(7)],
     ),
     (
         &[0, 5],
@@ -58,7 +61,7 @@ fn check_made(
     }
 }
 
-// Checks that the lost shards of a message of ten originals and four recovery shards come back.
+// Checks that the lost shards of a message come back.
 fn check_loss(
     rt: &impl Abort,
     alloc: Global,
@@ -69,20 +72,29 @@ fn check_loss(
 ) -> Result<(), Fail> {
     let own = left(alloc, originals, own_lost)?;
     let other = left(alloc, recovery, other_lost)?;
-    let made = reconstruct(alloc, 10, 4, &own, &other, wanted, engine)?;
+    let made = reconstruct(
+        alloc,
+        originals.len(),
+        recovery.len(),
+        &own,
+        &other,
+        wanted,
+        engine,
+    )?;
     check_made(rt, originals, recovery, wanted, &made);
     Ok(())
 }
 
-// Checks that shards of this size come back.
+// Checks that lost shards of a message with these counts and this size come back.
 fn check_size(
     rt: &impl Abort,
     alloc: Global,
+    (original_count, recovery_count): (usize, usize),
     shard_bytes: usize,
     engine: DefaultEngine<'_>,
 ) -> Result<(), Fail> {
-    let originals = drawn(alloc, 10, shard_bytes)?;
-    let recovery = encode_slice(alloc, 10, 4, &originals, engine)?;
+    let originals = drawn(alloc, original_count, shard_bytes)?;
+    let recovery = encode_slice(alloc, original_count, recovery_count, &originals, engine)?;
     for loss in LOSSES {
         check_loss(rt, alloc, &originals, &recovery, loss, engine)?;
     }
@@ -101,7 +113,8 @@ fn lost_shards_come_back_with_each_engine(rt: HostRuntime) -> Result<(), Fail> {
     ] {
         let engine = DefaultEngine::new(&tables, kind);
         for shard_bytes in [2, 66, 2050, 4130] {
-            check_size(&rt, alloc, shard_bytes, engine)?;
+            check_size(&rt, alloc, COUNTS[0], shard_bytes, engine)?;
+            check_size(&rt, alloc, COUNTS[1], shard_bytes, engine)?;
         }
     }
     Ok(())
