@@ -1,6 +1,6 @@
 -- Direct sums over a base of received shards: the shards in rows, the base, and the words of the sums.
 use Rattle.std.proofs.Common.{◌≡◌, ℕ, ◌+◌, ◌-◌, ◌<◌, ◌≤◌, ◌⊎◌, Bool, true, false, cond, List, length}
-use Rattle.std.proofs.Common.{refl, sym, ap, ap₂, ◌∙◌, subst, inl, inr, arith}
+use Rattle.std.proofs.Common.{refl, sym, ap, ap₂, ◌∙◌, subst, inl, inr, arith, ◌^◌, pow_mono}
 use Rattle.std.specs.Prelude.{Option, Some, None, is_some, nat_le, nat_lt, ◌&&◌, slice_index}
 use Rattle.std.specs.List.{between}
 use Rattle.std.specs.Option.{option_map}
@@ -10,7 +10,7 @@ use Rattle.std.proofs.lemmas.Option.{none-some}
 use mathlib.Core.Path.{fun_ext}
 use Rattle.rs_field.specs.code.Column.{Shard, column}
 use Rattle.rs_field.specs.code.Counts.{default_rate}
-use Rattle.rs_field.specs.code.Decoder.{DecoderState, IsDecoder}
+use Rattle.rs_field.specs.code.Decoder.{DecoderState, IsDecoder, originals_given, recovery_given}
 use Rattle.rs_field.specs.code.DirectLaws.{entry_in, given_at, word_of, word_at, locator_at, summed_word}
 use Rattle.rs_field.specs.code.Frame.{frame_of, row_count, original_row, recovery_row}
 use Rattle.rs_field.specs.declared.code.frame.Frame.{Frame}
@@ -20,6 +20,7 @@ use Rattle.rs_field.specs.rows.MarkedRows.{is_marked}
 use Rattle.rs_field.specs.words.DirectSum.{direct_factor, direct_sum}
 use Rattle.rs_field.specs.words.Field.{product, power}
 use Rattle.rs_field.specs.words.Transform.{sum_below}
+use Rattle.rs_field.proofs.of_code.Entries.{count_most}
 use Rattle.rs_field.proofs.of_code.Frame.{IsFrame}
 use Rattle.rs_field.proofs.of_code.PieceStates.{is_some-map}
 use Rattle.rs_field.proofs.of_code.RateFrames.{has_frame}
@@ -37,6 +38,21 @@ pub decoder_frame : (s : DecoderState) → IsDecoder default_rate s
 decoder_frame s is =
     has_frame s.configuration.rate s.configuration.original_count s.configuration.recovery_count
     (valid-supported s.configuration is.valid)
+
+-- There are at most as many surplus shards as rows.
+pub few_surplus : (s : DecoderState) (surplus : ℕ) → IsDecoder default_rate s
+    → originals_given s + recovery_given s ≡ s.configuration.original_count + surplus → surplus ≤ 65536
+few_surplus s surplus is enough =
+    let f = decoder_frame s is in
+    let rows : row_count (frame_in s) ≤ 2 ^ 16 = pow_mono f.few in
+    omega (
+      arith,
+      rows,
+      f.recovery,
+      count_most s.configuration.original_count s.originals,
+      count_most s.configuration.recovery_count s.recovery,
+      enough,
+    )
 
 -- The frame of counts is that of a decoder of these counts.
 pub frame_same : (frame : Frame) (k r : ℕ) (s : DecoderState) → IsDecoder default_rate s

@@ -1,11 +1,11 @@
 -- Gathered originals: the encoder state that they represent, and the result of encoding them.
-use Rattle.std.proofs.Common.{◌≡◌, ℕ, List, [], length, All, Bor, Ok, Err}
-use Rattle.std.proofs.Common.{Result, MatchResult, IfOk, inr, refl, sym, ap, ◌∙◌, arith}
-use Rattle.std.proofs.lemmas.List.{get_or-map, length-map}
+use Rattle.std.proofs.Common.{◌≡◌, ℕ, List, [], Bor, Ok, Err}
+use Rattle.std.proofs.Common.{Result, MatchResult, IfOk, inr, refl, ap, arith}
+use Rattle.std.proofs.lemmas.List.{length-map}
 use Rattle.rs_field.specs.declared.code.error.Error.{Error}
 use Rattle.rs_field.specs.declared.code.error.Error.TheVariants.{OutOfMemory}
 use Rattle.rs_field.specs.code.Code.{AreRecovery}
-use Rattle.rs_field.specs.code.Column.{Shard, IsShard}
+use Rattle.rs_field.specs.code.Column.{Shard}
 use Rattle.rs_field.specs.code.Counts.{default_rate}
 use Rattle.rs_field.specs.code.Encoder.{EncoderState, IsEncoder, message_of}
 use Rattle.rs_field.specs.code.OneCall.{OneEncodeAnswers}
@@ -17,7 +17,6 @@ use Rattle.rs_rate.proofs.StateLemmas.{valid-supported, message-whole, encode_an
 use Rattle.rs_rate.proofs.OneCall.{encoding-answers, encoding-opened, encoding-coded}
 use Rattle.reed_solomon_simd.specs.declared.lent_originals.LentOriginals.{LentOriginals}
 use Rattle.reed_solomon_simd.specs.LentState.{lent_state}
-use Rattle.reed_solomon_simd.specs.Rooms.{shards_of}
 use Rattle.reed_solomon_simd.proofs.SetUp.{started-parts, valid-even}
 
 -- Gathered originals represent a state that an encoder can have.

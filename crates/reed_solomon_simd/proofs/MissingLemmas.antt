@@ -11,6 +11,7 @@ use Rattle.rs_field.specs.code.Given.{Shards, count_below, items_at, items_below
 use Rattle.rs_field.specs.code.PieceStates.{shards_listed, HoldRestored}
 use Rattle.rs_field.proofs.of_code.Given.{count_below-zero, count_below-suc}
 use Rattle.rs_field.proofs.of_code.Listed.{items_from-zero, items_from-more}
+use Rattle.rs_rate.proofs.AddedShards.{none_of}
 use Rattle.reed_solomon_simd.specs.declared.shard_index.ShardIndex.{ShardIndex}
 use Rattle.reed_solomon_simd.specs.declared.shard_index.ShardIndex.TheVariants.{Original}
 use Rattle.reed_solomon_simd.specs.Reconstructed.{AreReconstructed, CanBeRebuilt, NamesMissing}
@@ -66,16 +67,12 @@ names-received n s wanted names some = record {
       ∙ append-nil (items_below n (missing_of s message))));
 }
 
-no-shard : (o : Option Shard) → is_some o ≡ false → o ≡ None
-no-shard (Some shard) is = absurd (let no : ⊥ = cc in no)
-no-shard None is = refl
-
 -- If original n is missing, its name comes next.
 pub names-missing : (n : ℕ) (s : DecoderState) (wanted : List ShardIndex) → NamesMissing n s wanted
     → n < s.configuration.original_count → is_some (s.originals n) ≡ false
     → NamesMissing (n + 1) s (wanted ++ Original n ∷ [])
 names-missing n s wanted names inside not =
-    let none = no-shard (s.originals n) not in
+    let none = none_of (s.originals n) not in
     let long : length (wanted ++ Original n ∷ []) ≡ length wanted + 1 = length-append wanted (Original n ∷ []) in
     record {
       each = λ i d h. elim (cases_lt i (length wanted)) [

@@ -1,14 +1,14 @@
 -- Lists of lost indexes, and the shards with these indexes.
-use Rattle.std.proofs.Common.{◌≡◌, ℕ, ◌+◌, ◌<◌, ◌≤◌, ◌&&◌, ◌||◌, not, nat_eq, Bool, true, false, cond, List, [], ◌∷◌}
-use Rattle.std.proofs.Common.{◌++◌, length, map, get_or, Option, Some, None, Ok, Vec, refl, sym, ap, ap₂, subst, ◌∙◌}
+use Rattle.std.proofs.Common.{◌≡◌, ℕ, ◌+◌, ◌<◌, ◌&&◌, ◌||◌, not, nat_eq, Bool, true, false, cond, List, [], ◌∷◌}
+use Rattle.std.proofs.Common.{◌++◌, length, map, get_or, Option, Some, None, Ok, Vec, refl, sym, ap, ap₂, ◌∙◌}
 use Rattle.std.proofs.Common.{inl, inr, arith}
-use Rattle.std.specs.Prelude.{is_some, nat_lt, nat_le, ◌==◌}
-use Rattle.std.specs.BTreeMap.{BTreeMap, get, IsFromIterResult}
+use Rattle.std.specs.Prelude.{is_some, nat_lt, ◌==◌}
+use Rattle.std.specs.BTreeMap.{BTreeMap, IsFromIterResult}
 use Rattle.std.specs.Cmp.{nat_eq_equiv}
 use Rattle.std.specs.List.{AllByRecursion, IsDistinct, list_any, enumerate_from, zip}
 use Rattle.std.specs.Map.{update, update_all}
 use Rattle.std.specs.Option.{option_map}
-use Rattle.std.specs.Ordering.{nat_cmp, eq_by_cmp, is_eq}
+use Rattle.std.specs.Ordering.{nat_cmp, eq_by_cmp}
 use Rattle.std.proofs.lemmas.Bool.{cases_order, and_parts, eqb-true, eqb-false, eq-eqb, ne_eqb, lt-ltb, le-ltb}
 use Rattle.std.proofs.lemmas.Bool.{ltb-true, lt-leb}
 use Rattle.std.proofs.lemmas.List.Elements.{recursion_from_All}

@@ -32,7 +32,8 @@ by_tests rate c rows state repeated sized same true fits = refl
 by_tests rate c rows state repeated sized same false true = refl
 by_tests rate c rows state repeated sized same false false = ap Ok (sym same)
 
-none_of : (o : Option Shard) → is_some o ≡ false → o ≡ None
+-- An optional shard that is not there is `None`.
+pub none_of : (o : Option Shard) → is_some o ≡ false → o ≡ None
 none_of None is = refl
 none_of (Some shard) is = cc
 

@@ -2,7 +2,6 @@
 -- frame have room for its shards.
 use Rattle.std.proofs.Common.{◌^◌, ◌≡◌, ℕ, ◌+◌, ◌%◌, ◌<◌, ◌≤◌, Bool, true, false, refl, sym, ap, ◌∙◌, subst, arith}
 use Rattle.std.specs.Prelude.{cond, Result, Ok, Err, OnOk, OnErr, if◌then◌else◌}
-use Rattle.std.proofs.lemmas.Nat.{pow_pos}
 use Rattle.rs_field.specs.declared.code.error.Error.{Error}
 use Rattle.rs_field.specs.declared.code.frame.Frame.{Frame}
 use Rattle.rs_field.specs.code.Configuration.{Configuration as AsDefined, configuration, validation_outcome}

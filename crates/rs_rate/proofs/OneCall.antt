@@ -286,16 +286,3 @@ module _ (k r : ℕ) (originals recovery : Items) (s : DecoderState)
             ∙ kept-by-all (λ s item. with_original s item.0 item.1)
             (λ s. s.configuration) kept-original originals _ one.0 one.1,
       )
-
--- Adding a shard does not change the configuration of an encoder.
-kept-shard : (s t : EncoderState) (x : Shard) → with_shard s x ≡ Ok t → t.configuration ≡ s.configuration
-kept-shard s t x is = grind (arith, common_steps)
-
--- The encoder has the size of the first original.
-pub encoding-size : (k r : ℕ) (first : Shard) (rest : List Shard) (s : EncoderState)
-    → IsEncoding k r (first ∷ rest) (Ok s) → s.configuration ≡ default_of k r (length first)
-encoding-size k r first rest s is =
-    let one = first-ok _ (start_outcome (encoder_rows default_rate k r) (default_of k r (length first))) s
-    (sym (led k r (first ∷ rest) s is)) in
-    kept-by-all with_shard (λ t. t.configuration) kept-shard (first ∷ rest)
-    (fresh_encoder (default_of k r (length first))) s one.2

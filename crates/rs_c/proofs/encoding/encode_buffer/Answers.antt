@@ -1,6 +1,6 @@
 use Rattle.std.proofs.Common.{rules, ◌≡◌, length, Ok, Err, sym, ◌∙◌, refl}
 use Rattle.rs_field.specs.declared.code.error.Error.TheVariants.{OutOfMemory}
-use Rattle.reed_solomon_simd.proofs.Checking.{checked-valid, checked-encodes}
+use Rattle.reed_solomon_simd.proofs.Checking.{checked-encodes}
 use Rattle.rs_c.specs.Buffers.{shards_in_buffer}
 use Rattle.rs_c.proofs.CutLemmas.{joined-cut, cut-same}
 use Rattle.rs_c.proofs.EncodeLemmas.{fits-length, buffer-checked, buffer-unset, encodes}

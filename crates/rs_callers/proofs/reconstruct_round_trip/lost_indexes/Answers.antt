@@ -1,4 +1,4 @@
-use Rattle.std.proofs.Common.{rules, ◌≡◌, ◌+◌, ◌++◌, [], ◌∷◌, sym, ap, subst, ◌∙◌}
+use Rattle.std.proofs.Common.{rules, ◌≡◌, ◌+◌, ◌++◌, [], ◌∷◌, sym, subst, ◌∙◌}
 use Rattle.rs_callers.specs.Losing.{ListsLost}
 use Rattle.rs_callers.proofs.LostIndexes.{lists-none, lists-lost, lists-left}
 use Rattle.rs_callers.proofs.reconstruct_round_trip.lost_indexes.Goals.{then-contains+in_ok-push, else-contains}
