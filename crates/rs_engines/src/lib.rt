@@ -2,6 +2,7 @@
 #![tactic(auto)]
 
 pub mod any_factor;
+pub mod bit_vector;
 pub mod butterflies;
 pub mod byte_vector;
 pub mod engine_default;
