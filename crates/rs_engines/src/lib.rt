@@ -2,9 +2,10 @@
 #![tactic(auto)]
 
 pub mod any_factor;
-pub mod bit_vector;
+mod bit_vector;
 pub mod butterflies;
 pub mod byte_vector;
+pub mod engine_bits;
 pub mod engine_default;
 pub mod engine_nosimd;
 pub mod engine_shuffle;
