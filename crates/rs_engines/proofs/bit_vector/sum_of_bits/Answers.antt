@@ -16,12 +16,12 @@ of_lane : (c : After-sum) (k0 k1 k2 k3 n i : ℕ) → i < 16
 of_lane c k0 k1 k2 k3 n i h e0 e1 e2 e3 d0 d1 d2 d3 =
     c.sum.ensures.lanes i h
     ∙ ap₂ bit_xor
-        (c.sum-low.ensures.lanes i h
-        ∙ ap₂ bit_xor (c.byte_at_bit.ensures k0 i e0 h ∙ ap₂ (λ x y. x * y) d0 c.byte_from.ensures)
-            (c.byte_at_bit-2.ensures k1 i e1 h ∙ ap₂ (λ x y. x * y) d1 c.byte_from-2.ensures))
-        (c.sum-high.ensures.lanes i h
-        ∙ ap₂ bit_xor (c.byte_at_bit-3.ensures k2 i e2 h ∙ ap₂ (λ x y. x * y) d2 c.byte_from-3.ensures)
-            (c.byte_at_bit-4.ensures k3 i e3 h ∙ ap₂ (λ x y. x * y) d3 c.byte_from-4.ensures))
+    (c.sum-low.ensures.lanes i h
+    ∙ ap₂ bit_xor (c.byte_at_bit.ensures k0 i e0 h ∙ ap₂ (λ x y. x * y) d0 c.byte_from.ensures)
+    (c.byte_at_bit-2.ensures k1 i e1 h ∙ ap₂ (λ x y. x * y) d1 c.byte_from-2.ensures))
+    (c.sum-high.ensures.lanes i h
+    ∙ ap₂ bit_xor (c.byte_at_bit-3.ensures k2 i e2 h ∙ ap₂ (λ x y. x * y) d2 c.byte_from-3.ensures)
+    (c.byte_at_bit-4.ensures k3 i e3 h ∙ ap₂ (λ x y. x * y) d3 c.byte_from-4.ensures))
 
 pub returns-clause-low : goal.returns-clause-low
 returns-clause-low c additive e i h =
