@@ -1,6 +1,6 @@
 -- Additive tables of bytes: the tables of products are additive, and a byte of an additive table is a sum over bits.
-use Rattle.std.proofs.Common.{◌≡◌, ℕ, zero, suc, ◌*◌, ◌/◌, ◌%◌, ◌^◌, ◌<◌, List, map, length, get_or, replicate, refl, sym}
-use Rattle.std.proofs.Common.{ap, ap₂, ◌∙◌, arith, bit_and, bit_xor, cond, eqb, false, mod-lt, w8}
+use Rattle.std.proofs.Common.{◌≡◌, ℕ, zero, suc, ◌*◌, ◌/◌, ◌%◌, ◌^◌, ◌<◌, List, map, length, get_or, replicate, refl}
+use Rattle.std.proofs.Common.{sym, ap, ap₂, ◌∙◌, arith, bit_and, bit_xor, cond, eqb, false, mod-lt, w8}
 use Rattle.std.specs.Int.{bit_at}
 use Rattle.std.specs.Int.Bits.{xor_comm, xor_zero_r, xor_shr}
 use Rattle.std.proofs.lemmas.Nat.{xor_lt, pow_pos}
