@@ -52,7 +52,7 @@ set_lanes() {
     fi
     if [ "$2" = v3 ]; then
         sed -i 's/^pub type Lanes = u8x16;$/pub type Lanes = u8x32;/' "$crate/src/lanes.rt"
-        grep -q u8x32 "$crate/src/lanes.rt" || stop "no width of vectors to change in crates/rs_c/src/lanes.rt"
+        grep -q '^pub type Lanes = u8x32;$' "$crate/src/lanes.rt" || stop "no width of vectors to change in crates/rs_c/src/lanes.rt"
     fi
 }
 

@@ -1,16 +1,15 @@
-//! The engine by shuffles, over tables in memory of the caller.
+//! The engine, over tables in memory of the caller.
 ghost use Rattle.std.specs.Prelude.{MatchOption};
 ghost use Rattle.rs_c.specs.Tables.{AreStamped, AreTables};
 
-use crate::lanes::Lanes;
+use crate::lanes::BuildEngine;
 use crate::tables::{RsTables, STAMP, whole};
-use rs_engines::engine_shuffle::ByShuffles;
 use rs_engines::shuffle_tables::{Products, ShuffleTables};
 use rs_field::engine::GfElement;
 use rs_field::engine::lent_tables::LentTables;
 
-/// The engine by shuffles, over tables that a program in C lends.
-pub type TableEngine<'t> = ByShuffles<Lanes, MadeTables<'t>>;
+/// The engine of this build, over tables that a program in C lends.
+pub type TableEngine<'t> = BuildEngine<MadeTables<'t>>;
 
 /// Returns the engine over these tables. Returns `None` if the tables do not have the stamp that `rs_tables_make` writes.
 pub fn engine_over(tables: &RsTables) -> Option<TableEngine<'_>>
@@ -20,7 +19,7 @@ pub fn engine_over(tables: &RsTables) -> Option<TableEngine<'_>>
     if tables.stamp != STAMP {
         return None;
     }
-    Some(ByShuffles::over(MadeTables { tables }))
+    Some(TableEngine::over(MadeTables { tables }))
 }
 
 /// Tables that `rs_tables_make` has filled, and that a program in C lends.

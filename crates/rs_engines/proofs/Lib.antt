@@ -1,3 +1,4 @@
+pub mod ByBits
 pub mod FourNibbles
 pub mod Stored
 pub mod WordBytes

@@ -1,3 +1,4 @@
 pub mod Kind
 pub mod Lanes
 pub mod Factors
+pub mod Additive

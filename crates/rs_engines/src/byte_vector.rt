@@ -2,6 +2,7 @@
 ghost use Rattle.std.specs.Prelude.{◌≡◌, ℕ, ◌+◌, ◌/◌, ◌%◌, ◌<◌, ◌≤◌, ◌⊎◌, List, slice_index, bit_xor, refl};
 ghost use Rattle.std.proofs.Common.{inl, inr};
 ghost use Rattle.rs_field.specs.words.Products.{byte_at};
+ghost use Rattle.rs_engines.specs.Additive.{HasAdditiveBytes};
 
 use rs_field::engine::vectors;
 use std::simd::prelude::*;
@@ -41,13 +42,13 @@ pub trait ByteVector: Copy + Drop {
 
     /// Returns in each lane the byte of `t` whose index is the low nibble of this lane.
     fn at_low_nibbles(self, t: u128) -> Self
-        ensures { (i : ℕ) → i < LANES
+        ensures { HasAdditiveBytes t → (i : ℕ) → i < LANES
             → slice_index (bytes result) i ≡ byte_at t (slice_index (bytes self) i % 16) };
 
     /// Returns in each lane the byte of `t` whose index is the high nibble of this lane.
     fn at_high_nibbles(self, t: u128) -> Self
         ensures small { (i : ℕ) → i < LANES → slice_index (bytes self) i < 256 }
-        ensures lanes { (i : ℕ) → i < LANES
+        ensures lanes { HasAdditiveBytes t → (i : ℕ) → i < LANES
             → slice_index (bytes result) i ≡ byte_at t (slice_index (bytes self) i / 16) };
 
     // The lanes of one vector hold the low or the high bytes of half a chunk, or of a whole chunk.
@@ -56,7 +57,7 @@ pub trait ByteVector: Copy + Drop {
 
 // Returns the N bytes of a chunk from index `at` on.
 #[inline(always)]
-fn vector_at<const N: usize>(c: &[u8; 64], at: usize) -> Simd<u8, N>
+pub(crate) fn vector_at<const N: usize>(c: &[u8; 64], at: usize) -> Simd<u8, N>
     requires { at + N ≤ 64 }
     ensures { (i s : ℕ) → i < N → s ≡ at + i → slice_index result i ≡ slice_index c.now s }
 {
@@ -65,7 +66,7 @@ fn vector_at<const N: usize>(c: &[u8; 64], at: usize) -> Simd<u8, N>
 
 // Writes N bytes into a chunk, from index `at` on.
 #[inline(always)]
-fn put_vector<const N: usize>(v: Simd<u8, N>, c: &mut [u8; 64], at: usize)
+pub(crate) fn put_vector<const N: usize>(v: Simd<u8, N>, c: &mut [u8; 64], at: usize)
     requires { at + N ≤ 64 }
     ensures stored { (i s : ℕ) → i < N → s ≡ at + i → slice_index c.new s ≡ slice_index v.entry i }
     ensures kept { (i : ℕ) → (i < at) ⊎ (at + N ≤ i) → slice_index c.new i ≡ slice_index c.old i }

@@ -1,9 +1,11 @@
-//! Engines that look up products by nibbles, one at a time or by shuffles, and the engine that is chosen by name.
+//! Engines that look up products by nibbles: one at a time, by shuffles or bit by bit. And the engine that is chosen by name.
 #![tactic(auto)]
 
 pub mod any_factor;
+mod bit_vector;
 pub mod butterflies;
 pub mod byte_vector;
+pub mod engine_bits;
 pub mod engine_default;
 pub mod engine_nosimd;
 pub mod engine_shuffle;

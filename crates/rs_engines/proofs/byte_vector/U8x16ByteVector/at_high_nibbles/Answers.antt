@@ -7,6 +7,6 @@ pub swizzle : goal.swizzle
 swizzle c = high_places 16 1 c.args.self refl c.fits-self.0 c.fits-self.1
 
 pub returns-clause-lanes : goal.returns-clause-lanes
-returns-clause-lanes c i h =
+returns-clause-lanes c additive i h =
     high_byte 16 1 c.args.self refl c.fits-self.0 c.table.result c.args.t i c.fits-self.1
     (λ j l. c.table.ensures j l ∙ ap (byte_at c.args.t) (omega arith)) h

@@ -7,5 +7,5 @@ pub swizzle : goal.swizzle
 swizzle c = low_places 16 1 c.args.self refl c.fits-self.0
 
 pub returns : goal.returns
-returns c i h = low_byte 16 1 c.args.self refl c.fits-self.0 c.table.result c.args.t i
+returns c additive i h = low_byte 16 1 c.args.self refl c.fits-self.0 c.table.result c.args.t i
     (λ j l. c.table.ensures j l ∙ ap (byte_at c.args.t) (omega arith)) h

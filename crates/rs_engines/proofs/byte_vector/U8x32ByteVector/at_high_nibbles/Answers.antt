@@ -6,5 +6,5 @@ pub swizzle : goal.swizzle
 swizzle c = high_places 32 2 c.args.self refl c.fits-self.0 c.fits-self.1
 
 pub returns-clause-lanes : goal.returns-clause-lanes
-returns-clause-lanes c i h =
+returns-clause-lanes c additive i h =
     high_byte 32 2 c.args.self refl c.fits-self.0 c.table_twice.result c.args.t i c.fits-self.1 c.table_twice.ensures h
