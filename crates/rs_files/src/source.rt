@@ -1,8 +1,8 @@
 //! Blocks that are read from files and volumes.
 ghost use Rattle.rs_field.specs.code.Given.{nothing};
 
+use crate::failure::Failure;
 use crate::progress::Progress;
-use anyhow::{Result, bail};
 use rs_volumes::coding_error::CodingError;
 use rs_volumes::pieces::BlockSource;
 use std::alloc::Global;
@@ -130,16 +130,12 @@ impl<'a, R: Runtime> BlockSource for FileBlocks<'a, R> {
     }
 }
 
-/// Fails with an error of coding. `read` is the path of the file that could not be read, and `written` the path of the
-/// file that could not be written, or both are empty. The message begins with the path that is not empty.
-///
-/// # Errors
-///
-/// Always fails.
-pub fn failure<T>(read: &str, written: &str, error: CodingError) -> Result<T> {
-    let path = if read.is_empty() { written } else { read };
+/// Returns the failure for an error of coding. `path` is the path of the file that could not be read or written, or is
+/// empty.
+pub fn failure_of(alloc: Global, path: &str, error: CodingError) -> Failure {
     if path.is_empty() {
-        bail!("{error}");
+        Failure::of(error)
+    } else {
+        Failure::at(alloc, path, error)
     }
-    bail!("{path}: {error}")
 }
