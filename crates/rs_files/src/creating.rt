@@ -159,15 +159,7 @@ fn code_blocks<R: Runtime>(
     source.end();
     match outcome {
         Ok(digests) => Ok(digests),
-        Err(error) => {
-            let read = source.path_of(&error);
-            let path = if read.is_empty() {
-                sink.path_of(&error)
-            } else {
-                read
-            };
-            Err(failure_of(alloc, path, error))
-        }
+        Err(error) => Err(failure_of(alloc, source.path_of(&error), sink.path_of(&error), error)),
     }
 }
 

@@ -6,8 +6,8 @@ use crate::settings::{Request, STATUS_FAILED, STATUS_LOST, STATUS_MENDED, STATUS
 use crate::verifying::{tell_lost, tell_volumes};
 use std::rt::Runtime;
 
-/// Runs `join`: restores all files of a set from volumes. Returns the exit status. It is `STATUS_FAILED` if a file could
-/// not be restored.
+/// Runs `join`: restores all files of a set from volumes. Returns the exit status. It is `STATUS_FAILED` if a file
+/// could not be restored.
 ///
 /// # Errors
 ///

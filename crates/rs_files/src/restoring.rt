@@ -147,8 +147,8 @@ fn recovery_blocks(alloc: Global, scan: &Scan, k: usize, count: usize) -> Result
     Ok(recovery)
 }
 
-/// Writes the blocks of the files that have a part, and compares each block with its digest. If a block cannot be written
-/// into its file, the function gives up this file, prints the reason, and writes the other files.
+/// Writes the blocks of the files that have a part, and compares each block with its digest. If a block cannot be
+/// written into its file, the function gives up this file, prints the reason, and writes the other files.
 ///
 /// `memory` is the number of bytes that the function may use, approximately. `shown` says whether to show progress.
 ///
@@ -217,6 +217,6 @@ fn restore_blocks<R: Runtime>(
     source.end();
     match outcome {
         Ok(()) => Ok(()),
-        Err(error) => Err(failure_of(alloc, source.path_of(&error), error)),
+        Err(error) => Err(failure_of(alloc, source.path_of(&error), "", error)),
     }
 }

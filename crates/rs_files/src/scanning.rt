@@ -318,8 +318,8 @@ impl Scanner {
         self.unread = 0;
     }
 
-    // Returns that a file is missing, of which no block is read. If the file is there but cannot be opened, the function
-    // prints why.
+    // Returns that a file is missing, of which no block is read. If the file is there but cannot be opened, the
+    // function prints why.
     fn missing<R: Runtime>(&mut self, rt: &R, path: &str, error: io::Error) -> FileState {
         if error.kind() != ErrorKind::NotFound {
             self.progress.end(rt);
@@ -494,8 +494,8 @@ impl Scanner {
         at: u64,
     ) {
         let bytes = description.block_bytes;
-        match read_record(file, at, bytes, &mut self.buffer) {
-            Ok((index, own)) if is_digest(description.digests.as_slice(), index, &own) => {
+        match find_in_record(description, file, at, &mut self.buffer) {
+            Ok(Some(index)) => {
                 let offset = at.wrapping_add(RECORD_HEAD_BYTES);
                 let origin = Origin {
                     holder,
@@ -504,23 +504,25 @@ impl Scanner {
                 };
                 self.note(index, origin);
             }
-            Ok(_) => {}
+            Ok(None) => {}
             Err(error) => self.note_unread(error),
         }
     }
 }
 
-// Returns the index of the block in the record at the offset `at`, and the SHA-256 of this block.
-fn read_record<F: Read + Seek>(
+// Returns the index of the block in the record at the offset `at`, if the block has the digest with this index.
+fn find_in_record<F: Read + Seek>(
+    description: &Description,
     file: &mut F,
     at: u64,
-    block_bytes: u64,
     buffer: &mut Vec<u8>,
-) -> io::Result<(usize, [u8; 32])> {
+) -> io::Result<Option<usize>> {
+    let bytes = description.block_bytes;
     let index = index_at(file, at, buffer)?;
     let offset = at.wrapping_add(RECORD_HEAD_BYTES);
-    let own = hash_block(file, offset, block_bytes, block_bytes, buffer)?;
-    Ok((index, own))
+    let own = hash_block(file, offset, bytes, bytes, buffer)?;
+    let fits = is_digest(description.digests.as_slice(), index, &own);
+    Ok(if fits { Some(index) } else { None })
 }
 
 // Reads the index of the block in the record at `offset`, into a buffer of at least four bytes.

@@ -130,12 +130,14 @@ impl<'a, R: Runtime> BlockSource for FileBlocks<'a, R> {
     }
 }
 
-/// Returns the failure for an error of coding. `path` is the path of the file that could not be read or written, or is
-/// empty.
-pub fn failure_of(alloc: Global, path: &str, error: CodingError) -> Failure {
-    if path.is_empty() {
-        Failure::of(error)
+/// Returns the failure for an error of coding. `read` is the path of the file that could not be read, and `written` the
+/// path of the file that could not be written, or both are empty.
+pub fn failure_of(alloc: Global, read: &str, written: &str, error: CodingError) -> Failure {
+    if !read.is_empty() {
+        Failure::at(alloc, read, error)
+    } else if !written.is_empty() {
+        Failure::at(alloc, written, error)
     } else {
-        Failure::at(alloc, path, error)
+        Failure::of(error)
     }
 }

@@ -276,7 +276,8 @@ fn is_input<R: Runtime>(rt: &R, path: &str, inputs: &[Identity]) -> bool {
     }
 }
 
-// Returns whether a folder of a name is a symbolic link. The name is relative to `folder`, which may be a symbolic link.
+// Returns whether a folder of a name is a symbolic link. The name is relative to `folder`, which may itself be a
+// symbolic link.
 fn leads_away<R: Runtime>(rt: &R, alloc: Global, folder: &str, name: &str) -> Result<bool> {
     for end in 0..name.len() {
         if let Some((front, rest)) = name.split_at_checked(end) {

@@ -26,8 +26,8 @@ pub fn folder_of(request: &Request) -> Result<&str> {
 }
 
 /// Returns the exit status for a scan: `STATUS_LOST` if more blocks are lost than recovery blocks are left,
-/// `STATUS_WHOLE` if all recovery blocks and all volumes are whole, and all files are whole or the volumes hold them, and
-/// `STATUS_MENDED` otherwise.
+/// `STATUS_WHOLE` if all recovery blocks and all volumes are whole, and all files are whole or the volumes hold them,
+/// and `STATUS_MENDED` otherwise.
 pub fn status_of(scan: &Scan, counts: Counts) -> u8 {
     let are_held = counts.lost == 0 && scan.is_spread();
     if counts.lost > counts.recovery {
