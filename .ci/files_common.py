@@ -65,10 +65,10 @@ def tree(folder):
 
 
 class Folder:
-    """A temporary folder."""
+    """A temporary folder, in the folder `above` if it is given."""
 
-    def __init__(self):
-        self.path = tempfile.mkdtemp(prefix="rs_files.")
+    def __init__(self, above=None):
+        self.path = tempfile.mkdtemp(prefix="rs_files.", dir=above)
 
     def __enter__(self):
         return self

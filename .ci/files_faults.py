@@ -1,5 +1,4 @@
 """Tests of `rs_files` on a system that fails: reads, writes, disks, memory and permissions that fail, and programs that are killed."""
-import glob
 import hashlib
 import json
 import os
@@ -37,7 +36,7 @@ def reads():
             wrong("short reads of a volume restore another file")
         # blocks 3, 4 and 5 of a cannot be read
         unreadable = preloaded("change_reads", READ_NAME="/set/a", READ_FROM=3 * block + 100, READ_TO=5 * block + 10)
-        found = json.loads(run("verify", at("set.rsv"), "--json", status=1, env=unreadable))
+        found = json.loads(printed("verify", at("set.rsv"), "--json", status=1, env=unreadable)[0])
         if found["lost_blocks"] != 3 or [file["state"] for file in found["files"]] != ["damaged", "whole"]:
             wrong(f"verify of a file that cannot be read everywhere: {found}")
         run("repair", at("set.rsv"), "--to", at("new"), "-q", status=1, env=unreadable)
@@ -48,7 +47,7 @@ def reads():
             wrong(f"create from a file that cannot be read everywhere: {text}")
         start = 64 + int.from_bytes(volume[16:24], "little")
         unreadable = preloaded("change_reads", READ_NAME="set.rsv", READ_FROM=start + 520 + 8, READ_TO=start + 520 + 9)
-        found = json.loads(run("verify", at("set.rsv"), "--json", status=1, env=unreadable))
+        found = json.loads(printed("verify", at("set.rsv"), "--json", status=1, env=unreadable)[0])
         if found["whole_recovery_blocks"] != 9 or found["lost_blocks"] != 0:
             wrong(f"verify of a volume that cannot be read everywhere: {found}")
 
@@ -116,6 +115,8 @@ def memory_refused():
                     wrong(f"{words[0]} with request {number} for memory refused loses a file")
                 if status == 1 and words[0] == "repair" and files["a"] != data:
                     wrong("repair with a request for memory refused restores another file")
+                if any(".part" in name for name in files):
+                    wrong(f"{words[0]} with request {number} for memory refused leaves {sorted(files)}")
                 if "a.damaged" in files:
                     os.remove(at("a.damaged"))
 
@@ -356,28 +357,30 @@ def full():
                 if path + ": " not in text or "No space left" not in text:
                     wrong(f"the message of {words} on a full disk: {text}")
 
-            message(at("disk", "a.rsv.part"), "create", at("a"), "-o", at("disk", "a.rsv"), "-r", "100%")
-            if os.path.exists(at("disk", "a.rsv")):
-                wrong("a volume on a full disk has its final name")
-            os.remove(at("disk", "a.rsv.part"))
-            message(at("disk", "v", "volume0001.rsv.part"), "split", at("a"), "-o", at("disk", "v"), "-n", "2")
-            if glob.glob(at("disk", "v", "*.rsv")):
-                wrong("a volume of split on a full disk has its final name")
-            shutil.rmtree(at("disk", "v"))
+            message(at("disk", "a.rsv"), "create", at("a"), "-o", at("disk", "a.rsv"), "-r", "100%")
+            message(at("disk", "v", "volume0001.rsv"), "split", at("a"), "-o", at("disk", "v"), "-n", "2")
+            if tree(at("disk")):
+                wrong(f"a full disk has {sorted(tree(at('disk')))}")
             data = RANDOM.randbytes(400_000)
             write(at("disk", "b"), data)
             run("create", at("disk", "b"), "-o", at("b.rsv"), "-q", "--block", "512")
             write(at("disk", "b"), data[:-1] + bytes([data[-1] ^ 1]))
             write(at("disk", "filler"), bytes(500_000))
-            before = read(at("disk", "b"))
-            message(at("disk", "b.part"), "repair", at("b.rsv"), "--folder", at("disk"))
-            if read(at("disk", "b")) != before:
-                wrong("repair on a full disk changed a file")
+            before = tree(at("disk"))
+            message(at("disk", "b"), "repair", at("b.rsv"), "--folder", at("disk"))
+            if tree(at("disk")) != before:
+                wrong("repair on a full disk changed a file, or left one")
             os.remove(at("disk", "filler"))
-            os.remove(at("disk", "b.part"))
             run("repair", at("b.rsv"), "--folder", at("disk"), "-q", status=1)
             if read(at("disk", "b")) != data:
                 wrong("repair after a disk was full")
+            # A file for which there is no room does not stop the next one.
+            write(at("d", "x"), RANDOM.randbytes(2_000_000))
+            write(at("d", "y"), data[:50_000])
+            run("create", at("d"), "-q", "-r", "100%")
+            message(at("disk", "new", "d", "x"), "repair", at("d.rsv"), "--folder", at("none"), "--to", at("disk", "new"))
+            if tree(at("disk", "new")) != {"d/y": data[:50_000]}:
+                wrong("repair of a file beside one for which there is no room")
         finally:
             subprocess.run(["umount", at("disk")])
 
@@ -390,15 +393,23 @@ def limited():
     with Folder() as at:
         data = RANDOM.randbytes(200000)
         write(at("a"), data)
-        if at("a.rsv.part") + ": " not in run("create", at("a"), "-r", "100%", status=4, before=limit) or os.path.exists(at("a.rsv")):
+        if at("a.rsv") + ": " not in run("create", at("a"), "-r", "100%", status=4, before=limit) or os.listdir(at()) != ["a"]:
             wrong("create of a volume that is too long")
         run("create", at("a"), "-q", "-r", "100%", "--force")
         os.remove(at("a"))
-        if at("a.part") + ": " not in run("repair", at("a.rsv"), status=4, before=limit) or os.path.exists(at("a")):
+        if at("a") + ": File too large" not in run("repair", at("a.rsv"), status=4, before=limit) or os.listdir(at()) != ["a.rsv"]:
             wrong("repair of a file that is too long")
         run("repair", at("a.rsv"), "-q", status=1)
         if read(at("a")) != data:
             wrong("repair after a file was too long")
+        # The other files are restored.
+        write(at("d", "a"), data)
+        write(at("d", "b"), data[:50000])
+        run("create", at("d"), "-q", "-r", "100%")
+        os.remove(at("d", "a"))
+        os.remove(at("d", "b"))
+        if at("d", "a") + ": File too large" not in run("repair", at("d.rsv"), status=4, before=limit) or tree(at("d")) != {"b": data[:50000]}:
+            wrong("repair of a file beside one that is too long")
 
 
 TESTS = (reads, changes, memory_refused, killed, killed_spread, read_only, unreadable, closed_folder, pipes, syncs, memory, full, limited)

@@ -74,7 +74,7 @@ def wrong_volumes():
                 wrong(f"the readers say {found}, and not {wanted}")
         write(at("set.rsv"), volume)
         run("create", at("a"), "-o", at("other.rsv"), "--block", "64", "-q")
-        wanted = f"{at('other.rsv')} belongs to another set\n"
+        wanted = f"{at('other.rsv')}: this volume belongs to another set\n"
         found = run("verify", at("set.rsv"), at("other.rsv"), status=4), read_in_python(at(), at("set.rsv"), at("other.rsv"), whole=False)
         if found != (f"rs_files: {wanted}", f"restore.py: {wanted}"):
             wrong(f"the readers say of volumes of two sets: {found}")

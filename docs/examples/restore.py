@@ -89,7 +89,7 @@ def restore(folder, *paths):
     """Writes all files of the set of the volumes at `paths`."""
     volumes = [read_volume(path) for path in paths]
     for path, (_, text, _) in zip(paths, volumes):
-        check(text == volumes[0][1], f"{path} belongs to another set")
+        check(text == volumes[0][1], f"{path}: this volume belongs to another set")
     b, k, r, files, digests = read_description(volumes[0][1])
     found = find_blocks(folder, volumes)
     if any(i not in found for i in range(k)):

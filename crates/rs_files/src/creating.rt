@@ -1,15 +1,15 @@
 //! `create`: makes a volume with the recovery blocks of files.
 use crate::counted::Counted;
+use crate::failure::{Failure, Result};
 use crate::folder::{Cut, cut_files, piece_bytes, shape_of};
 use crate::names::{last_of, path_in, text_of, trimmed};
-use crate::output::{at_path, exists};
+use crate::output::at_path;
 use crate::progress::Progress;
 use crate::settings::{Recovery, Request, STATUS_WHOLE};
-use crate::source::{FileBlocks, Origin, failure};
+use crate::source::{FileBlocks, Origin, failure_of};
 use crate::volume::LARGEST_DESCRIPTION;
-use crate::volume_sink::{VolumeSink, Volumes};
+use crate::volume_sink::{VolumeSink, Volumes, check_output};
 use crate::walking::{Found, find};
-use anyhow::{Result, bail, ensure};
 use reed_solomon_simd::engine::tables::Tables;
 use reed_solomon_simd::engine::{DefaultEngine, EngineKind};
 use rs_volumes::checking::fits;
@@ -39,11 +39,17 @@ fn description_bytes(files: &[FileEntry], cut: Cut) -> Result<u64> {
     }
     let blocks = u64::from(cut.original_count) + u64::from(cut.recovery_count);
     bytes = bytes.saturating_add(32 * blocks);
-    ensure!(
-        bytes <= LARGEST_DESCRIPTION,
-        "the names of the files are too long for one description of at most 1 GiB: make several sets of fewer files"
-    );
+    if bytes > LARGEST_DESCRIPTION {
+        return Err(Failure::of(
+            "the names of the files are too long for one description of at most 1 GiB: make several sets of fewer files",
+        ));
+    }
     Ok(bytes)
+}
+
+// Returns the failure for a command line that does not name the volume.
+fn no_output() -> Failure {
+    Failure::of("say which volume to write, as -o SET.rsv")
 }
 
 // Returns the path of the volume that `create` writes: the path after `-o`, or the only FILE with `.rsv` at its end.
@@ -56,25 +62,12 @@ fn output_of(alloc: Global, request: &Request) -> Result<String> {
             let path = trimmed(path.as_str());
             let name = last_of(path);
             if name == "." || name == ".." || name.is_empty() {
-                bail!("say which volume to write, as -o SET.rsv");
+                return Err(no_output());
             }
             Ok(format!(in alloc; "{path}.rsv")?)
         }
-        _ => bail!("say which volume to write, as -o SET.rsv"),
+        _ => Err(no_output()),
     }
-}
-
-/// Checks that a file can be written without `--force`, or that `force` is set.
-///
-/// # Errors
-///
-/// Fails if something exists at the path and `force` is not set.
-pub fn check_free<R: Runtime>(rt: &R, path: &str, force: bool) -> Result<()> {
-    ensure!(
-        force || !exists(rt, path),
-        "{path} exists: use --force to overwrite it"
-    );
-    Ok(())
 }
 
 /// Returns the path of each file of a set below `folder`.
@@ -107,15 +100,23 @@ fn origins_of(alloc: Global, description: &Description) -> Result<Vec<Option<Ori
 }
 
 // Fails if the length of a file, or the time of its last change in seconds, is not the one in its description.
-fn check_unchanged<R: Runtime>(rt: &R, paths: &[String], files: &[FileEntry]) -> Result<()> {
+fn check_unchanged<R: Runtime>(
+    rt: &R,
+    alloc: Global,
+    paths: &[String],
+    files: &[FileEntry],
+) -> Result<()> {
     for (path, file) in paths.iter().zip(files) {
         let path = path.as_str();
-        let metadata = at_path(path, fs::metadata(rt, path))?;
+        let metadata = at_path(alloc, path, fs::metadata(rt, path))?;
         let modified = u64::from_le_bytes(metadata.mtime().to_le_bytes());
-        ensure!(
-            metadata.len() == file.size && modified == file.modified,
-            "{path} changed while it was read: try again"
-        );
+        if metadata.len() != file.size || modified != file.modified {
+            return Err(Failure::at(
+                alloc,
+                path,
+                "this file changed while it was read: try again",
+            ));
+        }
     }
     Ok(())
 }
@@ -158,7 +159,7 @@ fn code_blocks<R: Runtime>(
     source.end();
     match outcome {
         Ok(digests) => Ok(digests),
-        Err(error) => failure(source.path_of(&error), sink.path_of(&error), error),
+        Err(error) => Err(failure_of(alloc, source.path_of(&error), sink.path_of(&error), error)),
     }
 }
 
@@ -184,7 +185,7 @@ fn fill<R: Runtime + AllocGlobal>(
     let alloc = rt.alloc();
     let mut sink = VolumeSink::new(rt, alloc, volumes)?;
     description.digests = code_files(rt, alloc, request, description, paths, &mut sink)?;
-    check_unchanged(rt, paths, description.files.as_slice())?;
+    check_unchanged(rt, alloc, paths, description.files.as_slice())?;
     describe(alloc, description, &mut sink)
 }
 
@@ -202,7 +203,7 @@ fn describe<R: Runtime>(
 // with an unsound description is written.
 fn written(alloc: Global, description: &Description) -> Result<Vec<u8>> {
     if !fits(description) {
-        bail!("there are too many files, or a name is too long");
+        return Err(Failure::of("there are too many files, or a name is too long"));
     }
     let bytes = write_description(alloc, description)?;
     rs_volumes::read_description(alloc, bytes.as_slice())?;
@@ -223,21 +224,23 @@ pub struct Made {
 ///
 /// # Errors
 ///
-/// In this order, fails if:
+/// In this order, fails:
 ///
-/// - a volume exists and `--force` is not given,
-/// - there is no file, the files cannot be found, are not in one folder, one of them is given twice, or one of them is
-///   a volume that is written,
-/// - the files cannot be cut into blocks as the request asks,
-/// - the description is larger than 1 GiB,
-/// - a volume cannot be begun or opened,
-/// - a file cannot be read, a volume cannot be written, or the library fails,
-/// - a file has another length or time of change than before,
-/// - the description has too many files or too long a name, or is not sound,
-/// - the description or a head cannot be written,
-/// - a volume cannot be synced, or cannot get its final name.
+/// - for each volume, for a reason of [`check_output`],
+/// - for a reason of [`find`],
+/// - for a reason of [`cut_files`],
+/// - if the description is larger than 1 GiB,
+/// - for each volume, for a reason of [`Volumes::begin`],
+/// - for each volume, if it cannot be opened,
+/// - if a file cannot be read, a block cannot be written into its volume, or the code fails,
+/// - for each file, if its length or the time of its last change cannot be read, or is not the one from before,
+/// - if there are 2^32 files or more, or a name has 65536 bytes or more,
+/// - if `read_description` does not accept the description,
+/// - for a reason of [`VolumeSink::describe`],
+/// - for a reason of [`Volumes::finish`].
 ///
-/// Every step fails if memory cannot be allocated.
+/// Every step fails if memory cannot be allocated. If the function fails after a volume was begun, it removes all
+/// volumes that do not have their final names.
 pub fn make<R: Runtime + AllocGlobal>(
     rt: &R,
     request: &Request,
@@ -245,7 +248,7 @@ pub fn make<R: Runtime + AllocGlobal>(
     outputs: &[String],
 ) -> Result<Made> {
     for output in outputs {
-        check_free(rt, output.as_str(), request.force)?;
+        check_output(rt, rt.alloc(), output.as_str(), request.force)?;
     }
     let found = find(rt, request.paths.as_slice(), outputs)?;
     let files = found.files.as_slice();
@@ -269,25 +272,36 @@ fn write_volumes<R: Runtime + AllocGlobal>(
     let alloc = rt.alloc();
     let paths = paths_of(alloc, found.folder.as_str(), found.files.as_slice())?;
     let mut description = description_of(alloc, found.files, cut);
-    let volumes = begin(rt, alloc, description.files.as_slice(), cut, outputs)?;
-    fill(rt, request, &mut description, paths.as_slice(), &volumes)?;
-    volumes.finish(rt, request.force)
+    let length = description_bytes(description.files.as_slice(), cut)?;
+    let mut volumes = Volumes::new(alloc, cut, outputs.len(), length);
+    let outcome = begin_and_fill(
+        rt,
+        request,
+        &mut description,
+        paths.as_slice(),
+        outputs,
+        &mut volumes,
+    );
+    if outcome.is_err() {
+        volumes.remove(rt);
+    }
+    outcome
 }
 
-// Begins all volumes, with room for their blocks.
-fn begin<R: Runtime>(
+// Begins all volumes, with room for their blocks, writes into them, and gives them their final names.
+fn begin_and_fill<R: Runtime + AllocGlobal>(
     rt: &R,
-    alloc: Global,
-    files: &[FileEntry],
-    cut: Cut,
+    request: &Request,
+    description: &mut Description,
+    paths: &[String],
     outputs: &[String],
-) -> Result<Volumes> {
-    let length = description_bytes(files, cut)?;
-    let mut volumes = Volumes::new(alloc, cut, outputs.len(), length);
+    volumes: &mut Volumes,
+) -> Result<()> {
     for output in outputs {
-        volumes.begin(rt, alloc, output.as_str())?;
+        volumes.begin(rt, rt.alloc(), output.as_str())?;
     }
-    Ok(volumes)
+    fill(rt, request, description, paths, volumes)?;
+    volumes.finish(rt, rt.alloc(), request.force)
 }
 
 /// Runs `create`: makes the recovery blocks of files, and writes them into one volume. Returns the exit status.

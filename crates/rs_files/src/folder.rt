@@ -1,8 +1,8 @@
 //! Chooses the block size of a set, its numbers of blocks, and the size of the pieces that are coded at a time.
 ghost use Rattle.std.specs.Prelude.{◌≡◌, ◌<◌, ◌≤◌, ◌^◌, ◌%◌, IfSome};
 
+use crate::failure::{Failure, Result};
 use crate::settings::Recovery;
-use anyhow::{Result, bail};
 use rs_volumes::checking::{allows_block, allows_counts, block_count};
 use rs_volumes::creating::Shape;
 use rs_volumes::description::{Description, FileEntry};
@@ -76,18 +76,25 @@ fn blocks_wanted(files: &[FileEntry]) -> u64 {
 /// - the code does not support the numbers of blocks with any block size.
 pub fn default_block(files: &[FileEntry], recovery: Recovery) -> Result<u64> {
     if filled_count(files) >= MOST_BLOCKS {
-        bail!(
-            "there are too many files: make several sets of at most 65535 files that are not empty"
-        );
+        return Err(too_many_files());
     }
     let wanted = blocks_wanted(files);
     match smallest_block(files, wanted, recovery) {
         Some(bytes) => Ok(bytes),
-        None if smallest_block(files, MOST_BLOCKS, recovery).is_some() => bail!(
-            "the files are too large for {wanted} blocks, the largest number by default: use --block 1024G, or make several sets of fewer files"
-        ),
-        None => too_much(recovery),
+        None if smallest_block(files, MOST_BLOCKS, recovery).is_some() => {
+            Err(Failure::of(format_args!(
+                "the files are too large for {wanted} blocks, the largest number by default: use --block 1024G, or make several sets of fewer files"
+            )))
+        }
+        None => Err(too_much(files, recovery)),
     }
+}
+
+// Returns the failure for too many files that are not empty.
+fn too_many_files() -> Failure {
+    Failure::of(
+        "there are too many files: make several sets of at most 65535 files that are not empty",
+    )
 }
 
 // Returns the smallest multiple of 4096 bytes with which the files can be cut into at most `wanted` blocks. Returns
@@ -136,14 +143,14 @@ fn can_cut(files: &[FileEntry], pages: u64, wanted: u64, recovery: Recovery) -> 
 /// - no default block size is possible,
 /// - the block size is odd, 0, or above 2^40,
 /// - the files have more than 65536 blocks, or a file has 2^62 bytes or more, or the code does not support the numbers
-///   of blocks. The message says which block size would do.
+///   of blocks. The message says which block size would do, or why none would do.
 pub fn cut_files(files: &[FileEntry], block: Option<u64>, recovery: Recovery) -> Result<Cut> {
     let block_bytes = match block {
         Some(bytes) => bytes,
         None => default_block(files, recovery)?,
     };
     if !allows_block(block_bytes) {
-        bail!("a block must have an even number of bytes, from 2 to 2^40");
+        return Err(Failure::of("a block must have an even number of bytes, from 2 to 2^40"));
     }
     if let Some(blocks) = blocks_of(files, block_bytes) {
         let original_count = blocks as u32;
@@ -157,21 +164,32 @@ pub fn cut_files(files: &[FileEntry], block: Option<u64>, recovery: Recovery) ->
         }
     }
     match smallest_block(files, MOST_BLOCKS, recovery) {
-        Some(needed) => bail!(
+        Some(needed) => Err(Failure::of(format_args!(
             "blocks of {block_bytes} bytes are too small for these files and this many recovery blocks: use --block {needed} or a larger number"
-        ),
-        None => too_much(recovery),
+        ))),
+        None => Err(too_much(files, recovery)),
     }
 }
 
-// Fails, because no block size is large enough.
-fn too_much<T>(recovery: Recovery) -> Result<T> {
-    match recovery {
-        Recovery::Spread { volumes, lose } => bail!(
-            "no block size allows {lose} of {volumes} volumes to be lost: allow fewer with --lose, or make several sets of fewer files"
+// Returns the failure for files that cannot be cut into blocks of any size.
+fn too_much(files: &[FileEntry], recovery: Recovery) -> Failure {
+    if files.iter().any(|file| file.size >= 1 << 62) {
+        return Failure::of("a file has 2^62 bytes or more: no set can have such a file");
+    }
+    if filled_count(files) >= MOST_BLOCKS {
+        return too_many_files();
+    }
+    match (blocks_of(files, 1 << 40), recovery) {
+        (Some(blocks), Recovery::Spread { volumes, lose }) if blocks < MOST_BLOCKS => {
+            Failure::of(format_args!(
+                "no block size allows {lose} of {volumes} volumes to be lost: allow fewer with --lose, or make several sets of fewer files"
+            ))
+        }
+        (Some(blocks), _) if blocks < MOST_BLOCKS => Failure::of(
+            "no block size allows this many recovery blocks: ask for fewer with -r, or make several sets of fewer files",
         ),
-        _ => bail!(
-            "no block size allows this many recovery blocks: ask for fewer with -r, or make several sets of fewer files"
+        _ => Failure::of(
+            "the files have more than 65535 blocks, even with the largest blocks of 2^40 bytes: make several sets of fewer files",
         ),
     }
 }

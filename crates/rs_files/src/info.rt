@@ -1,10 +1,10 @@
 //! `info`: shows what a volume describes.
 use crate::counted::Counted;
+use crate::failure::{Failure, Result};
 use crate::json::{add, files_of, object_of, print};
 use crate::names::text_of;
 use crate::settings::{Request, STATUS_WHOLE};
 use crate::volume::{Volume, open_volume};
-use anyhow::{Result, bail};
 use rs_volumes::description::FileEntry;
 use serde_json::{Map, Value};
 use std::alloc::{AllocError, Global};
@@ -74,7 +74,7 @@ fn tell_files<R: Runtime>(rt: &R, files: &[FileEntry]) -> Result<()> {
 /// printed.
 pub fn info<R: Runtime + AllocGlobal>(rt: &R, request: &Request) -> Result<u8> {
     if request.paths.is_empty() {
-        bail!("no volume is given");
+        return Err(Failure::of("no volume is given"));
     }
     for path in &request.paths {
         let volume = open_volume(rt, path.as_str())?;

@@ -1,12 +1,13 @@
 //! `join`: restores all files of a set from volumes.
+use crate::failure::{Failure, Result};
 use crate::finishing::restore_files;
 use crate::scanning::{Scan, scan_request};
-use crate::settings::{Request, STATUS_LOST, STATUS_MENDED, STATUS_WHOLE};
+use crate::settings::{Request, STATUS_FAILED, STATUS_LOST, STATUS_MENDED, STATUS_WHOLE};
 use crate::verifying::{tell_lost, tell_volumes};
-use anyhow::{Result, bail};
 use std::rt::Runtime;
 
-/// Runs `join`: restores all files of a set from volumes. Returns the exit status.
+/// Runs `join`: restores all files of a set from volumes. Returns the exit status. It is `STATUS_FAILED` if a file
+/// could not be restored.
 ///
 /// # Errors
 ///
@@ -19,7 +20,7 @@ use std::rt::Runtime;
 /// Every step fails if memory cannot be allocated.
 pub fn join<R: Runtime + AllocGlobal>(rt: &R, request: &Request) -> Result<u8> {
     let Some(folder) = &request.to else {
-        bail!("say where the files go, as --to FOLDER");
+        return Err(Failure::of("say where the files go, as --to FOLDER"));
     };
     let found = scan_request(rt, request, None)?;
     join_into(rt, request, &found, folder.as_str())
@@ -40,8 +41,10 @@ fn join_into<R: Runtime + AllocGlobal>(
         tell_lost(rt, counts)?;
         return Ok(STATUS_LOST);
     }
-    restore_files(rt, rt.alloc(), request, found, folder, false)?;
-    Ok(if counts.lost == 0 {
+    let all = restore_files(rt, rt.alloc(), request, found, folder, false)?;
+    Ok(if !all {
+        STATUS_FAILED
+    } else if counts.lost == 0 {
         STATUS_WHOLE
     } else {
         STATUS_MENDED

@@ -1,6 +1,6 @@
 //! JSON that is printed.
+use crate::failure::Result;
 use crate::names::text_of;
-use anyhow::Result;
 use rs_volumes::description::FileEntry;
 use serde_json::{Map, Value};
 use std::alloc::{AllocError, Global};

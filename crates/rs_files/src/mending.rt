@@ -1,12 +1,13 @@
 //! `repair`: restores damaged and missing files.
+use crate::failure::Result;
 use crate::finishing::restore_files;
 use crate::scanning::{Scan, scan_request};
-use crate::settings::{Request, STATUS_LOST, STATUS_MENDED, STATUS_WHOLE};
+use crate::settings::{Request, STATUS_FAILED, STATUS_LOST, STATUS_MENDED, STATUS_WHOLE};
 use crate::verifying::{folder_of, report};
-use anyhow::Result;
 use std::rt::Runtime;
 
-/// Runs `repair`: restores the damaged and missing files of a set. Returns the exit status.
+/// Runs `repair`: restores the damaged and missing files of a set. Returns the exit status. It is `STATUS_FAILED` if a
+/// file could not be restored.
 ///
 /// # Errors
 ///
@@ -38,8 +39,8 @@ fn repair_found<R: Runtime + AllocGlobal>(
             None => folder,
         };
         let in_place = request.to.is_none();
-        restore_files(rt, rt.alloc(), request, found, target, in_place)?;
-        return Ok(STATUS_MENDED);
+        let all = restore_files(rt, rt.alloc(), request, found, target, in_place)?;
+        return Ok(if all { STATUS_MENDED } else { STATUS_FAILED });
     }
     report(rt, request, found, counts, folder)?;
     Ok(if counts.lost > counts.recovery {

@@ -1,6 +1,10 @@
 //! Names of files, and the paths that are made from names.
 use std::alloc::{AllocError, Global};
 
+/// The largest number of bytes of a name to which the program adds an ending. Most file systems allow names of 255
+/// bytes, and some only names of 143 bytes.
+const FRONT_BYTES: usize = 120;
+
 /// Returns the text of a name. A name that is not UTF-8 becomes a question mark. A sound description has no such name.
 pub fn text_of(name: &[u8]) -> &str {
     match std::str::from_utf8(name) {
@@ -38,6 +42,19 @@ pub fn parent_of(path: &str) -> &str {
 pub fn last_of(path: &str) -> &str {
     match path.rsplit_once('/') {
         Some((_, name)) => name,
+        None => path,
+    }
+}
+
+/// Returns a path that is short enough for an ending of up to 20 bytes. If the last part of the path has more than 120
+/// bytes, it is cut to at most 120 bytes.
+pub fn shortened(path: &str) -> &str {
+    let name = last_of(path);
+    let cut = name
+        .len()
+        .saturating_sub(name.floor_char_boundary(FRONT_BYTES));
+    match path.split_at_checked(path.len().saturating_sub(cut)) {
+        Some((front, _)) => front,
         None => path,
     }
 }

@@ -1,7 +1,7 @@
 //! Reads the command line.
 use crate::arguments::{bytes_of, recovery_of};
+use crate::failure::Result;
 use crate::settings::{Action, Recovery, Request, STATUS_FAILED, STATUS_USAGE, STATUS_WHOLE};
-use anyhow::Result;
 use clap::error::ErrorKind;
 use clap::{Arg, ArgAction, ArgMatches, Command};
 use std::alloc::Global;

@@ -1,14 +1,15 @@
 //! Files that appear under their final names only when they are whole.
-use crate::names::{folder_to_open, parent_of};
-use anyhow::{Result, bail};
+use crate::failure::{Failure, Result};
+use crate::names::{folder_to_open, parent_of, shortened};
 use std::alloc::Global;
 use std::fs;
 use std::fs::{OpenFile, OpenOptions};
 use std::io::{Seek, SeekFrom, Write};
-use std::os::unix::fs::MetadataExt;
+use std::os::unix::fs::{MetadataExt, OpenOptionsExt};
 use std::rt::{Files, Runtime};
 
-/// A file that is being written under another name: `NAME.part`, or `NAME.part2` and so on if that exists.
+/// A file that is being written under another name: `NAME.part`, or `NAME.part2` and so on if that exists. A long name
+/// is cut in these names.
 #[derive(Drop)]
 pub struct Part {
     /// The path of the finished file.
@@ -22,20 +23,22 @@ pub fn exists<R: Runtime>(rt: &R, path: &str) -> bool {
     fs::symlink_metadata(rt, path).is_ok()
 }
 
-/// Returns the first of the paths `PATH.SUFFIX`, `PATH.SUFFIX2`, `PATH.SUFFIX3` and so on at which nothing exists.
+/// Returns the first of the paths `PATH.SUFFIX`, `PATH.SUFFIX2`, `PATH.SUFFIX3` and so on at which nothing exists. If
+/// the name of the file is long, the name is cut in these paths, because a file system limits the length of a name.
 ///
 /// # Errors
 ///
 /// Fails if memory cannot be allocated, or if something exists at each of these paths.
 pub fn free_path<R: Runtime>(rt: &R, alloc: Global, path: &str, suffix: &str) -> Result<String> {
-    let mut free = format!(in alloc; "{path}.{suffix}")?;
+    let front = shortened(path);
+    let mut free = format!(in alloc; "{front}.{suffix}")?;
     for number in 2..u32::MAX {
         if !exists(rt, free.as_str()) {
             return Ok(free);
         }
-        free = format!(in alloc; "{path}.{suffix}{number}")?;
+        free = format!(in alloc; "{front}.{suffix}{number}")?;
     }
-    bail!("{free} exists")
+    Err(Failure::at(alloc, free.as_str(), "it exists"))
 }
 
 /// What tells a file apart from all other files: its device, and its number on this device.
@@ -70,39 +73,60 @@ pub fn identities<R: Runtime>(rt: &R, alloc: Global, paths: &[String]) -> Result
     Ok(found)
 }
 
-/// Returns the value of a call of the system. If the call failed, the message of the error begins with the path.
+/// Returns the value of a call of the system. If the call failed, the failure has the path.
 ///
 /// # Errors
 ///
 /// Fails if the call failed.
-pub fn at_path<T>(path: &str, outcome: std::io::Result<T>) -> Result<T> {
+pub fn at_path<T>(alloc: Global, path: &str, outcome: std::io::Result<T>) -> Result<T> {
     match outcome {
         Ok(value) => Ok(value),
-        Err(error) => bail!("{path}: {error}"),
+        Err(error) => Err(Failure::at(alloc, path, error)),
     }
 }
 
 impl Part {
-    /// Begins a file of `size` bytes, and makes its folder. No file is replaced: a file `NAME.part` can belong to
-    /// somebody else, or to the set.
+    /// Begins a file of `size` bytes, and makes its folder. The file gets the permission bits of `mode`, without those
+    /// that the mask of the user takes away. No file is replaced: a file `NAME.part` can belong to somebody else, or to
+    /// the set.
     ///
     /// # Errors
     ///
-    /// Fails if the folder or the file cannot be made, or if memory cannot be allocated.
-    pub fn begin<R: Runtime>(rt: &R, alloc: Global, path: &str, size: u64) -> Result<Part> {
+    /// Fails if the folder or the file cannot be made, or if memory cannot be allocated. Then no file is left.
+    pub fn begin<R: Runtime>(
+        rt: &R,
+        alloc: Global,
+        path: &str,
+        size: u64,
+        mode: u32,
+    ) -> Result<Part> {
         let folder = parent_of(path);
         if !folder.is_empty() {
-            at_path(folder, fs::create_dir_all(rt, folder))?;
+            if let Err(error) = fs::create_dir_all(rt, folder) {
+                let reason = format_args!("its folder cannot be made: {error}");
+                return Err(Failure::at(alloc, path, reason));
+            }
         }
-        let part = free_path(rt, alloc, path, "part")?;
-        let mut options = OpenOptions::new();
-        let opened = options.write(true).create_new(true).open(rt, part.as_str());
-        let file = at_path(part.as_str(), opened)?;
-        at_path(part.as_str(), file.set_len(size))?;
-        Ok(Part {
+        let part = Part {
             path: String::from_str(alloc, path)?,
-            part,
-        })
+            part: free_path(rt, alloc, path, "part")?,
+        };
+        let mut options = OpenOptions::new();
+        options.write(true).create_new(true).mode(mode);
+        let file = at_path(alloc, path, options.open(rt, part.part.as_str()))?;
+        match file.set_len(size) {
+            Ok(()) => Ok(part),
+            Err(error) => {
+                part.remove(rt);
+                Err(Failure::at(alloc, path, error))
+            }
+        }
+    }
+
+    /// Removes the file, if it does not have its final name. Nothing is reported if the file cannot be removed, because
+    /// the command has already failed for another reason.
+    pub fn remove<R: Runtime>(&self, rt: &R) {
+        let _ = fs::remove_file(rt, self.part.as_str());
     }
 
     /// Opens the file to write into it.
@@ -115,31 +139,26 @@ impl Part {
         options.write(true).open(rt, self.part.as_str())
     }
 
-    /// Syncs the file and gives it its final name. A file with this name is only replaced if `overwrite` is set.
+    /// Syncs the file.
     ///
     /// # Errors
     ///
-    /// In this order, fails if the file cannot be opened or synced, or for a reason of [`Part::take_name`].
-    pub fn finish<R: Runtime>(&self, rt: &R, overwrite: bool) -> Result<()> {
-        let part = self.part.as_str();
-        let file = at_path(part, self.open(rt))?;
-        at_path(part, file.sync_all())?;
-        self.take_name(rt, overwrite)
+    /// Fails if the file cannot be opened or synced.
+    pub fn sync<R: Runtime>(&self, rt: &R, alloc: Global) -> Result<()> {
+        let path = self.path.as_str();
+        let file = at_path(alloc, path, self.open(rt))?;
+        at_path(alloc, path, file.sync_all())
     }
 
-    /// Gives the file its final name. A file with this name is only replaced if `overwrite` is set.
+    /// Gives the file its final name. A file with this name is replaced, so the caller checks first whether it may be.
     ///
     /// # Errors
     ///
-    /// In this order, fails if a file with the final name exists and `overwrite` is not set, or if the file cannot be
-    /// renamed or its folder cannot be synced.
-    pub fn take_name<R: Runtime>(&self, rt: &R, overwrite: bool) -> Result<()> {
-        if !overwrite && exists(rt, self.path.as_str()) {
-            bail!("{} exists: use --force to overwrite it", self.path.as_str());
-        }
+    /// Fails if the file cannot be renamed or its folder cannot be synced.
+    pub fn take_name<R: Runtime>(&self, rt: &R, alloc: Global) -> Result<()> {
         let path = self.path.as_str();
-        at_path(path, fs::rename(rt, self.part.as_str(), path))?;
-        sync_folder(rt, parent_of(self.path.as_str()))
+        at_path(alloc, path, fs::rename(rt, self.part.as_str(), path))?;
+        sync_folder(rt, alloc, parent_of(path))
     }
 }
 
@@ -148,10 +167,10 @@ impl Part {
 /// # Errors
 ///
 /// Fails if the folder cannot be opened or synced.
-pub fn sync_folder<R: Runtime>(rt: &R, folder: &str) -> Result<()> {
+pub fn sync_folder<R: Runtime>(rt: &R, alloc: Global, folder: &str) -> Result<()> {
     let folder = folder_to_open(folder);
-    let opened = at_path(folder, fs::open(rt, folder))?;
-    at_path(folder, opened.sync_all())
+    let opened = at_path(alloc, folder, fs::open(rt, folder))?;
+    at_path(alloc, folder, opened.sync_all())
 }
 
 /// Writes bytes into a file, from byte `offset` of the file on.

@@ -25,6 +25,11 @@ impl Progress {
         }
     }
 
+    /// Takes bytes away from the total, because they will not be read.
+    pub fn skip(&mut self, bytes: u64) {
+        self.total = self.total.saturating_sub(bytes);
+    }
+
     /// Counts more bytes as done, and prints the line if the percentage has grown.
     pub fn advance<R: Runtime>(&mut self, rt: &R, bytes: u64) {
         self.done = self.done.saturating_add(bytes);

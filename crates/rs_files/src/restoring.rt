@@ -1,16 +1,15 @@
 //! Writes files that are restored from blocks.
 ghost use Rattle.rs_field.specs.code.Given.{nothing};
 
+use crate::failure::Result;
 use crate::folder::{piece_bytes, shape_of};
-use crate::names::{path_in, text_of};
 use crate::output::{Part, write_at};
 use crate::progress::Progress;
-use crate::scanning::{FileState, Scan};
-use crate::source::{FileBlocks, failure};
-use anyhow::Result;
+use crate::scanning::Scan;
+use crate::source::{FileBlocks, failure_of};
+use crate::targets::Targets;
 use reed_solomon_simd::engine::tables::Tables;
 use reed_solomon_simd::engine::{DefaultEngine, EngineKind};
-use rs_volumes::coding_error::CodingError;
 use rs_volumes::description::Description;
 use rs_volumes::pieces::BlockSink;
 use rs_volumes::placement::Place;
@@ -32,8 +31,11 @@ struct Opened<F: Drop> {
 #[derive(Drop)]
 struct FileSink<'a, R: Runtime> {
     rt: &'a R,
-    /// The part of each file that is restored.
-    parts: &'a [Option<Part>],
+    alloc: Global,
+    /// Whether progress is shown.
+    shown: bool,
+    /// The files that are restored.
+    targets: &'a mut Targets,
     /// Where each original block lies in its file.
     places: &'a [Place],
     /// The file that was written last.
@@ -41,22 +43,12 @@ struct FileSink<'a, R: Runtime> {
 }
 
 impl<'a, R: Runtime> FileSink<'a, R> {
-    // Returns the path of the file into which a block could not be written. The path is empty after another error.
-    fn path_of(&self, error: &CodingError) -> &str {
-        let CodingError::Write(index, _) = error else {
-            return "";
-        };
-        let Some(place) = self.places.get(*index) else {
-            return "";
-        };
-        match self.parts.get(place.file) {
-            Some(Some(part)) => part.part.as_str(),
-            _ => "",
-        }
-    }
-
     // Writes bytes into the part of a file, from byte `offset` on. `file` is the index of the file in the description.
-    fn write(&mut self, file: usize, part: &Part, offset: u64, bytes: &[u8]) -> io::Result<()> {
+    // A file without a part could not be written before. The function writes nothing then.
+    fn write(&mut self, file: usize, offset: u64, bytes: &[u8]) -> io::Result<()> {
+        let Some(Some(part)) = self.targets.parts.get(file) else {
+            return Ok(());
+        };
         let mut opened = match self.opened.take() {
             Some(opened) if opened.file == file => opened,
             _ => Opened {
@@ -77,16 +69,20 @@ impl<'a, R: Runtime> BlockSink for FileSink<'a, R> {
         let Some(place) = self.places.get(index).copied() else {
             return Err(io::Error::from(ErrorKind::NotFound));
         };
-        let Some(Some(part)) = self.parts.get(place.file) else {
-            return Err(io::Error::from(ErrorKind::NotFound));
-        };
         let from = start as u64;
         if from >= place.bytes {
             return Ok(());
         }
         let count = (place.bytes - from).min(piece.len() as u64) as usize;
         let offset = place.offset.wrapping_add(from);
-        self.write(place.file, part, offset, &piece[..count])
+        if let Err(error) = self.write(place.file, offset, &piece[..count]) {
+            // The other files can still be restored. The message begins on a line of its own.
+            if self.shown {
+                let _ = eprintln!(self.rt; "");
+            }
+            self.targets.give_up(self.rt, self.alloc, place.file, error);
+        }
+        Ok(())
     }
 }
 
@@ -94,25 +90,10 @@ impl<'a, R: Runtime> BlockSink for FileSink<'a, R> {
 // blocks is lost, it reads all blocks that were found and as many recovery blocks as original blocks are lost.
 fn plan_for(alloc: Global, scan: &Scan, parts: &[Option<Part>]) -> Result<Plan> {
     let wanted = wanted_blocks(alloc, scan, parts)?;
-    let k = wanted.len();
-    let mut originals = Vec::new(alloc);
-    let mut lost = 0usize;
-    let mut loses_wanted = false;
-    for (index, is_wanted) in wanted.iter().enumerate() {
-        let found = matches!(scan.origins.get(index), Some(Some(_)));
-        if !found {
-            lost = lost.saturating_add(1);
-            loses_wanted = loses_wanted || *is_wanted;
-        }
-    }
-    for (index, is_wanted) in wanted.iter().enumerate() {
-        let found = matches!(scan.origins.get(index), Some(Some(_)));
-        if found && (loses_wanted || *is_wanted) {
-            originals.push(index)?;
-        }
-    }
+    let loses_wanted = loses_wanted(scan, wanted.as_slice());
+    let originals = original_blocks(alloc, scan, wanted.as_slice(), loses_wanted)?;
     let recovery = if loses_wanted {
-        recovery_blocks(alloc, scan, k, lost)?
+        recovery_blocks(alloc, scan, wanted.len(), scan.counts().lost)?
     } else {
         Vec::new(alloc)
     };
@@ -121,6 +102,29 @@ fn plan_for(alloc: Global, scan: &Scan, parts: &[Option<Part>]) -> Result<Plan> 
         recovery,
         wanted,
     })
+}
+
+// Returns whether an original block was found.
+fn is_found(scan: &Scan, index: usize) -> bool {
+    matches!(scan.origins.get(index), Some(Some(_)))
+}
+
+// Returns whether one of the original blocks that must be written was not found.
+fn loses_wanted(scan: &Scan, wanted: &[bool]) -> bool {
+    let mut numbered = wanted.iter().enumerate();
+    numbered.any(|(index, is_wanted)| *is_wanted && !is_found(scan, index))
+}
+
+// Returns the indexes of the original blocks that were found, all of them if `all` is set, and otherwise those that
+// must be written.
+fn original_blocks(alloc: Global, scan: &Scan, wanted: &[bool], all: bool) -> Result<Vec<usize>> {
+    let mut originals = Vec::new(alloc);
+    for (index, is_wanted) in wanted.iter().enumerate() {
+        if is_found(scan, index) && (all || *is_wanted) {
+            originals.push(index)?;
+        }
+    }
+    Ok(originals)
 }
 
 // Returns for each original block whether its file has a part, so that the block must be written.
@@ -143,48 +147,24 @@ fn recovery_blocks(alloc: Global, scan: &Scan, k: usize, count: usize) -> Result
     Ok(recovery)
 }
 
-/// Begins a part below `folder` for each file that is not whole.
-///
-/// # Errors
-///
-/// Fails for the first part that cannot be made, or if memory cannot be allocated.
-pub fn begin_parts<R: Runtime>(
-    rt: &R,
-    alloc: Global,
-    scan: &Scan,
-    folder: &str,
-) -> Result<Vec<Option<Part>>> {
-    let mut parts = Vec::new(alloc);
-    let files = scan.description.files.as_slice();
-    for (file, state) in files.iter().zip(scan.states.as_slice()) {
-        let part = if *state == FileState::Whole {
-            None
-        } else {
-            let path = path_in(alloc, folder, text_of(file.name.as_slice()))?;
-            Some(Part::begin(rt, alloc, path.as_str(), file.size)?)
-        };
-        parts.push(part)?;
-    }
-    Ok(parts)
-}
-
-/// Writes the blocks of the files that have a part, and compares each block with its digest.
+/// Writes the blocks of the files that have a part, and compares each block with its digest. If a block cannot be
+/// written into its file, the function gives up this file, prints the reason, and writes the other files.
 ///
 /// `memory` is the number of bytes that the function may use, approximately. `shown` says whether to show progress.
 ///
 /// # Errors
 ///
-/// Fails if a block cannot be read, restored or written, then if a written block does not have its digest. Every step
-/// fails if memory cannot be allocated.
+/// Fails if a block cannot be read or restored, then if a block does not have its digest. Every step fails if memory
+/// cannot be allocated.
 pub fn write_blocks<R: Runtime>(
     rt: &R,
     alloc: Global,
     scan: &Scan,
-    parts: &[Option<Part>],
+    targets: &mut Targets,
     memory: u64,
     shown: bool,
 ) -> Result<()> {
-    let plan = plan_for(alloc, scan, parts)?;
+    let plan = plan_for(alloc, scan, targets.parts.as_slice())?;
     let blocks = (plan.originals.len() as u64).saturating_add(plan.recovery.len() as u64);
     let total = blocks.saturating_mul(scan.description.block_bytes);
     let tables = Tables::new(alloc)?;
@@ -194,7 +174,9 @@ pub fn write_blocks<R: Runtime>(
     let source = FileBlocks::new(rt, alloc, paths, origins, progress);
     let sink = FileSink {
         rt,
-        parts,
+        alloc,
+        shown,
+        targets,
         places: scan.places.as_slice(),
         opened: None,
     };
@@ -235,6 +217,6 @@ fn restore_blocks<R: Runtime>(
     source.end();
     match outcome {
         Ok(()) => Ok(()),
-        Err(error) => failure(source.path_of(&error), sink.path_of(&error), error),
+        Err(error) => Err(failure_of(alloc, source.path_of(&error), "", error)),
     }
 }

@@ -1,20 +1,21 @@
 //! Looks for the blocks of a set, in its files and in volumes.
+use crate::counted::Counted;
+use crate::failure::{Failure, Result};
 use crate::output::at_path;
 use crate::progress::Progress;
 use crate::settings::Request;
 use crate::source::Origin;
 use crate::volume::{Copies, Volume, open_volume};
 use crate::volume_sink::RECORD_HEAD_BYTES;
-use anyhow::{Result, bail};
 use rs_volumes::description::{Description, FileEntry};
 use rs_volumes::digest::is_digest;
 use rs_volumes::placement::{Place, places_of};
 use sha2::{Digest, Sha256};
 use std::alloc::Global;
-use std::fs;
 use std::fs::OpenFile;
 use std::io::{ErrorKind, Read, Seek, SeekFrom};
 use std::rt::{Files, Runtime};
+use std::{fs, io};
 
 /// How many bytes are read at a time.
 const CHUNK: usize = 1 << 18;
@@ -54,7 +55,8 @@ pub struct Scan {
 /// the files of the set below that folder.
 ///
 /// The first volume that can be read determines the set. For each volume that cannot be read, the function prints a
-/// message. A file or a record that cannot be read is not an error: its blocks are not found.
+/// message. A block that cannot be read is not an error: it is not found. For each file and each volume with such
+/// blocks, the function prints a message.
 ///
 /// # Errors
 ///
@@ -106,8 +108,8 @@ impl Volumes {
                     self.first = Some(volume);
                 }
             }
-            Err(error) => {
-                eprintln!(rt; "rs_files: {error:#}")?;
+            Err(failure) => {
+                eprintln!(rt; "rs_files: {failure}")?;
                 self.unreadable.push(String::from_str(rt.alloc(), path)?)?;
             }
         }
@@ -118,7 +120,7 @@ impl Volumes {
     fn add(&mut self, alloc: Global, path: &str, volume: &Volume) -> Result<()> {
         if let Some(first) = &self.first {
             if first.digest != volume.digest {
-                bail!("{path} belongs to another set");
+                return Err(Failure::at(alloc, path, "this volume belongs to another set"));
             }
         }
         self.paths.push(String::from_str(alloc, path)?)?;
@@ -145,7 +147,7 @@ fn hash_block<F: Read + Seek>(
     bytes: u64,
     block_bytes: u64,
     buffer: &mut Vec<u8>,
-) -> std::io::Result<[u8; 32]> {
+) -> io::Result<[u8; 32]> {
     let mut hasher = Sha256::new();
     file.seek(SeekFrom::Start(offset))?;
     let mut left = bytes;
@@ -199,7 +201,7 @@ fn scan_set<R: Runtime + AllocGlobal>(
         unreadable,
     } = volumes;
     let Some(first) = first else {
-        bail!("no volume can be read");
+        return Err(Failure::of("no volume can be read"));
     };
     let mut scan = scan_blocks(
         rt,
@@ -226,21 +228,21 @@ fn scan_blocks<R: Runtime + AllocGlobal>(
 ) -> Result<Scan> {
     let alloc = rt.alloc();
     if description.block_bytes == 0 {
-        bail!("the blocks are empty");
+        return Err(Failure::of("the blocks are empty"));
     }
     let files = description.files.as_slice();
     let mut paths = crate::creating::paths_of(alloc, folder.unwrap_or(""), files)?;
     let places = places_of(alloc, &description)?;
-    let mut scanner = Scanner::new(rt, alloc, &description, shown)?;
     let has_folder = folder.is_some();
+    let total = bytes_to_read(&description, has_folder, records);
+    let mut scanner = Scanner::new(alloc, &description, Progress::new(rt, shown, total))?;
     scanner.scan_files(rt, &description, has_folder, &paths, &places)?;
-    scanner.scan_volumes(rt, &description, volumes, records, &mut paths)?;
+    scanner.scan_volumes(rt, alloc, &description, volumes, records, &mut paths)?;
     scanner.progress.end(rt);
     let Scanner {
         origins,
         states,
-        buffer: _,
-        progress: _,
+        ..
     } = scanner;
     Ok(Scan {
         description,
@@ -253,12 +255,18 @@ fn scan_blocks<R: Runtime + AllocGlobal>(
     })
 }
 
-// Returns that a file is missing. If it is there but cannot be opened, the function prints why.
-fn missing<R: Runtime>(rt: &R, path: &str, error: std::io::Error) -> FileState {
-    if error.kind() != ErrorKind::NotFound {
-        let _ = eprintln!(rt; "rs_files: {path}: {error}");
+// Returns the number of bytes of blocks that a scan reads at most: the original blocks, if the files are searched, and
+// the records of all volumes.
+fn bytes_to_read(description: &Description, has_folder: bool, records: &[(u64, u64)]) -> u64 {
+    let mut blocks = if has_folder {
+        u64::from(description.original_count)
+    } else {
+        0
+    };
+    for (count, _) in records {
+        blocks = blocks.saturating_add(*count);
     }
-    FileState::Missing
+    blocks.saturating_mul(description.block_bytes)
 }
 
 // The state of a scan.
@@ -271,24 +279,53 @@ struct Scanner {
     // The memory into which files are read.
     buffer: Vec<u8>,
     progress: Progress,
+    // The number of blocks of the present file or volume that cannot be read, and the first error.
+    unread: u64,
+    error: Option<io::Error>,
 }
 
 impl Scanner {
     // Begins a scan. No block has been found yet.
-    fn new<R: Runtime>(
-        rt: &R,
-        alloc: Global,
-        description: &Description,
-        shown: bool,
-    ) -> Result<Scanner> {
-        let blocks = blocks_of(description);
-        let total = (blocks as u64).saturating_mul(description.block_bytes);
+    fn new(alloc: Global, description: &Description, progress: Progress) -> Result<Scanner> {
         Ok(Scanner {
-            origins: vec![in alloc; None; blocks]?,
+            origins: vec![in alloc; None; blocks_of(description)]?,
             states: Vec::new(alloc),
             buffer: vec![in alloc; 0u8; CHUNK]?,
-            progress: Progress::new(rt, shown, total),
+            progress,
+            unread: 0,
+            error: None,
         })
+    }
+
+    // Notes that a block cannot be read. If the file ends before the block does, this is no error of the system.
+    fn note_unread(&mut self, error: io::Error) {
+        if error.kind() == ErrorKind::UnexpectedEof {
+            return;
+        }
+        self.unread = self.unread.saturating_add(1);
+        if self.error.is_none() {
+            self.error = Some(error);
+        }
+    }
+
+    // Prints how many blocks of a file or a volume cannot be read, and the first error.
+    fn tell_unread<R: Runtime>(&mut self, rt: &R, path: &str) {
+        if let Some(error) = self.error.take() {
+            let blocks = Counted(self.unread, "block");
+            self.progress.end(rt);
+            let _ = eprintln!(rt; "rs_files: {path}: {blocks} cannot be read: {error}");
+        }
+        self.unread = 0;
+    }
+
+    // Returns that a file is missing, of which no block is read. If the file is there but cannot be opened, the
+    // function prints why.
+    fn missing<R: Runtime>(&mut self, rt: &R, path: &str, error: io::Error) -> FileState {
+        if error.kind() != ErrorKind::NotFound {
+            self.progress.end(rt);
+            let _ = eprintln!(rt; "rs_files: {path}: {error}");
+        }
+        FileState::Missing
     }
 
     // Compares the blocks of all files with their digests. If there is no folder, all files are missing.
@@ -307,6 +344,11 @@ impl Scanner {
                 }
                 _ => FileState::Missing,
             };
+            if has_folder && state == FileState::Missing {
+                let blocks = places.iter().filter(|place| place.file == index).count();
+                let bytes = description.block_bytes.saturating_mul(blocks as u64);
+                self.progress.skip(bytes);
+            }
             self.states.push(state)?;
         }
         Ok(())
@@ -316,13 +358,16 @@ impl Scanner {
     fn scan_volumes<R: Runtime>(
         &mut self,
         rt: &R,
+        alloc: Global,
         description: &Description,
         volumes: &[String],
         records: &[(u64, u64)],
         paths: &mut Vec<String>,
     ) -> Result<()> {
         for (path, records) in volumes.iter().zip(records) {
-            self.scan_volume(rt, description, paths.len(), path.as_str(), *records)?;
+            let mut file = at_path(alloc, path.as_str(), fs::open(rt, path.as_str()))?;
+            self.scan_volume(rt, description, paths.len(), &mut file, *records);
+            self.tell_unread(rt, path.as_str());
             paths.push(path.clone()?)?;
         }
         Ok(())
@@ -351,15 +396,21 @@ impl Scanner {
         match fs::metadata(rt, path) {
             Ok(metadata) if metadata.is_file() => (),
             Ok(_) => return FileState::Missing,
-            Err(error) => return missing(rt, path, error),
+            Err(error) => return self.missing(rt, path, error),
         }
-        match fs::open(rt, path) {
+        let state = match fs::open(rt, path) {
             Ok(file) => self.scan_opened(rt, description, entry, holder, file, places),
-            Err(error) => missing(rt, path, error),
+            Err(error) => Err(error),
+        };
+        self.tell_unread(rt, path);
+        match state {
+            Ok(state) => state,
+            Err(error) => self.missing(rt, path, error),
         }
     }
 
-    // Compares the blocks of an open file with their digests, and returns the state of the file.
+    // Compares the blocks of an open file with their digests, and returns the state of the file. Fails if the length of
+    // the file cannot be read.
     fn scan_opened<R: Runtime>(
         &mut self,
         rt: &R,
@@ -368,11 +419,8 @@ impl Scanner {
         holder: usize,
         mut file: R::File,
         places: &[Place],
-    ) -> FileState {
-        let Ok(metadata) = file.metadata() else {
-            return FileState::Missing;
-        };
-        let mut whole = metadata.len() == entry.size;
+    ) -> io::Result<FileState> {
+        let mut whole = file.metadata()?.len() == entry.size;
         for (index, place) in places.iter().enumerate() {
             if place.file == holder
                 && !self.scan_block(rt, description, &mut file, holder, index, *place)
@@ -380,11 +428,11 @@ impl Scanner {
                 whole = false;
             }
         }
-        if whole {
+        Ok(if whole {
             FileState::Whole
         } else {
             FileState::Damaged
-        }
+        })
     }
 
     // Returns whether a block of a file has its digest, and records where the block was found.
@@ -410,58 +458,81 @@ impl Scanner {
                 self.note(index, origin);
                 true
             }
-            _ => false,
+            Ok(_) => false,
+            Err(error) => {
+                self.note_unread(error);
+                false
+            }
         }
     }
 
     // Looks for blocks in the records of a volume. `records` holds the number of records and the offset of the first
-    // record. A record that cannot be read is left out.
+    // record.
     fn scan_volume<R: Runtime>(
         &mut self,
         rt: &R,
         description: &Description,
         holder: usize,
-        path: &str,
+        file: &mut R::File,
         records: (u64, u64),
-    ) -> Result<()> {
-        let mut file = at_path(path, fs::open(rt, path))?;
+    ) {
         let size = description.block_bytes;
         let record = size.saturating_add(RECORD_HEAD_BYTES);
         for number in 0..records.0 {
             let at = records.1.wrapping_add(number.wrapping_mul(record));
-            let offset = at.wrapping_add(RECORD_HEAD_BYTES);
-            let Ok(index) = index_at(&mut file, at, &mut self.buffer) else {
-                continue;
-            };
-            let Ok(own) = hash_block(&mut file, offset, size, size, &mut self.buffer) else {
-                continue;
-            };
+            self.scan_record(description, holder, file, at);
             self.progress.advance(rt, size);
-            if is_digest(description.digests.as_slice(), index, &own) {
+        }
+    }
+
+    // Looks for a block in the record of a volume at the offset `at`.
+    fn scan_record<F: Read + Seek>(
+        &mut self,
+        description: &Description,
+        holder: usize,
+        file: &mut F,
+        at: u64,
+    ) {
+        let bytes = description.block_bytes;
+        match find_in_record(description, file, at, &mut self.buffer) {
+            Ok(Some(index)) => {
+                let offset = at.wrapping_add(RECORD_HEAD_BYTES);
                 let origin = Origin {
                     holder,
                     offset,
-                    bytes: size,
+                    bytes,
                 };
                 self.note(index, origin);
             }
+            Ok(None) => {}
+            Err(error) => self.note_unread(error),
         }
-        Ok(())
     }
 }
 
-// Reads the index of the block in the record at `offset`, into a buffer of at least four bytes.
-fn index_at<F: Read + Seek>(
+// Returns the index of the block in the record at the offset `at`, if the block has the digest with this index.
+fn find_in_record<F: Read + Seek>(
+    description: &Description,
     file: &mut F,
-    offset: u64,
+    at: u64,
     buffer: &mut Vec<u8>,
-) -> std::io::Result<usize> {
+) -> io::Result<Option<usize>> {
+    let bytes = description.block_bytes;
+    let index = index_at(file, at, buffer)?;
+    let offset = at.wrapping_add(RECORD_HEAD_BYTES);
+    let own = hash_block(file, offset, bytes, bytes, buffer)?;
+    let fits = is_digest(description.digests.as_slice(), index, &own);
+    Ok(if fits { Some(index) } else { None })
+}
+
+// Reads the index of the block in the record at `offset`, into a buffer of at least four bytes.
+fn index_at<F: Read + Seek>(file: &mut F, offset: u64, buffer: &mut Vec<u8>) -> io::Result<usize> {
     let count = buffer.len().min(4);
     file.seek(SeekFrom::Start(offset))?;
     file.read_exact(&mut buffer[..count])?;
     match buffer.as_slice() {
         [a, b, c, d, ..] => Ok(u32::from_le_bytes([*a, *b, *c, *d]) as usize),
-        _ => Err(std::io::Error::from(ErrorKind::UnexpectedEof)),
+        _ => Err(io::Error::from(ErrorKind::UnexpectedEof)),
     }
 }
 
@@ -474,6 +545,14 @@ pub struct Counts {
     pub recovery: usize,
     /// The number of recovery blocks of the set.
     pub recovery_count: usize,
+}
+
+// Returns whether a block was found in a volume, if there are `files` files.
+fn is_in_volume(origin: &Option<Origin>, files: usize) -> bool {
+    match origin {
+        Some(origin) => origin.holder >= files,
+        None => false,
+    }
 }
 
 impl Scan {
@@ -491,6 +570,15 @@ impl Scan {
     /// Returns whether each volume can be read and has two equal copies of its head and its description.
     pub fn has_whole_volumes(&self) -> bool {
         self.unreadable.is_empty() && self.copies.iter().all(|copies| *copies == Copies::Whole)
+    }
+
+    /// Returns whether no file was found, and volumes hold original blocks: then the volumes are those of `split`.
+    pub fn is_spread(&self) -> bool {
+        let files = self.description.files.len();
+        let k = (self.description.original_count as usize).min(self.origins.len());
+        let (originals, _) = self.origins.split_at(k);
+        let missing = self.states.iter().all(|state| *state == FileState::Missing);
+        missing && originals.iter().any(|origin| is_in_volume(origin, files))
     }
 
     /// Returns whether all files are whole.

@@ -12,7 +12,7 @@ pub const STATUS_USAGE: u8 = 2;
 /// The exit status if damage cannot be repaired.
 pub const STATUS_LOST: u8 = 3;
 
-/// The exit status after any other error.
+/// The exit status after any other error, also if a file could not be restored.
 pub const STATUS_FAILED: u8 = 4;
 
 /// A command of the program.

@@ -1,8 +1,8 @@
 //! Blocks that are read from files and volumes.
 ghost use Rattle.rs_field.specs.code.Given.{nothing};
 
+use crate::failure::Failure;
 use crate::progress::Progress;
-use anyhow::{Result, bail};
 use rs_volumes::coding_error::CodingError;
 use rs_volumes::pieces::BlockSource;
 use std::alloc::Global;
@@ -130,16 +130,14 @@ impl<'a, R: Runtime> BlockSource for FileBlocks<'a, R> {
     }
 }
 
-/// Fails with an error of coding. `read` is the path of the file that could not be read, and `written` the path of the
-/// file that could not be written, or both are empty. The message begins with the path that is not empty.
-///
-/// # Errors
-///
-/// Always fails.
-pub fn failure<T>(read: &str, written: &str, error: CodingError) -> Result<T> {
-    let path = if read.is_empty() { written } else { read };
-    if path.is_empty() {
-        bail!("{error}");
+/// Returns the failure for an error of coding. `read` is the path of the file that could not be read, and `written` the
+/// path of the file that could not be written, or both are empty.
+pub fn failure_of(alloc: Global, read: &str, written: &str, error: CodingError) -> Failure {
+    if !read.is_empty() {
+        Failure::at(alloc, read, error)
+    } else if !written.is_empty() {
+        Failure::at(alloc, written, error)
+    } else {
+        Failure::of(error)
     }
-    bail!("{path}: {error}")
 }

@@ -1,9 +1,9 @@
 //! `split`: spreads files over volumes.
 use crate::counted::Counted;
 use crate::creating::make;
+use crate::failure::{Failure, Result};
 use crate::names::path_in;
 use crate::settings::{Recovery, Request, STATUS_WHOLE};
-use anyhow::{Result, bail};
 use std::alloc::Global;
 use std::rt::Runtime;
 
@@ -25,7 +25,7 @@ fn outputs_in(alloc: Global, volumes: u32, folder: &str) -> Result<Vec<String>> 
 /// Fails if `-o` is not given. Then fails for a reason of [`make`].
 pub fn split<R: Runtime + AllocGlobal>(rt: &R, request: &Request) -> Result<u8> {
     let Some(folder) = &request.output else {
-        bail!("say where the volumes go, as -o FOLDER");
+        return Err(Failure::of("say where the volumes go, as -o FOLDER"));
     };
     let volumes = request.volumes;
     let lose = request.lose;

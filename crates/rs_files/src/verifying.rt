@@ -1,11 +1,11 @@
 //! `verify`: looks for damage.
 use crate::counted::Counted;
+use crate::failure::{Failure, Result};
 use crate::json::{add, add_text, files_of, object_of, print};
 use crate::names::{folder_to_open, parent_of, text_of};
 use crate::scanning::{Counts, FileState, Scan, scan_request};
 use crate::settings::{Request, STATUS_LOST, STATUS_MENDED, STATUS_WHOLE};
 use crate::volume::Copies;
-use anyhow::{Result, bail};
 use serde_json::{Map, Value};
 use std::alloc::{AllocError, Global};
 use std::rt::Runtime;
@@ -21,16 +21,18 @@ pub fn folder_of(request: &Request) -> Result<&str> {
     }
     match request.paths.first() {
         Some(path) => Ok(folder_to_open(parent_of(path.as_str()))),
-        None => bail!("no volume is given"),
+        None => Err(Failure::of("no volume is given")),
     }
 }
 
 /// Returns the exit status for a scan: `STATUS_LOST` if more blocks are lost than recovery blocks are left,
-/// `STATUS_WHOLE` if all files, all recovery blocks and all volumes are whole, and `STATUS_MENDED` otherwise.
+/// `STATUS_WHOLE` if all recovery blocks and all volumes are whole, and all files are whole or the volumes hold them,
+/// and `STATUS_MENDED` otherwise.
 pub fn status_of(scan: &Scan, counts: Counts) -> u8 {
+    let are_held = counts.lost == 0 && scan.is_spread();
     if counts.lost > counts.recovery {
         STATUS_LOST
-    } else if scan.has_whole_files()
+    } else if (scan.has_whole_files() || are_held)
         && counts.recovery == counts.recovery_count
         && scan.has_whole_volumes()
     {
@@ -116,6 +118,29 @@ fn tell_blocks<R: Runtime>(rt: &R, scan: &Scan, counts: Counts) -> Result<()> {
     Ok(())
 }
 
+// Prints whether volumes of `split` hold all blocks, and what to do.
+fn tell_spread<R: Runtime>(rt: &R, scan: &Scan, counts: Counts) -> Result<()> {
+    let k = scan.description.original_count;
+    let (lost, left, r) = (counts.lost, counts.recovery, counts.recovery_count);
+    let damaged = r.saturating_sub(left);
+    if lost > 0 || damaged > 0 {
+        println!(rt;
+            "{lost} of {k} original blocks and {damaged} of {r} recovery blocks are not in these volumes: join can restore the files"
+        )?;
+    } else if !scan.has_whole_volumes() {
+        println!(rt;
+            "a volume is damaged or cannot be read, but all blocks are in these volumes: restore the files with join, and make the volumes again with split"
+        )?;
+    } else {
+        let blocks = Counted(u64::from(k), "original block");
+        let recovery = Counted(r as u64, "recovery block");
+        println!(rt;
+            "all volumes are whole, with {blocks} and {recovery}: join restores the files from them"
+        )?;
+    }
+    Ok(())
+}
+
 /// Prints on standard error that the files cannot be restored, and how many blocks are needed.
 ///
 /// # Errors
@@ -157,17 +182,28 @@ pub fn report<R: Runtime>(
     folder: &str,
 ) -> Result<()> {
     if !request.quiet {
-        tell_files(rt, scan)?;
-        tell_volumes(rt, scan)?;
-        tell_folder(rt, scan, folder)?;
+        tell_found(rt, scan, folder)?;
     }
     if counts.lost > counts.recovery {
-        return tell_lost(rt, counts);
+        tell_lost(rt, counts)
+    } else if request.quiet {
+        Ok(())
+    } else if scan.is_spread() {
+        tell_spread(rt, scan, counts)
+    } else {
+        tell_blocks(rt, scan, counts)
     }
-    if request.quiet {
-        return Ok(());
+}
+
+// Prints which files and volumes are damaged or missing. If the volumes are those of `split`, nobody expects the files
+// to be there.
+fn tell_found<R: Runtime>(rt: &R, scan: &Scan, folder: &str) -> Result<()> {
+    if scan.is_spread() {
+        return tell_volumes(rt, scan);
     }
-    tell_blocks(rt, scan, counts)
+    tell_files(rt, scan)?;
+    tell_volumes(rt, scan)?;
+    tell_folder(rt, scan, folder)
 }
 
 // Returns the words for the states of the files.

@@ -1,9 +1,10 @@
 //! Reads volumes.
+use crate::failure::{Failure, Result};
 use crate::output::at_path;
 use crate::volume_sink::RECORD_HEAD_BYTES;
-use anyhow::{Result, bail};
 use rs_volumes::description::Description;
 use rs_volumes::digest::digest_of;
+use rs_volumes::fault::Fault;
 use rs_volumes::head::{HEAD_BYTES, Head, read_head};
 use rs_volumes::read_description;
 use std::alloc::Global;
@@ -41,6 +42,16 @@ pub struct Volume {
     pub copies: Copies,
 }
 
+// Returns the failure for a volume that is shorter than a head.
+fn too_short() -> Failure {
+    Failure::of("it is too short")
+}
+
+// Returns the failure for a description that is longer than its volume, or longer than 1 GiB.
+fn too_long() -> Failure {
+    Failure::of("its description is too long")
+}
+
 // Reads `count` bytes of a file from `offset` on.
 fn read_at<F: Read + Seek>(
     file: &mut F,
@@ -59,7 +70,7 @@ fn head_at<F: Read + Seek>(file: &mut F, alloc: Global, offset: u64) -> Result<H
     let bytes = read_at(file, alloc, offset, HEAD_BYTES)?;
     match bytes.first_chunk::<HEAD_BYTES>() {
         Some(bytes) => Ok(read_head(bytes)?),
-        None => bail!("it is too short"),
+        None => Err(too_short()),
     }
 }
 
@@ -75,11 +86,11 @@ fn described<F: Read + Seek>(
 ) -> Result<Volume> {
     let length = head.description_bytes;
     if length > LARGEST_DESCRIPTION || length > size.saturating_sub(offset) {
-        bail!("its description is too long");
+        return Err(too_long());
     }
     let bytes = read_at(file, alloc, offset, length as usize)?;
     if digest_of(bytes.as_slice()) != head.digest {
-        bail!("its description does not have its digest");
+        return Err(Failure::of("its description does not have its digest"));
     }
     let description = read_description(alloc, bytes.as_slice())?;
     let records_at = (HEAD_BYTES as u64) + length;
@@ -119,7 +130,7 @@ fn ends_in<F: Read + Seek>(file: &mut F, alloc: Global, head: &Head, size: u64) 
 // Reads the head and the description at the beginning of a volume.
 fn front<F: Read + Seek>(file: &mut F, alloc: Global, size: u64) -> Result<Volume> {
     if size < HEAD_BYTES as u64 {
-        bail!("it is too short");
+        return Err(too_short());
     }
     let head = head_at(file, alloc, 0)?;
     let copies = match ends_in(file, alloc, &head, size) {
@@ -133,11 +144,11 @@ fn front<F: Read + Seek>(file: &mut F, alloc: Global, size: u64) -> Result<Volum
 fn back<F: Read + Seek>(file: &mut F, alloc: Global, size: u64) -> Result<Volume> {
     let head_bytes = HEAD_BYTES as u64;
     if size < head_bytes {
-        bail!("it is too short");
+        return Err(too_short());
     }
     let head = head_at(file, alloc, size - head_bytes)?;
     if head.description_bytes > size - head_bytes {
-        bail!("its description is too long");
+        return Err(too_long());
     }
     let offset = size - head_bytes - head.description_bytes;
     described(file, alloc, &head, offset, size, Copies::FirstDamaged)
@@ -151,13 +162,48 @@ fn back<F: Read + Seek>(file: &mut F, alloc: Global, size: u64) -> Result<Volume
 /// beginning and at its end. The message of the second error states the fault at the beginning.
 pub fn open_volume<R: Runtime + AllocGlobal>(rt: &R, path: &str) -> Result<Volume> {
     let alloc = rt.alloc();
-    let mut file = at_path(path, fs::open(rt, path))?;
-    let size = at_path(path, file.metadata())?.len();
+    let mut file = at_path(alloc, path, fs::open(rt, path))?;
+    let size = at_path(alloc, path, file.metadata())?.len();
     match front(&mut file, alloc, size) {
         Ok(volume) => Ok(volume),
-        Err(error) => match back(&mut file, alloc, size) {
+        Err(fault) => match back(&mut file, alloc, size) {
             Ok(volume) => Ok(volume),
-            Err(_) => bail!("{path}: this is no volume that can be read: {error}"),
+            Err(_) => Err(Failure::at(
+                alloc,
+                path,
+                format_args!("this is no volume that can be read: {fault}"),
+            )),
         },
+    }
+}
+
+/// Returns whether a file is a volume, which may be damaged: a regular file with the magic number of a volume in its
+/// first 8 bytes or in its last 64 bytes.
+///
+/// # Errors
+///
+/// Fails if the file cannot be opened or read, or if memory cannot be allocated.
+pub fn is_volume<R: Runtime>(rt: &R, alloc: Global, path: &str) -> Result<bool> {
+    // A pipe is not opened: a program that opens it waits until another one writes into it.
+    let metadata = at_path(alloc, path, fs::metadata(rt, path))?;
+    let head_bytes = HEAD_BYTES as u64;
+    if !metadata.is_file() || metadata.len() < head_bytes {
+        return Ok(false);
+    }
+    let mut file = at_path(alloc, path, fs::open(rt, path))?;
+    if has_magic(&mut file, alloc, path, 0)? {
+        return Ok(true);
+    }
+    has_magic(&mut file, alloc, path, metadata.len() - head_bytes)
+}
+
+// Returns whether the 64 bytes of a file at `offset` begin with the magic number of a volume.
+fn has_magic<F: Read + Seek>(file: &mut F, alloc: Global, path: &str, offset: u64) -> Result<bool> {
+    match read_at(file, alloc, offset, HEAD_BYTES) {
+        Ok(bytes) => match bytes.first_chunk::<HEAD_BYTES>() {
+            Some(bytes) => Ok(!matches!(read_head(bytes), Err(Fault::Magic))),
+            None => Ok(false),
+        },
+        Err(failure) => Err(failure.moved_to(alloc, path)),
     }
 }

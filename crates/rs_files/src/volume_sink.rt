@@ -1,9 +1,10 @@
 //! Volumes that are being written.
 ghost use Rattle.rs_field.specs.code.Given.{nothing};
 
+use crate::failure::{Failure, Result};
 use crate::folder::Cut;
-use crate::output::{Part, at_path, write_at};
-use anyhow::{Result, ensure};
+use crate::output::{Part, at_path, exists, write_at};
+use crate::volume::is_volume;
 use rs_volumes::coding_error::CodingError;
 use rs_volumes::digest::digest_of;
 use rs_volumes::head::{HEAD_BYTES, Head, write_head};
@@ -15,6 +16,33 @@ use std::rt::{Files, Runtime};
 
 /// The number of bytes of a record before its block: 4 for the index of the block, and 4 that are zero.
 pub const RECORD_HEAD_BYTES: u64 = 8;
+
+/// The permission bits of a volume, before the system takes away those of the user's mask.
+const VOLUME_MODE: u32 = 0o666;
+
+/// Checks that a volume can be written at a path: nothing exists there, or `force` is set and an old volume is there.
+///
+/// # Errors
+///
+/// Fails if something exists at the path, and `force` is not set, or this is no volume, or it cannot be read. Every
+/// step fails if memory cannot be allocated.
+pub fn check_output<R: Runtime>(rt: &R, alloc: Global, path: &str, force: bool) -> Result<()> {
+    if !exists(rt, path) {
+        return Ok(());
+    }
+    if !force {
+        return Err(Failure::at(alloc, path, "it exists: use --force to overwrite it"));
+    }
+    if is_volume(rt, alloc, path)? {
+        Ok(())
+    } else {
+        Err(Failure::at(
+            alloc,
+            path,
+            "this is no volume, so --force does not replace it: name another place with -o, or remove it first",
+        ))
+    }
+}
 
 /// The volumes that a command writes. The blocks from the index `first` on are dealt to them in turn.
 #[derive(Drop)]
@@ -87,20 +115,36 @@ impl Volumes {
             .record_at(self.records_of(self.parts.len()))
             .saturating_add(self.description_bytes)
             .saturating_add(HEAD_BYTES as u64);
-        self.parts.push(Part::begin(rt, alloc, path, size)?)?;
-        Ok(())
+        let part = Part::begin(rt, alloc, path, size, VOLUME_MODE)?;
+        match self.parts.push(part) {
+            Ok(()) => Ok(()),
+            Err(failed) => {
+                failed.value.remove(rt);
+                Err(Failure::from(failed))
+            }
+        }
     }
 
-    /// Gives all volumes their final names. A file with such a name is only replaced if `overwrite` is set.
+    /// Gives all volumes their final names. If `force` is set, old volumes with these names are replaced.
     ///
     /// # Errors
     ///
-    /// For each volume in turn, fails for a reason of [`Part::finish`].
-    pub fn finish<R: Runtime>(&self, rt: &R, overwrite: bool) -> Result<()> {
+    /// For each volume in turn, fails if the volume cannot be synced, for a reason of [`check_output`], or for a reason
+    /// of [`Part::take_name`].
+    pub fn finish<R: Runtime>(&self, rt: &R, alloc: Global, force: bool) -> Result<()> {
         for part in &self.parts {
-            part.finish(rt, overwrite)?;
+            part.sync(rt, alloc)?;
+            check_output(rt, alloc, part.path.as_str(), force)?;
+            part.take_name(rt, alloc)?;
         }
         Ok(())
+    }
+
+    /// Removes the files of all volumes that do not have their final names.
+    pub fn remove<R: Runtime>(&self, rt: &R) {
+        for part in &self.parts {
+            part.remove(rt);
+        }
     }
 }
 
@@ -121,7 +165,7 @@ impl<'a, R: Runtime> VolumeSink<'a, R> {
     pub fn new(rt: &R, alloc: Global, volumes: &'a Volumes) -> Result<VolumeSink<'a, R>> {
         let mut files = Vec::new(alloc);
         for part in &volumes.parts {
-            files.push(at_path(part.part.as_str(), part.open(rt))?)?;
+            files.push(at_path(alloc, part.path.as_str(), part.open(rt))?)?;
         }
         Ok(VolumeSink {
             alloc,
@@ -141,7 +185,7 @@ impl<'a, R: Runtime> VolumeSink<'a, R> {
             .parts
             .get(slot % self.volumes.parts.len().max(1))
         {
-            Some(part) => part.part.as_str(),
+            Some(part) => part.path.as_str(),
             None => "",
         }
     }
@@ -154,10 +198,9 @@ impl<'a, R: Runtime> VolumeSink<'a, R> {
     /// memory cannot be allocated, or if the volume cannot be written.
     pub fn describe(&mut self, description: &[u8]) -> Result<()> {
         let volumes = self.volumes;
-        ensure!(
-            description.len() as u64 == volumes.description_bytes,
-            "the description has another length than expected"
-        );
+        if description.len() as u64 != volumes.description_bytes {
+            return Err(Failure::of("the description has another length than expected"));
+        }
         let digest = digest_of(description);
         for (number, part) in volumes.parts.iter().enumerate() {
             let record_count = volumes.records_of(number);
@@ -170,7 +213,7 @@ impl<'a, R: Runtime> VolumeSink<'a, R> {
             let end = volumes.record_at(record_count);
             if let Some(file) = self.files.get_mut(number) {
                 let written = write_copies(file, description, head.as_slice(), end);
-                at_path(part.part.as_str(), written)?;
+                at_path(self.alloc, part.path.as_str(), written)?;
             }
         }
         Ok(())

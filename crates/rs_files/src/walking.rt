@@ -1,7 +1,7 @@
 //! Finds the files of a set.
+use crate::failure::{Failure, Result};
 use crate::names::{folder_to_open, last_of, parent_of, path_in, text_of, trimmed};
 use crate::output::{Identity, at_path, identities, identity_of};
-use anyhow::{Result, bail};
 use rs_volumes::checking::is_name;
 use rs_volumes::description::FileEntry;
 use std::alloc::Global;
@@ -61,12 +61,12 @@ pub fn find<R: Runtime + AllocGlobal>(
     let alloc = rt.alloc();
     let written = identities(rt, alloc, outputs)?;
     let Some(first) = paths.first() else {
-        bail!("no file is given");
+        return Err(Failure::of("no file is given"));
     };
     let folder = folder_of(trimmed(first.as_str()));
     let files = files_in(rt, folder, paths, written.as_slice())?;
     if files.is_empty() {
-        bail!("{}: there is no regular file to protect", first.as_str());
+        return Err(Failure::at(alloc, first.as_str(), "there is no regular file to protect"));
     }
     Ok(Found {
         folder: String::from_str(alloc, folder_to_open(folder))?,
@@ -86,7 +86,7 @@ fn files_in<R: Runtime + AllocGlobal>(
         add_path(rt, folder, trimmed(path.as_str()), written, &mut files)?;
     }
     sort_files(&mut files)?;
-    check_once(files.as_slice())?;
+    check_once(rt.alloc(), files.as_slice())?;
     Ok(files)
 }
 
@@ -99,10 +99,18 @@ fn add_path<R: Runtime + AllocGlobal>(
     files: &mut Vec<FileEntry>,
 ) -> Result<()> {
     if !is_same_folder(rt, folder_of(path), folder) {
-        bail!("the files must be in one folder: give that folder, or the files in it");
+        return Err(Failure::at(
+            rt.alloc(),
+            path,
+            "the files must be in one folder: give that folder, or the files in it",
+        ));
     }
     if is_written(rt, path, written) {
-        bail!("{path} is a volume that is written: name another place with -o, or another file");
+        return Err(Failure::at(
+            rt.alloc(),
+            path,
+            "this is a volume that is written: name another place with -o, or another file",
+        ));
     }
     walk(rt, path, name_in_set(path), written, files)
 }
@@ -123,12 +131,12 @@ fn sort_files(files: &mut Vec<FileEntry>) -> Result<()> {
 }
 
 // Checks that no two files of a sorted list have the same name.
-fn check_once(files: &[FileEntry]) -> Result<()> {
+fn check_once(alloc: Global, files: &[FileEntry]) -> Result<()> {
     let mut previous: &[u8] = b"";
     for file in files {
         let name = file.name.as_slice();
         if name == previous {
-            bail!("the file {} is given twice", text_of(name));
+            return Err(Failure::at(alloc, text_of(name), "this file is given twice"));
         }
         previous = name;
     }
@@ -167,7 +175,8 @@ fn visit<R: Runtime + AllocGlobal>(
     files: &mut Vec<FileEntry>,
 ) -> Result<()> {
     let path = next.path.as_str();
-    let metadata = at_path(path, fs::metadata(rt, path))?;
+    let alloc = rt.alloc();
+    let metadata = at_path(alloc, path, fs::metadata(rt, path))?;
     if metadata.is_dir() {
         return list(rt, next, waiting);
     }
@@ -175,13 +184,13 @@ fn visit<R: Runtime + AllocGlobal>(
         return Ok(());
     }
     if !is_name(next.name.as_str().as_bytes()) {
-        bail!("the name {:?} cannot be part of a set", next.name.as_str());
+        return Err(Failure::at(alloc, path, "a file with this name cannot be part of a set"));
     }
     files.push(FileEntry {
         size: metadata.len(),
         modified: u64::from_le_bytes(metadata.mtime().to_le_bytes()),
         mode: metadata.permissions().mode() & 0o7777,
-        name: Vec::from_slice(rt.alloc(), next.name.as_str().as_bytes())?,
+        name: Vec::from_slice(alloc, next.name.as_str().as_bytes())?,
     })?;
     Ok(())
 }
@@ -205,9 +214,9 @@ fn list<R: Runtime + AllocGlobal>(
 ) -> Result<()> {
     let alloc = rt.alloc();
     let path = folder_to_open(folder.path.as_str());
-    for entry in at_path(path, fs::read_dir(rt, path))? {
-        let entry = at_path(path, entry)?;
-        if at_path(path, entry.file_type())?.is_symlink() {
+    for entry in at_path(alloc, path, fs::read_dir(rt, path))? {
+        let entry = at_path(alloc, path, entry)?;
+        if at_path(alloc, path, entry.file_type())?.is_symlink() {
             continue;
         }
         let name = entry.file_name();
