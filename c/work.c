@@ -17,6 +17,10 @@ static size_t least(size_t one, size_t other) {
     return one < other ? one : other;
 }
 
+static size_t greatest(size_t one, size_t other) {
+    return one > other ? one : other;
+}
+
 static size_t rounded_up(size_t number, size_t multiple) {
     return (number + multiple - 1) / multiple * multiple;
 }
@@ -77,7 +81,8 @@ static size_t block_bytes(size_t number, size_t bytes) {
 /* The requests of the calls. An encode requests 4096 bytes, or as many as a shard has, for each of its rows. A decode requests 24 bytes for each
    original and for each recovery shard, and for each of its rows 1 byte, 2 bytes, and 2048 bytes, or as many as a shard has. A decode that
    restores to vectors first also requests 24 bytes for each vector, and the vectors. Each row takes a multiple of 64 bytes. A decode of few lost
-   shards requests less: it sums the received shards and has no rows. */
+   shards sums the received shards and has no rows. Instead, it requests 2 bytes more for each row, 8 bytes for each original and 16 bytes for
+   each lost one. This is less, but not for one original and one recovery shard of at most 64 bytes. */
 size_t rs_work_bytes(size_t original_count, size_t recovery_count, size_t shard_bytes, size_t restored) {
     if (!rs_supports(original_count, recovery_count) || !shard_bytes || shard_bytes % 2) return 0;
     if (restored > original_count || shard_bytes > SIZE_MAX / 2 / (restored + 1)) return 0;
@@ -86,10 +91,11 @@ size_t rs_work_bytes(size_t original_count, size_t recovery_count, size_t shard_
     size_t rows = is_low ? low : high, others = is_low ? recovery_count : original_count;
     size_t encoder_rows = rounded_up(others, rows), decoder_rows = power(rows + others);
     size_t encode = encoder_rows * block_bytes(1, least(shard_bytes, 4096));
+    size_t coded = decoder_rows * block_bytes(1, least(shard_bytes, 2048));
+    size_t summed = block_bytes(decoder_rows, 2) + block_bytes(original_count, 8) + block_bytes(least(original_count, recovery_count), 16);
     size_t decode = block_bytes(original_count, 24) + block_bytes(recovery_count, 24) + block_bytes(decoder_rows, 1) +
-                    block_bytes(decoder_rows, 2) + decoder_rows * block_bytes(1, least(shard_bytes, 2048)) +
-                    block_bytes(restored, 24) + restored * block_bytes(1, shard_bytes);
-    return (encode > decode ? encode : decode) + UNIT - 1;
+                    block_bytes(decoder_rows, 2) + greatest(coded, summed) + block_bytes(restored, 24) + restored * block_bytes(1, shard_bytes);
+    return greatest(encode, decode) + UNIT - 1;
 }
 
 /* rs_tables_make requests tables of powers, of logarithms, of factors and of transforms, and the products twice. */

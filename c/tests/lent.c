@@ -232,8 +232,10 @@ static void numbers(void) {
             for (size_t restored = 0; restored < 2; restored++) {
                 size_t k = rows[i][0], r = rows[i][1], size = sizes[n];
                 size_t encode = rows[i][2] * block_of(1, size < 4096 ? size : 4096);
+                size_t coded = rows[i][3] * block_of(1, size < 2048 ? size : 2048);
+                size_t summed = block_of(rows[i][3], 2) + block_of(k, 8) + block_of(k < r ? k : r, 16);
                 size_t decode = block_of(k, 24) + block_of(r, 24) + block_of(rows[i][3], 1) + block_of(rows[i][3], 2) +
-                                rows[i][3] * block_of(1, size < 2048 ? size : 2048) + restored * (64 + block_of(1, size));
+                                (coded < summed ? summed : coded) + restored * (64 + block_of(1, size));
                 if (rs_work_bytes(k, r, size, restored) != 63 + (encode < decode ? decode : encode)) wrong("another number");
             }
     if (rs_tables_work_bytes() != 17432639) wrong("the memory for tables");
