@@ -30,8 +30,8 @@ use rs_rate::rate::sums::{SumBase, add_times, clear_sum, finish_sum, summed_piec
 use rs_rate::rate::{DefaultRateCounts, are_sums_cheaper};
 use std::alloc::Global;
 
-/// Returns whether shards are made by direct sums: there are not more wanted shards than rows, and the sums, one for each wanted
-/// shard and one for each surplus shard, are cheaper than transforms.
+/// Returns whether shards are made by direct sums: there are not more wanted shards than rows, and the sums, one for each
+/// wanted shard and one for each surplus shard, are cheaper than transforms.
 pub(crate) fn are_sums_used(counts: DefaultRateCounts, wanted: usize, surplus: usize) -> bool
     requires few { surplus ≤ 65536 }
     ensures { IsTrue result ↔ (wanted ≤ row_count counts.frame)

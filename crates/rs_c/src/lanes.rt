@@ -5,6 +5,6 @@ use std::simd::prelude::*;
 /// Vectors of 16 bytes, the width of SSSE3. In the build for AVX2, this type is `u8x32`.
 pub type Lanes = u8x16;
 
-/// The engine by shuffles, over tables of type `T`. In the build for processors without shuffles, this type is the engine
-/// by bits, `ByBits<T>`.
+/// The engine by shuffles, over tables of type `T`. In the build for processors without shuffles, this type is the
+/// engine by bits, `ByBits<T>`.
 pub type BuildEngine<T> = ByShuffles<Lanes, T>;

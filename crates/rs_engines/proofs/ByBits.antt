@@ -57,10 +57,12 @@ by_bits_additive b1 b2 b4 b8 =
     (sum_additive (digit 0 b1) (digit 1 b2) (digit_additive 0 b1) (digit_additive 1 b2))
     (sum_additive (digit 2 b4) (digit 3 b8) (digit_additive 2 b4) (digit_additive 3 b8))
 
-pub sum_of_four : (a b c d x y z w : ℕ) → a ≡ x → b ≡ y → c ≡ z → d ≡ w
+-- Equal parts have equal sums.
+sum_of_four : (a b c d x y z w : ℕ) → a ≡ x → b ≡ y → c ≡ z → d ≡ w
     → bit_xor (bit_xor a b) (bit_xor c d) ≡ bit_xor (bit_xor x y) (bit_xor z w)
 sum_of_four a b c d x y z w ha hb hc hd = ap₂ bit_xor (ap₂ bit_xor ha hb) (ap₂ bit_xor hc hd)
 
+-- The sum over the bits of 1, 2, 4 or 8 is the number of the only bit that is set.
 at_power : (b1 b2 b4 b8 : ℕ) (f : ℕ → ℕ) → b1 ≡ f 1 → b2 ≡ f 2 → b4 ≡ f 4 → b8 ≡ f 8 → (i : ℕ) → i < 4
     → by_bits b1 b2 b4 b8 (2 ^ i) ≡ f (2 ^ i)
 at_power b1 b2 b4 b8 f e1 e2 e4 e8 zero h =
@@ -86,6 +88,7 @@ byte_by_bits t additive i h =
     (at_power (byte_at t 1) (byte_at t 2) (byte_at t 4) (byte_at t 8) (byte_at t) refl refl refl refl) 4 (omega arith)
     i h
 
+-- A choice between a byte and zero by one bit is the bit times the byte.
 chosen : (d p byte : ℕ) → d < 2 → 0 < p → cond (eqb (d * p) p) byte 0 ≡ d * byte
 chosen zero p byte hd hp = grind (arith, common_steps)
 chosen (suc zero) p byte hd hp = grind (arith, common_steps)

@@ -211,7 +211,8 @@ impl<'t> From<Ssse3<'t>> for DefaultEngine<'t> {
 }
 
 impl Engine for DefaultEngine<'_> {
-    ghost use Rattle.std.specs.Prelude.{◌≡◌, ℕ, ◌^◌, ◌≤◌, length, slice_index};
+    ghost use Rattle.std.specs.Prelude.{◌≡◌, ℕ, ◌^◌, ◌<◌, ◌≤◌, true, length, slice_index};
+    ghost use Rattle.rs_field.specs.words.Field.{log};
     ghost use Rattle.rs_field.specs.words.StepBounds.{LocatorCounts, LocatorCountsBelow};
     ghost use Rattle.rs_field.specs.words.Locator.{IsLocatorBelow};
 
@@ -321,6 +322,20 @@ impl Engine for DefaultEngine<'_> {
             Self::NoSimd(engine) => engine.locate(steps, erasures),
             Self::Avx2(engine) => engine.locate(steps, erasures),
             Self::Ssse3(engine) => engine.locate(steps, erasures),
+        }
+    }
+
+    fn logarithms(&self, logs: &mut [GfElement]) -> bool
+        requires few { length logs.old ≤ 65536 }
+        ensures values { result ≡ true
+            → (z : ℕ) → 0 < z → z < length logs.old → slice_index logs.new z ≡ log z }
+        ensures always { result ≡ true }
+    {
+        match self {
+            Self::Naive(engine) => engine.logarithms(logs),
+            Self::NoSimd(engine) => engine.logarithms(logs),
+            Self::Avx2(engine) => engine.logarithms(logs),
+            Self::Ssse3(engine) => engine.logarithms(logs),
         }
     }
 }

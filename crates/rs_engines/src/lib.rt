@@ -1,4 +1,4 @@
-//! Engines that look up products by nibbles: one at a time, by shuffles or bit by bit. And the engine that is chosen by name.
+//! Engines that look up products by nibbles: one at a time, by shuffles, or bit by bit. One more engine is chosen by name.
 #![tactic(auto)]
 
 pub mod any_factor;

@@ -10,8 +10,8 @@ use std::test::Fail;
 // The indexes of lost originals and of lost recovery shards, and the same shards as they are wanted.
 type Loss<'a> = (&'a [usize], &'a [usize], &'a [ShardIndex]);
 
-// The numbers of originals and of recovery shards. The wanted and the surplus shards are four with the first counts, which are
-// found by direct sums, and eight with the second ones, which are found by transforms.
+// The numbers of originals and of recovery shards. The wanted and the surplus shards are four with the first counts,
+// which are found by direct sums, and eight with the second ones, which are found by transforms.
 const COUNTS: [(usize, usize); 2] = [(10, 4), (8, 8)];
 
 const LOSSES: [Loss<'static>; 4] = [

@@ -1,6 +1,6 @@
 //! The decoding of a round by direct sums: each word of a missing original is the sum of the words of k given shards, the
 //! base, each times a factor. So is each word of a given shard outside the base, which is checked in this way. If there are
-//! few such shards and few missing originals, this takes less time than transforms.
+//! few such shards and few missing originals, this takes less time than transforms, unless the shards are very short.
 //!
 //! The factors come from Lagrange's formula for the polynomial of a column times the locator of the erased rows. The points
 //! of the rows are all words below a power of two, so the formula needs no weights. At an erased row, the derivative of this
@@ -56,8 +56,8 @@ impl Logarithms<'_> {
     }
 }
 
-// Returns whether direct sums are used: the decoder has few rows, and the sums are cheaper than transforms. There is one sum for
-// each missing original and one for each surplus shard.
+// Returns whether direct sums are used: the decoder has few rows, and the sums are cheaper than transforms. There is
+// one sum for each missing original and one for each surplus shard.
 pub(crate) fn are_sums_used(tally: Tally) -> bool
     requires configured { IsConfigured tally.configuration }
     requires few { tally.missing ≤ 65536 }

@@ -139,9 +139,9 @@ pub(crate) fn default_frame(original_count: usize, recovery_count: usize) -> Opt
     }
 }
 
-/// Returns whether a decode uses direct sums instead of transforms, if it needs this number of sums. A sum takes one product of
-/// a row for each original. Measurements show that both ways take about the same time if there are four times as many products
-/// as rows of a decoder.
+/// Returns whether a decode uses direct sums instead of transforms, if it needs this number of sums. A sum takes one
+/// product of a row for each original. With long shards, both ways take about the same time if there are four times as
+/// many products as rows of a decoder.
 #[tactic(auto, unfolding(crate::specs::Sums::AreSumsCheaper))]
 pub fn are_sums_cheaper(frame: Frame, original_count: usize, sums: usize) -> bool
     requires few { frame.exponent ≤ 16 }

@@ -6,4 +6,5 @@ pub swizzle : goal.swizzle
 swizzle c = low_places 32 2 c.args.self refl c.fits-self.0
 
 pub returns : goal.returns
-returns c additive i h = low_byte 32 2 c.args.self refl c.fits-self.0 c.table_twice.result c.args.t i c.table_twice.ensures h
+returns c additive i h =
+    low_byte 32 2 c.args.self refl c.fits-self.0 c.table_twice.result c.args.t i c.table_twice.ensures h
