@@ -77,8 +77,8 @@ fn damage_of(copies: Copies) -> Option<&'static str> {
     }
 }
 
-/// Prints which volumes do not have two equal copies of their head and their description, and which volumes have damaged
-/// blocks.
+/// Prints which volumes do not have two equal copies of their head and their description, and which volumes have
+/// damaged blocks.
 ///
 /// # Errors
 ///
