@@ -65,7 +65,7 @@ static size_t swept(size_t k, size_t r, size_t size, size_t surplus) {
 }
 
 int main(void) {
-    static const size_t counts[][2] = {{8, 8}, {9, 16}, {12, 12}, {32, 32}, {33, 31}, {100, 30}};
+    static const size_t counts[][2] = {{8, 8}, {9, 16}, {12, 12}, {32, 32}, {33, 31}, {100, 30}, {30, 100}};
     make_tables();
     for (size_t i = 0; i < sizeof counts / sizeof *counts; i++) {
         size_t k = counts[i][0], r = counts[i][1], summed[3];
