@@ -1,11 +1,12 @@
 /* A shared object to be loaded before a program. It lets these calls fail:
-   - renames of a file whose name ends in FAIL_RENAME,
+   - renames of a file whose name ends in FAIL_RENAME, or in KILL_RENAME, which ends the program at once,
    - all hard links, if FAIL_LINK is set,
    - syncs of a file whose name ends in FAIL_SYNC, as on a disk that fails,
    - syncs of folders, if FAIL_FOLDERS is set, as on a file system that cannot sync a folder. */
 #define _GNU_SOURCE
 #include <dlfcn.h>
 #include <errno.h>
+#include <signal.h>
 #include <stdio.h>
 #include <stdlib.h>
 #include <string.h>
@@ -22,6 +23,7 @@ static int ends(const char *path, const char *variable)
 int rename(const char *from, const char *to)
 {
     int (*next)(const char *, const char *) = (int (*)(const char *, const char *))dlsym(RTLD_NEXT, "rename");
+    if (ends(from, "KILL_RENAME")) kill(getpid(), SIGKILL);
     if (ends(from, "FAIL_RENAME")) {
         errno = EIO;
         return -1;

@@ -1,7 +1,9 @@
-"""Tests that `rs_files` loses no file if a stream is closed, or if a call of the system fails at the last step of a command."""
+"""Tests that `rs_files` loses no file if a stream is closed, or if a call of the system fails at the last step of a command. Tests of
+times, sizes and progress."""
+import json
 import os
 
-from files_common import RANDOM, Folder, preloaded, printed, read, run, tree, write, wrong
+from files_common import RANDOM, Folder, info, preloaded, printed, read, run, tree, write, wrong
 
 
 def changed(data, place):
@@ -58,6 +60,33 @@ def old_volumes():
             wrong("the volumes that got their names do not restore the files")
 
 
+def killed_between():
+    """If `split --force` is killed before the first rename, all old volumes are there. If it is killed between two renames, all new volumes
+    are whole, under their final names or under the others."""
+    with Folder() as at:
+        write(at("set", "a"), RANDOM.randbytes(50_000))
+        split = ("split", at("set"), "-n", "3", "-q", "--force")
+        run(*split, "-o", at("v"))
+        old = tree(at("v"))
+        write(at("set", "a"), RANDOM.randbytes(50_000))
+        run(*split, "-o", at("w"))
+        new = tree(at("w"))
+        for number in (1, 2, 3):
+            names = [f"volume000{i}.rsv" for i in (1, 2, 3)]
+            killing = preloaded("fail_calls", KILL_RENAME=names[number - 1] + ".part")
+            if killing is None:
+                return
+            for name, data in old.items():
+                write(at("v", name), data)
+            run(*split, "-o", at("v"), status=-9, env=killing)
+            renamed = {name: (new if i + 1 < number else old)[name] for i, name in enumerate(names)}
+            parts = {name + ".part": new[name] for name in names[number - 1:]}
+            if tree(at("v")) != {**renamed, **parts}:
+                wrong(f"split --force that is killed before the rename of volume {number} leaves {sorted(tree(at('v')))}")
+            for name in parts:
+                os.remove(at("v", name))
+
+
 def failed_repair():
     """If a restored file cannot get its name, the damaged file has its own name again, and no other one."""
     with Folder() as at:
@@ -109,4 +138,75 @@ def folders_without_sync():
             wrong(f"join into a folder that cannot be synced: {error}")
 
 
-TESTS = (closed_streams, old_volumes, failed_repair, folders_without_sync)
+def times():
+    """A file has its old time, to the second, after `repair`, `repair --to` and `join`."""
+    with Folder() as at:
+        data = {"a": RANDOM.randbytes(5000), "b": RANDOM.randbytes(700), "empty": b""}
+        seconds = {"a": 1_000_000_000, "b": 1, "empty": 1_700_000_000}
+        for name, content in data.items():
+            write(at("d", name), content)
+            os.utime(at("d", name), (seconds[name], seconds[name]))
+        run("create", at("d"), "-q", "--block", "512", "-r", "20")
+        run("split", at("d"), "-n", "3", "-o", at("v"), "-q")
+        write(at("d", "a"), changed(data["a"], 600))
+        for name in ("b", "empty"):
+            os.remove(at("d", name))
+        run("repair", at("d.rsv"), "--to", at("other"), "-q", status=1)
+        run("repair", at("d.rsv"), "-q", status=1)
+        run("join", at("v", "volume0001.rsv"), at("v", "volume0002.rsv"), "--to", at("new"), "-q", status=(0, 1))
+        for folder in (at("d"), at("other", "d"), at("new", "d")):
+            found = {name: os.stat(os.path.join(folder, name)).st_mtime for name in data}
+            if found != seconds or any(read(os.path.join(folder, name)) != content for name, content in data.items()):
+                wrong(f"the times or contents of files in {folder}: {found}")
+
+
+def sizes_shown():
+    """`verify --json`, `info --json` and `info` show the size of each file, also of a damaged or missing one."""
+    with Folder() as at:
+        sizes = {"d/a": 5000, "d/b": 0, "d/c": 700, "d/e": 123}
+        for name, size in sizes.items():
+            write(at(name), RANDOM.randbytes(size))
+        run("create", at("d"), "-q", "--block", "512", "-r", "20")
+        write(at("d", "a"), bytes(40))
+        os.remove(at("d", "c"))
+        files = json.loads(printed("verify", at("d.rsv"), "--json", status=1)[0])["files"]
+        states = {"d/a": "damaged", "d/b": "whole", "d/c": "missing", "d/e": "whole"}
+        if files != [{"name": name, "size": size, "state": states[name]} for name, size in sizes.items()]:
+            wrong(f"verify --json shows the files {files}")
+        if info(at("d.rsv"))["files"] != [{"name": name, "size": size} for name, size in sizes.items()]:
+            wrong(f"info --json shows the files {info(at('d.rsv'))['files']}")
+        if printed("info", at("d.rsv"))[0].splitlines()[1:] != [f"{size:>14}  {name}" for name, size in sizes.items()]:
+            wrong("info shows other sizes or names")
+
+
+def progress_of_restores():
+    """`split`, `repair` and `join` show progress if the user asks for it, and show none if the user does not."""
+    with Folder() as at:
+        data = RANDOM.randbytes(3_000_000)
+        write(at("a"), data)
+        run("create", at("a"), "-q")
+        write(at("a"), changed(data, 5))
+        run("split", at("a"), "-n", "2", "-o", at("v"), "-q")
+        for words, status in ((("split", at("a"), "-n", "2", "-o", at("v"), "--force"), 0), (("join", at("v", "volume0002.rsv"), "--to", at("new"), "--force"), 1),
+                              (("repair", at("a.rsv"), "--to", at("other"), "--force"), 1)):
+            for more, shown in (((), False), (("--progress", "never"), False), (("--progress", "always"), True), (("--progress", "always", "-q"), True)):
+                error = printed(*words, *more, status=status)[1]
+                if ("\r100%, " in error) != shown or not shown and error:
+                    wrong(f"progress of {words[0]} with {more}: {error!r}")
+
+
+def same_length():
+    """A file that changes while it is read, but keeps its length: `create` and `split` say so, and finish no volume."""
+    changing = preloaded("change_reads", READ_NAME="/a", READ_WRITES=1)
+    if changing is None:
+        return
+    with Folder() as at:
+        for words in (("create", at("a")), ("split", at("a"), "-n", "2", "-o", at("v"))):
+            write(at("a"), bytes(20_000))
+            os.utime(at("a"), (1, 1))
+            text = run(*words, "--block", "512", status=4, env=changing)
+            if at("a") + ": this file changed while it was read: try again" not in text or tree(at()) != {"a": b"x" + bytes(19_999)}:
+                wrong(f"{words[0]} from a file that changes and keeps its length: {text}")
+
+
+TESTS = (closed_streams, old_volumes, killed_between, failed_repair, folders_without_sync, times, sizes_shown, progress_of_restores, same_length)
