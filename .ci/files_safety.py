@@ -1,5 +1,5 @@
 """Tests that `rs_files` loses no file if a stream is closed, or if a call of the system fails at the last step of a command. Tests of
-times, sizes and progress."""
+times, sizes, progress and names, and of paths that are empty."""
 import json
 import os
 
@@ -209,4 +209,20 @@ def same_length():
                 wrong(f"{words[0]} from a file that changes and keeps its length: {text}")
 
 
-TESTS = (closed_streams, old_volumes, killed_between, failed_repair, folders_without_sync, times, sizes_shown, progress_of_restores, same_length)
+def empty_paths():
+    """An empty path of an option, as that of a variable of a shell that is not set, is a wrong command line."""
+    with Folder() as at:
+        write(at("a"), RANDOM.randbytes(5000))
+        run("create", at("a"), "-q")
+        run("split", at("a"), "-n", "2", "-o", at("v"), "-q")
+        os.remove(at("a"))
+        before = tree(at())
+        for option, *words in (("--output", "create", at("v"), "-o", ""), ("--output", "split", at("v"), "-n", "2", "--output="),
+                               ("--to", "join", at("v", "volume0001.rsv"), "--to", ""), ("--to", "repair", at("a.rsv"), "--to="),
+                               ("--folder", "repair", at("a.rsv"), "--folder", ""), ("--folder", "verify", at("a.rsv"), "--folder=")):
+            if printed(*words, status=2, cwd=at()) != ("", f"rs_files: {option}: the path is empty\n") or tree(at()) != before:
+                wrong(f"{words} with an empty path")
+
+
+TESTS = (closed_streams, old_volumes, killed_between, failed_repair, folders_without_sync, times, sizes_shown, progress_of_restores, same_length,
+         empty_paths)

@@ -65,6 +65,19 @@ pub fn trimmed(path: &str) -> &str {
     if front.is_empty() { path } else { front }
 }
 
+/// Returns the front of the path of the volume that `create` writes by default: the only FILE, without slashes at its
+/// end. Returns `None` if there are several FILEs, or if the only one ends in no name.
+pub fn front_of_volume(paths: &[String]) -> Option<&str> {
+    let [path] = paths else {
+        return None;
+    };
+    let front = trimmed(path.as_str());
+    match last_of(front) {
+        "" | "." | ".." => None,
+        _ => Some(front),
+    }
+}
+
 /// Returns the folder to open: `.` if `folder` is empty, and `folder` otherwise.
 pub fn folder_to_open(folder: &str) -> &str {
     if folder.is_empty() { "." } else { folder }
