@@ -209,6 +209,37 @@ def same_length():
                 wrong(f"{words[0]} from a file that changes and keeps its length: {text}")
 
 
+def shown_names():
+    """Control characters of names are shown escaped, and names in JSON are as they are."""
+    with Folder() as at:
+        name, shown = "a\x1b[31m\nb\t\x7f\u0085 \u00e9\\", "a\\u{1b}[31m\\nb\\t\\u{7f}\\u{85} \u00e9\\"
+        data = RANDOM.randbytes(5000)
+        write(at("d", name), data)
+        volume = at("d\x1b.rsv")
+        out = [printed("create", at("d"), "-o", volume, "--block", "512", "-r", "20")]
+        if not out[0][0].startswith(at("d\\u{1b}.rsv") + ": 1 file in 10 blocks"):
+            wrong(f"create shows {out}")
+
+        def seen(text, *words, **options):
+            """Checks that a command prints a text, and no control character but the ends of lines."""
+            printed_both = "".join(printed(*words, **options))
+            if text not in printed_both or any(ord(character) < 32 and character != "\n" or 127 <= ord(character) < 160 for character in printed_both):
+                wrong(f"{words[0]} shows {printed_both!r}")
+
+        seen(f"          5000  d/{shown}\n", "info", volume)
+        unreadable = preloaded("change_reads", READ_NAME=name, READ_FROM=600, READ_TO=601)
+        if unreadable is not None:
+            seen(at("d", shown) + ": 1 block cannot be read: ", "verify", volume, status=1, env=unreadable)
+        write(at("d", name), changed(data, 5))
+        seen(f"damaged: d/{shown}\n", "verify", volume, status=1)
+        os.remove(at("d", name))
+        seen(f"missing: d/{shown}\n", "verify", volume, status=1)
+        if json.loads(printed("verify", volume, "--json", status=1)[0])["files"][0]["name"] != "d/" + name or info(volume)["files"][0]["name"] != "d/" + name:
+            wrong("a name in JSON is another one")
+        os.mkdir(at("d", name))
+        seen(at("d", shown) + ": a folder is in the place of this file", "repair", volume, status=4)
+
+
 def empty_paths():
     """An empty path of an option, as that of a variable of a shell that is not set, is a wrong command line."""
     with Folder() as at:
@@ -225,4 +256,4 @@ def empty_paths():
 
 
 TESTS = (closed_streams, old_volumes, killed_between, failed_repair, folders_without_sync, times, sizes_shown, progress_of_restores, same_length,
-         empty_paths)
+         shown_names, empty_paths)

@@ -2,7 +2,7 @@
 use crate::counted::Counted;
 use crate::failure::{Failure, Result};
 use crate::folder::{Cut, cut_files, piece_bytes, shape_of};
-use crate::names::{front_of_volume, path_in, text_of};
+use crate::names::{Shown, front_of_volume, path_in, text_of};
 use crate::output::at_path;
 use crate::progress::Progress;
 use crate::settings::{NO_OUTPUT, Recovery, Request, STATUS_WHOLE};
@@ -314,7 +314,7 @@ fn tell<R: Runtime>(rt: &R, outputs: &[String], made: Made) -> Result<()> {
     let recovery = Counted(u64::from(made.cut.recovery_count), "recovery block");
     let bytes = made.cut.block_bytes;
     for output in outputs {
-        let path = output.as_str();
+        let path = Shown(output.as_str());
         println!(rt; "{path}: {files} in {originals} of {bytes} bytes, {recovery}")?;
     }
     Ok(())

@@ -2,7 +2,7 @@
 use crate::counted::Counted;
 use crate::failure::{Failure, Result};
 use crate::json::{add, add_text, files_of, object_of, print};
-use crate::names::{folder_to_open, parent_of, text_of};
+use crate::names::{Shown, folder_to_open, parent_of, text_of};
 use crate::scanning::{Counts, FileState, Scan, scan_request};
 use crate::settings::{Request, STATUS_LOST, STATUS_MENDED, STATUS_WHOLE};
 use crate::volume::Copies;
@@ -62,7 +62,7 @@ fn tell_files<R: Runtime>(rt: &R, scan: &Scan) -> Result<()> {
     {
         if *state != FileState::Whole {
             let word = word_of(*state);
-            println!(rt; "{word}: {}", text_of(file.name.as_slice()))?;
+            println!(rt; "{word}: {}", Shown(text_of(file.name.as_slice())))?;
         }
     }
     Ok(())
