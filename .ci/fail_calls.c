@@ -1,12 +1,15 @@
 /* A shared object to be loaded before a program. It lets these calls fail:
    - renames of a file whose name ends in FAIL_RENAME, or in KILL_RENAME, which ends the program at once,
+   - opens of a file whose name ends in FAIL_OPEN,
    - all hard links, if FAIL_LINK is set,
    - syncs of a file whose name ends in FAIL_SYNC, as on a disk that fails,
    - syncs of folders, if FAIL_FOLDERS is set, as on a file system that cannot sync a folder. */
 #define _GNU_SOURCE
 #include <dlfcn.h>
 #include <errno.h>
+#include <fcntl.h>
 #include <signal.h>
+#include <stdarg.h>
 #include <stdio.h>
 #include <stdlib.h>
 #include <string.h>
@@ -18,6 +21,20 @@ static int ends(const char *path, const char *variable)
 {
     const char *end = getenv(variable);
     return end && strlen(path) >= strlen(end) && !strcmp(path + strlen(path) - strlen(end), end);
+}
+
+int open(const char *path, int flags, ...)
+{
+    int (*next)(const char *, int, ...) = (int (*)(const char *, int, ...))dlsym(RTLD_NEXT, "open");
+    va_list more;
+    va_start(more, flags);
+    mode_t mode = flags & O_CREAT ? va_arg(more, mode_t) : 0;
+    va_end(more);
+    if (ends(path, "FAIL_OPEN")) {
+        errno = EACCES;
+        return -1;
+    }
+    return next(path, flags, mode);
 }
 
 int rename(const char *from, const char *to)

@@ -12,7 +12,8 @@ def changed(data, place):
 
 
 def closed_streams():
-    """If standard input, output or error is closed, nothing that is printed goes into a file of the set."""
+    """If standard input, output or error is closed, nothing that is printed goes into a file of the set. If `/dev/null` cannot be opened in
+    its place, the program fails."""
     with Folder() as at:
         data = RANDOM.randbytes(3_000_000)
         for closed in ((0,), (1,), (2,), (0, 1, 2)):
@@ -33,6 +34,9 @@ def closed_streams():
             run("repair", at("a.rsv"), "--progress", "always", status=1, before=close)
             if read(at("a")) != data:
                 wrong(f"repair without the streams {closed} restores another file")
+        failing = preloaded("fail_calls", FAIL_OPEN="/dev/null")
+        if failing is not None and "/dev/null: Permission denied" not in run("verify", at("a.rsv"), status=4, env=failing):
+            wrong("no message if /dev/null cannot be opened")
 
 
 def old_volumes():
