@@ -184,18 +184,20 @@ def sizes_shown():
 
 
 def progress_of_restores():
-    """`split`, `repair` and `join` show progress if the user asks for it, and show none if the user does not."""
+    """`split`, `repair` and `join` show progress if the user asks for it, and show none if the user does not. `repair` and `join` first look
+    for blocks, and then restore them: each step has its own progress."""
     with Folder() as at:
         data = RANDOM.randbytes(3_000_000)
         write(at("a"), data)
         run("create", at("a"), "-q")
         write(at("a"), changed(data, 5))
         run("split", at("a"), "-n", "2", "-o", at("v"), "-q")
-        for words, status in ((("split", at("a"), "-n", "2", "-o", at("v"), "--force"), 0), (("join", at("v", "volume0002.rsv"), "--to", at("new"), "--force"), 1),
-                              (("repair", at("a.rsv"), "--to", at("other"), "--force"), 1)):
+        for words, status, steps in ((("split", at("a"), "-n", "2", "-o", at("v"), "--force"), 0, 1),
+                                     (("join", at("v", "volume0002.rsv"), "--to", at("new"), "--force"), 1, 2),
+                                     (("repair", at("a.rsv"), "--to", at("other"), "--force"), 1, 2)):
             for more, shown in (((), False), (("--progress", "never"), False), (("--progress", "always"), True), (("--progress", "always", "-q"), True)):
                 error = printed(*words, *more, status=status)[1]
-                if ("\r100%, " in error) != shown or not shown and error:
+                if error.count("\r100%, ") != (steps if shown else 0) or not shown and error:
                     wrong(f"progress of {words[0]} with {more}: {error!r}")
 
 
