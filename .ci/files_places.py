@@ -338,6 +338,74 @@ def spread_volumes():
             wrong("verify of an empty file that is missing")
 
 
+def damaged_blocks():
+    """`verify` names each volume of which a block is damaged, also if the same block is in a file or in another volume."""
+    with Folder() as at:
+        write(at("set", "a"), RANDOM.randbytes(6000))
+        write(at("set", "b"), RANDOM.randbytes(700))
+        run("split", at("set"), "-n", "3", "--lose", "1", "-o", at("v"), "-q", "--block", "512")
+        volumes = [at("v", f"volume000{number}.rsv") for number in range(1, 4)]
+        before, whole = tree(at("set")), read(volumes[1])
+        # The files have 14 blocks, so there are 7 recovery blocks. The second volume has the blocks 1, 4, 7, 10, 13, 16 and 19.
+        start = 64 + int.from_bytes(whole[16:24], "little")
+        kept = "all files and recovery blocks are whole, but a volume is damaged or cannot be read: make the volumes again, with create --force or split --force\n"
+        lost = "all files are whole, but 1 of 7 recovery blocks cannot be used: make the volumes again, with create --force or split --force\n"
+        for places, number, words in (((8,), "1 damaged block", kept), ((0,), "1 damaged block", kept), ((519, 528, 1039), "2 damaged blocks", kept),
+                                      ((5 * 520 + 8,), "1 damaged block", lost), ((4 * 520 + 9, 6 * 520 + 9), "2 damaged blocks", lost)):
+            damaged = bytearray(whole)
+            for place in places:
+                damaged[start + place] ^= 1
+            write(volumes[1], bytes(damaged))
+            wanted = f"{volumes[1]}: the volume has {number}\n{words}"
+            for command, status in (("verify", 1), ("repair", 0)):
+                found = printed(command, *volumes, "--folder", at(), status=status)
+                if found != (wanted, ""):
+                    wrong(f"{command} of volumes with wrong bytes at {places}: {found}")
+            if printed("verify", *volumes, "--folder", at(), "-q", status=1) != ("", ""):
+                wrong("verify -q of a volume with damaged blocks")
+            found = json.loads(run("verify", *volumes, "--folder", at(), "--json", status=1))
+            states = [volume["state"] for volume in found["volumes"]]
+            if states != ["whole", "damaged", "whole"] or {file["state"] for file in found["files"]} != {"whole"} or found["status"] != 1 or found["lost_blocks"] != 0:
+                wrong(f"verify --json of volumes with wrong bytes at {places}: {found}")
+        # A whole copy of the volume has all its blocks, and no file is there.
+        write(at("copy.rsv"), whole)
+        found = printed("verify", *volumes, at("copy.rsv"), status=1)
+        if found[0].splitlines()[0] != f"{volumes[1]}: the volume has 2 damaged blocks" or "but all blocks are in these volumes" not in found[0]:
+            wrong(f"verify of a damaged volume beside a copy that is whole: {found}")
+        # A number of records that is too large in one head does not make a block damaged.
+        write(volumes[1], whole[:25] + b"\1" + whole[26:])
+        found = printed("verify", *volumes, "--folder", at(), status=1)[0]
+        if found != f"{volumes[1]}: the volume is damaged at its end, its first head was used\n{kept}":
+            wrong(f"verify of a volume with a wrong number of records: {found}")
+        unreadable = preloaded("change_reads", READ_NAME="volume0001.rsv", READ_FROM=start + 520 + 8, READ_TO=start + 520 + 9)
+        if unreadable is not None:
+            write(volumes[1], whole)
+            found = printed("verify", *volumes, "--folder", at(), status=1, env=unreadable)
+            if found != (f"{volumes[0]}: the volume has 1 damaged block\n{kept}", f"rs_files: {volumes[0]}: 1 block cannot be read: Input/output error (os error 5)\n"):
+                wrong(f"verify of a volume of which a block cannot be read: {found}")
+        if tree(at("set")) != before:
+            wrong("verify or repair changed a file")
+
+
+def no_files():
+    """If a folder or a pipe is in the place of a file, `verify` gives the reason why the file is missing."""
+    with Folder() as at:
+        for name in ("a", "b", "c"):
+            write(at("d", name), RANDOM.randbytes(700))
+        run("create", at("d"), "-q", "--block", "512", "-r", "100%")
+        os.remove(at("d", "a"))
+        os.mkdir(at("d", "a"))
+        os.remove(at("d", "b"))
+        os.mkfifo(at("d", "b"))
+        error = f"rs_files: {at('d', 'a')}: a folder is in the place of this file\nrs_files: {at('d', 'b')}: this is no regular file\n"
+        out = "missing: d/a\nmissing: d/b\n4 lost blocks, and 6 of 6 recovery blocks left: the files can be repaired\n"
+        if printed("verify", at("d.rsv"), status=1) != (out, error) or printed("verify", at("d.rsv"), "-q", status=1) != ("", error):
+            wrong(f"verify of a folder and a pipe in the place of files: {printed('verify', at('d.rsv'), status=1)}")
+        found, said = printed("verify", at("d.rsv"), "--json", status=1)
+        if [file["state"] for file in json.loads(found)["files"]] != ["missing", "missing", "whole"] or said != error:
+            wrong(f"verify --json of a folder and a pipe in the place of files: {found} {said}")
+
+
 def percents(text):
     """Returns the percentages in a text that a command prints, one after another."""
     return [int(number) for number in re.findall(r"\r(\d+)%", text)]
@@ -366,7 +434,7 @@ def progress_to_end():
         start = 64 + int.from_bytes(read(volumes[0])[16:24], "little")
         unreadable = preloaded("change_reads", READ_NAME="volume0001.rsv", READ_FROM=start + 8, READ_TO=start + 9)
         if unreadable is not None:
-            text = check(100, *volumes, "--folder", at(), status=(0, 1), env=unreadable)
+            text = check(100, *volumes, "--folder", at(), status=1, env=unreadable)
             if percents(text.split("volume0001.rsv: 1 block cannot be read")[0])[-1] != 66:
                 wrong(f"progress of verify before the end of the first volume: {percents(text.split('rs_files')[0])}")
         for name in "bc":
@@ -402,4 +470,4 @@ def too_large():
                 wrong(f"create of 65536 files with {words}")
 
 
-TESTS = (output_in_use, long_names, long_paths, blocked, inputs_kept, links, modes, unread, spread_volumes, progress_to_end, too_large)
+TESTS = (output_in_use, long_names, long_paths, blocked, inputs_kept, links, modes, unread, spread_volumes, damaged_blocks, no_files, progress_to_end, too_large)

@@ -106,4 +106,35 @@ def second_reader():
             wrong("the reader in Python does not say that too many blocks are lost")
 
 
-TESTS = (wrong_volumes, second_reader)
+def names_in_python():
+    """The reader in Python cuts long names, replaces no file, and writes no file through a symbolic link."""
+    with Folder() as at:
+        long = "n" * 120
+        new = {"a": "a.restored2", "a.restored": "a.restored.restored", long: f"{long}.restored", "n" * 247: f"{long}.restored2", "n" * 255: f"{long}.restored3",
+               "\u00e9" * 127: "\u00e9" * 60 + ".restored2", "x" + "\u00e9" * 127: "x" + "\u00e9" * 59 + ".restored2"}
+        for name in (*new, "sub/b"):
+            write(at("d", *name.split("/")), RANDOM.randbytes(700))
+        before = tree(at("d"))
+        run("create", at("d"), "-q", "--block", "512")
+        os.rename(at("d", "sub"), at("outside"))
+        write(at("victim"), b"of somebody else")
+        links = {"sub": at("outside"), "\u00e9" * 60 + ".restored": at("victim"), "x" + "\u00e9" * 59 + ".restored": at("nowhere")}
+        for name, target in links.items():
+            os.symlink(target, at("d", name))
+        fault = f"restore.py: {os.path.realpath(at('d'))}/sub/b: a folder of its path is a symbolic link\n"
+        found = read_in_python(at(), at("d.rsv"), whole=False)
+        if found != fault or tree(at("outside")) != {"b": before["sub/b"]} or read(at("victim")) != b"of somebody else" or os.path.exists(at("nowhere")):
+            wrong(f"the reader in Python writes through a symbolic link: {found}")
+        if {*os.listdir(at("d"))} != {*new, *new.values(), *links}:
+            wrong(f"the reader in Python writes other files: {sorted(os.listdir(at('d')))}")
+        for name, restored in new.items():
+            if read(at("d", restored)) != before[name] or read(at("d", name)) != before[name]:
+                wrong(f"the reader in Python does not restore {name}, or changes it")
+        os.remove(at("d", "sub"))
+        os.rename(at("outside"), at("d", "sub"))
+        read_in_python(at(), at("d.rsv"))
+        if read(at("d", "sub", "b.restored")) != before["sub/b"] or read(at("d", "a.restored3")) != before["a"]:
+            wrong("the reader in Python does not restore files a second time")
+
+
+TESTS = (wrong_volumes, second_reader, names_in_python)

@@ -1,14 +1,15 @@
 #!/usr/bin/env python3
-"""Restores the files of a set from its volumes (docs/FORMAT.md). If blocks are lost, it needs the package reed_solomon_simd, which
-is the library for C in Python (docs/C.md).
+"""Restores files from their volumes (docs/FORMAT.md). If blocks are lost, it needs the package reed_solomon_simd (docs/C.md).
 
 Usage: restore.py FOLDER VOLUME..
 
 Takes blocks from the files in FOLDER and from the volumes. Writes each file into FOLDER as NAME.restored, without its time and its
-permission bits."""
+permission bits. If this name is in use, the file is NAME.restored2 and so on. A NAME of more than 120 bytes is cut. If a folder of the
+path of a file is a symbolic link, the file is not written."""
 import struct
 import sys
 from hashlib import sha256
+from os.path import isfile, lexists, realpath
 from pathlib import Path
 
 
@@ -29,9 +30,9 @@ def read_description(text):
             size, _time, _mode, length = struct.unpack_from("<QqIH", text, at)
             files.append((struct.unpack_from(f"{length}s", text, at + 22)[0], size))
             at += 22 + length
+        struct.unpack_from(f"{32 * (k + r)}x", text, at)
     except struct.error:
         raise ValueError("it ends too early") from None
-    check(len(text) >= at + 32 * (k + r), "it ends too early")
     check(len(text) <= at + 32 * (k + r), "bytes follow its description")
     check(b % 2 == 0 and 2 <= b <= 1 << 40, "its block size is zero, odd or too large")
     powers = [1 << (blocks - 1).bit_length() for blocks in (k, r)]
@@ -53,8 +54,7 @@ def read_copy(volume, at_end):
     check(version == 1, "its version is not 1: a newer program may read it")
     check(zero == 0, "a number that must be zero is not")
     check(length <= len(volume) - 64, "its description is too long")
-    at = len(volume) - 64 - length if at_end else 64
-    text = volume[at:at + length]
+    text = volume[len(volume) - 64 - length:-64] if at_end else volume[64:64 + length]
     check(sha256(text).digest() == digest, "its description does not have its digest")
     return text, min(records, (len(volume) - 64 - length) // (8 + read_description(text)[0]))
 
@@ -70,38 +70,41 @@ def read_volume(path):
     raise ValueError(f"{path}: this is no volume that can be read: {faults[0]}")
 
 
-def find_blocks(folder, volumes):
-    """Returns the blocks that have their digest, by their indexes."""
-    b, _, _, files, digests = read_description(volumes[0][1])
-    pieces = []
-    for name, size in files:
-        path = Path(folder, name.decode())
-        data = path.read_bytes()[:size] if path.is_file() else b""
-        pieces += [data[at:at + b].ljust(b, b"\0") for at in range(0, size, b)]
-    blocks = [*enumerate(pieces)]
-    for volume, text, records in volumes:
-        for at in range(64 + len(text), 64 + len(text) + records * (8 + b), 8 + b):
-            blocks.append((int.from_bytes(volume[at:at + 4], "little"), volume[at + 8:at + 8 + b]))
-    return {i: block for i, block in blocks if i < len(digests) and sha256(block).digest() == digests[i]}
+def write_file(folder, name, data):
+    """Writes a file under the first of its names that is not in use."""
+    path = Path(realpath(folder), name)
+    check(realpath(path.parent) == str(path.parent), f"{path}: a folder of its path is a symbolic link")
+    path.parent.mkdir(parents=True, exist_ok=True)
+    front = path.name.encode()[:120].decode(errors="ignore")
+    paths = (path.with_name(f"{front}.restored{i if i > 1 else ''}") for i in range(1, sys.maxsize))
+    next(path for path in paths if not lexists(path)).write_bytes(data)
 
 
 def restore(folder, *paths):
-    """Writes all files of the set of the volumes at `paths`."""
-    volumes = [read_volume(path) for path in paths]
-    for path, (_, text, _) in zip(paths, volumes):
-        check(text == volumes[0][1], f"{path}: this volume belongs to another set")
+    """Writes all files of the set of the volumes at `paths`. If a file cannot be written, writes the others."""
+    volumes, blocks, faults = [read_volume(path) for path in paths], [], []
     b, k, r, files, digests = read_description(volumes[0][1])
-    found = find_blocks(folder, volumes)
+    for name, size in files:
+        path = Path(folder, name.decode())
+        data = path.read_bytes()[:size] if isfile(path) else b""
+        blocks += enumerate((data[at:at + b].ljust(b, b"\0") for at in range(0, size, b)), len(blocks))
+    for path, (volume, text, records) in zip(paths, volumes):
+        check(text == volumes[0][1], f"{path}: this volume belongs to another set")
+        for at in range(64 + len(text), 64 + len(text) + records * (8 + b), 8 + b):
+            blocks.append((int.from_bytes(volume[at:at + 4], "little"), volume[at + 8:at + 8 + b]))
+    found = {i: block for i, block in blocks if i < len(digests) and sha256(block).digest() == digests[i]}
     if any(i not in found for i in range(k)):
         from reed_solomon_simd import decode
-        recovery = {i - k: block for i, block in found.items() if i >= k}
-        found |= decode(k, r, {i: block for i, block in found.items() if i < k}, recovery)
+        found |= decode(k, r, {i: found[i] for i in found if i < k}, {i - k: found[i] for i in found if i >= k})
     check(all(sha256(found[i]).digest() == digests[i] for i in range(k)), "a restored block does not have its digest")
     blocks = iter([found[i] for i in range(k)])
     for name, size in files:
-        target = Path(folder, name.decode() + ".restored")
-        target.parent.mkdir(parents=True, exist_ok=True)
-        target.write_bytes(b"".join(next(blocks) for _ in range(0, size, b))[:size])
+        data = b"".join(next(blocks) for _ in range(0, size, b))[:size]
+        try:
+            write_file(folder, name.decode(), data)
+        except (OSError, ValueError) as fault:
+            faults.append(str(fault))
+    check(not faults, "\nrestore.py: ".join(faults))
 
 
 if len(sys.argv) < 3:

@@ -48,6 +48,8 @@ pub struct Scan {
     pub paths: Vec<String>,
     /// For each volume, the state of the two copies of its head and its description.
     pub copies: Vec<Copies>,
+    /// For each volume, the number of its blocks that do not have their digest or cannot be read.
+    pub damaged_blocks: Vec<u64>,
     /// The paths of the volumes that cannot be read.
     pub unreadable: Vec<String>,
 }
@@ -57,7 +59,7 @@ pub struct Scan {
 ///
 /// The first volume that can be read determines the set. For each volume that cannot be read, the function prints a
 /// message. A block that cannot be read is not an error: it is not found. For each file and each volume with such
-/// blocks, the function prints a message.
+/// blocks, the function prints a message. It also prints a message for each file in whose place something else is.
 ///
 /// # Errors
 ///
@@ -218,7 +220,7 @@ fn scan_set<R: Runtime + AllocGlobal>(
 }
 
 // Looks for the blocks of a description in the volumes and, if `folder` is given, in the files below that folder. The
-// result has no state of a volume.
+// result has no paths of volumes that cannot be read, and no states of the heads of volumes.
 fn scan_blocks<R: Runtime + AllocGlobal>(
     rt: &R,
     description: Description,
@@ -243,6 +245,7 @@ fn scan_blocks<R: Runtime + AllocGlobal>(
     let Scanner {
         origins,
         states,
+        damaged_blocks,
         ..
     } = scanner;
     Ok(Scan {
@@ -252,6 +255,7 @@ fn scan_blocks<R: Runtime + AllocGlobal>(
         states,
         paths,
         copies: Vec::new(alloc),
+        damaged_blocks,
         unreadable: Vec::new(alloc),
     })
 }
@@ -277,6 +281,8 @@ struct Scanner {
     origins: Vec<Option<Origin>>,
     // The states of the files that were scanned.
     states: Vec<FileState>,
+    // For each volume that was scanned, the number of its blocks that do not have their digest or cannot be read.
+    damaged_blocks: Vec<u64>,
     // The memory into which files are read.
     buffer: Vec<u8>,
     progress: Progress,
@@ -291,6 +297,7 @@ impl Scanner {
         Ok(Scanner {
             origins: vec![in alloc; None; blocks_of(description)]?,
             states: Vec::new(alloc),
+            damaged_blocks: Vec::new(alloc),
             buffer: vec![in alloc; 0u8; CHUNK]?,
             progress,
             unread: 0,
@@ -328,6 +335,19 @@ impl Scanner {
             let path = Shown(path);
             let _ = eprintln!(rt; "rs_files: {path}: {error}");
         }
+        FileState::Missing
+    }
+
+    // Returns that a file is missing because a folder or something else that is no regular file is in its place, and
+    // prints this.
+    fn replaced<R: Runtime>(&mut self, rt: &R, path: &str, is_folder: bool) -> FileState {
+        let reason = if is_folder {
+            "a folder is in the place of this file"
+        } else {
+            "this is no regular file"
+        };
+        self.progress.end(rt);
+        let _ = eprintln!(rt; "rs_files: {path}: {reason}");
         FileState::Missing
     }
 
@@ -369,7 +389,8 @@ impl Scanner {
     ) -> Result<()> {
         for (path, records) in volumes.iter().zip(records) {
             let mut file = at_path(alloc, path.as_str(), fs::open(rt, path.as_str()))?;
-            self.scan_volume(rt, description, paths.len(), &mut file, *records);
+            let damaged = self.scan_volume(rt, description, paths.len(), &mut file, *records);
+            self.damaged_blocks.push(damaged)?;
             self.tell_unread(rt, path.as_str());
             paths.push(path.clone()?)?;
         }
@@ -398,7 +419,7 @@ impl Scanner {
         // A pipe is not opened: a program that opens it waits until another one writes into it.
         match fs::metadata(rt, path) {
             Ok(metadata) if metadata.is_file() => (),
-            Ok(_) => return FileState::Missing,
+            Ok(metadata) => return self.replaced(rt, path, metadata.is_dir()),
             Err(error) => return self.missing(rt, path, error),
         }
         let state = match fs::open(rt, path) {
@@ -469,8 +490,11 @@ impl Scanner {
         }
     }
 
-    // Looks for blocks in the records of a volume. `records` holds the number of records and the offset of the first
-    // record.
+    // Looks for blocks in the records of a volume, and returns the number of records whose block does not have its
+    // digest or cannot be read. `records` holds the number of records and the offset of the first record.
+    //
+    // The number of records in a head can be too large. So nothing is counted in the last bytes, which are the second
+    // copy of the description and the head. This copy is as long as the first one, which ends at the first record.
     fn scan_volume<R: Runtime>(
         &mut self,
         rt: &R,
@@ -478,24 +502,33 @@ impl Scanner {
         holder: usize,
         file: &mut R::File,
         records: (u64, u64),
-    ) {
+    ) -> u64 {
         let size = description.block_bytes;
         let record = size.saturating_add(RECORD_HEAD_BYTES);
+        let end = match file.metadata() {
+            Ok(metadata) => metadata.len().saturating_sub(records.1),
+            Err(_) => u64::MAX,
+        };
+        let mut damaged = 0u64;
         for number in 0..records.0 {
             let at = records.1.wrapping_add(number.wrapping_mul(record));
-            self.scan_record(description, holder, file, at);
+            let is_whole = self.scan_record(description, holder, file, at);
+            if !is_whole && at.saturating_add(record) <= end {
+                damaged = damaged.saturating_add(1);
+            }
             self.progress.advance(rt, size);
         }
+        damaged
     }
 
-    // Looks for a block in the record of a volume at the offset `at`.
+    // Looks for a block in the record of a volume at the offset `at`. Returns whether the block has its digest.
     fn scan_record<F: Read + Seek>(
         &mut self,
         description: &Description,
         holder: usize,
         file: &mut F,
         at: u64,
-    ) {
+    ) -> bool {
         let bytes = description.block_bytes;
         match find_in_record(description, file, at, &mut self.buffer) {
             Ok(Some(index)) => {
@@ -506,9 +539,13 @@ impl Scanner {
                     bytes,
                 };
                 self.note(index, origin);
+                true
             }
-            Ok(None) => {}
-            Err(error) => self.note_unread(error),
+            Ok(None) => false,
+            Err(error) => {
+                self.note_unread(error);
+                false
+            }
         }
     }
 }
@@ -570,9 +607,12 @@ impl Scan {
         }
     }
 
-    /// Returns whether each volume can be read and has two equal copies of its head and its description.
+    /// Returns whether each volume can be read and has two equal copies of its head and its description, and whether
+    /// each block in the volumes has its digest.
     pub fn has_whole_volumes(&self) -> bool {
-        self.unreadable.is_empty() && self.copies.iter().all(|copies| *copies == Copies::Whole)
+        self.unreadable.is_empty()
+            && self.copies.iter().all(|copies| *copies == Copies::Whole)
+            && self.damaged_blocks.iter().all(|blocks| *blocks == 0)
     }
 
     /// Returns whether no file was found, and volumes hold original blocks: then the volumes are those of `split`.

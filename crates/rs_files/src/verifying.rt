@@ -77,21 +77,30 @@ fn damage_of(copies: Copies) -> Option<&'static str> {
     }
 }
 
-/// Prints which volumes do not have two equal copies of their head and their description.
+/// Prints which volumes do not have two equal copies of their head and their description, and which volumes have
+/// damaged blocks.
 ///
 /// # Errors
 ///
 /// Fails if the result cannot be printed.
 pub fn tell_volumes<R: Runtime>(rt: &R, scan: &Scan) -> Result<()> {
     let files = scan.description.files.len();
-    for (number, copies) in scan.copies.iter().enumerate() {
-        let path = match scan.paths.get(files.saturating_add(number)) {
-            Some(path) => path.as_str(),
-            None => "",
-        };
-        if let Some(damage) = damage_of(*copies) {
-            println!(rt; "{path}: the volume is damaged{damage}")?;
-        }
+    let paths = scan.paths.iter().skip(files);
+    let states = scan.copies.iter().zip(scan.damaged_blocks.as_slice());
+    for (path, (copies, blocks)) in paths.zip(states) {
+        tell_volume(rt, path.as_str(), *copies, *blocks)?;
+    }
+    Ok(())
+}
+
+// Prints where a volume is damaged, and how many of its blocks are damaged. Prints nothing for a whole volume.
+fn tell_volume<R: Runtime>(rt: &R, path: &str, copies: Copies, blocks: u64) -> Result<()> {
+    if let Some(damage) = damage_of(copies) {
+        println!(rt; "{path}: the volume is damaged{damage}")?;
+    }
+    if blocks > 0 {
+        let blocks = Counted(blocks, "damaged block");
+        println!(rt; "{path}: the volume has {blocks}")?;
     }
     Ok(())
 }
@@ -227,11 +236,10 @@ fn volume_json(alloc: Global, name: &str, word: &str) -> std::result::Result<Val
 fn volumes_json(alloc: Global, scan: &Scan) -> std::result::Result<Value, AllocError> {
     let mut volumes = Vec::new(alloc);
     let paths = scan.paths.iter().skip(scan.description.files.len());
-    for (path, copies) in paths.zip(scan.copies.as_slice()) {
-        let word = match copies {
-            Copies::Whole => "whole",
-            _ => "damaged",
-        };
+    let states = scan.copies.iter().zip(scan.damaged_blocks.as_slice());
+    for (path, (copies, blocks)) in paths.zip(states) {
+        let is_whole = *copies == Copies::Whole && *blocks == 0;
+        let word = if is_whole { "whole" } else { "damaged" };
         volumes.push(volume_json(alloc, path.as_str(), word)?)?;
     }
     add_unreadable(alloc, scan, &mut volumes)?;
