@@ -1,7 +1,6 @@
 //! Reads volumes.
 use crate::failure::{Failure, Result};
 use crate::output::at_path;
-use crate::volume_sink::RECORD_HEAD_BYTES;
 use rs_volumes::description::Description;
 use rs_volumes::digest::digest_of;
 use rs_volumes::fault::Fault;
@@ -12,6 +11,9 @@ use std::fs;
 use std::fs::OpenFile;
 use std::io::{Read, Seek, SeekFrom};
 use std::rt::{Files, Runtime};
+
+/// The number of bytes of a record before its block: 4 for the index of the block, and 4 that are zero.
+pub const RECORD_HEAD_BYTES: u64 = 8;
 
 /// The largest description that is written or read, in bytes.
 pub const LARGEST_DESCRIPTION: u64 = 1 << 30;

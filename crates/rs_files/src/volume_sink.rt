@@ -4,7 +4,7 @@ ghost use Rattle.rs_field.specs.code.Given.{nothing};
 use crate::failure::{Failure, Result};
 use crate::folder::Cut;
 use crate::output::{Part, at_path, exists, sync_folder, write_at};
-use crate::volume::is_volume;
+use crate::volume::{RECORD_HEAD_BYTES, is_volume};
 use rs_volumes::coding_error::CodingError;
 use rs_volumes::digest::digest_of;
 use rs_volumes::head::{HEAD_BYTES, Head, write_head};
@@ -13,9 +13,6 @@ use std::alloc::Global;
 use std::io;
 use std::io::{ErrorKind, Seek, Write};
 use std::rt::{Files, Runtime};
-
-/// The number of bytes of a record before its block: 4 for the index of the block, and 4 that are zero.
-pub const RECORD_HEAD_BYTES: u64 = 8;
 
 /// The permission bits of a volume, before the system takes away those of the user's mask.
 const VOLUME_MODE: u32 = 0o666;
