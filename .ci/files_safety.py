@@ -240,10 +240,15 @@ def shown_names():
         seen(f"damaged: d/{shown}\n", "verify", volume, status=1)
         os.remove(at("d", name))
         seen(f"missing: d/{shown}\n", "verify", volume, status=1)
+        whole = read(volume)
+        write(volume, whole[:-1])
+        seen(at("d\\u{1b}.rsv") + ": the volume is damaged at its end", "verify", volume, status=1)
+        write(volume, whole)
         if json.loads(printed("verify", volume, "--json", status=1)[0])["files"][0]["name"] != "d/" + name or info(volume)["files"][0]["name"] != "d/" + name:
             wrong("a name in JSON is another one")
         os.mkdir(at("d", name))
-        seen(at("d", shown) + ": a folder is in the place of this file", "repair", volume, status=4)
+        seen(at("d", shown) + ": a folder is in the place of this file\n", "verify", volume, status=1)
+        seen(at("d", shown) + ": a folder is in the place of this file: remove it", "repair", volume, status=4)
 
 
 def empty_paths():

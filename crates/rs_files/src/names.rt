@@ -15,8 +15,8 @@ pub fn text_of(name: &[u8]) -> &str {
     }
 }
 
-/// A name or a path as messages show it: with control characters escaped, as `\n` or `\u{1b}`. So a name from the volume
-/// of a stranger cannot control the terminal.
+/// A name or a path as messages show it: with control characters escaped, as `\n` or `\u{1b}`. So a name from the
+/// volume of a stranger cannot control the terminal.
 #[derive(Clone, Copy)]
 pub struct Shown<'a>(pub &'a str);
 

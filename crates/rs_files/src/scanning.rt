@@ -346,6 +346,7 @@ impl Scanner {
             "this is no regular file"
         };
         self.progress.end(rt);
+        let path = Shown(path);
         let _ = eprintln!(rt; "rs_files: {path}: {reason}");
         FileState::Missing
     }

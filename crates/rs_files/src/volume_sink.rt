@@ -21,8 +21,8 @@ const VOLUME_MODE: u32 = 0o666;
 ///
 /// # Errors
 ///
-/// If something exists at the path, fails if `force` is not set, if it cannot be read, or if it is no volume. Every step
-/// fails if memory cannot be allocated.
+/// If something exists at the path, fails if `force` is not set, if it cannot be read, or if it is no volume. Every
+/// step fails if memory cannot be allocated.
 pub fn check_output<R: Runtime>(rt: &R, alloc: Global, path: &str, force: bool) -> Result<()> {
     if !exists(rt, path) {
         return Ok(());
@@ -122,12 +122,12 @@ impl Volumes {
         }
     }
 
-    /// Gives all volumes their final names. If `force` is set, old volumes with these names are replaced. All volumes of
-    /// a command are in one folder.
+    /// Gives all volumes their final names. If `force` is set, old volumes with these names are replaced. All volumes
+    /// of a command are in one folder.
     ///
-    /// No old volume is replaced before all new volumes are synced and all names are checked. If the first volume cannot
-    /// be renamed, no other one is. If a later one cannot be renamed, the others still get their names, so that as many
-    /// volumes as possible belong together.
+    /// No old volume is replaced before all new volumes are synced and all names are checked. If the first volume
+    /// cannot be renamed, no other one is. If a later one cannot be renamed, the others still get their names, so that
+    /// as many volumes as possible belong together.
     ///
     /// # Errors
     ///
