@@ -2,8 +2,8 @@
 
    Every second call of read is interrupted (EINTR), and the others give at most READ_MOST bytes. A call that begins at a byte from
    READ_FROM to READ_TO - 1 fails with EIO, and a call that begins before READ_FROM ends there. After READ_AFTER bytes of the file were
-   read in all, each byte is read inverted. If READ_GROWS is set, the first call appends a byte to the file. A number that is not set
-   changes nothing. */
+   read in all, each byte is read inverted. If READ_GROWS is set, the first call appends a byte to the file. If READ_WRITES is set, it
+   writes a byte over the first one. A number that is not set changes nothing. */
 #define _GNU_SOURCE
 #include <errno.h>
 #include <fcntl.h>
@@ -29,11 +29,11 @@ static int is_changed(int stream, char *path, size_t size) {
     return !strcmp(path + length - strlen(name), name);
 }
 
-static void grow(const char *path) {
-    static int grown;
-    if (grown || !getenv("READ_GROWS")) return;
-    grown = 1;
-    int stream = open(path, O_WRONLY | O_APPEND);
+static void change(const char *path) {
+    static int changed;
+    if (changed || (!getenv("READ_GROWS") && !getenv("READ_WRITES"))) return;
+    changed = 1;
+    int stream = open(path, O_WRONLY | (getenv("READ_GROWS") ? O_APPEND : 0));
     syscall(SYS_write, stream, "x", 1);
     close(stream);
 }
@@ -43,7 +43,7 @@ ssize_t read(int stream, void *bytes, size_t count) {
     static long taken;
     char path[4096];
     if (!is_changed(stream, path, sizeof path)) return syscall(SYS_read, stream, bytes, count);
-    grow(path);
+    change(path);
     interrupted = !interrupted;
     if (interrupted) {
         errno = EINTR;

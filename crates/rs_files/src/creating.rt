@@ -2,10 +2,10 @@
 use crate::counted::Counted;
 use crate::failure::{Failure, Result};
 use crate::folder::{Cut, cut_files, piece_bytes, shape_of};
-use crate::names::{last_of, path_in, text_of, trimmed};
+use crate::names::{Shown, front_of_volume, path_in, text_of};
 use crate::output::at_path;
 use crate::progress::Progress;
-use crate::settings::{Recovery, Request, STATUS_WHOLE};
+use crate::settings::{NO_OUTPUT, Recovery, Request, STATUS_WHOLE};
 use crate::source::{FileBlocks, Origin, failure_of};
 use crate::volume::LARGEST_DESCRIPTION;
 use crate::volume_sink::{VolumeSink, Volumes, check_output};
@@ -47,26 +47,14 @@ fn description_bytes(files: &[FileEntry], cut: Cut) -> Result<u64> {
     Ok(bytes)
 }
 
-// Returns the failure for a command line that does not name the volume.
-fn no_output() -> Failure {
-    Failure::of("say which volume to write, as -o SET.rsv")
-}
-
 // Returns the path of the volume that `create` writes: the path after `-o`, or the only FILE with `.rsv` at its end.
 fn output_of(alloc: Global, request: &Request) -> Result<String> {
     if let Some(path) = &request.output {
         return Ok(path.clone()?);
     }
-    match request.paths.as_slice() {
-        [path] => {
-            let path = trimmed(path.as_str());
-            let name = last_of(path);
-            if name == "." || name == ".." || name.is_empty() {
-                return Err(no_output());
-            }
-            Ok(format!(in alloc; "{path}.rsv")?)
-        }
-        _ => Err(no_output()),
+    match front_of_volume(request.paths.as_slice()) {
+        Some(front) => Ok(format!(in alloc; "{front}.rsv")?),
+        None => Err(Failure::of(NO_OUTPUT)),
     }
 }
 
@@ -326,7 +314,7 @@ fn tell<R: Runtime>(rt: &R, outputs: &[String], made: Made) -> Result<()> {
     let recovery = Counted(u64::from(made.cut.recovery_count), "recovery block");
     let bytes = made.cut.block_bytes;
     for output in outputs {
-        let path = output.as_str();
+        let path = Shown(output.as_str());
         println!(rt; "{path}: {files} in {originals} of {bytes} bytes, {recovery}")?;
     }
     Ok(())

@@ -1,4 +1,5 @@
 //! The reasons why a command, or the restore of a file, fails.
+use crate::names::Shown;
 use std::alloc::Global;
 use std::error::Error;
 use std::fmt;
@@ -61,7 +62,7 @@ impl<E: Error> From<E> for Failure {
 impl Display for Failure {
     fn fmt<W: fmt::Write>(&self, f: &mut fmt::Formatter<W>) -> fmt::Result {
         if let Some(path) = &self.path {
-            write!(f, "{}: ", path.as_str())?;
+            write!(f, "{}: ", Shown(path.as_str()))?;
         }
         f.write_str(self.reason.as_str())
     }

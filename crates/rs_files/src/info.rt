@@ -2,7 +2,7 @@
 use crate::counted::Counted;
 use crate::failure::{Failure, Result};
 use crate::json::{add, files_of, object_of, print};
-use crate::names::text_of;
+use crate::names::{Shown, text_of};
 use crate::settings::{Request, STATUS_WHOLE};
 use crate::volume::{Volume, open_volume};
 use rs_volumes::description::FileEntry;
@@ -52,6 +52,7 @@ fn tell<R: Runtime>(rt: &R, path: &str, volume: &Volume) -> Result<()> {
         "recovery block",
     );
     let records = volume.record_count;
+    let path = Shown(path);
     println!(rt; "{path}: {k} and {r} of {block} bytes, {records} of them here")?;
     tell_files(rt, volume.description.files.as_slice())
 }
@@ -60,7 +61,7 @@ fn tell<R: Runtime>(rt: &R, path: &str, volume: &Volume) -> Result<()> {
 fn tell_files<R: Runtime>(rt: &R, files: &[FileEntry]) -> Result<()> {
     for file in files {
         let size = file.size;
-        let name = text_of(file.name.as_slice());
+        let name = Shown(text_of(file.name.as_slice()));
         println!(rt; "{size:>14}  {name}")?;
     }
     Ok(())

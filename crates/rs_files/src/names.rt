@@ -1,5 +1,7 @@
 //! Names of files, and the paths that are made from names.
 use std::alloc::{AllocError, Global};
+use std::fmt;
+use std::fmt::Display;
 
 /// The largest number of bytes of a name to which the program adds an ending. Most file systems allow names of 255
 /// bytes, and some only names of 143 bytes.
@@ -10,6 +12,28 @@ pub fn text_of(name: &[u8]) -> &str {
     match std::str::from_utf8(name) {
         Ok(text) => text,
         Err(_) => "?",
+    }
+}
+
+/// A name or a path as messages show it: with control characters escaped, as `\n` or `\u{1b}`. So a name from the
+/// volume of a stranger cannot control the terminal.
+#[derive(Clone, Copy)]
+pub struct Shown<'a>(pub &'a str);
+
+impl<'a> Display for Shown<'a> {
+    fn fmt<W: fmt::Write>(&self, f: &mut fmt::Formatter<W>) -> fmt::Result {
+        let text = self.0;
+        if !text.chars().any(|character| character.is_control()) {
+            return f.write_str(text);
+        }
+        for character in text.chars() {
+            if character.is_control() {
+                write!(f, "{}", character.escape_debug())?;
+            } else {
+                f.write_char(character)?;
+            }
+        }
+        Ok(())
     }
 }
 
@@ -63,6 +87,19 @@ pub fn shortened(path: &str) -> &str {
 pub fn trimmed(path: &str) -> &str {
     let front = path.trim_end_matches('/');
     if front.is_empty() { path } else { front }
+}
+
+/// Returns the front of the path of the volume that `create` writes by default: the only FILE, without slashes at its
+/// end. Returns `None` if there are several FILEs, or if the only one ends in no name.
+pub fn front_of_volume(paths: &[String]) -> Option<&str> {
+    let [path] = paths else {
+        return None;
+    };
+    let front = trimmed(path.as_str());
+    match last_of(front) {
+        "" | "." | ".." => None,
+        _ => Some(front),
+    }
 }
 
 /// Returns the folder to open: `.` if `folder` is empty, and `folder` otherwise.

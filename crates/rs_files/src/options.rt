@@ -1,9 +1,13 @@
 //! Reads the command line.
 use crate::arguments::{bytes_of, recovery_of};
 use crate::failure::Result;
-use crate::settings::{Action, Recovery, Request, STATUS_FAILED, STATUS_USAGE, STATUS_WHOLE};
+use crate::names::front_of_volume;
+use crate::settings::{
+    Action, NO_OUTPUT, Recovery, Request, STATUS_FAILED, STATUS_USAGE, STATUS_WHOLE,
+};
 use clap::error::ErrorKind;
 use clap::{Arg, ArgAction, ArgMatches, Command};
+use rs_volumes::checking::allows_block;
 use std::alloc::Global;
 use std::env;
 use std::rt::Runtime;
@@ -332,7 +336,30 @@ fn set_options(
     set_numbers(request, matches)?;
     set_progress(request, matches)?;
     set_volumes(request, matches)?;
+    check_filled(request)?;
     check_needed(request)
+}
+
+// Returns whether an option is given with an empty text.
+fn is_empty(option: &Option<String>) -> bool {
+    match option {
+        Some(text) => text.as_str().is_empty(),
+        None => false,
+    }
+}
+
+// Checks that no path of an option is empty. A variable of a shell that is not set gives an empty path.
+fn check_filled(request: &Request) -> std::result::Result<(), &'static str> {
+    if is_empty(&request.output) {
+        return Err("--output: the path is empty");
+    }
+    if is_empty(&request.to) {
+        return Err("--to: the path is empty");
+    }
+    if is_empty(&request.folder) {
+        return Err("--folder: the path is empty");
+    }
+    Ok(())
 }
 
 // Reads `--recovery`, `--block` and `--memory`.
@@ -350,8 +377,10 @@ fn set_numbers(
     }
     if let Some(text) = matches.get_str("block") {
         match bytes_of(text) {
-            Some(bytes) => request.block_bytes = Some(bytes),
-            None => return Err("--block: write a number of bytes, as 4096 or 64K"),
+            Some(bytes) if allows_block(bytes) => request.block_bytes = Some(bytes),
+            _ => {
+                return Err("--block: write an even number of bytes from 2 to 2^40, as 4096 or 64K");
+            }
         }
     }
     if let Some(text) = matches.get_str("memory") {
@@ -400,6 +429,10 @@ fn set_volumes(
 // Checks that a command has the options that it needs.
 fn check_needed(request: &Request) -> std::result::Result<(), &'static str> {
     match request.action {
+        Action::Create
+            if request.output.is_none() && front_of_volume(request.paths.as_slice()).is_none() => {
+            Err(NO_OUTPUT)
+        }
         Action::Split if request.volumes == 0 => Err(
             "split: say how many volumes to make, as -n 6",
         ),

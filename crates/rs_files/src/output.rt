@@ -41,7 +41,7 @@ pub fn free_path<R: Runtime>(rt: &R, alloc: Global, path: &str, suffix: &str) ->
     Err(Failure::at(alloc, free.as_str(), "it exists"))
 }
 
-/// What tells a file apart from all other files: its device, and its number on this device.
+/// The device of a file and its number there, which identify it.
 #[derive(Clone, Copy, PartialEq, Eq)]
 pub struct Identity {
     device: u64,
@@ -49,7 +49,7 @@ pub struct Identity {
 }
 
 /// Returns the identity of a file. A symbolic link has the identity of the file to which it leads. Returns `None` if
-/// there is no file, or if the system does not tell.
+/// there is no file, or if its metadata cannot be read.
 pub fn identity_of<R: Runtime>(rt: &R, path: &str) -> Option<Identity> {
     let metadata = fs::metadata(rt, path).ok()?;
     Some(Identity {
@@ -150,27 +150,31 @@ impl Part {
         at_path(alloc, path, file.sync_all())
     }
 
-    /// Gives the file its final name. A file with this name is replaced, so the caller checks first whether it may be.
+    /// Renames the file to its final name. A file with this name is replaced, so the caller checks first whether it may
+    /// be. The new name can be lost after a loss of power, until [`sync_folder`] is called.
     ///
     /// # Errors
     ///
-    /// Fails if the file cannot be renamed or its folder cannot be synced.
-    pub fn take_name<R: Runtime>(&self, rt: &R, alloc: Global) -> Result<()> {
+    /// Fails if the file cannot be renamed.
+    pub fn rename<R: Runtime>(&self, rt: &R, alloc: Global) -> Result<()> {
         let path = self.path.as_str();
-        at_path(alloc, path, fs::rename(rt, self.part.as_str(), path))?;
-        sync_folder(rt, alloc, parent_of(path))
+        at_path(alloc, path, fs::rename(rt, self.part.as_str(), path))
     }
 }
 
-/// Syncs a folder, so that new names in the folder are kept after a loss of power.
-///
-/// # Errors
-///
-/// Fails if the folder cannot be opened or synced.
-pub fn sync_folder<R: Runtime>(rt: &R, alloc: Global, folder: &str) -> Result<()> {
-    let folder = folder_to_open(folder);
-    let opened = at_path(alloc, folder, fs::open(rt, folder))?;
-    at_path(alloc, folder, opened.sync_all())
+/// Syncs the folder of a file, so that the new name of the file is kept after a loss of power. Some file systems cannot
+/// sync a folder. Then the file is whole and has its name all the same, so the function only prints a warning.
+pub fn sync_folder<R: Runtime>(rt: &R, alloc: Global, path: &str) {
+    let folder = folder_to_open(parent_of(path));
+    if let Err(error) = sync_opened(rt, folder) {
+        let reason = format_args!("warning: this folder cannot be synced: {error}");
+        Failure::at(alloc, folder, reason).tell(rt);
+    }
+}
+
+// Opens a folder and syncs it.
+fn sync_opened<R: Runtime>(rt: &R, folder: &str) -> std::io::Result<()> {
+    fs::open(rt, folder)?.sync_all()
 }
 
 /// Writes bytes into a file, from byte `offset` of the file on.

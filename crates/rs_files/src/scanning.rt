@@ -1,6 +1,7 @@
 //! Looks for the blocks of a set, in its files and in volumes.
 use crate::counted::Counted;
 use crate::failure::{Failure, Result};
+use crate::names::Shown;
 use crate::output::at_path;
 use crate::progress::Progress;
 use crate::settings::Request;
@@ -319,6 +320,7 @@ impl Scanner {
         if let Some(error) = self.error.take() {
             let blocks = Counted(self.unread, "block");
             self.progress.end(rt);
+            let path = Shown(path);
             let _ = eprintln!(rt; "rs_files: {path}: {blocks} cannot be read: {error}");
         }
         self.unread = 0;
@@ -329,6 +331,7 @@ impl Scanner {
     fn missing<R: Runtime>(&mut self, rt: &R, path: &str, error: io::Error) -> FileState {
         if error.kind() != ErrorKind::NotFound {
             self.progress.end(rt);
+            let path = Shown(path);
             let _ = eprintln!(rt; "rs_files: {path}: {error}");
         }
         FileState::Missing
@@ -343,6 +346,7 @@ impl Scanner {
             "this is no regular file"
         };
         self.progress.end(rt);
+        let path = Shown(path);
         let _ = eprintln!(rt; "rs_files: {path}: {reason}");
         FileState::Missing
     }

@@ -15,6 +15,9 @@ pub const STATUS_LOST: u8 = 3;
 /// The exit status after any other error, also if a file could not be restored.
 pub const STATUS_FAILED: u8 = 4;
 
+/// The message about a command line that does not name the volume of `create`.
+pub const NO_OUTPUT: &str = "create: say which volume to write, as -o SET.rsv";
+
 /// A command of the program.
 #[derive(Clone, Copy)]
 pub enum Action {

@@ -1,7 +1,9 @@
 //! The files that a restore writes: where they may be written, and how they get their final names.
 use crate::failure::{Failure, Result};
 use crate::names::{path_in, text_of};
-use crate::output::{Identity, Part, at_path, exists, free_path, identities, identity_of};
+use crate::output::{
+    Identity, Part, at_path, exists, free_path, identities, identity_of, sync_folder,
+};
 use crate::scanning::{FileState, Scan};
 use rs_volumes::description::FileEntry;
 use std::alloc::Global;
@@ -202,7 +204,7 @@ fn begin_part<R: Runtime>(
 }
 
 // Gives a restored file its permission bits, its time and its final name. Returns the number of damaged files that are
-// kept, 0 or 1.
+// kept, 0 or 1. If the file cannot be renamed, the damaged file has only its own name again.
 fn finish_part<R: Runtime>(
     rt: &R,
     alloc: Global,
@@ -218,10 +220,19 @@ fn finish_part<R: Runtime>(
     let kept = if goal.in_place {
         keep_damaged(rt, alloc, path)?
     } else {
-        0
+        None
     };
-    part.take_name(rt, alloc)?;
-    Ok(kept)
+    match (part.rename(rt, alloc), kept) {
+        (Ok(()), kept) => {
+            sync_folder(rt, alloc, path);
+            Ok(usize::from(kept.is_some()))
+        }
+        (Err(failure), Some(kept)) => {
+            kept.undo(rt, alloc, path);
+            Err(failure)
+        }
+        (Err(failure), None) => Err(failure),
+    }
 }
 
 // Fails if a file may not be written: if a folder above it, below the folder of the goal, is a symbolic link, or if
@@ -311,18 +322,43 @@ fn complete<R: Runtime>(rt: &R, part: &Part, file: &FileEntry) -> std::io::Resul
     handle.sync_all()
 }
 
-// Gives a damaged file a second name, `NAME.damaged` or `NAME.damaged2` and so on, if the file exists. Returns the
-// number of files that are kept, 0 or 1.
+// The second name of a damaged file.
+#[derive(Drop)]
+struct Kept {
+    name: String,
+    // Whether the file also has its own name still.
+    linked: bool,
+}
+
+impl Kept {
+    // Takes the second name back, so that the damaged file has only its own name again. If this fails, the function
+    // prints the second name.
+    fn undo<R: Runtime>(&self, rt: &R, alloc: Global, path: &str) {
+        let name = self.name.as_str();
+        let undone = match (exists(rt, path), self.linked) {
+            (true, true) => fs::remove_file(rt, name).is_ok(),
+            // Another file has the name by now.
+            (true, false) => false,
+            (false, _) => fs::rename(rt, name, path).is_ok(),
+        };
+        if !undone {
+            Failure::at(alloc, name, "the damaged file has this name").tell(rt);
+        }
+    }
+}
+
+// Gives a damaged file a second name, `NAME.damaged` or `NAME.damaged2` and so on, if the file exists.
 //
 // The file keeps its own name too, until the restored file takes it. So the program can be killed at any moment, and
 // the next run finds the file. A file system without hard links gets the file renamed.
-fn keep_damaged<R: Runtime>(rt: &R, alloc: Global, path: &str) -> Result<usize> {
+fn keep_damaged<R: Runtime>(rt: &R, alloc: Global, path: &str) -> Result<Option<Kept>> {
     if !exists(rt, path) {
-        return Ok(0);
+        return Ok(None);
     }
-    let kept = free_path(rt, alloc, path, "damaged")?;
-    if fs::hard_link(rt, path, kept.as_str()).is_err() {
-        at_path(alloc, path, fs::rename(rt, path, kept.as_str()))?;
+    let name = free_path(rt, alloc, path, "damaged")?;
+    let linked = fs::hard_link(rt, path, name.as_str()).is_ok();
+    if !linked {
+        at_path(alloc, path, fs::rename(rt, path, name.as_str()))?;
     }
-    Ok(1)
+    Ok(Some(Kept { name, linked }))
 }

@@ -2,7 +2,7 @@
 use crate::counted::Counted;
 use crate::failure::{Failure, Result};
 use crate::json::{add, add_text, files_of, object_of, print};
-use crate::names::{folder_to_open, parent_of, text_of};
+use crate::names::{Shown, folder_to_open, parent_of, text_of};
 use crate::scanning::{Counts, FileState, Scan, scan_request};
 use crate::settings::{Request, STATUS_LOST, STATUS_MENDED, STATUS_WHOLE};
 use crate::volume::Copies;
@@ -62,7 +62,7 @@ fn tell_files<R: Runtime>(rt: &R, scan: &Scan) -> Result<()> {
     {
         if *state != FileState::Whole {
             let word = word_of(*state);
-            println!(rt; "{word}: {}", text_of(file.name.as_slice()))?;
+            println!(rt; "{word}: {}", Shown(text_of(file.name.as_slice())))?;
         }
     }
     Ok(())
@@ -95,6 +95,7 @@ pub fn tell_volumes<R: Runtime>(rt: &R, scan: &Scan) -> Result<()> {
 
 // Prints where a volume is damaged, and how many of its blocks are damaged. Prints nothing for a whole volume.
 fn tell_volume<R: Runtime>(rt: &R, path: &str, copies: Copies, blocks: u64) -> Result<()> {
+    let path = Shown(path);
     if let Some(damage) = damage_of(copies) {
         println!(rt; "{path}: the volume is damaged{damage}")?;
     }
@@ -170,6 +171,7 @@ pub fn tell_lost<R: Runtime>(rt: &R, counts: Counts) -> Result<()> {
 fn tell_folder<R: Runtime>(rt: &R, scan: &Scan, folder: &str) -> Result<()> {
     let all_missing = scan.states.iter().all(|state| *state == FileState::Missing);
     if !scan.states.is_empty() && all_missing {
+        let folder = Shown(folder);
         println!(rt;
             "no file was found in {folder}: if the files are in another folder, name it with --folder"
         )?;

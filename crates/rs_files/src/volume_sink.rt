@@ -3,7 +3,7 @@ ghost use Rattle.rs_field.specs.code.Given.{nothing};
 
 use crate::failure::{Failure, Result};
 use crate::folder::Cut;
-use crate::output::{Part, at_path, exists, write_at};
+use crate::output::{Part, at_path, exists, sync_folder, write_at};
 use crate::volume::{RECORD_HEAD_BYTES, is_volume};
 use rs_volumes::coding_error::CodingError;
 use rs_volumes::digest::digest_of;
@@ -21,7 +21,7 @@ const VOLUME_MODE: u32 = 0o666;
 ///
 /// # Errors
 ///
-/// Fails if something exists at the path, and `force` is not set, or this is no volume, or it cannot be read. Every
+/// If something exists at the path, fails if `force` is not set, if it cannot be read, or if it is no volume. Every
 /// step fails if memory cannot be allocated.
 pub fn check_output<R: Runtime>(rt: &R, alloc: Global, path: &str, force: bool) -> Result<()> {
     if !exists(rt, path) {
@@ -122,19 +122,59 @@ impl Volumes {
         }
     }
 
-    /// Gives all volumes their final names. If `force` is set, old volumes with these names are replaced.
+    /// Gives all volumes their final names. If `force` is set, old volumes with these names are replaced. All volumes
+    /// of a command are in one folder.
+    ///
+    /// No old volume is replaced before all new volumes are synced and all names are checked. If the first volume
+    /// cannot be renamed, no other one is. If a later one cannot be renamed, the others still get their names, so that
+    /// as many volumes as possible belong together.
     ///
     /// # Errors
     ///
-    /// For each volume in turn, fails if the volume cannot be synced, for a reason of [`check_output`], or for a reason
-    /// of [`Part::take_name`].
+    /// In this order, fails:
+    ///
+    /// - for each volume, if it cannot be synced,
+    /// - for each volume, for a reason of [`check_output`],
+    /// - if a volume cannot be renamed.
     pub fn finish<R: Runtime>(&self, rt: &R, alloc: Global, force: bool) -> Result<()> {
+        self.sync(rt, alloc)?;
+        self.check(rt, alloc, force)?;
+        let outcome = self.rename(rt, alloc);
+        if let Some(part) = self.parts.first() {
+            sync_folder(rt, alloc, part.path.as_str());
+        }
+        outcome
+    }
+
+    // Syncs all volumes.
+    fn sync<R: Runtime>(&self, rt: &R, alloc: Global) -> Result<()> {
         for part in &self.parts {
             part.sync(rt, alloc)?;
-            check_output(rt, alloc, part.path.as_str(), force)?;
-            part.take_name(rt, alloc)?;
         }
         Ok(())
+    }
+
+    // Checks that each volume can get its final name. Something may have changed since the volumes were begun.
+    fn check<R: Runtime>(&self, rt: &R, alloc: Global, force: bool) -> Result<()> {
+        for part in &self.parts {
+            check_output(rt, alloc, part.path.as_str(), force)?;
+        }
+        Ok(())
+    }
+
+    // Renames all volumes to their final names. If some of them cannot be renamed, the function returns the reason for
+    // the last one.
+    fn rename<R: Runtime>(&self, rt: &R, alloc: Global) -> Result<()> {
+        let mut outcome = Ok(());
+        for (number, part) in self.parts.iter().enumerate() {
+            if let Err(failure) = part.rename(rt, alloc) {
+                if number == 0 {
+                    return Err(failure);
+                }
+                outcome = Err(failure);
+            }
+        }
+        outcome
     }
 
     /// Removes the files of all volumes that do not have their final names.

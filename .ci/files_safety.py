@@ -1,0 +1,270 @@
+"""Tests that `rs_files` loses no file if a stream is closed, or if a call of the system fails at the last step of a command. Tests of
+times, sizes, progress and names, and of paths that are empty."""
+import json
+import os
+
+from files_common import RANDOM, Folder, info, preloaded, printed, read, run, tree, write, wrong
+
+
+def changed(data, place):
+    """Returns bytes of which one is changed."""
+    return data[:place] + bytes([data[place] ^ 1]) + data[place + 1:]
+
+
+def closed_streams():
+    """If standard input, output or error is closed, nothing that is printed goes into a file of the set. If `/dev/null` cannot be opened in
+    its place, the program fails."""
+    with Folder() as at:
+        data = RANDOM.randbytes(3_000_000)
+        for closed in ((0,), (1,), (2,), (0, 1, 2)):
+            def close():
+                for stream in closed:
+                    os.close(stream)
+
+            write(at("a"), data)
+            os.utime(at("a"), (1, 1))
+            run("create", at("a"), "-q", "--force")
+            whole = read(at("a.rsv"))
+            run("create", at("a"), "--force", "--progress", "always", before=close)
+            if read(at("a.rsv")) != whole:
+                wrong(f"create without the streams {closed} writes another volume")
+            run("split", at("a"), "-n", "2", "-o", at("v"), "--force", "--progress", "always", before=close)
+            run("verify", at("v", "volume0001.rsv"), at("v", "volume0002.rsv"), "--folder", at(), "-q")
+            write(at("a"), changed(data, 1_000_000))
+            run("repair", at("a.rsv"), "--progress", "always", status=1, before=close)
+            if read(at("a")) != data:
+                wrong(f"repair without the streams {closed} restores another file")
+        failing = preloaded("fail_calls", FAIL_OPEN="/dev/null")
+        if failing is not None and "/dev/null: Permission denied" not in run("verify", at("a.rsv"), status=4, env=failing):
+            wrong("no message if /dev/null cannot be opened")
+
+
+def old_volumes():
+    """If a new volume cannot be synced, or the first one cannot get its name, `split --force` replaces no old volume. If a later one
+    cannot get its name, the others do."""
+    with Folder() as at:
+        write(at("set", "a"), RANDOM.randbytes(50_000))
+        split = ("split", at("set"), "-n", "3", "-o", at("v"), "-q")
+        run(*split)
+        old = tree(at("v"))
+        write(at("set", "a"), RANDOM.randbytes(50_000))
+        for variable, number in (("FAIL_SYNC", 1), ("FAIL_SYNC", 2), ("FAIL_SYNC", 3), ("FAIL_RENAME", 1)):
+            failing = preloaded("fail_calls", **{variable: f"volume000{number}.rsv.part"})
+            if failing is None:
+                return
+            text = run(*split, "--force", status=4, env=failing)
+            if f"{at('v', f'volume000{number}.rsv')}: Input/output error" not in text or tree(at("v")) != old:
+                wrong(f"split --force with {variable} of volume {number}: {text}{sorted(tree(at('v')))}")
+        text = run(*split, "--force", status=4, env=preloaded("fail_calls", FAIL_RENAME="volume0002.rsv.part"))
+        new = tree(at("v"))
+        if at("v", "volume0002.rsv") + ": Input/output error" not in text or new.keys() != old.keys() or new["volume0002.rsv"] != old["volume0002.rsv"]:
+            wrong(f"split --force without the new name of volume 2: {text}{sorted(new)}")
+        run("join", at("v", "volume0001.rsv"), at("v", "volume0003.rsv"), "--to", at("new"), "-q", status=1)
+        if tree(at("new", "set")) != tree(at("set")):
+            wrong("the volumes that got their names do not restore the files")
+
+
+def killed_between():
+    """If `split --force` is killed before the first rename, all old volumes are there. If it is killed between two renames, all new volumes
+    are whole, under their final names or under the others."""
+    with Folder() as at:
+        write(at("set", "a"), RANDOM.randbytes(50_000))
+        split = ("split", at("set"), "-n", "3", "-q", "--force")
+        run(*split, "-o", at("v"))
+        old = tree(at("v"))
+        write(at("set", "a"), RANDOM.randbytes(50_000))
+        run(*split, "-o", at("w"))
+        new = tree(at("w"))
+        for number in (1, 2, 3):
+            names = [f"volume000{i}.rsv" for i in (1, 2, 3)]
+            killing = preloaded("fail_calls", KILL_RENAME=names[number - 1] + ".part")
+            if killing is None:
+                return
+            for name, data in old.items():
+                write(at("v", name), data)
+            run(*split, "-o", at("v"), status=-9, env=killing)
+            renamed = {name: (new if i + 1 < number else old)[name] for i, name in enumerate(names)}
+            parts = {name + ".part": new[name] for name in names[number - 1:]}
+            if tree(at("v")) != {**renamed, **parts}:
+                wrong(f"split --force that is killed before the rename of volume {number} leaves {sorted(tree(at('v')))}")
+            for name in parts:
+                os.remove(at("v", name))
+
+
+def failed_repair():
+    """If a restored file cannot get its name, the damaged file has its own name again, and no other one."""
+    with Folder() as at:
+        data = {name: RANDOM.randbytes(5000) for name in ("a", "b", "gone")}
+        for name, content in data.items():
+            write(at("d", name), content)
+        run("create", at("d"), "-q", "--block", "512", "-r", "30")
+        for more in ({}, {"FAIL_LINK": 1}):
+            write(at("d", "a"), changed(data["a"], 700))
+            write(at("d", "b"), changed(data["b"], 700))
+            os.remove(at("d", "gone"))
+            before = tree(at("d"))
+            failing = preloaded("fail_calls", FAIL_RENAME=".part", **more)
+            if failing is None:
+                return
+            text = run("repair", at("d.rsv"), status=4, env=failing)
+            if tree(at("d")) != before or "rs_files: 3 files could not be restored" not in text or "restored 0 files\n" not in text:
+                wrong(f"repair without final names, {more}: {text}{sorted(tree(at('d')))}")
+            text = run("repair", at("d.rsv"), status=4, env=preloaded("fail_calls", FAIL_RENAME="/a.part", **more))
+            after = {"a": before["a"], "b": data["b"], "b.damaged": before["b"], "gone": data["gone"]}
+            if tree(at("d")) != after or "restored 2 files, and kept 1 damaged file as NAME.damaged" not in text:
+                wrong(f"repair without the final name of one file, {more}: {text}{sorted(tree(at('d')))}")
+            run("repair", at("d.rsv"), "-q", status=1)
+            if {name: read(at("d", name)) for name in data} != data or read(at("d", "a.damaged")) != before["a"]:
+                wrong("repair after a file did not get its name")
+            os.remove(at("d", "a.damaged"))
+            os.remove(at("d", "b.damaged"))
+
+
+def folders_without_sync():
+    """If a folder cannot be synced, the files in it have their names, and the program only prints a warning that names the folder."""
+    with Folder() as at:
+        data = RANDOM.randbytes(50_000)
+        write(at("d", "a"), data)
+        failing = preloaded("fail_calls", FAIL_FOLDERS=1)
+        if failing is None:
+            return
+        warning = "rs_files: {}: warning: this folder cannot be synced: Invalid argument (os error 22)\n"
+        if printed("create", at("d", "a"), "-o", at("a.rsv"), "-q", env=failing) != ("", warning.format(at())):
+            wrong("create in a folder that cannot be synced")
+        if printed("split", at("d"), "-n", "2", "-o", at("v"), "-q", env=failing) != ("", warning.format(at("v"))):
+            wrong("split into a folder that cannot be synced")
+        write(at("d", "a"), changed(data, 5))
+        error = printed("repair", at("a.rsv"), "--folder", at("d"), "-q", status=1, env=failing)[1]
+        if error != warning.format(at("d")) or read(at("d", "a")) != data or read(at("d", "a.damaged")) != changed(data, 5):
+            wrong(f"repair in a folder that cannot be synced: {error}")
+        error = printed("join", at("v", "volume0001.rsv"), at("v", "volume0002.rsv"), "--to", at("new"), "-q", env=failing)[1]
+        if error != warning.format(at("new", "d")) or tree(at("new")) != {"d/a": data}:
+            wrong(f"join into a folder that cannot be synced: {error}")
+
+
+def times():
+    """A file has its old time, to the second, after `repair`, `repair --to` and `join`."""
+    with Folder() as at:
+        data = {"a": RANDOM.randbytes(5000), "b": RANDOM.randbytes(700), "empty": b""}
+        seconds = {"a": 1_000_000_000, "b": 1, "empty": 1_700_000_000}
+        for name, content in data.items():
+            write(at("d", name), content)
+            os.utime(at("d", name), (seconds[name], seconds[name]))
+        run("create", at("d"), "-q", "--block", "512", "-r", "20")
+        run("split", at("d"), "-n", "3", "-o", at("v"), "-q")
+        write(at("d", "a"), changed(data["a"], 600))
+        for name in ("b", "empty"):
+            os.remove(at("d", name))
+        run("repair", at("d.rsv"), "--to", at("other"), "-q", status=1)
+        run("repair", at("d.rsv"), "-q", status=1)
+        run("join", at("v", "volume0001.rsv"), at("v", "volume0002.rsv"), "--to", at("new"), "-q", status=(0, 1))
+        for folder in (at("d"), at("other", "d"), at("new", "d")):
+            found = {name: os.stat(os.path.join(folder, name)).st_mtime for name in data}
+            if found != seconds or any(read(os.path.join(folder, name)) != content for name, content in data.items()):
+                wrong(f"the times or contents of files in {folder}: {found}")
+
+
+def sizes_shown():
+    """`verify --json`, `info --json` and `info` show the size of each file, also of a damaged or missing one."""
+    with Folder() as at:
+        sizes = {"d/a": 5000, "d/b": 0, "d/c": 700, "d/e": 123}
+        for name, size in sizes.items():
+            write(at(name), RANDOM.randbytes(size))
+        run("create", at("d"), "-q", "--block", "512", "-r", "20")
+        write(at("d", "a"), bytes(40))
+        os.remove(at("d", "c"))
+        files = json.loads(printed("verify", at("d.rsv"), "--json", status=1)[0])["files"]
+        states = {"d/a": "damaged", "d/b": "whole", "d/c": "missing", "d/e": "whole"}
+        if files != [{"name": name, "size": size, "state": states[name]} for name, size in sizes.items()]:
+            wrong(f"verify --json shows the files {files}")
+        if info(at("d.rsv"))["files"] != [{"name": name, "size": size} for name, size in sizes.items()]:
+            wrong(f"info --json shows the files {info(at('d.rsv'))['files']}")
+        if printed("info", at("d.rsv"))[0].splitlines()[1:] != [f"{size:>14}  {name}" for name, size in sizes.items()]:
+            wrong("info shows other sizes or names")
+
+
+def progress_of_restores():
+    """`split`, `repair` and `join` show progress if the user asks for it, and show none if the user does not. `repair` and `join` first look
+    for blocks, and then restore them: each step has its own progress."""
+    with Folder() as at:
+        data = RANDOM.randbytes(3_000_000)
+        write(at("a"), data)
+        run("create", at("a"), "-q")
+        write(at("a"), changed(data, 5))
+        run("split", at("a"), "-n", "2", "-o", at("v"), "-q")
+        for words, status, steps in ((("split", at("a"), "-n", "2", "-o", at("v"), "--force"), 0, 1),
+                                     (("join", at("v", "volume0002.rsv"), "--to", at("new"), "--force"), 1, 2),
+                                     (("repair", at("a.rsv"), "--to", at("other"), "--force"), 1, 2)):
+            for more, shown in (((), False), (("--progress", "never"), False), (("--progress", "always"), True), (("--progress", "always", "-q"), True)):
+                error = printed(*words, *more, status=status)[1]
+                if error.count("\r100%, ") != (steps if shown else 0) or not shown and error:
+                    wrong(f"progress of {words[0]} with {more}: {error!r}")
+
+
+def same_length():
+    """A file that changes while it is read, but keeps its length: `create` and `split` say so, and finish no volume."""
+    changing = preloaded("change_reads", READ_NAME="/a", READ_WRITES=1)
+    if changing is None:
+        return
+    with Folder() as at:
+        for words in (("create", at("a")), ("split", at("a"), "-n", "2", "-o", at("v"))):
+            write(at("a"), bytes(20_000))
+            os.utime(at("a"), (1, 1))
+            text = run(*words, "--block", "512", status=4, env=changing)
+            if at("a") + ": this file changed while it was read: try again" not in text or tree(at()) != {"a": b"x" + bytes(19_999)}:
+                wrong(f"{words[0]} from a file that changes and keeps its length: {text}")
+
+
+def shown_names():
+    """Control characters of names are shown escaped, and names in JSON are as they are."""
+    with Folder() as at:
+        name, shown = "a\x1b[31m\nb\t\x7f\u0085 \u00e9\\", "a\\u{1b}[31m\\nb\\t\\u{7f}\\u{85} \u00e9\\"
+        data = RANDOM.randbytes(5000)
+        write(at("d", name), data)
+        volume = at("d\x1b.rsv")
+        out = [printed("create", at("d"), "-o", volume, "--block", "512", "-r", "20")]
+        if not out[0][0].startswith(at("d\\u{1b}.rsv") + ": 1 file in 10 blocks"):
+            wrong(f"create shows {out}")
+
+        def seen(text, *words, **options):
+            """Checks that a command prints a text, and no control character but the ends of lines."""
+            printed_both = "".join(printed(*words, **options))
+            if text not in printed_both or any(ord(character) < 32 and character != "\n" or 127 <= ord(character) < 160 for character in printed_both):
+                wrong(f"{words[0]} shows {printed_both!r}")
+
+        seen(f"          5000  d/{shown}\n", "info", volume)
+        unreadable = preloaded("change_reads", READ_NAME=name, READ_FROM=600, READ_TO=601)
+        if unreadable is not None:
+            seen(at("d", shown) + ": 1 block cannot be read: ", "verify", volume, status=1, env=unreadable)
+        write(at("d", name), changed(data, 5))
+        seen(f"damaged: d/{shown}\n", "verify", volume, status=1)
+        os.remove(at("d", name))
+        seen(f"missing: d/{shown}\n", "verify", volume, status=1)
+        whole = read(volume)
+        write(volume, whole[:-1])
+        seen(at("d\\u{1b}.rsv") + ": the volume is damaged at its end", "verify", volume, status=1)
+        write(volume, whole)
+        if json.loads(printed("verify", volume, "--json", status=1)[0])["files"][0]["name"] != "d/" + name or info(volume)["files"][0]["name"] != "d/" + name:
+            wrong("a name in JSON is another one")
+        os.mkdir(at("d", name))
+        seen(at("d", shown) + ": a folder is in the place of this file\n", "verify", volume, status=1)
+        seen(at("d", shown) + ": a folder is in the place of this file: remove it", "repair", volume, status=4)
+
+
+def empty_paths():
+    """An empty path of an option, as that of a variable of a shell that is not set, is a wrong command line."""
+    with Folder() as at:
+        write(at("a"), RANDOM.randbytes(5000))
+        run("create", at("a"), "-q")
+        run("split", at("a"), "-n", "2", "-o", at("v"), "-q")
+        os.remove(at("a"))
+        before = tree(at())
+        for option, *words in (("--output", "create", at("v"), "-o", ""), ("--output", "split", at("v"), "-n", "2", "--output="),
+                               ("--to", "join", at("v", "volume0001.rsv"), "--to", ""), ("--to", "repair", at("a.rsv"), "--to="),
+                               ("--folder", "repair", at("a.rsv"), "--folder", ""), ("--folder", "verify", at("a.rsv"), "--folder=")):
+            if printed(*words, status=2, cwd=at()) != ("", f"rs_files: {option}: the path is empty\n") or tree(at()) != before:
+                wrong(f"{words} with an empty path")
+
+
+TESTS = (closed_streams, old_volumes, killed_between, failed_repair, folders_without_sync, times, sizes_shown, progress_of_restores, same_length,
+         shown_names, empty_paths)
