@@ -111,5 +111,5 @@ if len(sys.argv) < 3:
     sys.exit(__doc__)
 try:
     restore(*sys.argv[1:])
-except ValueError as error:
+except (OSError, ValueError) as error:
     sys.exit(f"restore.py: {error}")
