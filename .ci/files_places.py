@@ -302,13 +302,18 @@ def unread():
             wrong("verify says that blocks of a short file cannot be read")
 
 
+def split_set(at, number):
+    """Splits a set of two files with 14 blocks into this number of volumes, of which one may be lost. Returns the paths of the volumes."""
+    write(at("set", "a"), RANDOM.randbytes(6000))
+    write(at("set", "b"), RANDOM.randbytes(700))
+    run("split", at("set"), "-n", str(number), "--lose", "1", "-o", at("v"), "-q", "--block", "512")
+    return [at("v", f"volume000{place}.rsv") for place in range(1, number + 1)]
+
+
 def spread_volumes():
     """`verify` says of volumes of `split` whether they hold all blocks. The files need not be there."""
     with Folder() as at:
-        write(at("set", "a"), RANDOM.randbytes(6000))
-        write(at("set", "b"), RANDOM.randbytes(700))
-        run("split", at("set"), "-n", "4", "--lose", "1", "-o", at("v"), "-q", "--block", "512")
-        volumes = [at("v", f"volume000{number}.rsv") for number in range(1, 5)]
+        volumes = split_set(at, 4)
         if printed("verify", *volumes) != ("all volumes are whole, with 14 original blocks and 5 recovery blocks: join restores the files from them\n", ""):
             wrong(f"verify of whole volumes: {printed('verify', *volumes)}")
         if printed("verify", *volumes, "-q") != ("", "") or json.loads(printed("verify", *volumes, "--json")[0])["status"] != 0:
@@ -341,10 +346,7 @@ def spread_volumes():
 def damaged_blocks():
     """`verify` names each volume of which a block is damaged, also if the same block is in a file or in another volume."""
     with Folder() as at:
-        write(at("set", "a"), RANDOM.randbytes(6000))
-        write(at("set", "b"), RANDOM.randbytes(700))
-        run("split", at("set"), "-n", "3", "--lose", "1", "-o", at("v"), "-q", "--block", "512")
-        volumes = [at("v", f"volume000{number}.rsv") for number in range(1, 4)]
+        volumes = split_set(at, 3)
         before, whole = tree(at("set")), read(volumes[1])
         # The files have 14 blocks, so there are 7 recovery blocks. The second volume has the blocks 1, 4, 7, 10, 13, 16 and 19.
         start = 64 + int.from_bytes(whole[16:24], "little")
