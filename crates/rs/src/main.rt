@@ -3,23 +3,15 @@
 //! recovery shard `rI=HEX`, where I is the index of the shard.
 #![tactic(auto)]
 
-mod coding;
-mod command;
-mod fault;
-pub mod hexadecimal;
-mod number;
-pub mod program;
-mod words;
-mod writing;
-
+use rs_command::program::run;
+use rs_command::words::read_words;
 use std::process::ExitCode;
-use words::read_words;
 
 fn main(rt: HostRuntime) -> ExitCode {
     let mut out = rt.stdout();
     let mut err = rt.stderr();
     let status = match read_words(&rt) {
-        Ok(words) => program::run(rt.alloc(), words.as_slice(), &mut out, &mut err),
+        Ok(words) => run(rt.alloc(), words.as_slice(), &mut out, &mut err),
         Err(fault) => {
             let _ = fault.tell(rt.alloc(), &mut err);
             fault.status()

@@ -1,49 +1,34 @@
 //! The library for programs in C, and in languages that call C.
 #![tactic(auto)]
 
-mod alone;
-mod buffer_rooms;
-mod buffers;
-mod decoding;
-mod encoding;
 mod engine;
-mod fault;
 mod lanes;
-mod layouts;
-mod marked_buffers;
-mod places;
-mod receiving;
-mod reconstructing;
-mod tables;
 #[cfg(test)]
 mod tests;
-mod text;
-mod updating;
-mod verifying;
-mod writing;
 
 ghost use Rattle.std.specs.Prelude.{◌≡◌, ◌≢◌, ◌↔◌, true, drop, length, Result};
 ghost use Rattle.rs_field.specs.code.Counts.{default_rate, supports};
-ghost use Rattle.rs_c.specs.declared.fault.Fault.{Fault as FaultOf};
-ghost use Rattle.rs_c.specs.Tables.{AreStamped, AreTables};
-ghost use Rattle.rs_c.specs.Faults.{numbers, fault_of};
-ghost use Rattle.rs_c.specs.Answers.{EncodesBuffer, DecodesBuffer, marked_number, WantsNoMemory};
-ghost use Rattle.rs_c.specs.Arrays.{shards_of, items_of, bytes_in, KeepsRooms};
-ghost use Rattle.rs_c.specs.Arrays.{EncodesArrays, DecodesArrays, VerifiesArrays};
-ghost use Rattle.rs_c.specs.Arrays.{ReconstructsArrays, UpdatesArrays, wanted_of};
-ghost use Rattle.rs_c.specs.Texts.{fault_with, text_with, WritesText};
+ghost use Rattle.rs_calls.specs.declared.fault.Fault.{Fault as FaultOf};
+ghost use Rattle.rs_calls.specs.Tables.{AreStamped, AreTables};
+ghost use Rattle.rs_calls.specs.Faults.{numbers, fault_of};
+ghost use Rattle.rs_calls.specs.Answers.{EncodesBuffer, DecodesBuffer, marked_number, WantsNoMemory};
+ghost use Rattle.rs_calls.specs.Arrays.{shards_of, items_of, bytes_in, KeepsRooms};
+ghost use Rattle.rs_calls.specs.Arrays.{EncodesArrays, DecodesArrays, VerifiesArrays};
+ghost use Rattle.rs_calls.specs.Arrays.{ReconstructsArrays, UpdatesArrays, wanted_of};
+ghost use Rattle.rs_calls.specs.Texts.{fault_with, text_with, WritesText};
 
-use decoding::{decode_arrays, decode_buffer};
-use encoding::{encode_arrays, encode_buffer};
 use engine::engine_over;
-use fault::{Fault, RsFault};
-use layouts::{RsShard, RsWanted};
-use reconstructing::reconstruct_arrays;
+use rs_calls::decoding::{decode_arrays, decode_buffer};
+use rs_calls::encoding::{encode_arrays, encode_buffer};
+use rs_calls::fault::{Fault, RsFault};
+use rs_calls::layouts::{RsShard, RsWanted};
+use rs_calls::reconstructing::reconstruct_arrays;
+use rs_calls::tables::{RsTables, fill};
+use rs_calls::text;
+use rs_calls::updating::update_arrays;
+use rs_calls::verifying::verify_arrays;
 use rs_rate::rate::DefaultRateCounts;
 use std::alloc::Global;
-use tables::{RsTables, fill};
-use updating::update_arrays;
-use verifying::verify_arrays;
 
 /// Fills the tables and returns 0. If memory cannot be allocated, it returns 1, which is `RS_OUT_OF_MEMORY`, and leaves
 /// the tables as they were.

@@ -1,0 +1,151 @@
+-- Lemmas about indexes that are noted as bits of words.
+use Rattle.std.proofs.Common.{◌≡◌, ◌≢◌, ℕ, ◌+◌, ◌*◌, ◌/◌, ◌%◌, ◌^◌, ◌<◌, ◌≤◌, ◌||◌, Bool, true, false, List, [], ◌∷◌}
+use Rattle.std.proofs.Common.{length, drop, if◌then◌else◌, nat_eq, nat_le, nat_lt, get_or, set, replicate, bit_or, w64}
+use Rattle.std.proofs.Common.{Result, Ok, Err, MatchResult, inl, inr, refl, sym, ap, subst, ◌∙◌, arith}
+use Rattle.std.specs.Int.{bit_at}
+use Rattle.std.specs.List.{list_any}
+use Rattle.std.proofs.lemmas.Bool.{cases_eq, cases_lt, eq-eqb, ne_eqb, lt-leb}
+use Rattle.std.proofs.lemmas.List.{get_or-set_other, get_or-set_same, get_or-replicate, length-replicate, drop_more}
+use Rattle.std.proofs.lemmas.List.{drop_all}
+use Rattle.std.proofs.Math.ListN.{get_or-eq_default}
+use Rattle.std.proofs.lemmas.Nat.Bits.{bit_at-zero, bit_at_set_same, bit_at_set_other}
+use Rattle.rs_field.specs.declared.code.error.Error.{Error}
+use Rattle.rs_field.specs.declared.code.error.Error.TheVariants.{InvalidOriginalShardIndex, DuplicateOriginalShardIndex}
+use Rattle.rs_field.specs.declared.code.error.Error.TheVariants.{NotEnoughShards}
+use Rattle.rs_field.specs.code.Outcome.{result_and_then}
+use Rattle.rs_field.specs.code.OneCall.{one_by_one, note_outcome, originals_alone}
+use Rattle.rs_calls.specs.declared.layouts.RsShard.{RsShard}
+use Rattle.rs_calls.specs.Alone.{AreNoted}
+use Rattle.rs_calls.specs.Arrays.{items_of}
+
+-- Before the first index is noted, no bit is 1.
+pub note_outcome-none : (n : ℕ) → AreNoted [] (replicate n 0)
+note_outcome-none n i =
+    ap (λ word. bit_at word (i % 64)) (elim (cases_lt (i / 64) n) [
+      | inl inside ↦ get_or-replicate n (i / 64) 0 0 inside
+      | inr outside ↦
+          get_or-eq_default (replicate n 0) 0 (subst (λ (m : ℕ). m ≤ i / 64) (sym (length-replicate n 0)) outside)
+    ])
+    ∙ bit_at-zero (i % 64)
+
+module _ (k index : ℕ) (indexes words : List ℕ) (inside : index < k) (few : k ≤ 65536) (size : length words ≡ 1024)
+    (are : AreNoted indexes words)
+    (free : bit_at (get_or words (index / 64) 0) (index % 64) ≢ 1) where
+  -- If the bit of an index is not 1, the index was not noted before.
+  is-new : list_any (nat_eq index) indexes ≡ false
+  is-new = by_test (list_any (nat_eq index) indexes) (are index)
+    where
+      by_test : (b : Bool) → bit_at (get_or words (index / 64) 0) (index % 64) ≡ (if b then 1 else 0) → b ≡ false
+      by_test true taken = absurd (free taken)
+      by_test false none = refl
+
+  -- If the index is below k and its bit is not 1, noting the index succeeds.
+  pub note_outcome-next : note_outcome k indexes index ≡ Ok (index ∷ indexes)
+  note_outcome-next = rw (lt-leb k index inside, is-new) refl
+
+  -- After the bit of the index was set, the words note the index as well.
+  pub note_outcome-more : AreNoted (index ∷ indexes)
+      (set words (index / 64) (bit_or (get_or words (index / 64) 0) (1 * 2 ^ (index % 64) % 2 ^ 64)))
+  note_outcome-more i = elim (cases_eq (i / 64) (index / 64)) [
+    | inl word ↦ elim (cases_eq (i % 64) (index % 64)) [
+      | inl bit ↦
+          ap (λ n. bit_at (get_or (set words (index / 64) new) n 0) (i % 64)) word
+          ∙ ap (λ w. bit_at w (i % 64)) (get_or-set_same words (index / 64) new 0 within)
+          ∙ ap (bit_at new) bit ∙ bit_at_set_same w64 old (index % 64) (omega arith)
+          ∙ sym (ap (λ b. if b || list_any (nat_eq i) indexes then 1 else 0)
+          (eq-eqb i index (omega (arith, word, bit))))
+      | inr bit ↦
+          ap (λ n. bit_at (get_or (set words (index / 64) new) n 0) (i % 64)) word
+          ∙ ap (λ w. bit_at w (i % 64)) (get_or-set_same words (index / 64) new 0 within)
+          ∙ bit_at_set_other w64 old (index % 64) (omega arith) (i % 64) bit
+          ∙ ap (λ n. bit_at (get_or words n 0) (i % 64)) (sym word) ∙ other (λ same. bit (ap (λ n. n % 64) same))
+    ]
+    | inr word ↦
+        ap (λ w. bit_at w (i % 64)) (get_or-set_other words (index / 64) (i / 64) new 0 word)
+        ∙ other (λ same. word (ap (λ n. n / 64) same))
+  ]
+    where
+      old : ℕ
+      old = get_or words (index / 64) 0
+
+      new : ℕ
+      new = bit_or old (1 * 2 ^ (index % 64) % 2 ^ 64)
+
+      within : index / 64 < length words
+      within = omega (arith, inside, few, size)
+
+      other : (i ≡ index → ⊥)
+          → bit_at (get_or words (i / 64) 0) (i % 64) ≡ (if list_any (nat_eq i) (index ∷ indexes) then 1 else 0)
+      other apart = are i ∙ sym (ap (λ b. if b || list_any (nat_eq i) indexes then 1 else 0) (ne_eqb i index apart))
+
+-- the outcome of noting an index, for the results of two tests: whether the index is outside the range, and whether it
+-- was noted before
+abbrev noted_by : ℕ → List ℕ → ℕ → Bool → Bool → Result (List ℕ) Error
+noted_by k indexes index outside taken =
+    if outside then Err (InvalidOriginalShardIndex k index)
+    else if taken then Err (DuplicateOriginalShardIndex index)
+    else Ok (index ∷ indexes)
+
+-- an outcome of noting agrees with a result and with the new words
+abbrev pub Leads : Result (List ℕ) Error → List ℕ → Result (Unit {0}) Error → Type 0
+Leads outcome new result = MatchResult outcome (λ all. (result ≡ Ok tt) × AreNoted all new) (λ e. result ≡ Err e)
+
+-- the outcome of noting this index agrees with a result and with the new words
+abbrev pub Notes : ℕ → List ℕ → ℕ → List ℕ → Result (Unit {0}) Error → Type 0
+Notes k indexes index new result = Leads (note_outcome k indexes index) new result
+
+-- If noting an index succeeds and its bit is set, the outcome agrees with the result and with the new words.
+pub notes : (k index : ℕ) (indexes new : List ℕ) (result : Result (Unit {0}) Error)
+    → note_outcome k indexes index ≡ Ok (index ∷ indexes) → result ≡ Ok tt → AreNoted (index ∷ indexes) new
+    → Notes k indexes index new result
+notes k index indexes new result is done are =
+    subst (λ (o : Result (List ℕ) Error). Leads o new result) (sym is) (done, are)
+
+-- If the result is a success, the index was noted.
+pub notes-ok : (k index : ℕ) (indexes new : List ℕ) (result : Result (Unit {0}) Error)
+    → Notes k indexes index new result → result ≡ Ok tt
+    → (note_outcome k indexes index ≡ Ok (index ∷ indexes)) × AreNoted (index ∷ indexes) new
+notes-ok k index indexes new result leads done = by_tests (nat_le k index) (list_any (nat_eq index) indexes) leads
+  where
+    by_tests : (outside taken : Bool)
+        → Leads (noted_by k indexes index outside taken) new result
+        → (noted_by k indexes index outside taken ≡ Ok (index ∷ indexes)) × AreNoted (index ∷ indexes) new
+    by_tests true taken refused = absurd (let no : ⊥ = cc in no)
+    by_tests false true refused = absurd (let no : ⊥ = cc in no)
+    by_tests false false led = (refl, led.1)
+
+-- If the result is an error, it is the error of the outcome.
+pub notes-err : (k index : ℕ) (indexes new : List ℕ) (result : Result (Unit {0}) Error) (e : Error)
+    → Notes k indexes index new result → result ≡ Err e → note_outcome k indexes index ≡ Err e
+notes-err k index indexes new result e leads refused = by_outcome (note_outcome k indexes index) leads
+  where
+    by_outcome : (o : Result (List ℕ) Error) → Leads o new result → o ≡ Err e
+    by_outcome (Ok all) led = let done = led.0 in absurd (let no : ⊥ = cc in no)
+    by_outcome (Err f) same = let is : f ≡ e = cc in ap Err is
+
+-- the outcome of noting the indexes of shards, if some indexes were noted before
+abbrev pub noting : ℕ → List ℕ → List RsShard → Result (List ℕ) Error
+noting k indexes shards = one_by_one (λ given item. note_outcome k given item.0) indexes (items_of shards)
+
+-- The outcome for the shards from shard i on is that of shard i, and then that of the shards after it.
+pub noting-next : (k i : ℕ) (indexes : List ℕ) (shards : List RsShard) (d : RsShard) → i < length shards
+    → noting k indexes (drop i shards)
+    ≡ result_and_then (λ next. noting k next (drop (i + 1) shards)) (note_outcome k indexes (get_or shards i d).index)
+noting-next k i indexes shards d inside = ap (noting k indexes) (drop_more shards i d inside)
+
+-- If all indexes were noted, the result of the decode is found by comparing their number with k.
+pub noting-done : (k : ℕ) (indexes : List ℕ) (shards : List RsShard)
+    → noting k [] shards ≡ noting k indexes (drop (length shards) shards) → length indexes ≡ length shards
+    → originals_alone k (items_of shards)
+    ≡ (if nat_lt (length shards) k then Err (NotEnoughShards k (length shards) 0) else Ok tt)
+noting-done k indexes shards leads number =
+    ap (result_and_then (λ given. if nat_lt (length given) k then Err (NotEnoughShards k (length given) 0) else Ok tt))
+    (leads ∙ ap (noting k indexes) (drop_all (length shards) shards (omega arith)))
+    ∙ ap (λ (n : ℕ). if nat_lt n k then Err (NotEnoughShards k n 0) else Ok tt) number
+
+-- If noting an index fails, the decode fails with the same error.
+pub noting-refused : (k : ℕ) (shards : List RsShard) (e : Error)
+    → noting k [] shards ≡ Err e → originals_alone k (items_of shards) ≡ Err e
+noting-refused k shards e refused =
+    ap (result_and_then (λ given. if nat_lt (length given) k then Err (NotEnoughShards k (length given) 0) else Ok tt))
+    refused

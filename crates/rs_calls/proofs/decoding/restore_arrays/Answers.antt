@@ -1,0 +1,106 @@
+use Rattle.std.proofs.Common.{rules, ◌≡◌, [], length, Ok, Err, inl, sym, ap, subst, ◌∙◌, refl, arith}
+use Rattle.std.proofs.lemmas.Iterator.{YieldsList-from_slice, YieldsList-from_map_by}
+use Rattle.std.proofs.lemmas.List.{nil_from_length}
+use Rattle.std.proofs.lemmas.List.Elements.{All-nil}
+use Rattle.rs_field.specs.declared.code.error.Error.TheVariants.{OutOfMemory}
+use Rattle.rs_field.proofs.of_code.SupportedCounts.{default_fits}
+use Rattle.reed_solomon_simd.specs.declared.room_error.RoomError.TheVariants.{Refused}
+use Rattle.reed_solomon_simd.specs.Into.{DecodesInto}
+use Rattle.reed_solomon_simd.specs.ReceivedState.{received_state}
+use Rattle.reed_solomon_simd.proofs.RestoringLemmas.{decodes-refused, decodes-nothing, decodes-restored}
+use Rattle.reed_solomon_simd.proofs.Giving.{always-both}
+use Rattle.reed_solomon_simd.proofs.OneCall.{decoding-uncounted, decoding-none, decoding-refused}
+use Rattle.rs_calls.specs.Arrays.{items_of, bytes_in}
+use Rattle.rs_calls.proofs.RoomFaults.{nothing-memory}
+use Rattle.rs_calls.proofs.decoding.restore_arrays.Goals as goal
+
+pub returns-in_err-counts-clause-answer : goal.returns-in_err-counts-clause-answer
+returns-in_err-counts-clause-answer c =
+    let k = c.args.original_count in let r = c.args.recovery_count in
+    let own = items_of c.args.originals.now in let other = items_of c.args.recovery.now in
+    let e = c.in_err-counts.field-0.0 in
+    decodes-refused k r own other e (bytes_in c.args.restored.now) _
+    (decoding-refused k r own other e (decoding-uncounted k r own other e c.in_err-counts.ensures)) (search rules)
+
+pub check_alone-requires : goal.check_alone-requires
+check_alone-requires c =
+    let fits = default_fits c.in_ok-counts.counts.original_count c.in_ok-counts.counts.recovery_count
+    c.in_ok-counts.counts.supported in
+    omega (arith, fits, c.in_ok-counts.ensures.0, c.in_ok-counts.ensures.1)
+
+pub returns-in_err-check_alone-clause-answer : goal.returns-in_err-check_alone-clause-answer
+returns-in_err-check_alone-clause-answer c =
+    let k = c.args.original_count in let r = c.args.recovery_count in
+    let own = items_of c.args.originals.now in
+    let none : length c.args.recovery.now ≡ 0 = search rules in
+    let e = c.in_err-check_alone.field-0.0 in
+    let led = decoding-none k r own (Err e)
+    (rw (c.in_ok-counts.ensures.0, c.in_ok-counts.ensures.1) at c.in_ok-counts.counts.supported)
+    (inl c.in_err-check_alone.ensures.answer) in
+    subst (λ l. DecodesInto k r own (items_of l) (bytes_in c.args.restored.now) (bytes_in c.args.restored.now)
+    c.from_residual-in_err-check_alone.result) (sym (nil_from_length c.args.recovery.now none))
+    (decodes-refused k r own [] e (bytes_in c.args.restored.now) _ (decoding-refused k r own [] e led) (search rules))
+
+pub returns-in_err-check_alone-clause-memory : goal.returns-in_err-check_alone-clause-memory
+returns-in_err-check_alone-clause-memory c none lacks =
+    let e = c.in_err-check_alone.field-0.0 in
+    let failed : c.from_residual-in_err-check_alone.result ≡ Err (Refused e) = search rules in
+    let same : e ≡ OutOfMemory = cc in c.in_err-check_alone.ensures.memory (ap Err same)
+
+pub returns-then-is_empty-clause-answer : goal.returns-then-is_empty-clause-answer
+returns-then-is_empty-clause-answer c =
+    let k = c.args.original_count in let r = c.args.recovery_count in
+    let own = items_of c.args.originals.now in
+    let none : length c.args.recovery.now ≡ 0 = search rules in
+    let led = decoding-none k r own (Ok tt)
+    (rw (c.in_ok-counts.ensures.0, c.in_ok-counts.ensures.1) at c.in_ok-counts.counts.supported)
+    (inl c.in_ok-check_alone.ensures.answer) in
+    subst (λ l. DecodesInto k r own (items_of l) (bytes_in c.args.restored.now) (bytes_in c.args.restored.now)
+    c.check_rooms.result) (sym (nil_from_length c.args.recovery.now none))
+    (decodes-nothing k r own [] (bytes_in c.args.restored.now) _ led
+    (c.check_rooms.ensures.answer [] refl (All-nil (λ shard. length shard ≡ 0))))
+
+pub returns-then-is_empty-clause-memory : goal.returns-then-is_empty-clause-memory
+returns-then-is_empty-clause-memory c none lacks =
+    nothing-memory (bytes_in c.args.restored.now)
+    (sym (c.check_rooms.ensures.answer [] refl (All-nil (λ shard. length shard ≡ 0))) ∙ lacks)
+
+pub returns-in_err-received-clause-answer : goal.returns-in_err-received-clause-answer
+returns-in_err-received-clause-answer c =
+    let own = YieldsList-from_map_by _ (λ item. (item.0, item.1.now)) (λ shard. (shard.index, shard.bytes.now))
+    (YieldsList-from_slice c.args.originals.now cc) c.map-own.ensures.closure (λ x r q k. search rules) in
+    let other = YieldsList-from_map_by _ (λ item. (item.0, item.1.now)) (λ shard. (shard.index, shard.bytes.now))
+    (YieldsList-from_slice c.args.recovery.now cc) c.map-other.ensures.closure (λ x r q k. search rules) in
+    let led = always-both (λ item. (item.0, item.1.now)) (λ item. (item.0, item.1.now)) _
+    (rw (c.in_ok-counts.ensures.0, c.in_ok-counts.ensures.1) at c.in_err-received.ensures)
+    (items_of c.args.originals.now) (items_of c.args.recovery.now) own.runs other.runs in
+    let e = c.in_err-received.field-0.0 in
+    decodes-refused c.args.original_count c.args.recovery_count (items_of c.args.originals.now)
+    (items_of c.args.recovery.now) e (bytes_in c.args.restored.now) _
+    (decoding-refused c.args.original_count c.args.recovery_count _ _ e led) (search rules)
+
+pub returns-in_default-clause-answer : goal.returns-in_default-clause-answer
+returns-in_default-clause-answer c =
+    let own = YieldsList-from_map_by _ (λ item. (item.0, item.1.now)) (λ shard. (shard.index, shard.bytes.now))
+    (YieldsList-from_slice c.args.originals.now cc) c.map-own.ensures.closure (λ x r q k. search rules) in
+    let other = YieldsList-from_map_by _ (λ item. (item.0, item.1.now)) (λ shard. (shard.index, shard.bytes.now))
+    (YieldsList-from_slice c.args.recovery.now cc) c.map-other.ensures.closure (λ x r q k. search rules) in
+    let led = always-both (λ item. (item.0, item.1.now)) (λ item. (item.0, item.1.now)) _
+    (rw (c.in_ok-counts.ensures.0, c.in_ok-counts.ensures.1, c.in_default.is) at c.in_ok-received.ensures)
+    (items_of c.args.originals.now) (items_of c.args.recovery.now) own.runs other.runs in
+    decodes-nothing c.args.original_count c.args.recovery_count (items_of c.args.originals.now)
+    (items_of c.args.recovery.now) (bytes_in c.args.restored.now) _ led
+    (c.check_rooms-in_default.ensures.answer [] refl (All-nil (λ shard. length shard ≡ 0)))
+
+pub returns-clause-answer : goal.returns-clause-answer
+returns-clause-answer c =
+    let own = YieldsList-from_map_by _ (λ item. (item.0, item.1.now)) (λ shard. (shard.index, shard.bytes.now))
+    (YieldsList-from_slice c.args.originals.now cc) c.map-own.ensures.closure (λ x r q k. search rules) in
+    let other = YieldsList-from_map_by _ (λ item. (item.0, item.1.now)) (λ shard. (shard.index, shard.bytes.now))
+    (YieldsList-from_slice c.args.recovery.now cc) c.map-other.ensures.closure (λ x r q k. search rules) in
+    let led = always-both (λ item. (item.0, item.1.now)) (λ item. (item.0, item.1.now)) _
+    (rw (c.in_ok-counts.ensures.0, c.in_ok-counts.ensures.1, c.in-Some.is) at c.in_ok-received.ensures)
+    (items_of c.args.originals.now) (items_of c.args.recovery.now) own.runs other.runs in
+    decodes-restored c.args.original_count c.args.recovery_count (items_of c.args.originals.now)
+    (items_of c.args.recovery.now) (received_state c.in-Some.received)
+    (bytes_in c.args.restored.now) (bytes_in c.restore_into.new.rooms) _ led c.restore_into.ensures.answer
