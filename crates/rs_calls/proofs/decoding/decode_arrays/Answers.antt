@@ -8,7 +8,7 @@ use Rattle.rs_calls.proofs.RoomFaults.{decodes-told, decodes-kept, keeps-rooms, 
 use Rattle.rs_calls.proofs.decoding.decode_arrays.Goals as goal
 
 pub returns-in-Err-clause-answer : goal.returns-in-Err-clause-answer
-returns-in-Err-clause-answer c =
+returns-in-Err-clause-answer g c =
     let k = c.args.original_count in let r = c.args.recovery_count in
     let own : Items = items_of c.args.originals.now in let other : Items = items_of c.args.recovery.now in
     let old : List Shard = bytes_in c.args.restored.now in
@@ -28,10 +28,10 @@ returns-in-Err-clause-answer c =
     ∙ sym (ap (told (shards_in own ++ shards_in other) old) c.in-Err.is)) answers
 
 pub returns-in-Err-clause-kept : goal.returns-in-Err-clause-kept
-returns-in-Err-clause-kept c = keeps-rooms c.args.restored.now _ c.restore_arrays-answer.ensures.kept
+returns-in-Err-clause-kept g c = keeps-rooms c.args.restored.now _ c.restore_arrays-answer.ensures.kept
 
 pub returns-clause-answer : goal.returns-clause-answer
-returns-clause-answer c =
+returns-clause-answer g c =
     let own : Items = items_of c.args.originals.now in let other : Items = items_of c.args.recovery.now in
     let old : List Shard = bytes_in c.args.restored.now in
     decodes-told c.args.original_count c.args.recovery_count own other old
@@ -39,4 +39,4 @@ returns-clause-answer c =
     (sym (ap (told (shards_in own ++ shards_in other) old) c.in_default.is)) c.restore_arrays-answer.ensures.answer
 
 pub returns-clause-kept : goal.returns-clause-kept
-returns-clause-kept c = keeps-rooms c.args.restored.now _ c.restore_arrays-answer.ensures.kept
+returns-clause-kept g c = keeps-rooms c.args.restored.now _ c.restore_arrays-answer.ensures.kept

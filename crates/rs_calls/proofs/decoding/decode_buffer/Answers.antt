@@ -15,13 +15,13 @@ use Rattle.rs_calls.proofs.RestoredBuffer.{unset-answers, failed-answers, done-a
 use Rattle.rs_calls.proofs.decoding.decode_buffer.Goals as goal
 
 pub overflow_add-original_count : goal.overflow_add-original_count
-overflow_add-original_count c =
+overflow_add-original_count g c =
     let fits = default_fits c.in_ok-counts.counts.original_count c.in_ok-counts.counts.recovery_count
     c.in_ok-counts.counts.supported in
     omega (arith, fits, c.in_ok-counts.ensures.0, c.in_ok-counts.ensures.1)
 
 pub returns-in_err-check_all_marked-clause-answer : goal.returns-in_err-check_all_marked-clause-answer
-returns-in_err-check_all_marked-clause-answer c =
+returns-in_err-check_all_marked-clause-answer g c =
     let k = c.args.original_count in let r = c.args.recovery_count in let size = c.args.shard_bytes in
     let marks = c.args.marks.now in let old = c.args.originals.now in let recovery = c.args.recovery.now in
     let front : c.split_at.result.0.now ≡ take k marks = search rules in
@@ -41,7 +41,7 @@ returns-in_err-check_all_marked-clause-answer c =
     (marked_shards 0 size (drop k marks) recovery) e led) (search rules, refl)
 
 pub returns-then-count_marked-eq0-clause-answer : goal.returns-then-count_marked-eq0-clause-answer
-returns-then-count_marked-eq0-clause-answer c =
+returns-then-count_marked-eq0-clause-answer g c =
     let k = c.args.original_count in let r = c.args.recovery_count in let size = c.args.shard_bytes in
     let marks = c.args.marks.now in let old = c.args.originals.now in let recovery = c.args.recovery.now in
     let front : c.split_at.result.0.now ≡ take k marks = search rules in
@@ -60,7 +60,7 @@ returns-then-count_marked-eq0-clause-answer c =
     (search rules, sym (with-nothing 0 size k old (fits-length 0 k size (length old) c.in_ok-check_length.ensures)))
 
 pub returns-in_err-check_decoder_rows-clause-answer : goal.returns-in_err-check_decoder_rows-clause-answer
-returns-in_err-check_decoder_rows-clause-answer c =
+returns-in_err-check_decoder_rows-clause-answer g c =
     let k = c.args.original_count in let r = c.args.recovery_count in let size = c.args.shard_bytes in
     let marks = c.args.marks.now in let old = c.args.originals.now in let recovery = c.args.recovery.now in
     let own = c.split_at.result.0.now in let other = c.split_at.result.1.now in
@@ -86,7 +86,7 @@ returns-in_err-check_decoder_rows-clause-answer c =
     answers (search rules, refl)
 
 pub restore_marked-requires-clause-own_marks : goal.restore_marked-requires-clause-own_marks
-restore_marked-requires-clause-own_marks c =
+restore_marked-requires-clause-own_marks g c =
     let k = c.args.original_count in let r = c.args.recovery_count in let size = c.args.shard_bytes in
     let marks = c.args.marks.now in let old = c.args.originals.now in let recovery = c.args.recovery.now in
     let own = c.split_at.result.0.now in let other = c.split_at.result.1.now in
@@ -105,7 +105,7 @@ restore_marked-requires-clause-own_marks c =
     rw c.in_ok-counts.ensures.0 own_number
 
 pub restore_marked-requires-clause-other_marks : goal.restore_marked-requires-clause-other_marks
-restore_marked-requires-clause-other_marks c =
+restore_marked-requires-clause-other_marks g c =
     let k = c.args.original_count in let r = c.args.recovery_count in let size = c.args.shard_bytes in
     let marks = c.args.marks.now in let old = c.args.originals.now in let recovery = c.args.recovery.now in
     let own = c.split_at.result.0.now in let other = c.split_at.result.1.now in
@@ -124,7 +124,7 @@ restore_marked-requires-clause-other_marks c =
     rw c.in_ok-counts.ensures.1 other_number
 
 pub restore_marked-requires-clause-own_whole : goal.restore_marked-requires-clause-own_whole
-restore_marked-requires-clause-own_whole c =
+restore_marked-requires-clause-own_whole g c =
     let k = c.args.original_count in let r = c.args.recovery_count in let size = c.args.shard_bytes in
     let marks = c.args.marks.now in let old = c.args.originals.now in let recovery = c.args.recovery.now in
     let own = c.split_at.result.0.now in let other = c.split_at.result.1.now in
@@ -143,7 +143,7 @@ restore_marked-requires-clause-own_whole c =
     rw c.in_ok-counts.ensures.0 own_whole
 
 pub restore_marked-requires-clause-other_whole : goal.restore_marked-requires-clause-other_whole
-restore_marked-requires-clause-other_whole c =
+restore_marked-requires-clause-other_whole g c =
     let k = c.args.original_count in let r = c.args.recovery_count in let size = c.args.shard_bytes in
     let marks = c.args.marks.now in let old = c.args.originals.now in let recovery = c.args.recovery.now in
     let own = c.split_at.result.0.now in let other = c.split_at.result.1.now in
@@ -162,7 +162,7 @@ restore_marked-requires-clause-other_whole c =
     rw c.in_ok-counts.ensures.1 other_whole
 
 pub returns-in_err-restore_marked-clause-answer : goal.returns-in_err-restore_marked-clause-answer
-returns-in_err-restore_marked-clause-answer c =
+returns-in_err-restore_marked-clause-answer g c =
     let k = c.args.original_count in let r = c.args.recovery_count in let size = c.args.shard_bytes in
     let marks = c.args.marks.now in let old = c.args.originals.now in let recovery = c.args.recovery.now in
     let own = c.split_at.result.0.now in let other = c.split_at.result.1.now in
@@ -189,7 +189,7 @@ returns-in_err-restore_marked-clause-answer c =
     answers (search rules, c.in_err-restore_marked.ensures.untouched)
 
 pub returns-clause-answer : goal.returns-clause-answer
-returns-clause-answer c =
+returns-clause-answer g c =
     let k = c.args.original_count in let r = c.args.recovery_count in let size = c.args.shard_bytes in
     let marks = c.args.marks.now in let old = c.args.originals.now in let recovery = c.args.recovery.now in
     let own = c.split_at.result.0.now in let other = c.split_at.result.1.now in

@@ -15,7 +15,7 @@ use Rattle.rs_calls.proofs.RoomFaults.{nothing-memory}
 use Rattle.rs_calls.proofs.decoding.restore_arrays.Goals as goal
 
 pub returns-in_err-counts-clause-answer : goal.returns-in_err-counts-clause-answer
-returns-in_err-counts-clause-answer c =
+returns-in_err-counts-clause-answer g c =
     let k = c.args.original_count in let r = c.args.recovery_count in
     let own = items_of c.args.originals.now in let other = items_of c.args.recovery.now in
     let e = c.in_err-counts.field-0.0 in
@@ -23,13 +23,13 @@ returns-in_err-counts-clause-answer c =
     (decoding-refused k r own other e (decoding-uncounted k r own other e c.in_err-counts.ensures)) (search rules)
 
 pub check_alone-requires : goal.check_alone-requires
-check_alone-requires c =
+check_alone-requires g c =
     let fits = default_fits c.in_ok-counts.counts.original_count c.in_ok-counts.counts.recovery_count
     c.in_ok-counts.counts.supported in
     omega (arith, fits, c.in_ok-counts.ensures.0, c.in_ok-counts.ensures.1)
 
 pub returns-in_err-check_alone-clause-answer : goal.returns-in_err-check_alone-clause-answer
-returns-in_err-check_alone-clause-answer c =
+returns-in_err-check_alone-clause-answer g c =
     let k = c.args.original_count in let r = c.args.recovery_count in
     let own = items_of c.args.originals.now in
     let none : length c.args.recovery.now ≡ 0 = search rules in
@@ -42,13 +42,13 @@ returns-in_err-check_alone-clause-answer c =
     (decodes-refused k r own [] e (bytes_in c.args.restored.now) _ (decoding-refused k r own [] e led) (search rules))
 
 pub returns-in_err-check_alone-clause-memory : goal.returns-in_err-check_alone-clause-memory
-returns-in_err-check_alone-clause-memory c none lacks =
+returns-in_err-check_alone-clause-memory g c none lacks =
     let e = c.in_err-check_alone.field-0.0 in
     let failed : c.from_residual-in_err-check_alone.result ≡ Err (Refused e) = search rules in
     let same : e ≡ OutOfMemory = cc in c.in_err-check_alone.ensures.memory (ap Err same)
 
 pub returns-then-is_empty-clause-answer : goal.returns-then-is_empty-clause-answer
-returns-then-is_empty-clause-answer c =
+returns-then-is_empty-clause-answer g c =
     let k = c.args.original_count in let r = c.args.recovery_count in
     let own = items_of c.args.originals.now in
     let none : length c.args.recovery.now ≡ 0 = search rules in
@@ -61,12 +61,12 @@ returns-then-is_empty-clause-answer c =
     (c.check_rooms.ensures.answer [] refl (All-nil (λ shard. length shard ≡ 0))))
 
 pub returns-then-is_empty-clause-memory : goal.returns-then-is_empty-clause-memory
-returns-then-is_empty-clause-memory c none lacks =
+returns-then-is_empty-clause-memory g c none lacks =
     nothing-memory (bytes_in c.args.restored.now)
     (sym (c.check_rooms.ensures.answer [] refl (All-nil (λ shard. length shard ≡ 0))) ∙ lacks)
 
 pub returns-in_err-received-clause-answer : goal.returns-in_err-received-clause-answer
-returns-in_err-received-clause-answer c =
+returns-in_err-received-clause-answer g c =
     let own = YieldsList-from_map_by _ (λ item. (item.0, item.1.now)) (λ shard. (shard.index, shard.bytes.now))
     (YieldsList-from_slice c.args.originals.now cc) c.map-own.ensures.closure (λ x r q k. search rules) in
     let other = YieldsList-from_map_by _ (λ item. (item.0, item.1.now)) (λ shard. (shard.index, shard.bytes.now))
@@ -80,7 +80,7 @@ returns-in_err-received-clause-answer c =
     (decoding-refused c.args.original_count c.args.recovery_count _ _ e led) (search rules)
 
 pub returns-in_default-clause-answer : goal.returns-in_default-clause-answer
-returns-in_default-clause-answer c =
+returns-in_default-clause-answer g c =
     let own = YieldsList-from_map_by _ (λ item. (item.0, item.1.now)) (λ shard. (shard.index, shard.bytes.now))
     (YieldsList-from_slice c.args.originals.now cc) c.map-own.ensures.closure (λ x r q k. search rules) in
     let other = YieldsList-from_map_by _ (λ item. (item.0, item.1.now)) (λ shard. (shard.index, shard.bytes.now))
@@ -93,7 +93,7 @@ returns-in_default-clause-answer c =
     (c.check_rooms-in_default.ensures.answer [] refl (All-nil (λ shard. length shard ≡ 0)))
 
 pub returns-clause-answer : goal.returns-clause-answer
-returns-clause-answer c =
+returns-clause-answer g c =
     let own = YieldsList-from_map_by _ (λ item. (item.0, item.1.now)) (λ shard. (shard.index, shard.bytes.now))
     (YieldsList-from_slice c.args.originals.now cc) c.map-own.ensures.closure (λ x r q k. search rules) in
     let other = YieldsList-from_map_by _ (λ item. (item.0, item.1.now)) (λ shard. (shard.index, shard.bytes.now))

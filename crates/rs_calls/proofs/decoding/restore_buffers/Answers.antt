@@ -9,7 +9,7 @@ use Rattle.rs_calls.proofs.MarkedState.{originals-counted, recovery-counted, eno
 use Rattle.rs_calls.proofs.decoding.restore_buffers.Goals as goal
 
 pub surplus_of-requires : goal.surplus_of-requires
-surplus_of-requires c =
+surplus_of-requires g c =
     let x = c.args.buffers.now in
     let own = present-most x.original_marks.now in
     let other = present-most x.recovery_marks.now in
@@ -21,7 +21,7 @@ surplus_of-requires c =
     record { total = omega (arith, fits, own, other, own_count, other_count, x.originals_number, x.recovery_number) }
 
 pub returns-in_err-surplus-clause-answer : goal.returns-in_err-surplus-clause-answer
-returns-in_err-surplus-clause-answer c =
+returns-in_err-surplus-clause-answer g c =
     let x = c.args.buffers.now in
     let own_count = c.count_marked-original_received_count.ensures
     ∙ sym (count-present c.args.buffers.now.original_marks.now) in
@@ -32,7 +32,7 @@ returns-in_err-surplus-clause-answer c =
     rw few (search rules)
 
 pub restore_in_place-requires-clause-enough : goal.restore_in_place-requires-clause-enough
-restore_in_place-requires-clause-enough c =
+restore_in_place-requires-clause-enough g c =
     let x = c.args.buffers.now in
     let own_count = c.count_marked-original_received_count.ensures
     ∙ sym (count-present c.args.buffers.now.original_marks.now) in
@@ -43,7 +43,7 @@ restore_in_place-requires-clause-enough c =
     omega (arith, own, other, own_count, other_count, c.in_ok-surplus.ensures.number)
 
 pub restore_in_place-requires-clause-missing : goal.restore_in_place-requires-clause-missing
-restore_in_place-requires-clause-missing c =
+restore_in_place-requires-clause-missing g c =
     let x = c.args.buffers.now in
     let own = originals-counted x in
     let lost = lost-count 0 x.original_marks.now in
@@ -52,7 +52,7 @@ restore_in_place-requires-clause-missing c =
     omega (arith, own, lost, long, x.originals_number)
 
 pub returns-clause-answer : goal.returns-clause-answer
-returns-clause-answer c =
+returns-clause-answer g c =
     let x = c.args.buffers.now in
     let own_count = c.count_marked-original_received_count.ensures
     ∙ sym (count-present c.args.buffers.now.original_marks.now) in

@@ -10,20 +10,20 @@ use Rattle.rs_calls.proofs.RestoredBuffer.{buffer-same, rooms-placed, marked-sam
 use Rattle.rs_calls.proofs.decoding.restore_marked.Goals as goal
 
 pub restore_buffers-requires-clause-set_up : goal.restore_buffers-requires-clause-set_up
-restore_buffers-requires-clause-set_up c =
+restore_buffers-requires-clause-set_up g c =
     marked-decoder c.args.counts.original_count c.args.counts.recovery_count c.args.size c.args.marks.0.now
     c.args.originals.now c.args.marks.1.now c.args.recovery.now
     c.requires.own_marks c.requires.other_marks c.requires.own_whole c.requires.other_whole c.are_bytes.ensures.all
     c.are_bytes-2.ensures.all c.requires.set_up
 
 pub restore_buffers-requires-clause-fit : goal.restore_buffers-requires-clause-fit
-restore_buffers-requires-clause-fit c =
+restore_buffers-requires-clause-fit g c =
     rw (c.as_slice.ensures.value, c.in_ok-lost.ensures)
     (lost-long c.args.size c.args.counts.original_count c.args.marks.0.now c.args.originals.now c.requires.own_marks
     c.requires.own_whole)
 
 pub returns-clause-answer : goal.returns-clause-answer
-returns-clause-answer c =
+returns-clause-answer g c =
     let s : DecoderState =
     marked_state c.args.counts.original_count c.args.counts.recovery_count c.args.size c.args.marks.0.now
     c.args.originals.now c.args.marks.1.now c.args.recovery.now in
@@ -42,7 +42,7 @@ returns-clause-answer c =
     (λ e. c.restore_buffers.result ≡ Err e)) (search rules) does)
 
 pub returns-clause-marked : goal.returns-clause-marked
-returns-clause-marked c =
+returns-clause-marked g c =
     let same : marked_map c.args.size c.args.marks.0.now c.restore_buffers.new.buffers.originals.now
     ≡ marked_map c.args.size c.args.marks.0.now c.args.originals.now =
     marked-same c.args.counts.original_count c.args.counts.recovery_count c.args.size c.args.marks.0.now
@@ -51,7 +51,7 @@ returns-clause-marked c =
     search rules
 
 pub returns-clause-untouched : goal.returns-clause-untouched
-returns-clause-untouched c =
+returns-clause-untouched g c =
     let listed = c.as_slice.ensures.value ∙ c.in_ok-lost.ensures in
     let others = c.restore_buffers.ensures.others in
     let marked = marked-same c.args.counts.original_count c.args.counts.recovery_count c.args.size c.args.marks.0.now

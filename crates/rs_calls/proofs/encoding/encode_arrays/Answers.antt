@@ -7,7 +7,7 @@ use Rattle.rs_calls.proofs.RoomFaults.{encodes-told, encodes-kept, keeps-rooms, 
 use Rattle.rs_calls.proofs.encoding.encode_arrays.Goals as goal
 
 pub returns-in-Err-clause-answer : goal.returns-in-Err-clause-answer
-returns-in-Err-clause-answer c =
+returns-in-Err-clause-answer g c =
     let k = c.args.original_count in let r = c.args.recovery_count in
     let shards : List Shard = shards_of c.args.originals.now in
     let old : List Shard = bytes_in c.args.recovery.now in
@@ -22,14 +22,14 @@ returns-in-Err-clause-answer c =
     ∙ sym (ap (told shards old) c.in-Err.is)) answers
 
 pub returns-in-Err-clause-kept : goal.returns-in-Err-clause-kept
-returns-in-Err-clause-kept c = keeps-rooms c.args.recovery.now _ c.encode_into-answer.ensures.kept
+returns-in-Err-clause-kept g c = keeps-rooms c.args.recovery.now _ c.encode_into-answer.ensures.kept
 
 pub returns-clause-answer : goal.returns-clause-answer
-returns-clause-answer c =
+returns-clause-answer g c =
     let shards : List Shard = shards_of c.args.originals.now in
     let old : List Shard = bytes_in c.args.recovery.now in
     encodes-told c.args.original_count c.args.recovery_count shards old (bytes_in c.encode_into-answer.new.recovery)
     c.encode_into-answer.result (Ok tt) (sym (ap (told shards old) c.in_default.is)) c.encode_into-answer.ensures.answer
 
 pub returns-clause-kept : goal.returns-clause-kept
-returns-clause-kept c = keeps-rooms c.args.recovery.now _ c.encode_into-answer.ensures.kept
+returns-clause-kept g c = keeps-rooms c.args.recovery.now _ c.encode_into-answer.ensures.kept

@@ -7,7 +7,7 @@ use Rattle.rs_calls.proofs.EncodeLemmas.{fits-length, buffer-checked, buffer-uns
 use Rattle.rs_calls.proofs.encoding.encode_buffer.Goals as goal
 
 pub returns-in_err-check_encoder_rows : goal.returns-in_err-check_encoder_rows
-returns-in_err-check_encoder_rows c =
+returns-in_err-check_encoder_rows g c =
     let k = c.args.original_count in let r = c.args.recovery_count in
     let supported = rw (c.in_ok-counts.ensures.0, c.in_ok-counts.ensures.1) at c.in_ok-counts.counts.supported in
     let e = c.in_err-check_encoder_rows.field-0.0 in
@@ -19,10 +19,10 @@ returns-in_err-check_encoder_rows c =
     (search rules, refl)
 
 pub write_recovery-requires-clause-valid : goal.write_recovery-requires-clause-valid
-write_recovery-requires-clause-valid c = (search rules)
+write_recovery-requires-clause-valid g c = (search rules)
 
 pub returns-in_err-write_recovery : goal.returns-in_err-write_recovery
-returns-in_err-write_recovery c =
+returns-in_err-write_recovery g c =
     let k = c.args.original_count in let r = c.args.recovery_count in
     let size = c.args.shard_bytes in
     let supported = rw (c.in_ok-counts.ensures.0, c.in_ok-counts.ensures.1) at c.in_ok-counts.counts.supported in
@@ -44,7 +44,7 @@ returns-in_err-write_recovery c =
     (search rules, same)
 
 pub returns : goal.returns
-returns c =
+returns g c =
     let k = c.args.original_count in let r = c.args.recovery_count in
     let supported = rw (c.in_ok-counts.ensures.0, c.in_ok-counts.ensures.1) at c.in_ok-counts.counts.supported in
     let set_up = rw (c.in_ok-counts.ensures.0, c.in_ok-counts.ensures.1) at c.in_ok-check_encoder_rows.ensures in

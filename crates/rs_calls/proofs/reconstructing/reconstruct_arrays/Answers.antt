@@ -9,7 +9,7 @@ use Rattle.rs_calls.proofs.RoomFaults.{keeps-rooms}
 use Rattle.rs_calls.proofs.reconstructing.reconstruct_arrays.Goals as goal
 
 pub returns-in-Err-clause-answer : goal.returns-in-Err-clause-answer
-returns-in-Err-clause-answer c =
+returns-in-Err-clause-answer g c =
     let given = both-shards c.args.originals.now c.args.recovery.now in
     let same : bytes_in c.reconstruct_wanted-answer.new.rooms ≡ bytes_in c.args.rooms.now =
     into-kept c.args.original_count c.args.recovery_count (items_of c.args.originals.now)
@@ -26,10 +26,10 @@ returns-in-Err-clause-answer c =
     )
 
 pub returns-in-Err-clause-kept : goal.returns-in-Err-clause-kept
-returns-in-Err-clause-kept c = keeps-rooms c.args.rooms.now _ c.reconstruct_wanted-answer.ensures.kept
+returns-in-Err-clause-kept g c = keeps-rooms c.args.rooms.now _ c.reconstruct_wanted-answer.ensures.kept
 
 pub returns-clause-answer : goal.returns-clause-answer
-returns-clause-answer c = (
+returns-clause-answer g c = (
   c.reconstruct_wanted-answer.result,
   c.reconstruct_wanted-answer.ensures.answer,
   sym (ap (result_map_both (λ u. u)
@@ -38,4 +38,4 @@ returns-clause-answer c = (
 )
 
 pub returns-clause-kept : goal.returns-clause-kept
-returns-clause-kept c = keeps-rooms c.args.rooms.now _ c.reconstruct_wanted-answer.ensures.kept
+returns-clause-kept g c = keeps-rooms c.args.rooms.now _ c.reconstruct_wanted-answer.ensures.kept

@@ -8,7 +8,7 @@ use Rattle.rs_calls.specs.Arrays.{items_of, bytes_in, wanted_of}
 use Rattle.rs_calls.proofs.reconstructing.reconstruct_wanted.Goals as goal
 
 pub returns-in_err-counts-clause-answer : goal.returns-in_err-counts-clause-answer
-returns-in_err-counts-clause-answer c =
+returns-in_err-counts-clause-answer g c =
     let k = c.args.original_count in let r = c.args.recovery_count in
     let own = items_of c.args.received.0.now in let other = items_of c.args.received.1.now in
     let wanted = wanted_of c.args.wanted.now in
@@ -17,7 +17,7 @@ returns-in_err-counts-clause-answer c =
     (Err (Refused e), reconstructs-uncounted k r own other wanted fit e c.in_err-counts.ensures, (search rules, refl))
 
 pub returns-in_err-shards-clause-answer : goal.returns-in_err-shards-clause-answer
-returns-in_err-shards-clause-answer c =
+returns-in_err-shards-clause-answer g c =
     let k = c.args.original_count in let r = c.args.recovery_count in
     let own = items_of c.args.received.0.now in let other = items_of c.args.received.1.now in
     let wanted = wanted_of c.args.wanted.now in
@@ -30,7 +30,7 @@ returns-in_err-shards-clause-answer c =
     )
 
 pub returns-in_err-names-clause-answer : goal.returns-in_err-names-clause-answer
-returns-in_err-names-clause-answer c =
+returns-in_err-names-clause-answer g c =
     let k = c.args.original_count in let r = c.args.recovery_count in
     let own = items_of c.args.received.0.now in let other = items_of c.args.received.1.now in
     let wanted = wanted_of c.args.wanted.now in
@@ -44,7 +44,7 @@ returns-in_err-names-clause-answer c =
     )
 
 pub returns-clause-answer : goal.returns-clause-answer
-returns-clause-answer c =
+returns-clause-answer g c =
     let k = c.args.original_count in let r = c.args.recovery_count in
     let own = items_of c.args.received.0.now in let other = items_of c.args.received.1.now in
     let wanted = wanted_of c.args.wanted.now in

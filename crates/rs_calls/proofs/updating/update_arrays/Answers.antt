@@ -8,7 +8,7 @@ use Rattle.rs_calls.proofs.RoomFaults.{keeps-rooms}
 use Rattle.rs_calls.proofs.updating.update_arrays.Goals as goal
 
 pub returns-in-Err-clause-answer : goal.returns-in-Err-clause-answer
-returns-in-Err-clause-answer c =
+returns-in-Err-clause-answer g c =
     let given : List Shard = c.args.before.now ∷ c.args.after.now ∷ [] in
     let same : bytes_in c.update_into-answer.new.recovery ≡ bytes_in c.args.recovery.now =
     updates-kept c.args.original_count c.args.recovery_count c.args.index c.args.before.now c.args.after.now
@@ -21,10 +21,10 @@ returns-in-Err-clause-answer c =
     )
 
 pub returns-in-Err-clause-kept : goal.returns-in-Err-clause-kept
-returns-in-Err-clause-kept c = keeps-rooms c.args.recovery.now _ c.update_into-answer.ensures.kept
+returns-in-Err-clause-kept g c = keeps-rooms c.args.recovery.now _ c.update_into-answer.ensures.kept
 
 pub returns-clause-answer : goal.returns-clause-answer
-returns-clause-answer c =
+returns-clause-answer g c =
     let given : List Shard = c.args.before.now ∷ c.args.after.now ∷ [] in (
       c.update_into-answer.result,
       c.update_into-answer.ensures.answer,
@@ -32,4 +32,4 @@ returns-clause-answer c =
     )
 
 pub returns-clause-kept : goal.returns-clause-kept
-returns-clause-kept c = keeps-rooms c.args.recovery.now _ c.update_into-answer.ensures.kept
+returns-clause-kept g c = keeps-rooms c.args.recovery.now _ c.update_into-answer.ensures.kept

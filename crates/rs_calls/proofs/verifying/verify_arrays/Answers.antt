@@ -7,7 +7,7 @@ use Rattle.rs_calls.proofs.PlaceLemmas.{both-shards}
 use Rattle.rs_calls.proofs.verifying.verify_arrays.Goals as goal
 
 pub returns-in-Err : goal.returns-in-Err
-returns-in-Err c =
+returns-in-Err g c =
     let given = both-shards c.args.originals.now c.args.recovery.now in (
       c.verify_received-answer.result,
       c.verify_received-answer.ensures,
@@ -18,7 +18,7 @@ returns-in-Err c =
     )
 
 pub returns : goal.returns
-returns c = (
+returns g c = (
   c.verify_received-answer.result,
   c.verify_received-answer.ensures,
   sym (ap (result_map_both (λ u. u)
