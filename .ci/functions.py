@@ -1,0 +1,114 @@
+"""The functions of a crate, as the prover names them, and copies of a crate in which most functions have no body."""
+import re
+import shutil
+from pathlib import Path
+
+FUNCTION = re.compile(r'(\s*)(?:pub(?:\([a-z]+\))? )?(?:const |unsafe )*(?:extern "C" )?fn (\w+)')
+IMPL = re.compile(r"impl(?:<.*?>)? (?:(?:\w+::)*(\w+)(?:<([A-Z]\w+)?.*>)? for )?(\w+)")
+TRAIT = re.compile(r"(?:pub(?:\([a-z]+\))? )?trait (\w+)")
+# The proof of a function without a body. A check with holes takes the contract as if it was proved.
+HOLE = "use Rattle.{path}.Statement.{{statement}}\n\npub {name}_spec : {{M : Type 1}} → statement M\n{name}_spec = ?\n"
+
+
+def module_of(file):
+    """Returns the path of the module that a file of `src/` has, below the crate."""
+    return [part for part in Path(file).with_suffix("").parts[1:] if part not in ("lib", "main")]
+
+
+def owner_of(lines):
+    """Returns the name that the prover gives to the impl or trait which the last of these lines are in."""
+    for line in reversed(lines):
+        trait = TRAIT.match(line)
+        if trait:
+            return trait[1]
+        made = IMPL.match(line)
+        if made:
+            kind = made[3] if len(made[3]) > 1 else "Any"
+            return kind + (made[1] or "") + (made[2] or "")
+    return ""
+
+
+def path_of(file, lines, head):
+    """Returns the path below the crate of the function with this head, which stands after these lines of a file."""
+    owner = [owner_of(lines)] if head[1] else []
+    return [*module_of(file), *owner, head[2]]
+
+
+def function_at(file, text):
+    """Returns the path of the function in which this beginning of a file ends, or of the module, with `::` at its end."""
+    lines = text.splitlines()
+    for number in range(len(lines) - 1, -1, -1):
+        head = FUNCTION.match(lines[number])
+        if head:
+            return "::".join(path_of(file, lines[:number], head))
+        if re.match(r"(pub )?(type|const|struct|enum|use)\b", lines[number]):
+            break
+    return "::".join([*module_of(file), ""])
+
+
+class Function:
+    """A function of a file whose body has lines of its own: its path, its indent, the numbers of the lines that open and close the body, and
+    the number of the attribute that names its cycle of calls, if it has one."""
+
+    def __init__(self, file, lines, number, head):
+        self.path = path_of(file, lines[:number], head)
+        self.indent = head[1]
+        self.opening, self.closing = body_after(lines, number, head[1])
+        self.cycle = cycle_before(lines, number)
+
+
+def body_after(lines, number, indent):
+    """Returns the numbers of the lines that open and close the body of the function whose head is this line. `rt fmt` lays files out in this
+    way. Returns a pair of `None` if the function has no body, or one in a single line."""
+    for opening in range(number, len(lines)):
+        line = lines[opening]
+        outside = not line.startswith(indent + " ")
+        if line.endswith(";") or outside and line.endswith("}"):
+            break
+        if outside and line.endswith("{"):
+            return opening, lines.index(indent + "}", opening)
+    return None, None
+
+
+def cycle_before(lines, number):
+    """Returns the number of the line that names the cycle of calls of the function whose head is this line, if there is one."""
+    while number > 0 and lines[number - 1].lstrip().startswith("#["):
+        number -= 1
+        if lines[number].lstrip().startswith("#[cycle("):
+            return number
+    return None
+
+
+def functions_of(file, lines):
+    """Returns the functions of a file whose bodies have lines of their own, without `const` functions, on which types may depend."""
+    heads = [(number, FUNCTION.match(line)) for number, line in enumerate(lines) if "const fn" not in line]
+    found = [Function(file, lines, number, head) for number, head in heads if head]
+    return [function for function in found if function.opening]
+
+
+def empty_bodies(folder, crate, kept):
+    """Gives the functions of a copy of a crate a body that never ends, and a hole as their proof. Those whose paths are in `kept` stay as they
+    are, and so do the other functions of their cycles."""
+    for file in sorted((folder / "src").glob("**/*.rt")):
+        lines = file.read_text().split("\n")
+        functions = functions_of(file.relative_to(folder), lines)
+        stay = [function for function in functions if "::".join([crate, *function.path]) in kept]
+        cycles = {lines[function.cycle] for function in stay if function.cycle}
+        # From the last one to the first, so that the numbers of the lines above stay right.
+        for function in reversed(functions):
+            if function in stay or function.cycle and lines[function.cycle] in cycles:
+                continue
+            lines[function.opening + 1 : function.closing] = [f"{function.indent}    loop {{}}"]
+            if function.cycle:
+                del lines[function.cycle]
+            leave_hole(folder / "proofs", crate, function.path)
+        file.write_text("\n".join(lines))
+
+
+def leave_hole(proofs, crate, path):
+    """Makes a hole of the proof of a function."""
+    for name in (path[-1], f"+{path[-1]}"):
+        shutil.rmtree(proofs.joinpath(*path[:-1], name), ignore_errors=True)
+    place = proofs.joinpath(*path)
+    place.mkdir(parents=True)
+    (place / "Proof.antt").write_text(HOLE.format(path=".".join([crate, "proofs", *path]), name=path[-1]))
