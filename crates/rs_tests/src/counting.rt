@@ -11,7 +11,6 @@ use rs_field::engine::lent_tables::LentTables;
 use std::alloc::Global;
 use std::cell::Cell;
 use std::process::Abort;
-use std::test::Fail;
 
 // The number of calls of each method. The constants below are the indexes of the methods. `eval_poly` and `locate` both
 // compute a locator, and share an index.
@@ -103,18 +102,6 @@ impl Engine for Counting<'_> {
     }
 }
 
-// Gives an encoder these originals, and encodes them.
-fn encode_given<E: Engine>(
-    encoder: &mut impl RateEncoder<E>,
-    original: &[[u8; 2]],
-) -> Result<(), Error> {
-    for shard in original {
-        encoder.add_original_shard(shard)?;
-    }
-    drop(encoder.encode(&mut Steps::new())?);
-    Ok(())
-}
-
 // Returns how often an encode of these originals calls its engine.
 fn calls_of_encode<'t, R: Rate<Counting<'t>>>(
     alloc: Global,
@@ -124,22 +111,11 @@ fn calls_of_encode<'t, R: Rate<Counting<'t>>>(
 ) -> Result<Calls, Error> {
     let engine = Counting::new(tables);
     let mut encoder = R::encoder(alloc, original.len(), recovery_count, 2, engine, None)?;
-    encode_given(&mut encoder, original)?;
+    for shard in original {
+        encoder.add_original_shard(shard)?;
+    }
+    encoder.encode(&mut Steps::new()).map(drop)?;
     Ok(encoder.into_parts().0.calls.get())
-}
-
-// Checks how often an encode of these originals calls its engine.
-fn check_encode<'t, R: Rate<Counting<'t>>>(
-    rt: &impl Abort,
-    alloc: Global,
-    tables: &'t Tables,
-    original: &[[u8; 2]],
-    recovery_count: usize,
-    wanted: Calls,
-) -> Result<(), Fail> {
-    let calls = calls_of_encode::<R>(alloc, tables, original, recovery_count)?;
-    assert_eq!(rt; calls, wanted);
-    Ok(())
 }
 
 type Item = (usize, [u8; 2]);
@@ -163,8 +139,7 @@ fn decode_given<E: Engine>(
     for (index, shard) in recovery {
         decoder.add_recovery_shard(*index, shard)?;
     }
-    drop(decoder.decode(&mut Steps::new())?);
-    Ok(())
+    decoder.decode(&mut Steps::new()).map(drop)
 }
 
 // Returns the engine after a decode of these shards, for `count` originals and as many recovery shards.
@@ -181,40 +156,46 @@ fn after_decode<E: Engine, R: Rate<E>>(
     Ok(decoder.into_parts().0)
 }
 
-// Checks that a decode of these shards, for four originals and four recovery shards, calls `fft`, `ifft` and a method
-// for a locator as often as `others` says, and calls `mul` at most so often.
+// The shards that a decode is given, how often it calls `fft`, `ifft` and a method for a locator, and how often it calls
+// `mul` at most: once for each given shard and once for each restored shard.
+type Decode<'a> = (&'a [Item], &'a [Item], [u32; 3], u32);
+
+// All shards belong to one message of four originals and four recovery shards. A decode transforms once to check and once
+// to restore.
+const DECODES: [Decode<'static>; 3] = [
+    (
+        &[(3, [3, 0]), (1, [0, 0])],
+        &[(2, [14, 0]), (0, [11, 0])],
+        [1, 1, 1],
+        6,
+    ),
+    (
+        &[(0, [0, 0]), (2, [2, 0]), (3, [3, 0]), (1, [0, 0])],
+        &[(0, [11, 0])],
+        [0, 1, 1],
+        5,
+    ),
+    (
+        &[(0, [0, 0]), (2, [2, 0]), (3, [3, 0]), (1, [0, 0])],
+        &[],
+        [0, 0, 0],
+        0,
+    ),
+];
+
+// Checks how often a decode calls its engine.
 fn check_decode<'t, R: Rate<Counting<'t>>>(
     rt: &impl Abort,
     alloc: Global,
     tables: &'t Tables,
-    (original, recovery): (&[Item], &[Item]),
-    (others, most): ([u32; 3], u32),
-) -> Result<(), Fail> {
-    let engine = Counting::new(tables);
-    let engine = after_decode::<_, R>(alloc, 4, original, recovery, engine)?;
+    (original, recovery, others, most): Decode<'_>,
+) {
+    let engine = after_decode::<_, R>(alloc, 4, original, recovery, Counting::new(tables)).expect(
+        rt,
+        "an engine",
+    );
     let [fft, ifft, mul, locator] = engine.calls.get();
-    assert_eq!(rt; [fft, ifft, locator], others);
-    assert!(rt; mul <= most, "{mul}");
-    Ok(())
-}
-
-// Checks that a decode transforms once to check and once to restore. All shards belong to one message of four
-// originals. A decode calls `mul` at most once for each given shard and once for each restored shard.
-fn check_decodes<'t, R: Rate<Counting<'t>>>(
-    rt: &impl Abort,
-    alloc: Global,
-    tables: &'t Tables,
-) -> Result<(), Fail> {
-    let all = [(0, [0, 0]), (2, [2, 0]), (3, [3, 0]), (1, [0, 0])];
-    let recovery = [(2, [14, 0]), (0, [11, 0])];
-    for (given, counts) in [
-        ((&all[2..], &recovery[..]), ([1, 1, 1], 6)),
-        ((&all[..], &recovery[1..]), ([0, 1, 1], 5)),
-        ((&all[..], &recovery[2..]), ([0, 0, 0], 0)),
-    ] {
-        check_decode::<R>(rt, alloc, tables, given, counts)?;
-    }
-    Ok(())
+    assert_eq!(rt; ([fft, ifft, locator], mul.max(most)), (others, most));
 }
 
 // Eight recovery shards of zeros. From these alone, a decode restores eight originals.
@@ -229,40 +210,41 @@ const ZEROS: [Item; 8] = [
     (7, [0; 2]),
 ];
 
-// Checks that a decode over 16 rows locates at 16 points.
-fn check_locator<'t, R: Rate<Counting<'t>>>(
-    rt: &impl Abort,
+// Returns at how many points a decode over 16 rows locates.
+fn located_points<'t, R: Rate<Counting<'t>>>(
     alloc: Global,
     tables: &'t Tables,
-) -> Result<(), Fail> {
-    let engine = Counting::new(tables);
-    let engine = after_decode::<_, R>(alloc, 8, &[], &ZEROS, engine)?;
-    assert_eq!(rt; engine.entries.get(), 16);
-    Ok(())
+) -> Result<usize, Error> {
+    let engine = after_decode::<_, R>(alloc, 8, &[], &ZEROS, Counting::new(tables))?;
+    Ok(engine.entries.get())
 }
 
-// Checks how often the objects of a rate call their engine. An encode of these originals makes the calls in `encode`.
+// Checks how often the objects of a rate call their engine. An encode of these originals makes the calls in `encode`. A
+// decode over 16 rows locates at 16 points.
 fn check_rate<'t, R: Rate<Counting<'t>>>(
     rt: &impl Abort,
     alloc: Global,
     tables: &'t Tables,
     (original, recovery_count): (&[[u8; 2]], usize),
     encode: Calls,
-) -> Result<(), Fail> {
-    check_encode::<R>(rt, alloc, tables, original, recovery_count, encode)?;
-    check_decodes::<R>(rt, alloc, tables)?;
-    check_locator::<R>(rt, alloc, tables)
+) {
+    let calls = calls_of_encode::<R>(alloc, tables, original, recovery_count);
+    let points = located_points::<R>(alloc, tables);
+    assert_eq!(rt; (calls, points), (Ok(encode), Ok(16)));
+    for decode in DECODES {
+        check_decode::<R>(rt, alloc, tables, decode);
+    }
 }
 
 // An encode transforms each block, and once more. At the low rate there are two blocks of two recovery shards, and at
 // the high rate two blocks of two originals.
 #[test]
-fn each_rate_calls_its_engine_so_often(rt: HostRuntime) -> Result<(), Fail> {
+fn each_rate_calls_its_engine_so_often(rt: HostRuntime) {
     let alloc = rt.alloc();
-    let tables = Tables::new(alloc)?;
+    let tables = Tables::new(alloc).expect(&rt, "tables");
     let (low, high) = ([[0, 0], [1, 0]], [[2, 0], [0, 0], [4, 0]]);
-    check_rate::<LowRate<Counting<'_>>>(&rt, alloc, &tables, (&low, 3), [2, 1, 0, 0])?;
-    check_rate::<HighRate<Counting<'_>>>(&rt, alloc, &tables, (&high, 2), [1, 2, 0, 0])
+    check_rate::<LowRate<Counting<'_>>>(&rt, alloc, &tables, (&low, 3), [2, 1, 0, 0]);
+    check_rate::<HighRate<Counting<'_>>>(&rt, alloc, &tables, (&high, 2), [1, 2, 0, 0]);
 }
 
 /// The plain engine's kernel, which counts the butterflies of rows of one chunk.
@@ -305,21 +287,19 @@ fn check_empty_quarters<'t, R: Rate<Butterflies<'t>>>(
     rt: &impl Abort,
     alloc: Global,
     tables: &'t Tables,
-) -> Result<(), Fail> {
+) {
     let engine = Butterflies {
         naive: Naive::new(tables),
         forward: Cell::new(0),
         backward: Cell::new(0),
     };
-    let engine = after_decode::<_, R>(alloc, 8, &[], &ZEROS, engine)?;
-    assert_eq!(rt; engine.backward.get(), 24);
-    assert_eq!(rt; engine.forward.get(), 24);
-    Ok(())
+    let engine = after_decode::<_, R>(alloc, 8, &[], &ZEROS, engine).expect(rt, "an engine");
+    assert_eq!(rt; [engine.backward.get(), engine.forward.get()], [24, 24]);
 }
 
 #[test]
-fn a_decode_leaves_empty_quarters_out(rt: HostRuntime) -> Result<(), Fail> {
-    let tables = Tables::new(rt.alloc())?;
-    check_empty_quarters::<LowRate<Butterflies<'_>>>(&rt, rt.alloc(), &tables)?;
-    check_empty_quarters::<HighRate<Butterflies<'_>>>(&rt, rt.alloc(), &tables)
+fn a_decode_leaves_empty_quarters_out(rt: HostRuntime) {
+    let tables = Tables::new(rt.alloc()).expect(&rt, "tables");
+    check_empty_quarters::<LowRate<Butterflies<'_>>>(&rt, rt.alloc(), &tables);
+    check_empty_quarters::<HighRate<Butterflies<'_>>>(&rt, rt.alloc(), &tables);
 }

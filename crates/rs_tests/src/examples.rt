@@ -30,7 +30,7 @@ const RECOVERY: [[u8; 12]; 2] = [
 ];
 
 #[test]
-fn a_recovery_shard_is_the_sum_of_all(rt: HostRuntime) -> Result<(), Fail> {
+fn a_recovery_shard_is_the_sum_of_all(rt: HostRuntime) -> Result<(), Error> {
     let alloc = rt.alloc();
     let tables = Tables::new(alloc)?;
     let engine = DefaultEngine::new(&tables, EngineKind::Ssse3);
@@ -144,7 +144,7 @@ fn a_changed_byte_is_noticed(
     rt: &impl Abort,
     alloc: Global,
     engine: DefaultEngine<'_>,
-) -> Result<(), Fail> {
+) -> Result<(), Error> {
     let original: [(usize, &[u8]); 2] = [(0, ORIGINAL[0]), (2, ORIGINAL[2])];
     let recovery: [(usize, &[u8]); 2] = [(0, &RECOVERY[0]), (1, &RECOVERY[1])];
     verify(alloc, 3, 2, &original, &recovery, engine)?;
@@ -178,7 +178,7 @@ fn an_encode_needs_all_originals(
     rt: &impl Abort,
     alloc: Global,
     engine: DefaultEngine<'_>,
-) -> Result<(), Fail> {
+) -> Result<(), Error> {
     let mut encoder = ReedSolomonEncoder::new(alloc, 3, 2, 12, engine)?;
     let error = Error::TooFewOriginalShards {
         original_count: 3,
@@ -191,7 +191,7 @@ fn an_encode_needs_all_originals(
 fn a_fourth_original_is_refused(
     rt: &impl Abort,
     encoder: &mut ReedSolomonEncoder<'_>,
-) -> Result<(), Fail> {
+) -> Result<(), Error> {
     for shard in ORIGINAL {
         encoder.add_original_shard(shard)?;
     }
@@ -200,36 +200,33 @@ fn a_fourth_original_is_refused(
     Ok(())
 }
 
-fn three_shards_have_these_recovery_shards(
-    rt: &impl Abort,
-    recovery: &EncoderResult<'_>,
-) -> Result<(), Fail> {
-    for index in 0..2 {
-        assert_eq!(rt;
-            recovery.recovery(index).ok_or("none")?,
-            RECOVERY[index].as_slice()
-        );
-    }
-    Ok(())
+fn three_shards_have_these_recovery_shards(rt: &impl Abort, recovery: &EncoderResult<'_>) {
+    let made = [recovery.recovery(0), recovery.recovery(1)];
+    assert_eq!(rt;
+        made,
+        [Some(RECOVERY[0].as_slice()), Some(RECOVERY[1].as_slice())]
+    );
 }
 
 fn three_shards_in_a_slice_have_these_recovery_shards(
     rt: &impl Abort,
     alloc: Global,
     engine: DefaultEngine<'_>,
-) -> Result<(), Fail> {
-    let made = encode_slice(alloc, 3, 2, &ORIGINAL, engine)?;
+) {
+    let made = encode_slice(alloc, 3, 2, &ORIGINAL, engine).expect(rt, "recovery");
     assert_eq!(rt; made.len(), 2);
-    assert_eq!(rt; made[0].as_slice(), RECOVERY[0].as_slice());
-    assert_eq!(rt; made[1].as_slice(), RECOVERY[1].as_slice());
-    Ok(())
+    let (first, second) = (made[0].as_slice(), made[1].as_slice());
+    assert_eq!(rt;
+        [first, second],
+        [RECOVERY[0].as_slice(), RECOVERY[1].as_slice()]
+    );
 }
 
 fn a_decode_needs_as_many_shards_as_originals(
     rt: &impl Abort,
     alloc: Global,
     engine: DefaultEngine<'_>,
-) -> Result<(), Fail> {
+) -> Result<(), Error> {
     let mut decoder = ReedSolomonDecoder::new(alloc, 3, 2, 12, engine)?;
     let error = Error::NotEnoughShards {
         original_count: 3,
@@ -249,23 +246,29 @@ fn give_received(decoder: &mut ReedSolomonDecoder<'_>) -> Result<(), Error> {
 
 // Checks that a decode restored originals 0 and 2 of the message.
 fn check_restored(rt: &impl Abort, restored: &DecoderResult<'_>) {
-    assert_eq!(rt; restored.restored_original(0), Some(ORIGINAL[0]));
-    assert_eq!(rt; restored.restored_original(1), None);
-    assert_eq!(rt; restored.restored_original(2), Some(ORIGINAL[2]));
+    let shards = [
+        restored.restored_original(0),
+        restored.restored_original(1),
+        restored.restored_original(2),
+    ];
+    assert_eq!(rt; shards, [Some(ORIGINAL[0]), None, Some(ORIGINAL[2])]);
 }
 
 // Checks that these are originals 0 and 2 of the message, with their indexes.
 fn check_copies(rt: &impl Abort, copies: &[(usize, Vec<u8>)]) {
     assert_eq!(rt; copies.len(), 2);
-    assert_eq!(rt; (copies[0].0, copies[0].1.as_slice()), (0, ORIGINAL[0]));
-    assert_eq!(rt; (copies[1].0, copies[1].1.as_slice()), (2, ORIGINAL[2]));
+    let shards = [
+        (copies[0].0, copies[0].1.as_slice()),
+        (copies[1].0, copies[1].1.as_slice()),
+    ];
+    assert_eq!(rt; shards, [(0, ORIGINAL[0]), (2, ORIGINAL[2])]);
 }
 
 fn originals_0_and_2_come_back(
     rt: &impl Abort,
     alloc: Global,
     decoder: &mut ReedSolomonDecoder<'_>,
-) -> Result<(), Fail> {
+) -> Result<(), Error> {
     give_received(decoder)?;
     let restored = decoder.decode()?;
     check_restored(rt, &restored);
@@ -298,8 +301,11 @@ fn counts_of_examples(rt: HostRuntime) {
         original_count: 60000,
         recovery_count: 5000,
     };
-    assert_eq!(rt; DefaultRateCounts::new(60000, 5000).err(), Some(error));
-    assert!(rt; DefaultRateCounts::new(60000, 4000).is_ok());
+    let errors = [
+        DefaultRateCounts::new(60000, 5000).err(),
+        DefaultRateCounts::new(60000, 4000).err(),
+    ];
+    assert_eq!(rt; errors, [Some(error), None]);
 }
 
 #[test]
@@ -319,52 +325,49 @@ fn an_error_is_told(rt: HostRuntime) -> Result<(), Fail> {
 
 #[test]
 fn names_of_engines(rt: HostRuntime) {
-    assert_eq!(rt; EngineKind::from_str("ssse3"), Ok(EngineKind::Ssse3));
-    assert_eq!(rt; EngineKind::from_str("sse"), Err(UnknownEngine));
+    let engines = [EngineKind::from_str("ssse3"), EngineKind::from_str("sse")];
+    assert_eq!(rt; engines, [Ok(EngineKind::Ssse3), Err(UnknownEngine)]);
+    assert_eq!(rt; EngineKind::FASTEST, EngineKind::Ssse3);
 }
 
-#[test]
-fn the_engine_without_vectors_multiplies(rt: HostRuntime) -> Result<(), Fail> {
-    let tables = Tables::new(rt.alloc())?;
+fn the_engine_without_vectors_multiplies(rt: &impl Abort, tables: &Tables) {
     let engine = NoSimd::new(&tables);
     let log_2 = get_exp_log(&tables).log[2];
     let mut row = [[0; 64]];
     row[0][0] = 4;
     engine.mul(&mut Steps::new(), &mut row, log_2);
     assert_eq!(rt; row[0][0], 11);
-    Ok(())
 }
 
-#[test]
-fn the_plain_engine_multiplies(rt: HostRuntime) -> Result<(), Fail> {
-    let tables = Tables::new(rt.alloc())?;
+fn the_plain_engine_multiplies(rt: &impl Abort, tables: &Tables) {
     let engine = Naive::new(&tables);
     let log_2 = get_exp_log(&tables).log[2];
     let mut row = [[0; 64]];
     row[0][0] = 4;
     engine.mul(&mut Steps::new(), &mut row, log_2);
     assert_eq!(rt; row[0][0], 11);
-    Ok(())
 }
 
-#[test]
-fn the_engine_by_shuffles_multiplies(rt: HostRuntime) -> Result<(), Fail> {
-    let tables = Tables::new(rt.alloc())?;
+fn the_engine_by_shuffles_multiplies(rt: &impl Abort, tables: &Tables) {
     let engine = Ssse3::new(&tables);
     let log_2 = get_exp_log(&tables).log[2];
     let mut row = [[0; 64]];
     row[0][0] = 4;
     engine.mul(&mut Steps::new(), &mut row, log_2);
     assert_eq!(rt; row[0][0], 11);
-    Ok(())
 }
 
 #[test]
-fn a_locator_of_one_point_is_made_of_logarithms(rt: HostRuntime) -> Result<(), Fail> {
-    let tables = Tables::new(rt.alloc())?;
-    let log = &get_exp_log(&tables).log;
-    assert_eq!(rt; [log[2], log[3]], [21845, 43690]);
+fn engines_multiply(rt: HostRuntime) {
+    let tables = Tables::new(rt.alloc()).expect(&rt, "tables");
+    the_engine_without_vectors_multiplies(&rt, &tables);
+    the_plain_engine_multiplies(&rt, &tables);
+    the_engine_by_shuffles_multiplies(&rt, &tables);
+}
 
+#[test]
+fn a_locator_of_one_point_is_made_of_logarithms(rt: HostRuntime) -> Result<(), Error> {
+    let tables = Tables::new(rt.alloc())?;
     let mut erasures = [0; GF_ORDER];
     erasures[0] = 1;
     let log_walsh = get_log_walsh(&tables);
@@ -387,7 +390,8 @@ fn examples_of_one_call(rt: HostRuntime) -> Result<(), Fail> {
     an_original_changes(&rt, alloc, engine)?;
     two_recovery_shards_restore_two_originals(&rt, alloc, engine)?;
     missing_originals_are_written_into_arrays(&rt, alloc, engine)?;
-    three_shards_in_a_slice_have_these_recovery_shards(&rt, alloc, engine)
+    three_shards_in_a_slice_have_these_recovery_shards(&rt, alloc, engine);
+    Ok(())
 }
 
 #[test]
@@ -398,27 +402,33 @@ fn examples_of_received_shards(rt: HostRuntime) -> Result<(), Fail> {
     lost_shards_of_both_kinds_come_back(&rt, alloc, engine)?;
     lost_shards_are_written_into_arrays(&rt, alloc, engine)?;
     a_shard_that_was_received_cannot_be_wanted(&rt, alloc, engine)?;
-    a_changed_byte_is_noticed(&rt, alloc, engine)
+    a_changed_byte_is_noticed(&rt, alloc, engine)?;
+    Ok(())
+}
+
+fn an_encoder_takes_three_originals(rt: &impl Abort, alloc: Global, engine: DefaultEngine<'_>) {
+    let mut encoder = ReedSolomonEncoder::new(alloc, 3, 2, 12, engine).expect(rt, "an encoder");
+    a_fourth_original_is_refused(rt, &mut encoder).expect(rt, "three originals");
+    three_shards_have_these_recovery_shards(rt, &encoder.encode().expect(rt, "recovery"));
+}
+
+fn a_decoder_decodes_twice(
+    rt: &impl Abort,
+    alloc: Global,
+    engine: DefaultEngine<'_>,
+) -> Result<(), Fail> {
+    let mut decoder = ReedSolomonDecoder::new(alloc, 3, 2, 12, engine)?;
+    originals_0_and_2_come_back(rt, alloc, &mut decoder)?;
+    a_decoder_is_reset(rt, &mut decoder)
 }
 
 #[test]
-fn examples_of_encoders(rt: HostRuntime) -> Result<(), Fail> {
+fn examples_of_objects(rt: HostRuntime) -> Result<(), Fail> {
     let alloc = rt.alloc();
     let tables = Tables::new(alloc)?;
     let engine = DefaultEngine::new(&tables, EngineKind::Ssse3);
     an_encode_needs_all_originals(&rt, alloc, engine)?;
-    let mut encoder = ReedSolomonEncoder::new(alloc, 3, 2, 12, engine)?;
-    a_fourth_original_is_refused(&rt, &mut encoder)?;
-    three_shards_have_these_recovery_shards(&rt, &encoder.encode()?)
-}
-
-#[test]
-fn examples_of_decoders(rt: HostRuntime) -> Result<(), Fail> {
-    let alloc = rt.alloc();
-    let tables = Tables::new(alloc)?;
-    let engine = DefaultEngine::new(&tables, EngineKind::Ssse3);
+    an_encoder_takes_three_originals(&rt, alloc, engine);
     a_decode_needs_as_many_shards_as_originals(&rt, alloc, engine)?;
-    let mut decoder = ReedSolomonDecoder::new(alloc, 3, 2, 12, engine)?;
-    originals_0_and_2_come_back(&rt, alloc, &mut decoder)?;
-    a_decoder_is_reset(&rt, &mut decoder)
+    a_decoder_decodes_twice(&rt, alloc, engine)
 }

@@ -7,7 +7,6 @@ use reed_solomon_simd::engine::{
     Avx2, DefaultEngine, Engine, EngineKind, GF_ORDER, GfElement, Naive, NoSimd, Ssse3, Steps,
 };
 use std::process::Abort;
-use std::test::Fail;
 
 // Returns the locator of the points from `first` up to, but not including, `end`, as the engine computes it.
 fn located<E: Engine>(engine: &E, first: usize, end: usize) -> [GfElement; 65536]
@@ -25,7 +24,7 @@ fn located<E: Engine>(engine: &E, first: usize, end: usize) -> [GfElement; 65536
 // Checks that each of these entries is the logarithm of one, which is 0 or 65535.
 fn check_ones(rt: &impl Abort, entries: &[GfElement], marked: &str) {
     for (x, entry) in entries.iter().enumerate() {
-        assert_eq!(rt; *entry % 65535, 0, "at {x}, {marked} marked");
+        assert_eq!(rt; (marked, x, *entry % 65535), (marked, x, 0));
     }
 }
 
@@ -35,7 +34,7 @@ fn check_locators<E: Engine>(rt: &impl Abort, engine: &E, log: &[GfElement])
 {
     check_ones(rt, &located(engine, 0, 0), "none");
     let entries = located(engine, 0, 1);
-    assert_eq!(rt; [entries[0] % 65535, entries[1] % 65535], [0, 0]);
+    check_ones(rt, &entries[..2], "0");
     assert_eq!(rt; [entries[2], entries[3]], [log[2], log[3]]);
     // The differences are 2 and 3 at 0 and 1, whose product is 1, and 1 at 2 and 3.
     let entries = located(engine, 2, 4);
@@ -55,7 +54,7 @@ fn check_first_points<E: Engine>(rt: &impl Abort, engine: &E, log: &[GfElement])
     assert_eq!(rt; [first[2], first[3]], [log[2], log[3]]);
     let mut last = [0, 0, 1, 1];
     engine.locate(&mut steps, &mut last);
-    assert_eq!(rt; last.map(|entry| entry % 65535), [0; 4]);
+    check_ones(rt, &last, "2 and 3 of four");
 }
 
 fn check_engine<E: Engine>(rt: &impl Abort, engine: &E, log: &[GfElement])
@@ -66,13 +65,12 @@ fn check_engine<E: Engine>(rt: &impl Abort, engine: &E, log: &[GfElement])
 }
 
 #[test]
-fn locators_of_each_engine(rt: HostRuntime) -> Result<(), Fail> {
-    let tables = Tables::new(rt.alloc())?;
+fn locators_of_each_engine(rt: HostRuntime) {
+    let tables = Tables::new(rt.alloc()).expect(&rt, "tables");
     let log = get_exp_log(&tables).log.as_slice();
     check_engine(&rt, &Naive::new(&tables), log);
     check_engine(&rt, &NoSimd::new(&tables), log);
     check_engine(&rt, &Ssse3::new(&tables), log);
     check_engine(&rt, &Avx2::new(&tables), log);
     check_engine(&rt, &DefaultEngine::new(&tables, EngineKind::Naive), log);
-    Ok(())
 }

@@ -2,9 +2,11 @@
 //! can allocate memory.
 use rand_chacha::ChaCha8Rng;
 use rand_core::{Rng, SeedableRng};
+use reed_solomon_simd::engine::DefaultEngine;
 use reed_solomon_simd::engine::tables::Tables;
-use reed_solomon_simd::engine::{DefaultEngine, EngineKind};
-use reed_solomon_simd::{ShardIndex, complete, encode, join, reconstruct, shard_bytes, split};
+use reed_solomon_simd::{
+    Error, ShardIndex, complete, encode, join, reconstruct, shard_bytes, split,
+};
 use rs_callers::message_round_trip::{reconstruction_of_a_message, round_trip_of_a_message};
 use std::alloc::{AllocError, Global};
 use std::collections::BTreeMap;
@@ -21,7 +23,7 @@ fn sizes_of_shards(rt: HostRuntime) {
 }
 
 #[test]
-fn ten_bytes_are_split(rt: HostRuntime) -> Result<(), Fail> {
+fn ten_bytes_are_split(rt: HostRuntime) -> Result<(), Error> {
     let alloc = rt.alloc();
     let message: &[u8] = b"ten bytes.";
     let originals = split(alloc, message, 3)?;
@@ -33,7 +35,7 @@ fn ten_bytes_are_split(rt: HostRuntime) -> Result<(), Fail> {
 }
 
 #[test]
-fn ten_bytes_are_joined(rt: HostRuntime) -> Result<(), Fail> {
+fn ten_bytes_are_joined(rt: HostRuntime) -> Result<(), Error> {
     let alloc = rt.alloc();
     let originals: [&[u8]; 3] = [b"ten ", b"byte", b"s.\0\0"];
     let message = join(alloc, &originals, 10)?;
@@ -61,28 +63,33 @@ fn two_restored_originals_are_completed(rt: HostRuntime) -> Result<(), Fail> {
 }
 
 #[test]
-fn two_reconstructed_originals_are_completed(rt: HostRuntime) -> Result<(), Fail> {
+fn two_reconstructed_originals_are_completed(rt: HostRuntime) {
     let alloc = rt.alloc();
-    let tables = Tables::new(alloc)?;
+    let tables = Tables::new(alloc).expect(&rt, "tables");
     let engine = DefaultEngine::fastest(&tables);
     let message: [&[u8]; 3] = [b"ten ", b"byte", b"s.\0\0"];
-    let made = encode(alloc, 3, 2, message.into_iter(), engine)?;
+    let made = encode(alloc, 3, 2, message.into_iter(), engine).expect(&rt, "recovery");
     assert_eq!(rt; made.len(), 2);
     let received: [(usize, &[u8]); 1] = [(1, b"byte")];
     let recovery: [(usize, &[u8]); 2] = [(0, made[0].as_slice()), (1, made[1].as_slice())];
     let wanted = [ShardIndex::Original(0), ShardIndex::Original(2)];
-    let made = reconstruct(alloc, 3, 2, &received, &recovery, &wanted, engine)?;
-    let restored = [0, 2].iter().copied().zip(made).collect(alloc)?;
-    let originals = complete(alloc, 3, &received, restored)?;
-    assert_eq!(rt;
-        join(alloc, &originals, 10)?.as_slice(),
-        b"ten bytes.".as_slice()
+    let made = reconstruct(alloc, 3, 2, &received, &recovery, &wanted, engine).expect(
+        &rt,
+        "originals",
     );
-    Ok(())
+    let restored = [0, 2]
+        .iter()
+        .copied()
+        .zip(made)
+        .collect(alloc)
+        .expect(&rt, "a map");
+    let originals = complete(alloc, 3, &received, restored).expect(&rt, "originals");
+    let message = join(alloc, &originals, 10).expect(&rt, "a message");
+    assert_eq!(rt; message.as_slice(), b"ten bytes.".as_slice());
 }
 
 #[test]
-fn the_fastest_engine_encodes(rt: HostRuntime) -> Result<(), Fail> {
+fn the_fastest_engine_encodes(rt: HostRuntime) -> Result<(), Error> {
     let alloc = rt.alloc();
     let tables = Tables::new(alloc)?;
     let engine = DefaultEngine::fastest(&tables);
@@ -90,7 +97,6 @@ fn the_fastest_engine_encodes(rt: HostRuntime) -> Result<(), Fail> {
     let recovery = encode(alloc, 3, 1, original.into_iter(), engine)?;
     assert_eq!(rt; recovery.len(), 1);
     assert_eq!(rt; recovery[0].as_slice(), [21, 42].as_slice());
-    assert_eq!(rt; EngineKind::FASTEST, EngineKind::Ssse3);
     Ok(())
 }
 
@@ -113,29 +119,28 @@ const LOSSES: [Loss<'static>; 4] = [
 ];
 
 // Checks that a file of this length comes back after each loss.
-fn check_length(
-    rt: &impl Abort,
-    alloc: Global,
-    length: usize,
-    engine: DefaultEngine<'_>,
-) -> Result<(), Fail> {
-    let file = file_of(alloc, length)?;
+fn check_length(rt: &impl Abort, alloc: Global, length: usize, engine: DefaultEngine<'_>) {
+    let file = file_of(alloc, length).expect(rt, "a file");
     for (k, r, own, other) in LOSSES {
-        let back = round_trip_of_a_message(alloc, &file, k, r, own, other, engine)?;
-        assert!(rt; back == file, "{length} bytes by {k}:{r}");
-        let back = reconstruction_of_a_message(alloc, &file, k, r, own, other, engine)?;
-        assert!(rt; back == file, "{length} bytes by {k}:{r}, reconstructed");
+        let decoded = round_trip_of_a_message(alloc, &file, k, r, own, other, engine).expect(
+            rt,
+            "a decoded file",
+        );
+        let made = reconstruction_of_a_message(alloc, &file, k, r, own, other, engine).expect(
+            rt,
+            "a reconstructed file",
+        );
+        let outcome = (length, k, r, decoded == file, made == file);
+        assert_eq!(rt; outcome, (length, k, r, true, true));
     }
-    Ok(())
 }
 
 #[test]
-fn files_of_any_length_come_back(rt: HostRuntime) -> Result<(), Fail> {
+fn files_of_any_length_come_back(rt: HostRuntime) {
     let alloc = rt.alloc();
-    let tables = Tables::new(alloc)?;
+    let tables = Tables::new(alloc).expect(&rt, "tables");
     let engine = DefaultEngine::fastest(&tables);
     for length in [0, 1, 2, 3, 999, 1000, 1001, 100_003] {
-        check_length(&rt, alloc, length, engine)?;
+        check_length(&rt, alloc, length, engine);
     }
-    Ok(())
 }

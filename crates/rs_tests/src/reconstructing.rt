@@ -5,7 +5,6 @@ use reed_solomon_simd::engine::{DefaultEngine, EngineKind};
 use reed_solomon_simd::{ShardIndex, encode_slice, reconstruct};
 use std::alloc::Global;
 use std::process::Abort;
-use std::test::Fail;
 
 // The indexes of lost originals and of lost recovery shards, and the same shards as they are wanted.
 type Loss<'a> = (&'a [usize], &'a [usize], &'a [ShardIndex]);
@@ -57,7 +56,10 @@ fn check_made(
             ShardIndex::Original(place) => originals.get(place),
             ShardIndex::Recovery(place) => recovery.get(place),
         };
-        assert!(rt; lost == Some(shard), "{index:?} of {} bytes", shard.len());
+        assert_eq!(rt;
+            (index, shard.len(), lost == Some(shard)),
+            (index, shard.len(), true)
+        );
     }
 }
 
@@ -69,9 +71,9 @@ fn check_loss(
     recovery: &[Vec<u8>],
     (own_lost, other_lost, wanted): Loss<'_>,
     engine: DefaultEngine<'_>,
-) -> Result<(), Fail> {
-    let own = left(alloc, originals, own_lost)?;
-    let other = left(alloc, recovery, other_lost)?;
+) {
+    let own = left(alloc, originals, own_lost).expect(rt, "originals");
+    let other = left(alloc, recovery, other_lost).expect(rt, "recovery");
     let made = reconstruct(
         alloc,
         originals.len(),
@@ -80,9 +82,9 @@ fn check_loss(
         &other,
         wanted,
         engine,
-    )?;
+    )
+    .expect(rt, "wanted shards");
     check_made(rt, originals, recovery, wanted, &made);
-    Ok(())
 }
 
 // Checks that lost shards of a message with these counts and this size come back.
@@ -92,19 +94,20 @@ fn check_size(
     (original_count, recovery_count): (usize, usize),
     shard_bytes: usize,
     engine: DefaultEngine<'_>,
-) -> Result<(), Fail> {
-    let originals = drawn(alloc, original_count, shard_bytes)?;
-    let recovery = encode_slice(alloc, original_count, recovery_count, &originals, engine)?;
+) {
+    let originals = drawn(alloc, original_count, shard_bytes).expect(rt, "originals");
+    let recovery = encode_slice(alloc, original_count, recovery_count, &originals, engine).expect(
+        rt, "recovery",
+    );
     for loss in LOSSES {
-        check_loss(rt, alloc, &originals, &recovery, loss, engine)?;
+        check_loss(rt, alloc, &originals, &recovery, loss, engine);
     }
-    Ok(())
 }
 
 #[test]
-fn lost_shards_come_back_with_each_engine(rt: HostRuntime) -> Result<(), Fail> {
+fn lost_shards_come_back_with_each_engine(rt: HostRuntime) {
     let alloc = rt.alloc();
-    let tables = Tables::new(alloc)?;
+    let tables = Tables::new(alloc).expect(&rt, "tables");
     for kind in [
         EngineKind::Naive,
         EngineKind::NoSimd,
@@ -113,9 +116,8 @@ fn lost_shards_come_back_with_each_engine(rt: HostRuntime) -> Result<(), Fail> {
     ] {
         let engine = DefaultEngine::new(&tables, kind);
         for shard_bytes in [2, 66, 2050, 4130] {
-            check_size(&rt, alloc, COUNTS[0], shard_bytes, engine)?;
-            check_size(&rt, alloc, COUNTS[1], shard_bytes, engine)?;
+            check_size(&rt, alloc, COUNTS[0], shard_bytes, engine);
+            check_size(&rt, alloc, COUNTS[1], shard_bytes, engine);
         }
     }
-    Ok(())
 }

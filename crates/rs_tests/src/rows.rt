@@ -6,7 +6,6 @@ use reed_solomon_simd::engine::{
     DefaultEngine, Engine, EngineKind, GfElement, Naive, ShardsRefMut, Steps,
 };
 use std::process::Abort;
-use std::test::Fail;
 
 // Returns a chunk whose bytes differ from place to place.
 fn mixed(first: u8) -> [u8; 64] {
@@ -30,12 +29,11 @@ fn check_transforms(rt: &impl Abort, engine: DefaultEngine<'_>) {
     let mut four = [mixed(3), [0; 64], [0; 64], [0; 64]];
     let mut rows = ShardsRefMut::new(4, 1, &mut four);
     engine.fft(&mut steps, &mut rows, 0, 4, 1, 0);
-    assert_eq!(rt; four[0], mixed(3));
-
     let mut two = [first_symbol(4), first_symbol(0)];
     let mut rows = ShardsRefMut::new(2, 1, &mut two);
     engine.ifft(&mut steps, &mut rows, 0, 2, 2, 4);
-    assert_eq!(rt; two, [first_symbol(2), first_symbol(4)]);
+    let wanted = [mixed(3), first_symbol(2), first_symbol(4)];
+    assert_eq!(rt; [four[0], two[0], two[1]], wanted);
 }
 
 // Checks products of rows of 0 to 5 chunks.
@@ -47,13 +45,13 @@ fn check_products(rt: &impl Abort, engine: DefaultEngine<'_>, naive: Naive<'_>, 
         let mut wanted = row;
         engine.mul(&mut steps, &mut own[..count], log_m);
         naive.mul(&mut steps, &mut wanted[..count], log_m);
-        assert_eq!(rt; own, wanted, "{count} chunks");
+        assert_eq!(rt; (count, own), (count, wanted));
     }
 }
 
 #[test]
-fn transforms_and_products_of_each_engine(rt: HostRuntime) -> Result<(), Fail> {
-    let tables = Tables::new(rt.alloc())?;
+fn transforms_and_products_of_each_engine(rt: HostRuntime) {
+    let tables = Tables::new(rt.alloc()).expect(&rt, "tables");
     let log_2 = get_exp_log(&tables).log[2];
     for kind in [
         EngineKind::Naive,
@@ -67,7 +65,6 @@ fn transforms_and_products_of_each_engine(rt: HostRuntime) -> Result<(), Fail> {
             check_products(&rt, engine, Naive::new(&tables), log_m);
         }
     }
-    Ok(())
 }
 
 const CHUNKS: [[u8; 64]; 5] = [[1; 64], [2; 64], [3; 64], [4; 64], [5; 64]];
@@ -86,11 +83,11 @@ fn rows_are_lent_and_split(rt: HostRuntime) {
     let mut rows = ShardsRefMut::new(4, 1, &mut chunks);
     let (_, _, third, _) = rows.dist4_mut(0, 1);
     third.copy_from_slice(&[[9; 64]]);
-    assert_eq!(rt; chunks, [[1; 64], [2; 64], [9; 64], [4; 64], [5; 64]]);
-
     let mut rows = ShardsRefMut::new(4, 1, &mut chunks);
     let (front, back) = rows.split_at_mut(1);
-    assert_eq!(rt; [front.len(), back.len()], [1, 3]);
+    let lengths = [front.len(), back.len()];
+    let wanted = [[1; 64], [2; 64], [9; 64], [4; 64], [5; 64]];
+    assert_eq!(rt; (lengths, chunks), ([1, 3], wanted));
 }
 
 #[test]
@@ -108,8 +105,6 @@ fn rows_are_cleared_and_chunks_past_them_stay(rt: HostRuntime) {
 fn rows_may_be_empty(rt: HostRuntime) {
     let mut chunks = [];
     let rows = ShardsRefMut::new(3, 0, &mut chunks);
-    assert_eq!(rt; rows.len(), 3);
-    for index in 0..3 {
-        assert_eq!(rt; rows.row(index).len(), 0);
-    }
+    let lengths = [rows.row(0).len(), rows.row(1).len(), rows.row(2).len()];
+    assert_eq!(rt; (rows.len(), lengths), (3, [0; 3]));
 }

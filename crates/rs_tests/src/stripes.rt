@@ -5,7 +5,6 @@ use reed_solomon_simd::engine::{DefaultEngine, EngineKind};
 use rs_callers::stripes::{STRIPE_BYTES, encode_file};
 use std::alloc::{AllocError, Global};
 use std::process::Abort;
-use std::test::Fail;
 
 // Returns a file of `count` bytes.
 fn file_of(alloc: Global, count: usize) -> Result<Vec<u8>, AllocError> {
@@ -30,17 +29,16 @@ fn check_shards(
     original: &[&[u8]],
     recovery: &[Vec<u8>],
     engine: DefaultEngine<'_>,
-) -> Result<(), Fail> {
+) {
     assert_eq!(rt; [original.len(), recovery.len()], [4, 2]);
     let kept = [(2, original[2]), (3, original[3])];
     let received = [(0, recovery[0].as_slice()), (1, recovery[1].as_slice())];
-    let restored = decode_slice(alloc, 4, 2, &kept, &received, engine)?;
+    let restored = decode_slice(alloc, 4, 2, &kept, &received, engine).expect(rt, "originals");
     assert_eq!(rt; restored.len(), 2);
     for index in 0..2 {
-        let own = restored.get(&index).ok_or("none")?;
+        let own = restored.get(&index).expect(rt, "an original");
         assert_eq!(rt; own.as_slice(), original[index]);
     }
-    Ok(())
 }
 
 // Loses originals 0 and 1 of a stripe, restores them, and checks that they come back. A stripe that is shorter than its four
@@ -51,29 +49,28 @@ fn check_stripe(
     stripe: &[u8],
     recovery: &[Vec<u8>],
     engine: DefaultEngine<'_>,
-) -> Result<(), Fail> {
+) {
     let shard_bytes = stripe.len().div_ceil(8).saturating_mul(2).max(2);
-    let padded = padded(alloc, stripe, shard_bytes)?;
+    let padded = padded(alloc, stripe, shard_bytes).expect(rt, "a stripe");
     let mut original: Vec<&[u8]> = Vec::new(alloc);
     for shard in padded.chunks(shard_bytes) {
-        original.push(shard)?;
+        original.push(shard).expect(rt, "an original");
     }
-    check_shards(rt, alloc, &original, recovery, engine)
+    check_shards(rt, alloc, &original, recovery, engine);
 }
 
 // The file has two whole stripes, and 10 bytes more. The shards of the last stripe have 4 bytes, because that is the smallest even
 // size with which four shards hold 10 bytes.
 #[test]
-fn stripes_of_a_file_come_back(rt: HostRuntime) -> Result<(), Fail> {
+fn stripes_of_a_file_come_back(rt: HostRuntime) {
     let alloc = rt.alloc();
-    let tables = Tables::new(alloc)?;
+    let tables = Tables::new(alloc).expect(&rt, "tables");
     let engine = DefaultEngine::new(&tables, EngineKind::Ssse3);
-    let file = file_of(alloc, 2 * STRIPE_BYTES + 10)?;
-    let written = encode_file(alloc, file.as_slice(), engine)?;
+    let file = file_of(alloc, 2 * STRIPE_BYTES + 10).expect(&rt, "a file");
+    let written = encode_file(alloc, file.as_slice(), engine).expect(&rt, "recovery");
     assert_eq!(rt; written.len(), 6);
     assert_eq!(rt; [written[3].len(), written[4].len()], [1024, 4]);
     for (stripe, recovery) in file.chunks(STRIPE_BYTES).zip(written.chunks(2)) {
-        check_stripe(&rt, alloc, stripe, recovery, engine)?;
+        check_stripe(&rt, alloc, stripe, recovery, engine);
     }
-    Ok(())
 }

@@ -5,21 +5,21 @@ use reed_solomon_simd::engine::tables::{
     Tables, get_exp_log, get_mul16, get_mul128, get_skew, mul,
 };
 use std::process::Abort;
-use std::test::Fail;
 
 fn check_powers(rt: &impl Abort, tables: &Tables) {
     let t = get_exp_log(tables);
     assert_eq!(rt; [t.exp[0], t.exp[65535]], [1, 1]);
     assert_eq!(rt; [t.log[0], t.log[1]], [65535, 0]);
-    assert_eq!(rt; u32::from(t.log[2]) + u32::from(t.log[3]), 65535);
+    let sum = t.log[2].wrapping_add(t.log[3]);
+    assert_eq!(rt; [t.log[2], t.log[3], sum], [21845, 43690, 65535]);
 }
 
 // Checks the product of two elements, and that the factor one changes nothing.
 fn check_product(rt: &impl Abort, tables: &Tables, x: GfElement, y: GfElement, product: GfElement) {
     let t = get_exp_log(tables);
     let log_y = t.log[y as usize];
-    assert_eq!(rt; mul(x, log_y, &t.exp, &t.log), product, "{x} times {y}");
-    assert_eq!(rt; mul(x, 65535, &t.exp, &t.log), x, "{x} times one");
+    let products = [mul(x, log_y, &t.exp, &t.log), mul(x, 65535, &t.exp, &t.log)];
+    assert_eq!(rt; (x, y, products), (x, y, [product, x]));
 }
 
 fn check_small_products(rt: &impl Abort, tables: &Tables) {
@@ -38,11 +38,9 @@ fn check_small_products(rt: &impl Abort, tables: &Tables) {
 }
 
 fn check_factors(rt: &impl Abort, tables: &Tables) {
-    let skew = get_skew(tables);
-    let t = get_exp_log(tables);
-    assert_eq!(rt; [skew[0], skew[1], skew[3]], [65535, 65535, 65535]);
-    assert_eq!(rt; [skew[2], skew[5]], [t.log[2], t.log[2]]);
-    assert_eq!(rt; skew[4], t.log[4]);
+    let log = &get_exp_log(tables).log;
+    let wanted = [65535, 65535, log[2], 65535, log[4], log[2]];
+    assert_eq!(rt; get_skew(tables)[..6], wanted[..]);
 }
 
 // Checks the products of 0 to 7 with 2, which are 0, 2, 3, 1, 11, 9, 8 and 10.
@@ -63,29 +61,23 @@ fn check_products_with_one(rt: &impl Abort, tables: &Tables) {
     for i in 0..16 {
         let word = i as u16;
         let products = [nibbles[0][i], nibbles[1][i], nibbles[2][i], nibbles[3][i]];
-        assert_eq!(rt;
-            products,
-            [word, word << 4, word << 8, word << 12],
-            "at {i}"
-        );
+        assert_eq!(rt; products, [word, word << 4, word << 8, word << 12]);
     }
 }
 
-fn check_clone(rt: &impl Abort, tables: &Tables) -> Result<(), Fail> {
+fn check_clone(rt: &impl Abort, tables: &Tables) {
     let own = &get_mul128(tables)[2];
-    let copy = own.clone()?;
-    assert_eq!(rt; copy.lo, own.lo);
-    assert_eq!(rt; copy.hi, own.hi);
-    Ok(())
+    let copy = own.clone().expect(rt, "a copy");
+    assert_eq!(rt; (&copy.lo, &copy.hi), (&own.lo, &own.hi));
 }
 
 #[test]
-fn entries_by_hand(rt: HostRuntime) -> Result<(), Fail> {
-    let tables = Tables::new(rt.alloc())?;
+fn entries_by_hand(rt: HostRuntime) {
+    let tables = Tables::new(rt.alloc()).expect(&rt, "tables");
     check_powers(&rt, &tables);
     check_small_products(&rt, &tables);
     check_factors(&rt, &tables);
     check_products(&rt, &tables);
     check_products_with_one(&rt, &tables);
-    check_clone(&rt, &tables)
+    check_clone(&rt, &tables);
 }

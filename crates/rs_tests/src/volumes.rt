@@ -18,7 +18,6 @@ use std::alloc::{AllocError, Global};
 use std::io;
 use std::io::ErrorKind;
 use std::process::Abort;
-use std::test::Fail;
 
 // Blocks in memory, by their indexes.
 #[derive(Drop)]
@@ -87,11 +86,12 @@ fn files_of(alloc: Global, block_bytes: usize) -> Result<Vec<Vec<u8>>, AllocErro
 fn entries_of(alloc: Global, files: &[Vec<u8>]) -> Result<Vec<FileEntry>, AllocError> {
     let mut entries = Vec::new(alloc);
     for (name, file) in NAMES.iter().zip(files) {
+        let name = Vec::from_slice(alloc, name)?;
         entries.push(FileEntry {
             size: file.len() as u64,
             modified: 0,
             mode: 0o644,
-            name: Vec::from_slice(alloc, name)?,
+            name,
         })?;
     }
     Ok(entries)
@@ -113,10 +113,11 @@ fn blocks_of(
 ) -> Result<Blocks, AllocError> {
     let mut blocks = Vec::new(alloc);
     for place in places {
-        let mut block = Vec::with_capacity(alloc, block_bytes)?;
-        if let Some(file) = files.get(place.file) {
-            block.extend_from_slice(bytes_at(file.as_slice(), place.offset, place.bytes))?;
-        }
+        let bytes = match files.get(place.file) {
+            Some(file) => bytes_at(file.as_slice(), place.offset, place.bytes),
+            None => &[],
+        };
+        let mut block = Vec::from_slice(alloc, bytes)?;
         block.resize(block_bytes, 0)?;
         blocks.push(block)?;
     }
@@ -203,32 +204,43 @@ fn make_set(
     block_bytes: usize,
     piece_bytes: usize,
     engine: DefaultEngine<'_>,
-) -> Result<StoredSet, Fail>
+) -> StoredSet
     requires some { 0 < piece_bytes }
     requires chunks { piece_bytes % 64 ≡ 0 }
 {
-    let files = files_of(alloc, block_bytes)?;
+    let files = files_of(alloc, block_bytes).expect(rt, "files");
     let mut description = Description {
         block_bytes: block_bytes.max(1) as u64,
         original_count: 0,
         recovery_count: RECOVERY_COUNT as u32,
-        files: entries_of(alloc, files.as_slice())?,
+        files: entries_of(alloc, files.as_slice()).expect(rt, "entries"),
         digests: Vec::new(alloc),
     };
-    let places = places_of(alloc, &description)?;
+    let places = places_of(alloc, &description).expect(rt, "places");
     description.original_count = places.len().min(65536) as u32;
     let shape = shape_of(&description);
-    let mut source = blocks_of(alloc, files.as_slice(), places.as_slice(), block_bytes)?;
-    let mut blocks = Blocks::empty(alloc, places.len().saturating_add(RECOVERY_COUNT))?;
-    description.digests = create(alloc, shape, piece_bytes, engine, &mut source, &mut blocks)?;
+    let mut source = blocks_of(alloc, files.as_slice(), places.as_slice(), block_bytes).expect(
+        rt, "blocks",
+    );
+    let mut blocks = Blocks::empty(alloc, places.len().saturating_add(RECOVERY_COUNT)).expect(
+        rt, "blocks",
+    );
+    description.digests = create(
+        alloc,
+        shape,
+        piece_bytes,
+        engine,
+        &mut source,
+        &mut blocks,
+    ).expect(rt, "digests");
     assert!(rt; fits(&description));
-    let bytes = write_description(alloc, &description)?;
-    Ok(StoredSet {
+    let bytes = write_description(alloc, &description).expect(rt, "bytes");
+    StoredSet {
         files,
-        description: read_description(alloc, bytes.as_slice())?,
+        description: read_description(alloc, bytes.as_slice()).expect(rt, "a description"),
         places,
         blocks,
-    })
+    }
 }
 
 // The numbers of the original blocks and of the recovery blocks that are lost or damaged.
@@ -279,13 +291,13 @@ fn check_set(
     block_bytes: usize,
     piece_bytes: usize,
     engine: DefaultEngine<'_>,
-) -> Result<(), Fail>
+)
     requires some { 0 < piece_bytes }
     requires chunks { piece_bytes % 64 ≡ 0 }
 {
     for loss in LOSSES {
-        let mut set = make_set(rt, alloc, block_bytes, piece_bytes, engine)?;
-        let files = restored(alloc, &mut set, piece_bytes, loss, engine)?;
+        let mut set = make_set(rt, alloc, block_bytes, piece_bytes, engine);
+        let files = restored(alloc, &mut set, piece_bytes, loss, engine).expect(rt, "files");
         check_files(
             rt,
             set.files.as_slice(),
@@ -293,28 +305,26 @@ fn check_set(
             files.blocks.as_slice(),
         );
     }
-    Ok(())
 }
 
 // The pieces have 64 bytes, so each block of more bytes is coded in several pieces.
 #[test]
-fn sets_in_memory_come_back(rt: HostRuntime) -> Result<(), Fail> {
+fn sets_in_memory_come_back(rt: HostRuntime) {
     let alloc = rt.alloc();
-    let tables = Tables::new(alloc)?;
+    let tables = Tables::new(alloc).expect(&rt, "tables");
     let engine = DefaultEngine::fastest(&tables);
     for block_bytes in [2, 62, 64, 66, 320, 1026] {
-        check_set(&rt, alloc, block_bytes, 64, engine)?;
+        check_set(&rt, alloc, block_bytes, 64, engine);
     }
-    check_set(&rt, alloc, 1026, 4096, engine)
+    check_set(&rt, alloc, 1026, 4096, engine);
 }
 
 #[test]
-fn too_few_blocks_restore_nothing(rt: HostRuntime) -> Result<(), Fail> {
+fn too_few_blocks_restore_nothing(rt: HostRuntime) {
     let alloc = rt.alloc();
-    let tables = Tables::new(alloc)?;
+    let tables = Tables::new(alloc).expect(&rt, "tables");
     let engine = DefaultEngine::fastest(&tables);
-    let mut set = make_set(&rt, alloc, 64, 64, engine)?;
+    let mut set = make_set(&rt, alloc, 64, 64, engine);
     let outcome = restored(alloc, &mut set, 64, (&[0, 3, 4], &[0, 1]), engine);
     assert!(rt; matches!(outcome, Err(CodingError::Code(_))));
-    Ok(())
 }
