@@ -190,10 +190,8 @@ fn check_decode<'t, R: Rate<Counting<'t>>>(
     tables: &'t Tables,
     (original, recovery, others, most): Decode<'_>,
 ) {
-    let engine = after_decode::<_, R>(alloc, 4, original, recovery, Counting::new(tables)).expect(
-        rt,
-        "an engine",
-    );
+    let engine = Counting::new(tables);
+    let engine = after_decode::<_, R>(alloc, 4, original, recovery, engine).expect(rt, "an engine");
     let [fft, ifft, mul, locator] = engine.calls.get();
     assert_eq!(rt; ([fft, ifft, locator], mul.max(most)), (others, most));
 }

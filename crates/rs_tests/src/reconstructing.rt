@@ -56,10 +56,7 @@ fn check_made(
             ShardIndex::Original(place) => originals.get(place),
             ShardIndex::Recovery(place) => recovery.get(place),
         };
-        assert_eq!(rt;
-            (index, shard.len(), lost == Some(shard)),
-            (index, shard.len(), true)
-        );
+        assert!(rt; lost == Some(shard), "{index:?} of {} bytes", shard.len());
     }
 }
 

@@ -34,11 +34,10 @@ fn check_shards(
     let kept = [(2, original[2]), (3, original[3])];
     let received = [(0, recovery[0].as_slice()), (1, recovery[1].as_slice())];
     let restored = decode_slice(alloc, 4, 2, &kept, &received, engine).expect(rt, "originals");
-    assert_eq!(rt; restored.len(), 2);
-    for index in 0..2 {
-        let own = restored.get(&index).expect(rt, "an original");
-        assert_eq!(rt; own.as_slice(), original[index]);
-    }
+    let first = restored.get(&0).expect(rt, "original 0");
+    let second = restored.get(&1).expect(rt, "original 1");
+    let shards = (restored.len(), first.as_slice(), second.as_slice());
+    assert_eq!(rt; shards, (2, original[0], original[1]));
 }
 
 // Loses originals 0 and 1 of a stripe, restores them, and checks that they come back. A stripe that is shorter than its four
