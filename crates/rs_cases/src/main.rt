@@ -24,7 +24,7 @@ mod watch;
 mod words;
 
 use anyhow::{Result, ensure};
-use cases::CaseFile;
+use cases::{CaseFile, LevelName};
 use levels::{LEVELS, Levels, RATES};
 use reading::read_file;
 use reed_solomon_simd::engine::tables::Tables;
@@ -34,15 +34,15 @@ use std::alloc::Global;
 use std::{env, fs};
 use watch::Watch;
 
-// Runs a file's cases with all levels over an engine that is chosen by name.
-fn run_over_kind(
+// Runs a file's cases with levels of use. The levels of the rates work with `engine`, and the others with `chosen`.
+fn run_over<E: Engine + Copy>(
     alloc: Global,
     file: &CaseFile,
-    engine: DefaultEngine<'_>,
-    name: &str,
+    (engine, chosen, name): (E, DefaultEngine<'_>, &str),
+    names: &'static [LevelName],
     report: &mut Report,
 ) -> Result<()> {
-    Ok(Levels::new(alloc, engine, engine, LEVELS)?.run(file, name, report)?)
+    Ok(Levels::new(alloc, engine, chosen, names)?.run(file, name, report)?)
 }
 
 // Runs a file's cases with each engine that can be chosen by name, or only with `ssse3`.
@@ -59,31 +59,20 @@ fn run_over_kinds(
         (EngineKind::Ssse3, "ssse3"),
     ] {
         if file.every_engine || kind == EngineKind::Ssse3 {
-            run_over_kind(alloc, file, DefaultEngine::new(tables, kind), name, report)?;
+            let engine = DefaultEngine::new(tables, kind);
+            run_over(alloc, file, (engine, engine, name), LEVELS, report)?;
         }
     }
     Ok(())
 }
 
-// Runs a file's cases with the objects of the rates over an engine.
-fn run_over<E: Engine + Copy>(
-    alloc: Global,
-    file: &CaseFile,
-    engine: E,
-    name: &str,
-    tables: &Tables,
-    report: &mut Report,
-) -> Result<()> {
-    let idle = DefaultEngine::new(tables, EngineKind::Naive);
-    Ok(Levels::new(alloc, engine, idle, RATES)?.run(file, name, report)?)
-}
-
-// Runs a file's cases with the type of each engine.
+// Runs a file's cases with the objects of the rates over the type of each engine.
 fn run_over_types(alloc: Global, file: &CaseFile, t: &Tables, report: &mut Report) -> Result<()> {
-    run_over(alloc, file, Naive::new(t), "Naive", t, report)?;
-    run_over(alloc, file, NoSimd::new(t), "NoSimd", t, report)?;
-    run_over(alloc, file, Avx2::new(t), "Avx2", t, report)?;
-    run_over(alloc, file, Ssse3::new(t), "Ssse3", t, report)
+    let idle = DefaultEngine::new(t, EngineKind::Naive);
+    run_over(alloc, file, (Naive::new(t), idle, "Naive"), RATES, report)?;
+    run_over(alloc, file, (NoSimd::new(t), idle, "NoSimd"), RATES, report)?;
+    run_over(alloc, file, (Avx2::new(t), idle, "Avx2"), RATES, report)?;
+    run_over(alloc, file, (Ssse3::new(t), idle, "Ssse3"), RATES, report)
 }
 
 // Runs the cases of a file with each of its engines.
