@@ -18,9 +18,9 @@ use rs_volumes::description::{Description, FileEntry};
 use rs_volumes::placement::places_of;
 use rs_volumes::write_description;
 use std::alloc::Global;
-use std::fs;
 use std::os::unix::fs::MetadataExt;
-use std::rt::Runtime;
+use std::rt::{Clock, Files, Runtime};
+use std::{fs, io};
 
 /// The number of bytes of a description before its first file.
 const OPENING_BYTES: u64 = 28;
@@ -88,7 +88,7 @@ fn origins_of(alloc: Global, description: &Description) -> Result<Vec<Option<Ori
 }
 
 // Fails if the length of a file, or the time of its last change in seconds, is not the one in its description.
-fn check_unchanged<R: Runtime>(
+fn check_unchanged<R: Files>(
     rt: &R,
     alloc: Global,
     paths: &[String],
@@ -111,7 +111,7 @@ fn check_unchanged<R: Runtime>(
 
 // Makes the recovery blocks of files, and writes blocks into the sink. Returns the digests of all blocks. A set without
 // blocks has no digests.
-fn code_files<R: Runtime>(
+fn code_files<R: Files + Clock + Eprint>(
     rt: &R,
     alloc: Global,
     request: &Request,
@@ -134,7 +134,7 @@ fn code_files<R: Runtime>(
 
 // Makes the recovery blocks of the blocks of a source, and writes blocks into the sink. Returns the digests of all
 // blocks. `memory` is the number of bytes that the function may use, approximately.
-fn code_blocks<R: Runtime>(
+fn code_blocks<R: Files + Clock + Eprint>(
     alloc: Global,
     shape: Shape,
     memory: u64,
@@ -163,14 +163,14 @@ fn description_of(alloc: Global, files: Vec<FileEntry>, cut: Cut) -> Description
 }
 
 // Writes blocks, the description and the heads into the volumes. Sets the digests of the description.
-fn fill<R: Runtime + AllocGlobal>(
+fn fill<R: Files + Clock + Eprint>(
     rt: &R,
+    alloc: Global,
     request: &Request,
     description: &mut Description,
     paths: &[String],
     volumes: &Volumes,
 ) -> Result<()> {
-    let alloc = rt.alloc();
     let mut sink = VolumeSink::new(rt, alloc, volumes)?;
     description.digests = code_files(rt, alloc, request, description, paths, &mut sink)?;
     check_unchanged(rt, alloc, paths, description.files.as_slice())?;
@@ -178,7 +178,7 @@ fn fill<R: Runtime + AllocGlobal>(
 }
 
 // Writes the description and the heads into the volumes.
-fn describe<R: Runtime>(
+fn describe<R: Files>(
     alloc: Global,
     description: &Description,
     sink: &mut VolumeSink<'_, R>,
@@ -229,41 +229,43 @@ pub struct Made {
 ///
 /// Every step fails if memory cannot be allocated. If the function fails after a volume was begun, it removes all
 /// volumes that do not have their final names.
-pub fn make<R: Runtime + AllocGlobal>(
+pub fn make<R: Runtime>(
     rt: &R,
+    alloc: Global,
     request: &Request,
     recovery: Recovery,
     outputs: &[String],
 ) -> Result<Made> {
     for output in outputs {
-        check_output(rt, rt.alloc(), output.as_str(), request.force)?;
+        check_output(rt, alloc, output.as_str(), request.force)?;
     }
-    let found = find(rt, request.paths.as_slice(), outputs)?;
+    let found = find(rt, alloc, request.paths.as_slice(), outputs)?;
     let files = found.files.as_slice();
     let cut = cut_files(files, request.block_bytes, recovery)?;
     let made = Made {
         files: files.len(),
         cut,
     };
-    write_volumes(rt, request, found, cut, outputs)?;
+    write_volumes(rt, alloc, request, found, cut, outputs)?;
     Ok(made)
 }
 
 // Writes the volumes of the files that were found, and gives them their final names.
-fn write_volumes<R: Runtime + AllocGlobal>(
+fn write_volumes<R: Files + Clock + Eprint>(
     rt: &R,
+    alloc: Global,
     request: &Request,
     found: Found,
     cut: Cut,
     outputs: &[String],
 ) -> Result<()> {
-    let alloc = rt.alloc();
     let paths = paths_of(alloc, found.folder.as_str(), found.files.as_slice())?;
     let mut description = description_of(alloc, found.files, cut);
     let length = description_bytes(description.files.as_slice(), cut)?;
     let mut volumes = Volumes::new(alloc, cut, outputs.len(), length);
     let outcome = begin_and_fill(
         rt,
+        alloc,
         request,
         &mut description,
         paths.as_slice(),
@@ -277,8 +279,9 @@ fn write_volumes<R: Runtime + AllocGlobal>(
 }
 
 // Begins all volumes, with room for their blocks, writes into them, and gives them their final names.
-fn begin_and_fill<R: Runtime + AllocGlobal>(
+fn begin_and_fill<R: Files + Clock + Eprint>(
     rt: &R,
+    alloc: Global,
     request: &Request,
     description: &mut Description,
     paths: &[String],
@@ -286,10 +289,10 @@ fn begin_and_fill<R: Runtime + AllocGlobal>(
     volumes: &mut Volumes,
 ) -> Result<()> {
     for output in outputs {
-        volumes.begin(rt, rt.alloc(), output.as_str())?;
+        volumes.begin(rt, alloc, output.as_str())?;
     }
-    fill(rt, request, description, paths, volumes)?;
-    volumes.finish(rt, rt.alloc(), request.force)
+    fill(rt, alloc, request, description, paths, volumes)?;
+    volumes.finish(rt, alloc, request.force)
 }
 
 /// Runs `create`: makes the recovery blocks of files, and writes them into one volume. Returns the exit status.
@@ -297,10 +300,9 @@ fn begin_and_fill<R: Runtime + AllocGlobal>(
 /// # Errors
 ///
 /// Fails if the name of the volume is not known. Then fails for a reason of [`make`].
-pub fn create<R: Runtime + AllocGlobal>(rt: &R, request: &Request) -> Result<u8> {
-    let alloc = rt.alloc();
+pub fn create<R: Runtime>(rt: &R, alloc: Global, request: &Request) -> Result<u8> {
     let outputs = vec![in alloc; output_of(alloc, request)?]?;
-    let made = make(rt, request, request.recovery, outputs.as_slice())?;
+    let made = make(rt, alloc, request, request.recovery, outputs.as_slice())?;
     if !request.quiet {
         tell(rt, outputs.as_slice(), made)?;
     }
@@ -308,7 +310,7 @@ pub fn create<R: Runtime + AllocGlobal>(rt: &R, request: &Request) -> Result<u8>
 }
 
 // Prints what was made.
-fn tell<R: Runtime>(rt: &R, outputs: &[String], made: Made) -> Result<()> {
+fn tell<R: Print>(rt: &R, outputs: &[String], made: Made) -> io::Result<()> {
     let files = Counted(made.files as u64, "file");
     let originals = Counted(u64::from(made.cut.original_count), "block");
     let recovery = Counted(u64::from(made.cut.recovery_count), "recovery block");

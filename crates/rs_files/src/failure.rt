@@ -4,7 +4,6 @@ use std::alloc::Global;
 use std::error::Error;
 use std::fmt;
 use std::fmt::{Display, InlineText};
-use std::rt::Runtime;
 
 /// The largest number of bytes of a reason. Reasons hold numbers and texts of the program and of the system, and no
 /// paths and names, so they are all shorter.
@@ -48,9 +47,15 @@ impl Failure {
     }
 
     /// Prints the failure on standard error.
-    pub fn tell<R: Runtime>(&self, rt: &R) {
+    pub fn tell<R: Eprint>(&self, rt: &R) {
         let _ = eprintln!(rt; "rs_files: {self}");
     }
+}
+
+/// Prints the reason of a failure at a path on standard error, although the command goes on.
+pub fn warn<R: Eprint, D: Display + Drop>(rt: &R, path: &str, reason: D) {
+    let path = Shown(path);
+    let _ = eprintln!(rt; "rs_files: {path}: {reason}");
 }
 
 impl<E: Error> From<E> for Failure {

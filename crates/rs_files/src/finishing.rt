@@ -6,23 +6,26 @@ use crate::scanning::Scan;
 use crate::settings::Request;
 use crate::targets::{Goal, Restored, Targets};
 use std::alloc::Global;
-use std::rt::Runtime;
+use std::io;
+use std::rt::{Clock, Files};
 
-// Prints how many files were restored. If files could not be restored, the function prints their number on standard
-// error, also if only errors are printed.
-fn tell<R: Runtime>(rt: &R, quiet: bool, restored: Restored) -> Result<()> {
+// Prints how many files were restored.
+fn tell_restored<R: Print>(rt: &R, restored: Restored) -> io::Result<()> {
     let files = Counted(restored.count as u64, "file");
+    if restored.kept == 0 {
+        return println!(rt; "restored {files}");
+    }
     let damaged = Counted(restored.kept as u64, "damaged file");
-    if !quiet && restored.kept > 0 {
-        println!(rt; "restored {files}, and kept {damaged} as NAME.damaged")?;
-    } else if !quiet {
-        println!(rt; "restored {files}")?;
+    println!(rt; "restored {files}, and kept {damaged} as NAME.damaged")
+}
+
+// Prints on standard error how many files could not be restored, also if only errors are printed.
+fn tell_failed<R: Eprint>(rt: &R, failed: usize) -> io::Result<()> {
+    if failed == 0 {
+        return Ok(());
     }
-    if restored.failed > 0 {
-        let failed = Counted(restored.failed as u64, "file");
-        eprintln!(rt; "rs_files: {failed} could not be restored")?;
-    }
-    Ok(())
+    let failed = Counted(failed as u64, "file");
+    eprintln!(rt; "rs_files: {failed} could not be restored")
 }
 
 /// Restores the files of a set that are not whole, below `folder`, and prints how many they are. If `in_place` is set,
@@ -40,7 +43,7 @@ fn tell<R: Runtime>(rt: &R, quiet: bool, restored: Restored) -> Result<()> {
 ///
 /// Every step fails if memory cannot be allocated. If the function fails, it removes all files that do not have their
 /// final names.
-pub fn restore_files<R: Runtime>(
+pub fn restore_files<R: Files + Clock + Print + Eprint>(
     rt: &R,
     alloc: Global,
     request: &Request,
@@ -57,12 +60,15 @@ pub fn restore_files<R: Runtime>(
     let outcome = restore_into(rt, alloc, request, found, goal, &mut targets);
     targets.remove(rt);
     let restored = outcome?;
-    tell(rt, request.quiet, restored)?;
+    if !request.quiet {
+        tell_restored(rt, restored)?;
+    }
+    tell_failed(rt, restored.failed)?;
     Ok(restored.failed == 0)
 }
 
 // Begins the parts of files, writes their blocks, and gives them their final names.
-fn restore_into<R: Runtime>(
+fn restore_into<R: Files + Clock + Eprint>(
     rt: &R,
     alloc: Global,
     request: &Request,

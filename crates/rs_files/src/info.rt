@@ -1,27 +1,24 @@
 //! `info`: shows what a volume describes.
 use crate::counted::Counted;
 use crate::failure::{Failure, Result};
-use crate::json::{add, files_of, object_of, print};
+use crate::json::{add, files_of, object_of};
 use crate::names::{Shown, text_of};
 use crate::settings::{Request, STATUS_WHOLE};
 use crate::volume::{Volume, open_volume};
 use rs_volumes::description::FileEntry;
-use serde_json::{Map, Value};
+use serde_json::Value;
 use std::alloc::{AllocError, Global};
-use std::rt::Runtime;
+use std::io;
+use std::rt::Files;
 
 // Prints what a volume describes as JSON.
-fn tell_json<R: Runtime + AllocGlobal>(rt: &R, volume: &Volume) -> Result<()> {
-    let alloc = rt.alloc();
-    let object = volume_json(alloc, volume)?;
-    print(rt, alloc, object)
+fn tell_json<R: Print>(rt: &R, alloc: Global, volume: &Volume) -> Result<()> {
+    let text = volume_json(alloc, volume)?;
+    Ok(println!(rt; "{text}")?)
 }
 
-// Returns what a volume describes as JSON.
-fn volume_json(
-    alloc: Global,
-    volume: &Volume,
-) -> std::result::Result<Map<String, Value>, AllocError> {
+// Returns what a volume describes as the text of a JSON object.
+fn volume_json(alloc: Global, volume: &Volume) -> std::result::Result<String, AllocError> {
     let numbers = [
         ("block_bytes", volume.description.block_bytes),
         (
@@ -37,11 +34,11 @@ fn volume_json(
     let mut object = object_of(alloc, &numbers)?;
     let files = files_of(alloc, volume.description.files.as_slice(), &[])?;
     add(alloc, &mut object, "files", files)?;
-    Ok(object)
+    Value::Object(object).to_string(alloc)
 }
 
 // Prints what a volume describes.
-fn tell<R: Runtime>(rt: &R, path: &str, volume: &Volume) -> Result<()> {
+fn tell<R: Print>(rt: &R, path: &str, volume: &Volume) -> io::Result<()> {
     let block = volume.description.block_bytes;
     let k = Counted(
         u64::from(volume.description.original_count),
@@ -58,7 +55,7 @@ fn tell<R: Runtime>(rt: &R, path: &str, volume: &Volume) -> Result<()> {
 }
 
 // Prints the sizes and the names of files.
-fn tell_files<R: Runtime>(rt: &R, files: &[FileEntry]) -> Result<()> {
+fn tell_files<R: Print>(rt: &R, files: &[FileEntry]) -> io::Result<()> {
     for file in files {
         let size = file.size;
         let name = Shown(text_of(file.name.as_slice()));
@@ -73,14 +70,14 @@ fn tell_files<R: Runtime>(rt: &R, files: &[FileEntry]) -> Result<()> {
 ///
 /// Fails if there is no path. Then, for each volume, fails if the volume cannot be read or the result cannot be
 /// printed.
-pub fn info<R: Runtime + AllocGlobal>(rt: &R, request: &Request) -> Result<u8> {
+pub fn info<R: Files + Print>(rt: &R, alloc: Global, request: &Request) -> Result<u8> {
     if request.paths.is_empty() {
         return Err(Failure::of("no volume is given"));
     }
     for path in &request.paths {
-        let volume = open_volume(rt, path.as_str())?;
+        let volume = open_volume(rt, alloc, path.as_str())?;
         if request.json {
-            tell_json(rt, &volume)?;
+            tell_json(rt, alloc, &volume)?;
         } else {
             tell(rt, path.as_str(), &volume)?;
         }

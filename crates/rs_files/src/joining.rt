@@ -4,7 +4,8 @@ use crate::finishing::restore_files;
 use crate::scanning::{Scan, scan_request};
 use crate::settings::{Request, STATUS_FAILED, STATUS_LOST, STATUS_MENDED, STATUS_WHOLE};
 use crate::verifying::{tell_lost, tell_volumes};
-use std::rt::Runtime;
+use std::alloc::Global;
+use std::rt::{Clock, Files};
 
 /// Runs `join`: restores all files of a set from volumes. Returns the exit status. It is `STATUS_FAILED` if a file
 /// could not be restored.
@@ -18,17 +19,22 @@ use std::rt::Runtime;
 /// - the files cannot be restored, for a reason of [`restore_files`].
 ///
 /// Every step fails if memory cannot be allocated.
-pub fn join<R: Runtime + AllocGlobal>(rt: &R, request: &Request) -> Result<u8> {
+pub fn join<R: Files + Clock + Print + Eprint>(
+    rt: &R,
+    alloc: Global,
+    request: &Request,
+) -> Result<u8> {
     let Some(folder) = &request.to else {
         return Err(Failure::of("say where the files go, as --to FOLDER"));
     };
-    let found = scan_request(rt, request, None)?;
-    join_into(rt, request, &found, folder.as_str())
+    let found = scan_request(rt, alloc, request, None)?;
+    join_into(rt, alloc, request, &found, folder.as_str())
 }
 
 // Writes all files of a set below a folder, if enough blocks were found. Returns the exit status.
-fn join_into<R: Runtime + AllocGlobal>(
+fn join_into<R: Files + Clock + Print + Eprint>(
     rt: &R,
+    alloc: Global,
     request: &Request,
     found: &Scan,
     folder: &str,
@@ -41,7 +47,7 @@ fn join_into<R: Runtime + AllocGlobal>(
         tell_lost(rt, counts)?;
         return Ok(STATUS_LOST);
     }
-    let all = restore_files(rt, rt.alloc(), request, found, folder, false)?;
+    let all = restore_files(rt, alloc, request, found, folder, false)?;
     Ok(if !all {
         STATUS_FAILED
     } else if counts.lost == 0 {

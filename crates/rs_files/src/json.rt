@@ -1,10 +1,8 @@
-//! JSON that is printed.
-use crate::failure::Result;
+//! Parts of the JSON that is printed.
 use crate::names::text_of;
 use rs_volumes::description::FileEntry;
 use serde_json::{Map, Value};
 use std::alloc::{AllocError, Global};
-use std::rt::Runtime;
 
 /// Returns an object with numbers.
 ///
@@ -73,15 +71,4 @@ pub fn files_of(
         list.push(Value::Object(object))?;
     }
     Ok(Value::Array(list))
-}
-
-/// Prints an object on a line.
-///
-/// # Errors
-///
-/// Fails if memory cannot be allocated, or if the line cannot be printed.
-pub fn print<R: Runtime>(rt: &R, alloc: Global, object: Map<String, Value>) -> Result<()> {
-    let text = Value::Object(object).to_string(alloc)?;
-    println!(rt; "{text}")?;
-    Ok(())
 }

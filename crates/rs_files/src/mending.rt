@@ -4,7 +4,8 @@ use crate::finishing::restore_files;
 use crate::scanning::{Scan, scan_request};
 use crate::settings::{Request, STATUS_FAILED, STATUS_LOST, STATUS_MENDED, STATUS_WHOLE};
 use crate::verifying::{folder_of, report};
-use std::rt::Runtime;
+use std::alloc::Global;
+use std::rt::{Clock, Files};
 
 /// Runs `repair`: restores the damaged and missing files of a set. Returns the exit status. It is `STATUS_FAILED` if a
 /// file could not be restored.
@@ -18,16 +19,21 @@ use std::rt::Runtime;
 /// - the files cannot be restored, for a reason of [`restore_files`].
 ///
 /// Every step fails if memory cannot be allocated.
-pub fn repair<R: Runtime + AllocGlobal>(rt: &R, request: &Request) -> Result<u8> {
+pub fn repair<R: Files + Clock + Print + Eprint>(
+    rt: &R,
+    alloc: Global,
+    request: &Request,
+) -> Result<u8> {
     let folder = folder_of(request)?;
-    let found = scan_request(rt, request, Some(folder))?;
-    repair_found(rt, request, &found, folder)
+    let found = scan_request(rt, alloc, request, Some(folder))?;
+    repair_found(rt, alloc, request, &found, folder)
 }
 
 // Restores the damaged and missing files of a set, if there are some and enough blocks were found. The files are
 // written into `folder`, where they were searched, or into the folder after `--to`. Returns the exit status.
-fn repair_found<R: Runtime + AllocGlobal>(
+fn repair_found<R: Files + Clock + Print + Eprint>(
     rt: &R,
+    alloc: Global,
     request: &Request,
     found: &Scan,
     folder: &str,
@@ -39,7 +45,7 @@ fn repair_found<R: Runtime + AllocGlobal>(
             None => folder,
         };
         let in_place = request.to.is_none();
-        let all = restore_files(rt, rt.alloc(), request, found, target, in_place)?;
+        let all = restore_files(rt, alloc, request, found, target, in_place)?;
         return Ok(if all { STATUS_MENDED } else { STATUS_FAILED });
     }
     report(rt, request, found, counts, folder)?;

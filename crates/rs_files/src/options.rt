@@ -10,7 +10,7 @@ use clap::{Arg, ArgAction, ArgMatches, Command};
 use rs_volumes::checking::allows_block;
 use std::alloc::Global;
 use std::env;
-use std::rt::Runtime;
+use std::rt::Env;
 
 /// The commands, with the names of their paths and their help texts.
 const COMMANDS: [(&str, &str, &str); 6] = [
@@ -225,11 +225,11 @@ fn status_of(error: &clap::Error) -> u8 {
 /// # Errors
 ///
 /// Fails if the words cannot be read, if a message cannot be printed, or if memory cannot be allocated.
-pub fn read_words<R: Runtime + AllocGlobal>(rt: &R, terminal: bool) -> Result<Parsed> {
+pub fn read_words<R: Env + Print + Eprint + AllocGlobal>(rt: &R, terminal: bool) -> Result<Parsed> {
     let alloc = rt.alloc();
     let words: Vec<String> = env::args(rt)?.collect(alloc)?;
     match program(alloc)?.try_get_matches_from(words.as_slice()) {
-        Ok(matches) => read_matches(rt, &matches, terminal),
+        Ok(matches) => read_matches(rt, alloc, &matches, terminal),
         Err(error) => {
             error.print(rt)?;
             Ok(Parsed::Stop(status_of(&error)))
@@ -238,15 +238,16 @@ pub fn read_words<R: Runtime + AllocGlobal>(rt: &R, terminal: bool) -> Result<Pa
 }
 
 // Returns the request of a command line. If an option has a wrong value, the function prints a message.
-fn read_matches<R: Runtime + AllocGlobal>(
+fn read_matches<R: Eprint>(
     rt: &R,
+    alloc: Global,
     matches: &ArgMatches<'_>,
     terminal: bool,
 ) -> Result<Parsed> {
     let Some((name, inner)) = matches.subcommand() else {
         return Ok(Parsed::Stop(STATUS_USAGE));
     };
-    match request_of(rt.alloc(), name, inner, terminal)? {
+    match request_of(alloc, name, inner, terminal)? {
         Ok(request) => Ok(Parsed::Run(request)),
         Err(fault) => {
             eprintln!(rt; "rs_files: {fault}")?;

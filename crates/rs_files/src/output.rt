@@ -6,7 +6,7 @@ use std::fs;
 use std::fs::{OpenFile, OpenOptions};
 use std::io::{Seek, SeekFrom, Write};
 use std::os::unix::fs::{MetadataExt, OpenOptionsExt};
-use std::rt::{Files, Runtime};
+use std::rt::Files;
 
 /// A file that is being written under another name: `NAME.part`, or `NAME.part2` and so on if that exists. A long name
 /// is cut in these names.
@@ -19,7 +19,7 @@ pub struct Part {
 }
 
 /// Returns whether something exists at a path.
-pub fn exists<R: Runtime>(rt: &R, path: &str) -> bool {
+pub fn exists<R: Files>(rt: &R, path: &str) -> bool {
     fs::symlink_metadata(rt, path).is_ok()
 }
 
@@ -29,7 +29,7 @@ pub fn exists<R: Runtime>(rt: &R, path: &str) -> bool {
 /// # Errors
 ///
 /// Fails if memory cannot be allocated, or if something exists at each of these paths.
-pub fn free_path<R: Runtime>(rt: &R, alloc: Global, path: &str, suffix: &str) -> Result<String> {
+pub fn free_path<R: Files>(rt: &R, alloc: Global, path: &str, suffix: &str) -> Result<String> {
     let front = shortened(path);
     let mut free = format!(in alloc; "{front}.{suffix}")?;
     for number in 2..u32::MAX {
@@ -50,12 +50,14 @@ pub struct Identity {
 
 /// Returns the identity of a file. A symbolic link has the identity of the file to which it leads. Returns `None` if
 /// there is no file, or if its metadata cannot be read.
-pub fn identity_of<R: Runtime>(rt: &R, path: &str) -> Option<Identity> {
-    let metadata = fs::metadata(rt, path).ok()?;
-    Some(Identity {
-        device: metadata.dev(),
-        number: metadata.ino(),
-    })
+pub fn identity_of<R: Files>(rt: &R, path: &str) -> Option<Identity> {
+    match fs::metadata(rt, path) {
+        Ok(metadata) => Some(Identity {
+            device: metadata.dev(),
+            number: metadata.ino(),
+        }),
+        Err(_) => None,
+    }
 }
 
 /// Returns the identities of the files at those of the paths at which there is a file.
@@ -63,7 +65,7 @@ pub fn identity_of<R: Runtime>(rt: &R, path: &str) -> Option<Identity> {
 /// # Errors
 ///
 /// Fails if memory cannot be allocated.
-pub fn identities<R: Runtime>(rt: &R, alloc: Global, paths: &[String]) -> Result<Vec<Identity>> {
+pub fn identities<R: Files>(rt: &R, alloc: Global, paths: &[String]) -> Result<Vec<Identity>> {
     let mut found = Vec::new(alloc);
     for path in paths {
         if let Some(own) = identity_of(rt, path.as_str()) {
@@ -93,7 +95,7 @@ impl Part {
     /// # Errors
     ///
     /// Fails if the folder or the file cannot be made, or if memory cannot be allocated. Then no file is left.
-    pub fn begin<R: Runtime>(
+    pub fn begin<R: Files>(
         rt: &R,
         alloc: Global,
         path: &str,
@@ -125,7 +127,7 @@ impl Part {
 
     /// Removes the file, if it does not have its final name. Nothing is reported if the file cannot be removed, because
     /// the command has already failed for another reason.
-    pub fn remove<R: Runtime>(&self, rt: &R) {
+    pub fn remove<R: Files>(&self, rt: &R) {
         let _ = fs::remove_file(rt, self.part.as_str());
     }
 
@@ -134,7 +136,7 @@ impl Part {
     /// # Errors
     ///
     /// Any error of the system.
-    pub fn open<R: Runtime>(&self, rt: &R) -> std::io::Result<R::File> {
+    pub fn open<R: Files>(&self, rt: &R) -> std::io::Result<R::File> {
         let mut options = OpenOptions::new();
         options.write(true).open(rt, self.part.as_str())
     }
@@ -144,7 +146,7 @@ impl Part {
     /// # Errors
     ///
     /// Fails if the file cannot be opened or synced.
-    pub fn sync<R: Runtime>(&self, rt: &R, alloc: Global) -> Result<()> {
+    pub fn sync<R: Files>(&self, rt: &R, alloc: Global) -> Result<()> {
         let path = self.path.as_str();
         let file = at_path(alloc, path, self.open(rt))?;
         at_path(alloc, path, file.sync_all())
@@ -156,7 +158,7 @@ impl Part {
     /// # Errors
     ///
     /// Fails if the file cannot be renamed.
-    pub fn rename<R: Runtime>(&self, rt: &R, alloc: Global) -> Result<()> {
+    pub fn rename<R: Files>(&self, rt: &R, alloc: Global) -> Result<()> {
         let path = self.path.as_str();
         at_path(alloc, path, fs::rename(rt, self.part.as_str(), path))
     }
@@ -164,7 +166,7 @@ impl Part {
 
 /// Syncs the folder of a file, so that the new name of the file is kept after a loss of power. Some file systems cannot
 /// sync a folder. Then the file is whole and has its name all the same, so the function only prints a warning.
-pub fn sync_folder<R: Runtime>(rt: &R, alloc: Global, path: &str) {
+pub fn sync_folder<R: Files + Eprint>(rt: &R, alloc: Global, path: &str) {
     let folder = folder_to_open(parent_of(path));
     if let Err(error) = sync_opened(rt, folder) {
         let reason = format_args!("warning: this folder cannot be synced: {error}");
@@ -173,7 +175,7 @@ pub fn sync_folder<R: Runtime>(rt: &R, alloc: Global, path: &str) {
 }
 
 // Opens a folder and syncs it.
-fn sync_opened<R: Runtime>(rt: &R, folder: &str) -> std::io::Result<()> {
+fn sync_opened<R: Files>(rt: &R, folder: &str) -> std::io::Result<()> {
     fs::open(rt, folder)?.sync_all()
 }
 

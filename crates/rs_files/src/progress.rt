@@ -1,5 +1,5 @@
 //! Progress on standard error.
-use std::rt::Runtime;
+use std::rt::Clock;
 use std::time::Instant;
 
 /// The progress of a command. A line on standard error shows the percentage that is done.
@@ -14,7 +14,7 @@ pub struct Progress {
 
 impl Progress {
     /// Begins to count up to `total` bytes. Nothing is printed if `shown` is false.
-    pub fn new<R: Runtime>(rt: &R, shown: bool, total: u64) -> Progress {
+    pub fn new<R: Clock>(rt: &R, shown: bool, total: u64) -> Progress {
         let start = if shown { Instant::now(rt).ok() } else { None };
         Progress {
             shown,
@@ -31,7 +31,7 @@ impl Progress {
     }
 
     /// Counts more bytes as done, and prints the line if the percentage has grown.
-    pub fn advance<R: Runtime>(&mut self, rt: &R, bytes: u64) {
+    pub fn advance<R: Clock + Eprint>(&mut self, rt: &R, bytes: u64) {
         self.done = self.done.saturating_add(bytes);
         if !self.shown || self.total == 0 {
             return;
@@ -44,7 +44,7 @@ impl Progress {
     }
 
     // Prints the line: the percentage, the rate in MB/s, and the time left in seconds.
-    fn print<R: Runtime>(&self, rt: &R) {
+    fn print<R: Clock + Eprint>(&self, rt: &R) {
         let percent = self.percent;
         let Some(start) = self.start else {
             return;
@@ -59,7 +59,7 @@ impl Progress {
     }
 
     /// Ends the line on standard error, if one was printed.
-    pub fn end<R: Runtime>(&self, rt: &R) {
+    pub fn end<R: Eprint>(&self, rt: &R) {
         if self.shown && self.percent > 0 {
             let _ = eprintln!(rt; "");
         }

@@ -17,7 +17,7 @@ use rs_volumes::restoring::{Plan, restore};
 use std::alloc::Global;
 use std::io;
 use std::io::ErrorKind;
-use std::rt::{Files, Runtime};
+use std::rt::{Clock, Files};
 
 /// A part that is open to be written.
 #[derive(Drop)]
@@ -29,7 +29,7 @@ struct Opened<F: Drop> {
 
 /// The files that are being restored. This sink writes blocks into them.
 #[derive(Drop)]
-struct FileSink<'a, R: Runtime> {
+struct FileSink<'a, R: Files + Eprint> {
     rt: &'a R,
     alloc: Global,
     /// Whether progress is shown.
@@ -42,7 +42,7 @@ struct FileSink<'a, R: Runtime> {
     opened: Option<Opened<R::File>>,
 }
 
-impl<'a, R: Runtime> FileSink<'a, R> {
+impl<'a, R: Files + Eprint> FileSink<'a, R> {
     // Writes bytes into the part of a file, from byte `offset` on. `file` is the index of the file in the description.
     // A file without a part could not be written before. The function writes nothing then.
     fn write(&mut self, file: usize, offset: u64, bytes: &[u8]) -> io::Result<()> {
@@ -62,7 +62,7 @@ impl<'a, R: Runtime> FileSink<'a, R> {
     }
 }
 
-impl<'a, R: Runtime> BlockSink for FileSink<'a, R> {
+impl<'a, R: Files + Eprint> BlockSink for FileSink<'a, R> {
     ghost written = { λ _. nothing };
 
     fn put(&mut self, index: usize, start: usize, piece: &[u8]) -> io::Result<()> {
@@ -156,7 +156,7 @@ fn recovery_blocks(alloc: Global, scan: &Scan, k: usize, count: usize) -> Result
 ///
 /// Fails if a block cannot be read or restored, then if a block does not have its digest. Every step fails if memory
 /// cannot be allocated.
-pub fn write_blocks<R: Runtime>(
+pub fn write_blocks<R: Files + Clock + Eprint>(
     rt: &R,
     alloc: Global,
     scan: &Scan,
@@ -192,7 +192,7 @@ pub fn write_blocks<R: Runtime>(
 }
 
 // Restores the blocks of a plan: reads the blocks of a source, and writes blocks into the sink.
-fn restore_blocks<R: Runtime>(
+fn restore_blocks<R: Files + Clock + Eprint>(
     alloc: Global,
     description: &Description,
     plan: &Plan,

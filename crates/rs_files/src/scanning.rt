@@ -1,7 +1,6 @@
 //! Looks for the blocks of a set, in its files and in volumes.
 use crate::counted::Counted;
-use crate::failure::{Failure, Result};
-use crate::names::Shown;
+use crate::failure::{Failure, Result, warn};
 use crate::output::at_path;
 use crate::progress::Progress;
 use crate::settings::Request;
@@ -14,7 +13,7 @@ use sha2::{Digest, Sha256};
 use std::alloc::Global;
 use std::fs::OpenFile;
 use std::io::{ErrorKind, Read, Seek, SeekFrom};
-use std::rt::{Files, Runtime};
+use std::rt::{Clock, Files};
 use std::{fs, io};
 
 /// How many bytes are read at a time.
@@ -65,13 +64,14 @@ pub struct Scan {
 /// For each volume in turn, fails if a message cannot be printed, or if the volume belongs to another set. Then fails
 /// if no volume can be read, if the block size is 0, or if a volume cannot be opened again. Every step fails if memory
 /// cannot be allocated.
-pub fn scan_request<R: Runtime + AllocGlobal>(
+pub fn scan_request<R: Files + Clock + Eprint>(
     rt: &R,
+    alloc: Global,
     request: &Request,
     folder: Option<&str>,
 ) -> Result<Scan> {
-    let volumes = open_volumes(rt, request.paths.as_slice())?;
-    scan_set(rt, volumes, folder, request.progress)
+    let volumes = open_volumes(rt, alloc, request.paths.as_slice())?;
+    scan_set(rt, alloc, volumes, folder, request.progress)
 }
 
 // The volumes of one set.
@@ -102,17 +102,17 @@ impl Volumes {
     }
 
     // Opens a volume. If the volume cannot be read, the function prints a message.
-    fn open<R: Runtime + AllocGlobal>(&mut self, rt: &R, path: &str) -> Result<()> {
-        match open_volume(rt, path) {
+    fn open<R: Files + Eprint>(&mut self, rt: &R, alloc: Global, path: &str) -> Result<()> {
+        match open_volume(rt, alloc, path) {
             Ok(volume) => {
-                self.add(rt.alloc(), path, &volume)?;
+                self.add(alloc, path, &volume)?;
                 if self.first.is_none() {
                     self.first = Some(volume);
                 }
             }
             Err(failure) => {
                 eprintln!(rt; "rs_files: {failure}")?;
-                self.unreadable.push(String::from_str(rt.alloc(), path)?)?;
+                self.unreadable.push(String::from_str(alloc, path)?)?;
             }
         }
         Ok(())
@@ -133,10 +133,10 @@ impl Volumes {
 }
 
 // Opens volumes. The first volume that can be read determines the set.
-fn open_volumes<R: Runtime + AllocGlobal>(rt: &R, paths: &[String]) -> Result<Volumes> {
-    let mut volumes = Volumes::new(rt.alloc());
+fn open_volumes<R: Files + Eprint>(rt: &R, alloc: Global, paths: &[String]) -> Result<Volumes> {
+    let mut volumes = Volumes::new(alloc);
     for path in paths {
-        volumes.open(rt, path.as_str())?;
+        volumes.open(rt, alloc, path.as_str())?;
     }
     Ok(volumes)
 }
@@ -189,8 +189,9 @@ fn blocks_of(description: &Description) -> usize {
 }
 
 // Looks for all blocks of a set in its volumes and, if `folder` is given, in the files of the set below that folder.
-fn scan_set<R: Runtime + AllocGlobal>(
+fn scan_set<R: Files + Clock + Eprint>(
     rt: &R,
+    alloc: Global,
     volumes: Volumes,
     folder: Option<&str>,
     shown: bool,
@@ -207,6 +208,7 @@ fn scan_set<R: Runtime + AllocGlobal>(
     };
     let mut scan = scan_blocks(
         rt,
+        alloc,
         first.description,
         paths.as_slice(),
         records.as_slice(),
@@ -220,15 +222,15 @@ fn scan_set<R: Runtime + AllocGlobal>(
 
 // Looks for the blocks of a description in the volumes and, if `folder` is given, in the files below that folder. The
 // result has no paths of volumes that cannot be read, and no states of the heads of volumes.
-fn scan_blocks<R: Runtime + AllocGlobal>(
+fn scan_blocks<R: Files + Clock + Eprint>(
     rt: &R,
+    alloc: Global,
     description: Description,
     volumes: &[String],
     records: &[(u64, u64)],
     folder: Option<&str>,
     shown: bool,
 ) -> Result<Scan> {
-    let alloc = rt.alloc();
     if description.block_bytes == 0 {
         return Err(Failure::of("the blocks are empty"));
     }
@@ -316,43 +318,40 @@ impl Scanner {
     }
 
     // Prints how many blocks of a file or a volume cannot be read, and the first error.
-    fn tell_unread<R: Runtime>(&mut self, rt: &R, path: &str) {
+    fn tell_unread<R: Eprint>(&mut self, rt: &R, path: &str) {
         if let Some(error) = self.error.take() {
             let blocks = Counted(self.unread, "block");
             self.progress.end(rt);
-            let path = Shown(path);
-            let _ = eprintln!(rt; "rs_files: {path}: {blocks} cannot be read: {error}");
+            warn(rt, path, format_args!("{blocks} cannot be read: {error}"));
         }
         self.unread = 0;
     }
 
     // Returns that a file is missing, of which no block is read. If the file is there but cannot be opened, the
     // function prints why.
-    fn missing<R: Runtime>(&mut self, rt: &R, path: &str, error: io::Error) -> FileState {
+    fn missing<R: Eprint>(&mut self, rt: &R, path: &str, error: io::Error) -> FileState {
         if error.kind() != ErrorKind::NotFound {
             self.progress.end(rt);
-            let path = Shown(path);
-            let _ = eprintln!(rt; "rs_files: {path}: {error}");
+            warn(rt, path, error);
         }
         FileState::Missing
     }
 
     // Returns that a file is missing because a folder or something else that is no regular file is in its place, and
     // prints this.
-    fn replaced<R: Runtime>(&mut self, rt: &R, path: &str, is_folder: bool) -> FileState {
+    fn replaced<R: Eprint>(&mut self, rt: &R, path: &str, is_folder: bool) -> FileState {
         let reason = if is_folder {
             "a folder is in the place of this file"
         } else {
             "this is no regular file"
         };
         self.progress.end(rt);
-        let path = Shown(path);
-        let _ = eprintln!(rt; "rs_files: {path}: {reason}");
+        warn(rt, path, reason);
         FileState::Missing
     }
 
     // Compares the blocks of all files with their digests. If there is no folder, all files are missing.
-    fn scan_files<R: Runtime>(
+    fn scan_files<R: Files + Clock + Eprint>(
         &mut self,
         rt: &R,
         description: &Description,
@@ -378,7 +377,7 @@ impl Scanner {
     }
 
     // Looks for blocks in all volumes, and appends the paths of the volumes to `paths`.
-    fn scan_volumes<R: Runtime>(
+    fn scan_volumes<R: Files + Clock + Eprint>(
         &mut self,
         rt: &R,
         alloc: Global,
@@ -407,7 +406,7 @@ impl Scanner {
     }
 
     // Compares the blocks of a file with their digests, and returns the state of the file.
-    fn scan_file<R: Runtime>(
+    fn scan_file<R: Files + Clock + Eprint>(
         &mut self,
         rt: &R,
         description: &Description,
@@ -435,7 +434,7 @@ impl Scanner {
 
     // Compares the blocks of an open file with their digests, and returns the state of the file. Fails if the length of
     // the file cannot be read.
-    fn scan_opened<R: Runtime>(
+    fn scan_opened<R: Files + Clock + Eprint>(
         &mut self,
         rt: &R,
         description: &Description,
@@ -460,7 +459,7 @@ impl Scanner {
     }
 
     // Returns whether a block of a file has its digest, and records where the block was found.
-    fn scan_block<R: Runtime>(
+    fn scan_block<R: Files + Clock + Eprint>(
         &mut self,
         rt: &R,
         description: &Description,
@@ -495,7 +494,7 @@ impl Scanner {
     //
     // The number of records in a head can be too large. So nothing is counted in the last bytes, which are the second
     // copy of the description and the head. This copy is as long as the first one, which ends at the first record.
-    fn scan_volume<R: Runtime>(
+    fn scan_volume<R: Files + Clock + Eprint>(
         &mut self,
         rt: &R,
         description: &Description,
@@ -620,8 +619,12 @@ impl Scan {
         let files = self.description.files.len();
         let k = (self.description.original_count as usize).min(self.origins.len());
         let (originals, _) = self.origins.split_at(k);
-        let missing = self.states.iter().all(|state| *state == FileState::Missing);
-        missing && originals.iter().any(|origin| is_in_volume(origin, files))
+        !self.has_files() && originals.iter().any(|origin| is_in_volume(origin, files))
+    }
+
+    /// Returns whether one of the files was found, whole or damaged.
+    pub fn has_files(&self) -> bool {
+        self.states.iter().any(|state| *state != FileState::Missing)
     }
 
     /// Returns whether all files are whole.

@@ -7,7 +7,7 @@ use rs_volumes::coding_error::CodingError;
 use rs_volumes::pieces::BlockSource;
 use std::alloc::Global;
 use std::io::{ErrorKind, Read, Seek, SeekFrom};
-use std::rt::{Files, Runtime};
+use std::rt::{Clock, Files};
 use std::{fs, io};
 
 /// Where a block lies: in a file or in a volume.
@@ -32,7 +32,7 @@ pub struct Opened<F: Drop> {
 
 /// The blocks in files and volumes. This source reads them.
 #[derive(Drop)]
-pub struct FileBlocks<'a, R: Runtime> {
+pub struct FileBlocks<'a, R: Files + Clock + Eprint> {
     rt: &'a R,
     alloc: Global,
     /// The paths of the files and volumes.
@@ -44,7 +44,7 @@ pub struct FileBlocks<'a, R: Runtime> {
     progress: Progress,
 }
 
-impl<'a, R: Runtime> FileBlocks<'a, R> {
+impl<'a, R: Files + Clock + Eprint> FileBlocks<'a, R> {
     /// Makes a source of blocks. The source counts every byte that it reads in `progress`.
     pub fn new(
         rt: &'a R,
@@ -119,7 +119,7 @@ impl<'a, R: Runtime> FileBlocks<'a, R> {
     }
 }
 
-impl<'a, R: Runtime> BlockSource for FileBlocks<'a, R> {
+impl<'a, R: Files + Clock + Eprint> BlockSource for FileBlocks<'a, R> {
     ghost blocks = { λ _. nothing };
 
     fn piece(&mut self, index: usize, start: usize, end: usize) -> io::Result<Vec<u8>> {

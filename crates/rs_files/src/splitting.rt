@@ -23,15 +23,15 @@ fn outputs_in(alloc: Global, volumes: u32, folder: &str) -> Result<Vec<String>> 
 /// # Errors
 ///
 /// Fails if `-o` is not given. Then fails for a reason of [`make`].
-pub fn split<R: Runtime + AllocGlobal>(rt: &R, request: &Request) -> Result<u8> {
+pub fn split<R: Runtime>(rt: &R, alloc: Global, request: &Request) -> Result<u8> {
     let Some(folder) = &request.output else {
         return Err(Failure::of("say where the volumes go, as -o FOLDER"));
     };
     let volumes = request.volumes;
     let lose = request.lose;
-    let outputs = outputs_in(rt.alloc(), volumes, folder.as_str())?;
+    let outputs = outputs_in(alloc, volumes, folder.as_str())?;
     let recovery = Recovery::Spread { volumes, lose };
-    let made = make(rt, request, recovery, outputs.as_slice())?;
+    let made = make(rt, alloc, request, recovery, outputs.as_slice())?;
     if !request.quiet {
         let files = Counted(made.files as u64, "file");
         println!(rt; "{files} in {volumes} volumes, of which {lose} may be lost")?;

@@ -11,7 +11,7 @@ use std::fs;
 use std::fs::{FileTimes, OpenFile, Permissions};
 use std::io::ErrorKind;
 use std::os::unix::fs::PermissionsExt;
-use std::rt::Runtime;
+use std::rt::Files;
 use std::time::{Duration, UNIX_EPOCH};
 
 /// The permission bits of a file while it is written: nobody else may read it.
@@ -70,7 +70,7 @@ impl Targets {
     /// # Errors
     ///
     /// Fails if memory cannot be allocated.
-    pub fn begin<R: Runtime>(
+    pub fn begin<R: Files + Eprint>(
         &mut self,
         rt: &R,
         alloc: Global,
@@ -94,7 +94,7 @@ impl Targets {
     }
 
     // Begins the part of a file. If this fails, the function prints the reason.
-    fn begin_one<R: Runtime>(
+    fn begin_one<R: Files + Eprint>(
         &mut self,
         rt: &R,
         alloc: Global,
@@ -111,14 +111,14 @@ impl Targets {
     }
 
     // Prints why a file cannot be restored, and counts the file.
-    fn count_failure<R: Runtime>(&mut self, rt: &R, failure: &Failure) {
+    fn count_failure<R: Eprint>(&mut self, rt: &R, failure: &Failure) {
         failure.tell(rt);
         self.failed = self.failed.saturating_add(1);
     }
 
     /// Removes the part of a file into which blocks cannot be written, and prints the reason. The other files are still
     /// restored.
-    pub fn give_up<R: Runtime>(
+    pub fn give_up<R: Files + Eprint>(
         &mut self,
         rt: &R,
         alloc: Global,
@@ -136,7 +136,7 @@ impl Targets {
 
     /// Gives the restored files their permission bits, times and final names. For each file that cannot be restored,
     /// the function prints the reason.
-    pub fn finish<R: Runtime>(
+    pub fn finish<R: Files + Eprint>(
         &mut self,
         rt: &R,
         alloc: Global,
@@ -160,7 +160,7 @@ impl Targets {
 
     // Gives a restored file its final name, and returns the number of damaged files that are kept, 0 or 1. Returns
     // `None` if the file has no part, or if the file cannot be restored. Then the function prints the reason.
-    fn finish_one<R: Runtime>(
+    fn finish_one<R: Files + Eprint>(
         &mut self,
         rt: &R,
         alloc: Global,
@@ -180,7 +180,7 @@ impl Targets {
     }
 
     /// Removes all parts that are left.
-    pub fn remove<R: Runtime>(&self, rt: &R) {
+    pub fn remove<R: Files>(&self, rt: &R) {
         for part in &self.parts {
             if let Some(part) = part {
                 part.remove(rt);
@@ -190,7 +190,7 @@ impl Targets {
 }
 
 // Checks that a file may be written, and begins its part.
-fn begin_part<R: Runtime>(
+fn begin_part<R: Files>(
     rt: &R,
     alloc: Global,
     file: &FileEntry,
@@ -205,7 +205,7 @@ fn begin_part<R: Runtime>(
 
 // Gives a restored file its permission bits, its time and its final name. Returns the number of damaged files that are
 // kept, 0 or 1. If the file cannot be renamed, the damaged file has only its own name again.
-fn finish_part<R: Runtime>(
+fn finish_part<R: Files + Eprint>(
     rt: &R,
     alloc: Global,
     part: &Part,
@@ -237,7 +237,7 @@ fn finish_part<R: Runtime>(
 
 // Fails if a file may not be written: if a folder above it, below the folder of the goal, is a symbolic link, or if
 // something is in its place that may not be replaced.
-fn check_target<R: Runtime>(
+fn check_target<R: Files>(
     rt: &R,
     alloc: Global,
     name: &str,
@@ -277,19 +277,19 @@ fn obstacle(goal: Goal<'_>, is_folder: bool, is_input: bool) -> Option<&'static 
 }
 
 // Returns whether a path leads to one of the files with the identities `inputs`.
-fn is_input<R: Runtime>(rt: &R, path: &str, inputs: &[Identity]) -> bool {
+fn is_input<R: Files>(rt: &R, path: &str, inputs: &[Identity]) -> bool {
     if inputs.is_empty() {
         return false;
     }
     match identity_of(rt, path) {
-        Some(own) => inputs.iter().any(|other| *other == own),
+        Some(own) => inputs.contains(&own),
         None => false,
     }
 }
 
 // Returns whether a folder of a name is a symbolic link. The name is relative to `folder`, which may itself be a
 // symbolic link.
-fn leads_away<R: Runtime>(rt: &R, alloc: Global, folder: &str, name: &str) -> Result<bool> {
+fn leads_away<R: Files>(rt: &R, alloc: Global, folder: &str, name: &str) -> Result<bool> {
     for end in 0..name.len() {
         if let Some((front, rest)) = name.split_at_checked(end) {
             if rest.starts_with('/') && is_link(rt, path_in(alloc, folder, front)?.as_str()) {
@@ -301,7 +301,7 @@ fn leads_away<R: Runtime>(rt: &R, alloc: Global, folder: &str, name: &str) -> Re
 }
 
 // Returns whether a path is a symbolic link.
-fn is_link<R: Runtime>(rt: &R, path: &str) -> bool {
+fn is_link<R: Files>(rt: &R, path: &str) -> bool {
     match fs::symlink_metadata(rt, path) {
         Ok(metadata) => metadata.file_type().is_symlink(),
         Err(_) => false,
@@ -310,7 +310,7 @@ fn is_link<R: Runtime>(rt: &R, path: &str) -> bool {
 
 // Gives a restored file its permission bits and the time of its last change, and syncs it. A time before 1970 is not
 // set. The file is opened only once, because its permission bits can forbid to open it again.
-fn complete<R: Runtime>(rt: &R, part: &Part, file: &FileEntry) -> std::io::Result<()> {
+fn complete<R: Files>(rt: &R, part: &Part, file: &FileEntry) -> std::io::Result<()> {
     let handle = part.open(rt)?;
     handle.set_permissions(Permissions::from_mode(file.mode & RESTORED_BITS))?;
     let seconds = i64::from_le_bytes(file.modified.to_le_bytes());
@@ -333,7 +333,7 @@ struct Kept {
 impl Kept {
     // Takes the second name back, so that the damaged file has only its own name again. If this fails, the function
     // prints the second name.
-    fn undo<R: Runtime>(&self, rt: &R, alloc: Global, path: &str) {
+    fn undo<R: Files + Eprint>(&self, rt: &R, alloc: Global, path: &str) {
         let name = self.name.as_str();
         let undone = match (exists(rt, path), self.linked) {
             (true, true) => fs::remove_file(rt, name).is_ok(),
@@ -351,7 +351,7 @@ impl Kept {
 //
 // The file keeps its own name too, until the restored file takes it. So the program can be killed at any moment, and
 // the next run finds the file. A file system without hard links gets the file renamed.
-fn keep_damaged<R: Runtime>(rt: &R, alloc: Global, path: &str) -> Result<Option<Kept>> {
+fn keep_damaged<R: Files>(rt: &R, alloc: Global, path: &str) -> Result<Option<Kept>> {
     if !exists(rt, path) {
         return Ok(None);
     }

@@ -1,14 +1,15 @@
 //! `verify`: looks for damage.
 use crate::counted::Counted;
 use crate::failure::{Failure, Result};
-use crate::json::{add, add_text, files_of, object_of, print};
+use crate::json::{add, add_text, files_of, object_of};
 use crate::names::{Shown, folder_to_open, parent_of, text_of};
 use crate::scanning::{Counts, FileState, Scan, scan_request};
 use crate::settings::{Request, STATUS_LOST, STATUS_MENDED, STATUS_WHOLE};
 use crate::volume::Copies;
 use serde_json::{Map, Value};
 use std::alloc::{AllocError, Global};
-use std::rt::Runtime;
+use std::io;
+use std::rt::{Clock, Files};
 
 /// Returns the folder of the files: the folder after `--folder`, or else the folder of the first volume.
 ///
@@ -52,7 +53,7 @@ fn word_of(state: FileState) -> &'static str {
 }
 
 // Prints which files are damaged or missing.
-fn tell_files<R: Runtime>(rt: &R, scan: &Scan) -> Result<()> {
+fn tell_files<R: Print>(rt: &R, scan: &Scan) -> io::Result<()> {
     for (file, state) in scan
         .description
         .files
@@ -83,7 +84,7 @@ fn damage_of(copies: Copies) -> Option<&'static str> {
 /// # Errors
 ///
 /// Fails if the result cannot be printed.
-pub fn tell_volumes<R: Runtime>(rt: &R, scan: &Scan) -> Result<()> {
+pub fn tell_volumes<R: Print>(rt: &R, scan: &Scan) -> io::Result<()> {
     let files = scan.description.files.len();
     let paths = scan.paths.iter().skip(files);
     let states = scan.copies.iter().zip(scan.damaged_blocks.as_slice());
@@ -94,61 +95,59 @@ pub fn tell_volumes<R: Runtime>(rt: &R, scan: &Scan) -> Result<()> {
 }
 
 // Prints where a volume is damaged, and how many of its blocks are damaged. Prints nothing for a whole volume.
-fn tell_volume<R: Runtime>(rt: &R, path: &str, copies: Copies, blocks: u64) -> Result<()> {
+fn tell_volume<R: Print>(rt: &R, path: &str, copies: Copies, blocks: u64) -> io::Result<()> {
     let path = Shown(path);
     if let Some(damage) = damage_of(copies) {
         println!(rt; "{path}: the volume is damaged{damage}")?;
     }
-    if blocks > 0 {
-        let blocks = Counted(blocks, "damaged block");
-        println!(rt; "{path}: the volume has {blocks}")?;
+    if blocks == 0 {
+        return Ok(());
     }
-    Ok(())
+    let blocks = Counted(blocks, "damaged block");
+    println!(rt; "{path}: the volume has {blocks}")
 }
 
 // Prints whether the files can be restored, or what to do about damaged volumes.
-fn tell_blocks<R: Runtime>(rt: &R, scan: &Scan, counts: Counts) -> Result<()> {
+fn tell_blocks<R: Print>(rt: &R, scan: &Scan, counts: Counts) -> io::Result<()> {
     let whole = counts.recovery;
     let damaged = counts.recovery_count.saturating_sub(whole);
     let recovery = Counted(counts.recovery_count as u64, "recovery block");
     if !scan.has_whole_files() {
         let lost = Counted(counts.lost as u64, "lost block");
-        println!(rt; "{lost}, and {whole} of {recovery} left: the files can be repaired")?;
+        println!(rt; "{lost}, and {whole} of {recovery} left: the files can be repaired")
     } else if damaged > 0 {
         println!(rt;
             "all files are whole, but {damaged} of {recovery} cannot be used: make the volumes again, with create --force or split --force"
-        )?;
+        )
     } else if !scan.has_whole_volumes() {
         println!(rt;
             "all files and recovery blocks are whole, but a volume is damaged or cannot be read: make the volumes again, with create --force or split --force"
-        )?;
+        )
     } else {
-        println!(rt; "all files and volumes are whole, with {recovery}")?;
+        println!(rt; "all files and volumes are whole, with {recovery}")
     }
-    Ok(())
 }
 
 // Prints whether volumes of `split` hold all blocks, and what to do.
-fn tell_spread<R: Runtime>(rt: &R, scan: &Scan, counts: Counts) -> Result<()> {
+fn tell_spread<R: Print>(rt: &R, scan: &Scan, counts: Counts) -> io::Result<()> {
     let k = scan.description.original_count;
     let (lost, left, r) = (counts.lost, counts.recovery, counts.recovery_count);
     let damaged = r.saturating_sub(left);
     if lost > 0 || damaged > 0 {
         println!(rt;
             "{lost} of {k} original blocks and {damaged} of {r} recovery blocks are not in these volumes: join can restore the files"
-        )?;
+        )
     } else if !scan.has_whole_volumes() {
         println!(rt;
             "a volume is damaged or cannot be read, but all blocks are in these volumes: restore the files with join, and make the volumes again with split"
-        )?;
+        )
     } else {
         let blocks = Counted(u64::from(k), "original block");
         let recovery = Counted(r as u64, "recovery block");
         println!(rt;
             "all volumes are whole, with {blocks} and {recovery}: join restores the files from them"
-        )?;
+        )
     }
-    Ok(())
 }
 
 /// Prints on standard error that the files cannot be restored, and how many blocks are needed.
@@ -156,27 +155,25 @@ fn tell_spread<R: Runtime>(rt: &R, scan: &Scan, counts: Counts) -> Result<()> {
 /// # Errors
 ///
 /// Fails if the message cannot be printed.
-pub fn tell_lost<R: Runtime>(rt: &R, counts: Counts) -> Result<()> {
+pub fn tell_lost<R: Eprint>(rt: &R, counts: Counts) -> io::Result<()> {
     let lost = Counted(counts.lost as u64, "lost block");
     let recovery = Counted(counts.recovery as u64, "recovery block");
     let lacking = counts.lost.saturating_sub(counts.recovery);
     let lacking = Counted(lacking as u64, "more block");
     eprintln!(rt;
         "rs_files: {lost}, and {recovery} left: the files cannot be restored without {lacking}"
-    )?;
-    Ok(())
+    )
 }
 
 // Prints which folder was searched, if none of the files of the set was found there.
-fn tell_folder<R: Runtime>(rt: &R, scan: &Scan, folder: &str) -> Result<()> {
-    let all_missing = scan.states.iter().all(|state| *state == FileState::Missing);
-    if !scan.states.is_empty() && all_missing {
-        let folder = Shown(folder);
-        println!(rt;
-            "no file was found in {folder}: if the files are in another folder, name it with --folder"
-        )?;
+fn tell_folder<R: Print>(rt: &R, scan: &Scan, folder: &str) -> io::Result<()> {
+    if scan.states.is_empty() || scan.has_files() {
+        return Ok(());
     }
-    Ok(())
+    let folder = Shown(folder);
+    println!(rt;
+        "no file was found in {folder}: if the files are in another folder, name it with --folder"
+    )
 }
 
 /// Prints which files and volumes are damaged or missing, and what can be done, unless only errors are printed. If the
@@ -185,13 +182,13 @@ fn tell_folder<R: Runtime>(rt: &R, scan: &Scan, folder: &str) -> Result<()> {
 /// # Errors
 ///
 /// Fails if the result cannot be printed.
-pub fn report<R: Runtime>(
+pub fn report<R: Print + Eprint>(
     rt: &R,
     request: &Request,
     scan: &Scan,
     counts: Counts,
     folder: &str,
-) -> Result<()> {
+) -> io::Result<()> {
     if !request.quiet {
         tell_found(rt, scan, folder)?;
     }
@@ -208,7 +205,7 @@ pub fn report<R: Runtime>(
 
 // Prints which files and volumes are damaged or missing. If the volumes are those of `split`, nobody expects the files
 // to be there.
-fn tell_found<R: Runtime>(rt: &R, scan: &Scan, folder: &str) -> Result<()> {
+fn tell_found<R: Print>(rt: &R, scan: &Scan, folder: &str) -> io::Result<()> {
     if scan.is_spread() {
         return tell_volumes(rt, scan);
     }
@@ -261,18 +258,17 @@ fn add_unreadable(
 }
 
 // Prints the result of a scan as JSON.
-fn tell_json<R: Runtime + AllocGlobal>(rt: &R, scan: &Scan, counts: Counts) -> Result<()> {
-    let alloc = rt.alloc();
-    let object = result_json(alloc, scan, counts)?;
-    print(rt, alloc, object)
+fn tell_json<R: Print>(rt: &R, alloc: Global, scan: &Scan, counts: Counts) -> Result<()> {
+    let text = result_json(alloc, scan, counts)?;
+    Ok(println!(rt; "{text}")?)
 }
 
-// Returns the result of a scan as JSON.
+// Returns the result of a scan as the text of a JSON object.
 fn result_json(
     alloc: Global,
     scan: &Scan,
     counts: Counts,
-) -> std::result::Result<Map<String, Value>, AllocError> {
+) -> std::result::Result<String, AllocError> {
     let numbers = [
         ("status", u64::from(status_of(scan, counts))),
         ("lost_blocks", counts.lost as u64),
@@ -289,7 +285,7 @@ fn result_json(
         files_of(alloc, files, words.as_slice())?,
     )?;
     add(alloc, &mut object, "volumes", volumes_json(alloc, scan)?)?;
-    Ok(object)
+    Value::Object(object).to_string(alloc)
 }
 
 /// Runs `verify`: looks for damage in the files of a set and in its volumes. Returns the exit status.
@@ -303,12 +299,16 @@ fn result_json(
 /// - the result cannot be printed.
 ///
 /// Every step fails if memory cannot be allocated.
-pub fn verify<R: Runtime + AllocGlobal>(rt: &R, request: &Request) -> Result<u8> {
+pub fn verify<R: Files + Clock + Print + Eprint>(
+    rt: &R,
+    alloc: Global,
+    request: &Request,
+) -> Result<u8> {
     let folder = folder_of(request)?;
-    let found = scan_request(rt, request, Some(folder))?;
+    let found = scan_request(rt, alloc, request, Some(folder))?;
     let counts = found.counts();
     if request.json {
-        tell_json(rt, &found, counts)?;
+        tell_json(rt, alloc, &found, counts)?;
     } else {
         report(rt, request, &found, counts, folder)?;
     }

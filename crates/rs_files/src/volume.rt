@@ -10,7 +10,7 @@ use std::alloc::Global;
 use std::fs;
 use std::fs::OpenFile;
 use std::io::{Read, Seek, SeekFrom};
-use std::rt::{Files, Runtime};
+use std::rt::Files;
 
 /// The number of bytes of a record before its block: 4 for the index of the block, and 4 that are zero.
 pub const RECORD_HEAD_BYTES: u64 = 8;
@@ -162,8 +162,7 @@ fn back<F: Read + Seek>(file: &mut F, alloc: Global, size: u64) -> Result<Volume
 ///
 /// In this order, fails if the volume cannot be opened, or if it has no head and sound description both at its
 /// beginning and at its end. The message of the second error states the fault at the beginning.
-pub fn open_volume<R: Runtime + AllocGlobal>(rt: &R, path: &str) -> Result<Volume> {
-    let alloc = rt.alloc();
+pub fn open_volume<R: Files>(rt: &R, alloc: Global, path: &str) -> Result<Volume> {
     let mut file = at_path(alloc, path, fs::open(rt, path))?;
     let size = at_path(alloc, path, file.metadata())?.len();
     match front(&mut file, alloc, size) {
@@ -185,7 +184,7 @@ pub fn open_volume<R: Runtime + AllocGlobal>(rt: &R, path: &str) -> Result<Volum
 /// # Errors
 ///
 /// Fails if the file cannot be opened or read, or if memory cannot be allocated.
-pub fn is_volume<R: Runtime>(rt: &R, alloc: Global, path: &str) -> Result<bool> {
+pub fn is_volume<R: Files>(rt: &R, alloc: Global, path: &str) -> Result<bool> {
     // A pipe is not opened: a program that opens it waits until another one writes into it.
     let metadata = at_path(alloc, path, fs::metadata(rt, path))?;
     let head_bytes = HEAD_BYTES as u64;

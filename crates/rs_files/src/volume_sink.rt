@@ -12,7 +12,7 @@ use rs_volumes::pieces::BlockSink;
 use std::alloc::Global;
 use std::io;
 use std::io::{ErrorKind, Seek, Write};
-use std::rt::{Files, Runtime};
+use std::rt::Files;
 
 /// The permission bits of a volume, before the system takes away those of the user's mask.
 const VOLUME_MODE: u32 = 0o666;
@@ -23,7 +23,7 @@ const VOLUME_MODE: u32 = 0o666;
 ///
 /// If something exists at the path, fails if `force` is not set, if it cannot be read, or if it is no volume. Every
 /// step fails if memory cannot be allocated.
-pub fn check_output<R: Runtime>(rt: &R, alloc: Global, path: &str, force: bool) -> Result<()> {
+pub fn check_output<R: Files>(rt: &R, alloc: Global, path: &str, force: bool) -> Result<()> {
     if !exists(rt, path) {
         return Ok(());
     }
@@ -107,7 +107,7 @@ impl Volumes {
     /// # Errors
     ///
     /// Fails for a reason of [`Part::begin`], or if memory cannot be allocated.
-    pub fn begin<R: Runtime>(&mut self, rt: &R, alloc: Global, path: &str) -> Result<()> {
+    pub fn begin<R: Files>(&mut self, rt: &R, alloc: Global, path: &str) -> Result<()> {
         let size = self
             .record_at(self.records_of(self.parts.len()))
             .saturating_add(self.description_bytes)
@@ -136,7 +136,7 @@ impl Volumes {
     /// - for each volume, if it cannot be synced,
     /// - for each volume, for a reason of [`check_output`],
     /// - if a volume cannot be renamed.
-    pub fn finish<R: Runtime>(&self, rt: &R, alloc: Global, force: bool) -> Result<()> {
+    pub fn finish<R: Files + Eprint>(&self, rt: &R, alloc: Global, force: bool) -> Result<()> {
         self.sync(rt, alloc)?;
         self.check(rt, alloc, force)?;
         let outcome = self.rename(rt, alloc);
@@ -147,7 +147,7 @@ impl Volumes {
     }
 
     // Syncs all volumes.
-    fn sync<R: Runtime>(&self, rt: &R, alloc: Global) -> Result<()> {
+    fn sync<R: Files>(&self, rt: &R, alloc: Global) -> Result<()> {
         for part in &self.parts {
             part.sync(rt, alloc)?;
         }
@@ -155,7 +155,7 @@ impl Volumes {
     }
 
     // Checks that each volume can get its final name. Something may have changed since the volumes were begun.
-    fn check<R: Runtime>(&self, rt: &R, alloc: Global, force: bool) -> Result<()> {
+    fn check<R: Files>(&self, rt: &R, alloc: Global, force: bool) -> Result<()> {
         for part in &self.parts {
             check_output(rt, alloc, part.path.as_str(), force)?;
         }
@@ -164,7 +164,7 @@ impl Volumes {
 
     // Renames all volumes to their final names. If some of them cannot be renamed, the function returns the reason for
     // the last one.
-    fn rename<R: Runtime>(&self, rt: &R, alloc: Global) -> Result<()> {
+    fn rename<R: Files>(&self, rt: &R, alloc: Global) -> Result<()> {
         let mut outcome = Ok(());
         for (number, part) in self.parts.iter().enumerate() {
             if let Err(failure) = part.rename(rt, alloc) {
@@ -178,7 +178,7 @@ impl Volumes {
     }
 
     /// Removes the files of all volumes that do not have their final names.
-    pub fn remove<R: Runtime>(&self, rt: &R) {
+    pub fn remove<R: Files>(&self, rt: &R) {
         for part in &self.parts {
             part.remove(rt);
         }
@@ -187,13 +187,13 @@ impl Volumes {
 
 /// The volumes that are being written. This sink writes blocks into them.
 #[derive(Drop)]
-pub struct VolumeSink<'a, R: Runtime> {
+pub struct VolumeSink<'a, R: Files> {
     alloc: Global,
     volumes: &'a Volumes,
     files: Vec<R::File>,
 }
 
-impl<'a, R: Runtime> VolumeSink<'a, R> {
+impl<'a, R: Files> VolumeSink<'a, R> {
     /// Opens the parts of all volumes.
     ///
     /// # Errors
@@ -270,7 +270,7 @@ fn write_copies<F: Seek + Write>(
     write_at(file, 0, head)
 }
 
-impl<'a, R: Runtime> BlockSink for VolumeSink<'a, R> {
+impl<'a, R: Files> BlockSink for VolumeSink<'a, R> {
     ghost written = { λ _. nothing };
 
     fn put(&mut self, index: usize, start: usize, piece: &[u8]) -> io::Result<()> {

@@ -7,7 +7,7 @@ use rs_volumes::description::FileEntry;
 use std::alloc::Global;
 use std::fs;
 use std::os::unix::fs::{MetadataExt, PermissionsExt};
-use std::rt::Runtime;
+use std::rt::Files;
 
 /// The files of a set, and their folder.
 #[derive(Drop)]
@@ -53,18 +53,18 @@ fn folder_of(path: &str) -> &str {
 /// Fails if there is no path. Then, for each path in turn, fails if the path is not in the folder of the first path, if
 /// the path is an old volume, if a file or folder cannot be read, or if the name of a file is not allowed.
 /// At the end, fails if no file was found, or if a file is given twice. Every step fails if memory cannot be allocated.
-pub fn find<R: Runtime + AllocGlobal>(
+pub fn find<R: Files + Alloc + Clone + Drop>(
     rt: &R,
+    alloc: Global,
     paths: &[String],
     outputs: &[String],
 ) -> Result<Found> {
-    let alloc = rt.alloc();
     let written = identities(rt, alloc, outputs)?;
     let Some(first) = paths.first() else {
         return Err(Failure::of("no file is given"));
     };
     let folder = folder_of(trimmed(first.as_str()));
-    let files = files_in(rt, folder, paths, written.as_slice())?;
+    let files = files_in(rt, alloc, folder, paths, written.as_slice())?;
     if files.is_empty() {
         return Err(Failure::at(alloc, first.as_str(), "there is no regular file to protect"));
     }
@@ -75,24 +75,33 @@ pub fn find<R: Runtime + AllocGlobal>(
 }
 
 // Returns all regular files at the paths and below them, in order of their names. The paths must be in `folder`.
-fn files_in<R: Runtime + AllocGlobal>(
+fn files_in<R: Files + Alloc + Clone + Drop>(
     rt: &R,
+    alloc: Global,
     folder: &str,
     paths: &[String],
     written: &[Identity],
 ) -> Result<Vec<FileEntry>> {
-    let mut files = Vec::new(rt.alloc());
+    let mut files = Vec::new(alloc);
     for path in paths {
-        add_path(rt, folder, trimmed(path.as_str()), written, &mut files)?;
+        add_path(
+            rt,
+            alloc,
+            folder,
+            trimmed(path.as_str()),
+            written,
+            &mut files,
+        )?;
     }
     sort_files(&mut files)?;
-    check_once(rt.alloc(), files.as_slice())?;
+    check_once(alloc, files.as_slice())?;
     Ok(files)
 }
 
 // Appends all regular files at a path and below that path. The path must be in `folder`, and not an old volume.
-fn add_path<R: Runtime + AllocGlobal>(
+fn add_path<R: Files + Alloc + Clone + Drop>(
     rt: &R,
+    alloc: Global,
     folder: &str,
     path: &str,
     written: &[Identity],
@@ -100,28 +109,30 @@ fn add_path<R: Runtime + AllocGlobal>(
 ) -> Result<()> {
     if !is_same_folder(rt, folder_of(path), folder) {
         return Err(Failure::at(
-            rt.alloc(),
+            alloc,
             path,
             "the files must be in one folder: give that folder, or the files in it",
         ));
     }
     if is_written(rt, path, written) {
         return Err(Failure::at(
-            rt.alloc(),
+            alloc,
             path,
             "this is a volume that is written: name another place with -o, or another file",
         ));
     }
-    walk(rt, path, name_in_set(path), written, files)
+    walk(rt, alloc, path, name_in_set(path), written, files)
 }
 
 // Returns whether two paths lead to the same folder. If the first one leads to no folder, this is reported later.
-fn is_same_folder<R: Runtime>(rt: &R, one: &str, other: &str) -> bool {
+fn is_same_folder<R: Files>(rt: &R, one: &str, other: &str) -> bool {
     if one == other {
         return true;
     }
-    let own = identity_of(rt, folder_to_open(one));
-    own.is_none() || own == identity_of(rt, folder_to_open(other))
+    match identity_of(rt, folder_to_open(one)) {
+        Some(own) => identity_of(rt, folder_to_open(other)) == Some(own),
+        None => true,
+    }
 }
 
 // Sorts files by their names.
@@ -144,14 +155,14 @@ fn check_once(alloc: Global, files: &[FileEntry]) -> Result<()> {
 }
 
 // Appends all regular files at a path and below that path.
-fn walk<R: Runtime + AllocGlobal>(
+fn walk<R: Files + Alloc + Clone + Drop>(
     rt: &R,
+    alloc: Global,
     path: &str,
     name: &str,
     written: &[Identity],
     files: &mut Vec<FileEntry>,
 ) -> Result<()> {
-    let alloc = rt.alloc();
     let mut waiting = Vec::new(alloc);
     waiting.push(Waiting {
         path: String::from_str(alloc, path)?,
@@ -160,25 +171,25 @@ fn walk<R: Runtime + AllocGlobal>(
     for _ in 0..u64::MAX {
         match waiting.pop() {
             None => return Ok(()),
-            Some(next) => visit(rt, &next, written, &mut waiting, files)?,
+            Some(next) => visit(rt, alloc, &next, written, &mut waiting, files)?,
         }
     }
     Ok(())
 }
 
 // Visits a path: appends a regular file to `files`, or the entries of a folder to `waiting`.
-fn visit<R: Runtime + AllocGlobal>(
+fn visit<R: Files + Alloc + Clone + Drop>(
     rt: &R,
+    alloc: Global,
     next: &Waiting,
     written: &[Identity],
     waiting: &mut Vec<Waiting>,
     files: &mut Vec<FileEntry>,
 ) -> Result<()> {
     let path = next.path.as_str();
-    let alloc = rt.alloc();
     let metadata = at_path(alloc, path, fs::metadata(rt, path))?;
     if metadata.is_dir() {
-        return list(rt, next, waiting);
+        return list(rt, alloc, next, waiting);
     }
     if !metadata.is_file() || is_written(rt, path, written) {
         return Ok(());
@@ -196,23 +207,23 @@ fn visit<R: Runtime + AllocGlobal>(
 }
 
 // Returns whether a path leads to one of the files with the identities `written`.
-fn is_written<R: Runtime>(rt: &R, path: &str, written: &[Identity]) -> bool {
+fn is_written<R: Files>(rt: &R, path: &str, written: &[Identity]) -> bool {
     if written.is_empty() {
         return false;
     }
     match identity_of(rt, path) {
-        Some(own) => written.iter().any(|other| *other == own),
+        Some(own) => written.contains(&own),
         None => false,
     }
 }
 
 // Appends the entries of a folder to `waiting`, except for symbolic links.
-fn list<R: Runtime + AllocGlobal>(
+fn list<R: Files + Alloc + Clone + Drop>(
     rt: &R,
+    alloc: Global,
     folder: &Waiting,
     waiting: &mut Vec<Waiting>,
 ) -> Result<()> {
-    let alloc = rt.alloc();
     let path = folder_to_open(folder.path.as_str());
     for entry in at_path(alloc, path, fs::read_dir(rt, path))? {
         let entry = at_path(alloc, path, entry)?;
