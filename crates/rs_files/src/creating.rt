@@ -87,7 +87,7 @@ fn origins_of(alloc: Global, description: &Description) -> Result<Vec<Option<Ori
     Ok(origins)
 }
 
-// Fails if the length of a file, or the time of its last change in seconds, is not the one in its description.
+// Fails if the length of one of the files, or the time of its last change in seconds, is not the one in its description.
 fn check_unchanged<R: Files>(
     rt: &R,
     alloc: Global,
@@ -95,18 +95,23 @@ fn check_unchanged<R: Files>(
     files: &[FileEntry],
 ) -> Result<()> {
     for (path, file) in paths.iter().zip(files) {
-        let path = path.as_str();
-        let metadata = at_path(alloc, path, fs::metadata(rt, path))?;
-        let modified = u64::from_le_bytes(metadata.mtime().to_le_bytes());
-        if metadata.len() != file.size || modified != file.modified {
-            return Err(Failure::at(
-                alloc,
-                path,
-                "this file changed while it was read: try again",
-            ));
-        }
+        check_file(rt, alloc, path.as_str(), file)?;
     }
     Ok(())
+}
+
+// Fails if the length of a file, or the time of its last change in seconds, is not the one in its description.
+fn check_file<R: Files>(rt: &R, alloc: Global, path: &str, file: &FileEntry) -> Result<()> {
+    let metadata = at_path(alloc, path, fs::metadata(rt, path))?;
+    let modified = u64::from_le_bytes(metadata.mtime().to_le_bytes());
+    if metadata.len() == file.size && modified == file.modified {
+        return Ok(());
+    }
+    Err(Failure::at(
+        alloc,
+        path,
+        "this file changed while it was read: try again",
+    ))
 }
 
 // Makes the recovery blocks of files, and writes blocks into the sink. Returns the digests of all blocks. A set without
@@ -301,23 +306,20 @@ fn begin_and_fill<R: Files + Clock + Eprint>(
 ///
 /// Fails if the name of the volume is not known. Then fails for a reason of [`make`].
 pub fn create<R: Runtime>(rt: &R, alloc: Global, request: &Request) -> Result<u8> {
-    let outputs = vec![in alloc; output_of(alloc, request)?]?;
-    let made = make(rt, alloc, request, request.recovery, outputs.as_slice())?;
+    let outputs = [output_of(alloc, request)?];
+    let made = make(rt, alloc, request, request.recovery, &outputs)?;
     if !request.quiet {
-        tell(rt, outputs.as_slice(), made)?;
+        tell(rt, outputs[0].as_str(), made)?;
     }
     Ok(STATUS_WHOLE)
 }
 
-// Prints what was made.
-fn tell<R: Print>(rt: &R, outputs: &[String], made: Made) -> io::Result<()> {
+// Prints what was made at a path.
+fn tell<R: Print>(rt: &R, path: &str, made: Made) -> io::Result<()> {
     let files = Counted(made.files as u64, "file");
     let originals = Counted(u64::from(made.cut.original_count), "block");
     let recovery = Counted(u64::from(made.cut.recovery_count), "recovery block");
     let bytes = made.cut.block_bytes;
-    for output in outputs {
-        let path = Shown(output.as_str());
-        println!(rt; "{path}: {files} in {originals} of {bytes} bytes, {recovery}")?;
-    }
-    Ok(())
+    let path = Shown(path);
+    println!(rt; "{path}: {files} in {originals} of {bytes} bytes, {recovery}")
 }

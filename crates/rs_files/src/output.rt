@@ -75,6 +75,17 @@ pub fn identities<R: Files>(rt: &R, alloc: Global, paths: &[String]) -> Result<V
     Ok(found)
 }
 
+/// Returns whether a path leads to one of the files with these identities.
+pub fn is_one_of<R: Files>(rt: &R, path: &str, identities: &[Identity]) -> bool {
+    if identities.is_empty() {
+        return false;
+    }
+    match identity_of(rt, path) {
+        Some(own) => identities.contains(&own),
+        None => false,
+    }
+}
+
 /// Returns the value of a call of the system. If the call failed, the failure has the path.
 ///
 /// # Errors

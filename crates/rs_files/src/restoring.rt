@@ -92,11 +92,8 @@ fn plan_for(alloc: Global, scan: &Scan, parts: &[Option<Part>]) -> Result<Plan> 
     let wanted = wanted_blocks(alloc, scan, parts)?;
     let loses_wanted = loses_wanted(scan, wanted.as_slice());
     let originals = original_blocks(alloc, scan, wanted.as_slice(), loses_wanted)?;
-    let recovery = if loses_wanted {
-        recovery_blocks(alloc, scan, wanted.len(), scan.counts().lost)?
-    } else {
-        Vec::new(alloc)
-    };
+    let count = if loses_wanted { scan.counts().lost } else { 0 };
+    let recovery = recovery_blocks(alloc, scan, wanted.len(), count)?;
     Ok(Plan {
         originals,
         recovery,

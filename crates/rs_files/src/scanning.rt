@@ -44,12 +44,33 @@ pub struct Scan {
     pub states: Vec<FileState>,
     /// The paths of the files, and then of the volumes.
     pub paths: Vec<String>,
-    /// For each volume, the state of the two copies of its head and its description.
-    pub copies: Vec<Copies>,
-    /// For each volume, the number of its blocks that do not have their digest or cannot be read.
-    pub damaged_blocks: Vec<u64>,
+    /// The volumes that can be read.
+    pub volumes: Vec<ScannedVolume>,
     /// The paths of the volumes that cannot be read.
     pub unreadable: Vec<String>,
+}
+
+/// A volume that can be read.
+#[derive(Drop)]
+pub struct ScannedVolume {
+    /// The path of the volume.
+    pub path: String,
+    /// The state of the two copies of its head and its description.
+    pub copies: Copies,
+    /// The number of its blocks that do not have their digest or cannot be read.
+    pub damaged_blocks: u64,
+    // The number of its records.
+    record_count: u64,
+    // The offset in bytes of its first record.
+    records_at: u64,
+}
+
+impl ScannedVolume {
+    /// Returns whether the volume has two equal copies of its head and its description, and each of its blocks has its
+    /// digest.
+    pub fn is_whole(&self) -> bool {
+        self.copies == Copies::Whole && self.damaged_blocks == 0
+    }
 }
 
 /// Opens the volumes of a request, and looks for all blocks of their set in the volumes and, if `folder` is given, in
@@ -79,12 +100,8 @@ pub fn scan_request<R: Files + Clock + Eprint>(
 struct Volumes {
     // The first volume that can be read. Its description is the description of the set.
     first: Option<Volume>,
-    // The paths of the volumes that can be read.
-    paths: Vec<String>,
-    // For each of these volumes, the number of its records and the offset of the first record in bytes.
-    records: Vec<(u64, u64)>,
-    // For each of these volumes, the state of the two copies of its head and its description.
-    copies: Vec<Copies>,
+    // The volumes that can be read, whose blocks are not read yet.
+    read: Vec<ScannedVolume>,
     // The paths of the volumes that cannot be read.
     unreadable: Vec<String>,
 }
@@ -94,9 +111,7 @@ impl Volumes {
     fn new(alloc: Global) -> Volumes {
         Volumes {
             first: None,
-            paths: Vec::new(alloc),
-            records: Vec::new(alloc),
-            copies: Vec::new(alloc),
+            read: Vec::new(alloc),
             unreadable: Vec::new(alloc),
         }
     }
@@ -125,9 +140,13 @@ impl Volumes {
                 return Err(Failure::at(alloc, path, "this volume belongs to another set"));
             }
         }
-        self.paths.push(String::from_str(alloc, path)?)?;
-        self.records.push((volume.record_count, volume.records_at))?;
-        self.copies.push(volume.copies)?;
+        self.read.push(ScannedVolume {
+            path: String::from_str(alloc, path)?,
+            copies: volume.copies,
+            damaged_blocks: 0,
+            record_count: volume.record_count,
+            records_at: volume.records_at,
+        })?;
         Ok(())
     }
 }
@@ -148,25 +167,34 @@ fn hash_block<F: Read + Seek>(
     offset: u64,
     bytes: u64,
     block_bytes: u64,
-    buffer: &mut Vec<u8>,
+    buffer: &mut [u8],
 ) -> io::Result<[u8; 32]> {
     let mut hasher = Sha256::new();
     file.seek(SeekFrom::Start(offset))?;
-    let mut left = bytes;
-    for _ in 0..u64::MAX {
-        if left == 0 {
-            break;
-        }
-        let count = left.min(buffer.len() as u64) as usize;
-        if count == 0 {
-            break;
-        }
-        file.read_exact(&mut buffer[..count])?;
-        hasher.update(&buffer[..count]);
-        left -= count as u64;
-    }
+    add_bytes(&mut hasher, file, bytes, buffer)?;
     add_zeros(&mut hasher, block_bytes.saturating_sub(bytes));
     Ok(hasher.finalize())
+}
+
+// Reads `count` bytes of a file into a buffer, part by part, and adds them to a hasher.
+fn add_bytes<F: Read>(
+    hasher: &mut Sha256,
+    file: &mut F,
+    count: u64,
+    buffer: &mut [u8],
+) -> io::Result<()> {
+    let mut left = count;
+    for _ in 0..u64::MAX {
+        let part = left.min(buffer.len() as u64) as usize;
+        if part == 0 {
+            break;
+        }
+        let bytes = &mut buffer[..part];
+        file.read_exact(bytes)?;
+        hasher.update(bytes);
+        left -= part as u64;
+    }
+    Ok(())
 }
 
 // Adds `count` zero bytes to a hasher.
@@ -198,36 +226,25 @@ fn scan_set<R: Files + Clock + Eprint>(
 ) -> Result<Scan> {
     let Volumes {
         first,
-        paths,
-        records,
-        copies,
+        mut read,
         unreadable,
     } = volumes;
     let Some(first) = first else {
         return Err(Failure::of("no volume can be read"));
     };
-    let mut scan = scan_blocks(
-        rt,
-        alloc,
-        first.description,
-        paths.as_slice(),
-        records.as_slice(),
-        folder,
-        shown,
-    )?;
-    scan.copies = copies;
+    let mut scan = scan_blocks(rt, alloc, first.description, &mut read, folder, shown)?;
+    scan.volumes = read;
     scan.unreadable = unreadable;
     Ok(scan)
 }
 
-// Looks for the blocks of a description in the volumes and, if `folder` is given, in the files below that folder. The
-// result has no paths of volumes that cannot be read, and no states of the heads of volumes.
+// Looks for the blocks of a description in the volumes and, if `folder` is given, in the files below that folder. Counts
+// the damaged blocks of each volume. The result has no volumes.
 fn scan_blocks<R: Files + Clock + Eprint>(
     rt: &R,
     alloc: Global,
     description: Description,
-    volumes: &[String],
-    records: &[(u64, u64)],
+    volumes: &mut [ScannedVolume],
     folder: Option<&str>,
     shown: bool,
 ) -> Result<Scan> {
@@ -238,15 +255,14 @@ fn scan_blocks<R: Files + Clock + Eprint>(
     let mut paths = crate::creating::paths_of(alloc, folder.unwrap_or(""), files)?;
     let places = places_of(alloc, &description)?;
     let has_folder = folder.is_some();
-    let total = bytes_to_read(&description, has_folder, records);
+    let total = bytes_to_read(&description, has_folder, volumes);
     let mut scanner = Scanner::new(alloc, &description, Progress::new(rt, shown, total))?;
     scanner.scan_files(rt, &description, has_folder, &paths, &places)?;
-    scanner.scan_volumes(rt, alloc, &description, volumes, records, &mut paths)?;
+    scanner.scan_volumes(rt, alloc, &description, volumes, &mut paths)?;
     scanner.progress.end(rt);
     let Scanner {
         origins,
         states,
-        damaged_blocks,
         ..
     } = scanner;
     Ok(Scan {
@@ -255,22 +271,21 @@ fn scan_blocks<R: Files + Clock + Eprint>(
         origins,
         states,
         paths,
-        copies: Vec::new(alloc),
-        damaged_blocks,
+        volumes: Vec::new(alloc),
         unreadable: Vec::new(alloc),
     })
 }
 
 // Returns the number of bytes of blocks that a scan reads at most: the original blocks, if the files are searched, and
 // the records of all volumes.
-fn bytes_to_read(description: &Description, has_folder: bool, records: &[(u64, u64)]) -> u64 {
+fn bytes_to_read(description: &Description, has_folder: bool, volumes: &[ScannedVolume]) -> u64 {
     let mut blocks = if has_folder {
         u64::from(description.original_count)
     } else {
         0
     };
-    for (count, _) in records {
-        blocks = blocks.saturating_add(*count);
+    for volume in volumes {
+        blocks = blocks.saturating_add(volume.record_count);
     }
     blocks.saturating_mul(description.block_bytes)
 }
@@ -282,8 +297,6 @@ struct Scanner {
     origins: Vec<Option<Origin>>,
     // The states of the files that were scanned.
     states: Vec<FileState>,
-    // For each volume that was scanned, the number of its blocks that do not have their digest or cannot be read.
-    damaged_blocks: Vec<u64>,
     // The memory into which files are read.
     buffer: Vec<u8>,
     progress: Progress,
@@ -298,7 +311,6 @@ impl Scanner {
         Ok(Scanner {
             origins: vec![in alloc; None; blocks_of(description)]?,
             states: Vec::new(alloc),
-            damaged_blocks: Vec::new(alloc),
             buffer: vec![in alloc; 0u8; CHUNK]?,
             progress,
             unread: 0,
@@ -376,22 +388,22 @@ impl Scanner {
         Ok(())
     }
 
-    // Looks for blocks in all volumes, and appends the paths of the volumes to `paths`.
+    // Looks for blocks in all volumes, counts the damaged blocks of each volume, and appends the paths of the volumes to
+    // `paths`.
     fn scan_volumes<R: Files + Clock + Eprint>(
         &mut self,
         rt: &R,
         alloc: Global,
         description: &Description,
-        volumes: &[String],
-        records: &[(u64, u64)],
+        volumes: &mut [ScannedVolume],
         paths: &mut Vec<String>,
     ) -> Result<()> {
-        for (path, records) in volumes.iter().zip(records) {
-            let mut file = at_path(alloc, path.as_str(), fs::open(rt, path.as_str()))?;
-            let damaged = self.scan_volume(rt, description, paths.len(), &mut file, *records);
-            self.damaged_blocks.push(damaged)?;
-            self.tell_unread(rt, path.as_str());
-            paths.push(path.clone()?)?;
+        for volume in volumes {
+            let path = volume.path.as_str();
+            let file = at_path(alloc, path, fs::open(rt, path))?;
+            volume.damaged_blocks = self.scan_volume(rt, description, paths.len(), file, volume);
+            self.tell_unread(rt, volume.path.as_str());
+            paths.push(volume.path.clone()?)?;
         }
         Ok(())
     }
@@ -490,7 +502,7 @@ impl Scanner {
     }
 
     // Looks for blocks in the records of a volume, and returns the number of records whose block does not have its
-    // digest or cannot be read. `records` holds the number of records and the offset of the first record.
+    // digest or cannot be read.
     //
     // The number of records in a head can be too large. So nothing is counted in the last bytes, which are the second
     // copy of the description and the head. This copy is as long as the first one, which ends at the first record.
@@ -499,19 +511,19 @@ impl Scanner {
         rt: &R,
         description: &Description,
         holder: usize,
-        file: &mut R::File,
-        records: (u64, u64),
+        mut file: R::File,
+        volume: &ScannedVolume,
     ) -> u64 {
         let size = description.block_bytes;
         let record = size.saturating_add(RECORD_HEAD_BYTES);
         let end = match file.metadata() {
-            Ok(metadata) => metadata.len().saturating_sub(records.1),
+            Ok(metadata) => metadata.len().saturating_sub(volume.records_at),
             Err(_) => u64::MAX,
         };
         let mut damaged = 0u64;
-        for number in 0..records.0 {
-            let at = records.1.wrapping_add(number.wrapping_mul(record));
-            let is_whole = self.scan_record(description, holder, file, at);
+        for number in 0..volume.record_count {
+            let at = volume.records_at.wrapping_add(number.wrapping_mul(record));
+            let is_whole = self.scan_record(description, holder, &mut file, at);
             if !is_whole && at.saturating_add(record) <= end {
                 damaged = damaged.saturating_add(1);
             }
@@ -554,25 +566,22 @@ fn find_in_record<F: Read + Seek>(
     description: &Description,
     file: &mut F,
     at: u64,
-    buffer: &mut Vec<u8>,
+    buffer: &mut [u8],
 ) -> io::Result<Option<usize>> {
     let bytes = description.block_bytes;
-    let index = index_at(file, at, buffer)?;
+    let index = index_at(file, at)?;
     let offset = at.wrapping_add(RECORD_HEAD_BYTES);
     let own = hash_block(file, offset, bytes, bytes, buffer)?;
     let fits = is_digest(description.digests.as_slice(), index, &own);
     Ok(if fits { Some(index) } else { None })
 }
 
-// Reads the index of the block in the record at `offset`, into a buffer of at least four bytes.
-fn index_at<F: Read + Seek>(file: &mut F, offset: u64, buffer: &mut Vec<u8>) -> io::Result<usize> {
-    let count = buffer.len().min(4);
+// Reads the index of the block in the record at `offset`.
+fn index_at<F: Read + Seek>(file: &mut F, offset: u64) -> io::Result<usize> {
+    let mut bytes = [0u8; 4];
     file.seek(SeekFrom::Start(offset))?;
-    file.read_exact(&mut buffer[..count])?;
-    match buffer.as_slice() {
-        [a, b, c, d, ..] => Ok(u32::from_le_bytes([*a, *b, *c, *d]) as usize),
-        _ => Err(io::Error::from(ErrorKind::UnexpectedEof)),
-    }
+    file.read_exact(&mut bytes)?;
+    Ok(u32::from_le_bytes(bytes) as usize)
 }
 
 /// The numbers of blocks that a scan found and did not find.
@@ -609,9 +618,7 @@ impl Scan {
     /// Returns whether each volume can be read and has two equal copies of its head and its description, and whether
     /// each block in the volumes has its digest.
     pub fn has_whole_volumes(&self) -> bool {
-        self.unreadable.is_empty()
-            && self.copies.iter().all(|copies| *copies == Copies::Whole)
-            && self.damaged_blocks.iter().all(|blocks| *blocks == 0)
+        self.unreadable.is_empty() && self.volumes.iter().all(|volume| volume.is_whole())
     }
 
     /// Returns whether no file was found, and volumes hold original blocks: then the volumes are those of `split`.

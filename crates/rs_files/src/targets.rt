@@ -2,7 +2,7 @@
 use crate::failure::{Failure, Result};
 use crate::names::{path_in, text_of};
 use crate::output::{
-    Identity, Part, at_path, exists, free_path, identities, identity_of, sync_folder,
+    Identity, Part, at_path, exists, free_path, identities, is_one_of, sync_folder,
 };
 use crate::scanning::{FileState, Scan};
 use rs_volumes::description::FileEntry;
@@ -255,7 +255,7 @@ fn check_target<R: Files>(
         Err(error) if error.kind() == ErrorKind::NotFound => return Ok(()),
         Err(error) => return Err(Failure::at(alloc, path, error)),
     };
-    match obstacle(goal, metadata.is_dir(), is_input(rt, path, inputs)) {
+    match obstacle(goal, metadata.is_dir(), is_one_of(rt, path, inputs)) {
         Some(reason) => Err(Failure::at(alloc, path, reason)),
         None => Ok(()),
     }
@@ -273,17 +273,6 @@ fn obstacle(goal: Goal<'_>, is_folder: bool, is_input: bool) -> Option<&'static 
         Some("this file is read, so it is not overwritten: name another folder with --to")
     } else {
         None
-    }
-}
-
-// Returns whether a path leads to one of the files with the identities `inputs`.
-fn is_input<R: Files>(rt: &R, path: &str, inputs: &[Identity]) -> bool {
-    if inputs.is_empty() {
-        return false;
-    }
-    match identity_of(rt, path) {
-        Some(own) => inputs.contains(&own),
-        None => false,
     }
 }
 

@@ -3,7 +3,7 @@ use crate::counted::Counted;
 use crate::failure::{Failure, Result};
 use crate::json::{add, add_text, files_of, object_of};
 use crate::names::{Shown, folder_to_open, parent_of, text_of};
-use crate::scanning::{Counts, FileState, Scan, scan_request};
+use crate::scanning::{Counts, FileState, Scan, ScannedVolume, scan_request};
 use crate::settings::{Request, STATUS_LOST, STATUS_MENDED, STATUS_WHOLE};
 use crate::volume::Copies;
 use serde_json::{Map, Value};
@@ -54,19 +54,21 @@ fn word_of(state: FileState) -> &'static str {
 
 // Prints which files are damaged or missing.
 fn tell_files<R: Print>(rt: &R, scan: &Scan) -> io::Result<()> {
-    for (file, state) in scan
-        .description
-        .files
-        .as_slice()
-        .iter()
-        .zip(scan.states.as_slice())
-    {
-        if *state != FileState::Whole {
-            let word = word_of(*state);
-            println!(rt; "{word}: {}", Shown(text_of(file.name.as_slice())))?;
-        }
+    let files = scan.description.files.as_slice();
+    for (file, state) in files.iter().zip(scan.states.as_slice()) {
+        tell_file(rt, text_of(file.name.as_slice()), *state)?;
     }
     Ok(())
+}
+
+// Prints the state of a file. Prints nothing for a whole file.
+fn tell_file<R: Print>(rt: &R, name: &str, state: FileState) -> io::Result<()> {
+    if state == FileState::Whole {
+        return Ok(());
+    }
+    let word = word_of(state);
+    let name = Shown(name);
+    println!(rt; "{word}: {name}")
 }
 
 // Returns where a volume is damaged, and which head was used. Returns `None` if both copies are whole.
@@ -85,25 +87,22 @@ fn damage_of(copies: Copies) -> Option<&'static str> {
 ///
 /// Fails if the result cannot be printed.
 pub fn tell_volumes<R: Print>(rt: &R, scan: &Scan) -> io::Result<()> {
-    let files = scan.description.files.len();
-    let paths = scan.paths.iter().skip(files);
-    let states = scan.copies.iter().zip(scan.damaged_blocks.as_slice());
-    for (path, (copies, blocks)) in paths.zip(states) {
-        tell_volume(rt, path.as_str(), *copies, *blocks)?;
+    for volume in &scan.volumes {
+        tell_volume(rt, volume)?;
     }
     Ok(())
 }
 
 // Prints where a volume is damaged, and how many of its blocks are damaged. Prints nothing for a whole volume.
-fn tell_volume<R: Print>(rt: &R, path: &str, copies: Copies, blocks: u64) -> io::Result<()> {
-    let path = Shown(path);
-    if let Some(damage) = damage_of(copies) {
+fn tell_volume<R: Print>(rt: &R, volume: &ScannedVolume) -> io::Result<()> {
+    let path = Shown(volume.path.as_str());
+    if let Some(damage) = damage_of(volume.copies) {
         println!(rt; "{path}: the volume is damaged{damage}")?;
     }
-    if blocks == 0 {
+    if volume.damaged_blocks == 0 {
         return Ok(());
     }
-    let blocks = Counted(blocks, "damaged block");
+    let blocks = Counted(volume.damaged_blocks, "damaged block");
     println!(rt; "{path}: the volume has {blocks}")
 }
 
@@ -234,12 +233,13 @@ fn volume_json(alloc: Global, name: &str, word: &str) -> std::result::Result<Val
 // Returns the volumes with their states as JSON.
 fn volumes_json(alloc: Global, scan: &Scan) -> std::result::Result<Value, AllocError> {
     let mut volumes = Vec::new(alloc);
-    let paths = scan.paths.iter().skip(scan.description.files.len());
-    let states = scan.copies.iter().zip(scan.damaged_blocks.as_slice());
-    for (path, (copies, blocks)) in paths.zip(states) {
-        let is_whole = *copies == Copies::Whole && *blocks == 0;
-        let word = if is_whole { "whole" } else { "damaged" };
-        volumes.push(volume_json(alloc, path.as_str(), word)?)?;
+    for volume in &scan.volumes {
+        let word = if volume.is_whole() {
+            "whole"
+        } else {
+            "damaged"
+        };
+        volumes.push(volume_json(alloc, volume.path.as_str(), word)?)?;
     }
     add_unreadable(alloc, scan, &mut volumes)?;
     Ok(Value::Array(volumes))

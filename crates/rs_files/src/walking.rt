@@ -1,7 +1,7 @@
 //! Finds the files of a set.
 use crate::failure::{Failure, Result};
 use crate::names::{folder_to_open, last_of, parent_of, path_in, text_of, trimmed};
-use crate::output::{Identity, at_path, identities, identity_of};
+use crate::output::{Identity, at_path, identities, identity_of, is_one_of};
 use rs_volumes::checking::is_name;
 use rs_volumes::description::FileEntry;
 use std::alloc::Global;
@@ -114,7 +114,7 @@ fn add_path<R: Files + Alloc + Clone + Drop>(
             "the files must be in one folder: give that folder, or the files in it",
         ));
     }
-    if is_written(rt, path, written) {
+    if is_one_of(rt, path, written) {
         return Err(Failure::at(
             alloc,
             path,
@@ -191,7 +191,7 @@ fn visit<R: Files + Alloc + Clone + Drop>(
     if metadata.is_dir() {
         return list(rt, alloc, next, waiting);
     }
-    if !metadata.is_file() || is_written(rt, path, written) {
+    if !metadata.is_file() || is_one_of(rt, path, written) {
         return Ok(());
     }
     if !is_name(next.name.as_str().as_bytes()) {
@@ -204,17 +204,6 @@ fn visit<R: Files + Alloc + Clone + Drop>(
         name: Vec::from_slice(alloc, next.name.as_str().as_bytes())?,
     })?;
     Ok(())
-}
-
-// Returns whether a path leads to one of the files with the identities `written`.
-fn is_written<R: Files>(rt: &R, path: &str, written: &[Identity]) -> bool {
-    if written.is_empty() {
-        return false;
-    }
-    match identity_of(rt, path) {
-        Some(own) => written.contains(&own),
-        None => false,
-    }
 }
 
 // Appends the entries of a folder to `waiting`, except for symbolic links.
