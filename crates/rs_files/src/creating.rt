@@ -17,7 +17,7 @@ use rs_volumes::creating::{Shape, create as create_blocks};
 use rs_volumes::description::{Description, FileEntry};
 use rs_volumes::placement::places_of;
 use rs_volumes::write_description;
-use std::alloc::Global;
+use std::alloc::{AllocError, Global};
 use std::os::unix::fs::MetadataExt;
 use std::rt::{Clock, Files, Runtime};
 use std::{fs, io};
@@ -62,8 +62,12 @@ fn output_of(alloc: Global, request: &Request) -> Result<String> {
 ///
 /// # Errors
 ///
-/// Fails if memory cannot be allocated.
-pub fn paths_of(alloc: Global, folder: &str, files: &[FileEntry]) -> Result<Vec<String>> {
+/// [`AllocError`] if memory cannot be allocated.
+pub fn paths_of(
+    alloc: Global,
+    folder: &str,
+    files: &[FileEntry],
+) -> Result<Vec<String>, AllocError> {
     let mut paths = Vec::new(alloc);
     for file in files {
         paths.push(path_in(alloc, folder, text_of(file.name.as_slice()))?)?;
@@ -72,7 +76,7 @@ pub fn paths_of(alloc: Global, folder: &str, files: &[FileEntry]) -> Result<Vec<
 }
 
 // Returns where each original block of a set lies in its files. The list is empty if the block size is 0.
-fn origins_of(alloc: Global, description: &Description) -> Result<Vec<Option<Origin>>> {
+fn origins_of(alloc: Global, description: &Description) -> Result<Vec<Option<Origin>>, AllocError> {
     let mut origins = Vec::new(alloc);
     if description.block_bytes == 0 {
         return Ok(origins);

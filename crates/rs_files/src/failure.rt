@@ -52,7 +52,7 @@ impl Failure {
     }
 }
 
-/// Prints the reason of a failure at a path on standard error, although the command goes on.
+/// Prints a path on standard error, and what is wrong there.
 pub fn warn<R: Eprint, D: Display + Drop>(rt: &R, path: &str, reason: D) {
     let path = Shown(path);
     let _ = eprintln!(rt; "rs_files: {path}: {reason}");

@@ -18,7 +18,7 @@ fn tell_json<R: Print>(rt: &R, alloc: Global, volume: &Volume) -> Result<()> {
 }
 
 // Returns what a volume describes as the text of a JSON object.
-fn volume_json(alloc: Global, volume: &Volume) -> std::result::Result<String, AllocError> {
+fn volume_json(alloc: Global, volume: &Volume) -> Result<String, AllocError> {
     let numbers = [
         ("block_bytes", volume.description.block_bytes),
         (

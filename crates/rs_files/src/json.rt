@@ -1,4 +1,5 @@
 //! Parts of the JSON that is printed.
+use crate::failure::Result;
 use crate::names::text_of;
 use rs_volumes::description::FileEntry;
 use serde_json::{Map, Value};
@@ -9,10 +10,7 @@ use std::alloc::{AllocError, Global};
 /// # Errors
 ///
 /// [`AllocError`] if memory cannot be allocated.
-pub fn object_of(
-    alloc: Global,
-    numbers: &[(&str, u64)],
-) -> std::result::Result<Map<String, Value>, AllocError> {
+pub fn object_of(alloc: Global, numbers: &[(&str, u64)]) -> Result<Map<String, Value>, AllocError> {
     let mut object = Map::new(alloc);
     for (name, number) in numbers {
         add(alloc, &mut object, name, Value::from(*number))?;
@@ -30,7 +28,7 @@ pub fn add(
     object: &mut Map<String, Value>,
     name: &str,
     value: Value,
-) -> std::result::Result<(), AllocError> {
+) -> Result<(), AllocError> {
     let name = String::from_str(alloc, name)?;
     object.insert(name, value)?;
     Ok(())
@@ -46,7 +44,7 @@ pub fn add_text(
     object: &mut Map<String, Value>,
     name: &str,
     text: &str,
-) -> std::result::Result<(), AllocError> {
+) -> Result<(), AllocError> {
     let value = Value::String(String::from_str(alloc, text)?);
     add(alloc, object, name, value)
 }
@@ -60,7 +58,7 @@ pub fn files_of(
     alloc: Global,
     files: &[FileEntry],
     states: &[&'static str],
-) -> std::result::Result<Value, AllocError> {
+) -> Result<Value, AllocError> {
     let mut list = Vec::new(alloc);
     for (index, file) in files.iter().enumerate() {
         let mut object = object_of(alloc, &[("size", file.size)])?;

@@ -8,7 +8,7 @@ use crate::settings::{
 use clap::error::ErrorKind;
 use clap::{Arg, ArgAction, ArgMatches, Command};
 use rs_volumes::checking::allows_block;
-use std::alloc::Global;
+use std::alloc::{AllocError, Global};
 use std::env;
 use std::rt::Env;
 
@@ -168,7 +168,7 @@ fn paths_arg<'a>(alloc: Global, shown: &'a str) -> Arg<'a> {
 }
 
 // Returns the paths and the options of a command.
-fn args_of<'a>(alloc: Global, name: &'a str, paths: &'a str) -> Result<Vec<Arg<'a>>> {
+fn args_of<'a>(alloc: Global, name: &'a str, paths: &'a str) -> Result<Vec<Arg<'a>>, AllocError> {
     let mut args = Vec::new(alloc);
     args.push(paths_arg(alloc, paths))?;
     for choice in OPTIONS {
@@ -185,13 +185,13 @@ fn command_of<'a>(
     name: &'a str,
     paths: &'a str,
     about: &'a str,
-) -> Result<Command<'a>> {
+) -> Result<Command<'a>, AllocError> {
     let args = args_of(alloc, name, paths)?;
-    Ok(Command::new(alloc, name).about(about).args(args)?)
+    Command::new(alloc, name).about(about).args(args)
 }
 
 // Returns all commands.
-fn all_commands<'a>(alloc: Global) -> Result<Vec<Command<'a>>> {
+fn all_commands<'a>(alloc: Global) -> Result<Vec<Command<'a>>, AllocError> {
     let mut commands = Vec::new(alloc);
     for (name, paths, about) in COMMANDS {
         commands.push(command_of(alloc, name, paths, about)?)?;
@@ -200,14 +200,14 @@ fn all_commands<'a>(alloc: Global) -> Result<Vec<Command<'a>>> {
 }
 
 // Returns the program with all commands, as clap takes it.
-fn program<'a>(alloc: Global) -> Result<Command<'a>> {
+fn program<'a>(alloc: Global) -> Result<Command<'a>, AllocError> {
     let commands = all_commands(alloc)?;
     let top = Command::new(alloc, "rs_files")
         .version("1.0")
         .about("Protects files against damage, and spreads them over places")
         .subcommand_required(true)
         .arg_required_else_help(true);
-    Ok(top.subcommands(commands)?)
+    top.subcommands(commands)
 }
 
 // Returns the exit status after an error of the command line. The help text and the version are no error, and a lack of
@@ -269,7 +269,11 @@ fn action_of(name: &str) -> Action {
 }
 
 // Returns a copy of the text of an option, if the option is given.
-fn text_of(alloc: Global, matches: &ArgMatches<'_>, name: &str) -> Result<Option<String>> {
+fn text_of(
+    alloc: Global,
+    matches: &ArgMatches<'_>,
+    name: &str,
+) -> Result<Option<String>, AllocError> {
     match matches.get_str(name) {
         Some(text) => Ok(Some(String::from_str(alloc, text)?)),
         None => Ok(None),
@@ -277,7 +281,7 @@ fn text_of(alloc: Global, matches: &ArgMatches<'_>, name: &str) -> Result<Option
 }
 
 // Returns copies of the paths of the command line.
-fn paths_of(alloc: Global, matches: &ArgMatches<'_>) -> Result<Vec<String>> {
+fn paths_of(alloc: Global, matches: &ArgMatches<'_>) -> Result<Vec<String>, AllocError> {
     let mut paths = Vec::new(alloc);
     if let Some(texts) = matches.get_strs("paths") {
         for text in texts {
@@ -294,7 +298,7 @@ fn plain_request(
     name: &str,
     matches: &ArgMatches<'_>,
     terminal: bool,
-) -> Result<Request> {
+) -> Result<Request, AllocError> {
     let quiet = matches.get_flag("quiet");
     Ok(Request {
         action: action_of(name),
@@ -321,7 +325,7 @@ fn request_of(
     name: &str,
     matches: &ArgMatches<'_>,
     terminal: bool,
-) -> Result<std::result::Result<Request, &'static str>> {
+) -> Result<Result<Request, &'static str>, AllocError> {
     let mut request = plain_request(alloc, name, matches, terminal)?;
     match set_options(&mut request, matches) {
         Ok(()) => Ok(Ok(request)),
@@ -330,10 +334,7 @@ fn request_of(
 }
 
 // Reads the options whose values are no folders, and checks that the command has the options that it needs.
-fn set_options(
-    request: &mut Request,
-    matches: &ArgMatches<'_>,
-) -> std::result::Result<(), &'static str> {
+fn set_options(request: &mut Request, matches: &ArgMatches<'_>) -> Result<(), &'static str> {
     set_numbers(request, matches)?;
     set_progress(request, matches)?;
     set_volumes(request, matches)?;
@@ -350,7 +351,7 @@ fn is_empty(option: &Option<String>) -> bool {
 }
 
 // Checks that no path of an option is empty. A variable of a shell that is not set gives an empty path.
-fn check_filled(request: &Request) -> std::result::Result<(), &'static str> {
+fn check_filled(request: &Request) -> Result<(), &'static str> {
     if is_empty(&request.output) {
         return Err("--output: the path is empty");
     }
@@ -364,10 +365,7 @@ fn check_filled(request: &Request) -> std::result::Result<(), &'static str> {
 }
 
 // Reads `--recovery`, `--block` and `--memory`.
-fn set_numbers(
-    request: &mut Request,
-    matches: &ArgMatches<'_>,
-) -> std::result::Result<(), &'static str> {
+fn set_numbers(request: &mut Request, matches: &ArgMatches<'_>) -> Result<(), &'static str> {
     if let Some(text) = matches.get_str("recovery") {
         match recovery_of(text) {
             Some(recovery) => request.recovery = recovery,
@@ -394,10 +392,7 @@ fn set_numbers(
 }
 
 // Reads `--progress`.
-fn set_progress(
-    request: &mut Request,
-    matches: &ArgMatches<'_>,
-) -> std::result::Result<(), &'static str> {
+fn set_progress(request: &mut Request, matches: &ArgMatches<'_>) -> Result<(), &'static str> {
     match matches.get_str("progress") {
         None | Some("auto") => {}
         Some("always") => request.progress = true,
@@ -408,10 +403,7 @@ fn set_progress(
 }
 
 // Reads `--volumes` and `--lose`.
-fn set_volumes(
-    request: &mut Request,
-    matches: &ArgMatches<'_>,
-) -> std::result::Result<(), &'static str> {
+fn set_volumes(request: &mut Request, matches: &ArgMatches<'_>) -> Result<(), &'static str> {
     if let Some(text) = matches.get_str("volumes") {
         match text.parse::<u32>() {
             Ok(count) if count >= 2 && count <= 1000 => request.volumes = count,
@@ -428,7 +420,7 @@ fn set_volumes(
 }
 
 // Checks that a command has the options that it needs.
-fn check_needed(request: &Request) -> std::result::Result<(), &'static str> {
+fn check_needed(request: &Request) -> Result<(), &'static str> {
     match request.action {
         Action::Create
             if request.output.is_none() && front_of_volume(request.paths.as_slice()).is_none() => {

@@ -1,7 +1,7 @@
 //! Files that appear under their final names only when they are whole.
 use crate::failure::{Failure, Result};
 use crate::names::{folder_to_open, parent_of, shortened};
-use std::alloc::Global;
+use std::alloc::{AllocError, Global};
 use std::fs;
 use std::fs::{OpenFile, OpenOptions};
 use std::io::{Seek, SeekFrom, Write};
@@ -64,8 +64,12 @@ pub fn identity_of<R: Files>(rt: &R, path: &str) -> Option<Identity> {
 ///
 /// # Errors
 ///
-/// Fails if memory cannot be allocated.
-pub fn identities<R: Files>(rt: &R, alloc: Global, paths: &[String]) -> Result<Vec<Identity>> {
+/// [`AllocError`] if memory cannot be allocated.
+pub fn identities<R: Files>(
+    rt: &R,
+    alloc: Global,
+    paths: &[String],
+) -> Result<Vec<Identity>, AllocError> {
     let mut found = Vec::new(alloc);
     for path in paths {
         if let Some(own) = identity_of(rt, path.as_str()) {

@@ -14,7 +14,7 @@ use rs_volumes::description::Description;
 use rs_volumes::pieces::BlockSink;
 use rs_volumes::placement::Place;
 use rs_volumes::restoring::{Plan, restore};
-use std::alloc::Global;
+use std::alloc::{AllocError, Global};
 use std::io;
 use std::io::ErrorKind;
 use std::rt::{Clock, Files};
@@ -88,7 +88,7 @@ impl<'a, R: Files + Eprint> BlockSink for FileSink<'a, R> {
 
 // Returns which blocks a restore reads and writes. It writes the blocks of the files that have a part. If one of these
 // blocks is lost, it reads all blocks that were found and as many recovery blocks as original blocks are lost.
-fn plan_for(alloc: Global, scan: &Scan, parts: &[Option<Part>]) -> Result<Plan> {
+fn plan_for(alloc: Global, scan: &Scan, parts: &[Option<Part>]) -> Result<Plan, AllocError> {
     let wanted = wanted_blocks(alloc, scan, parts)?;
     let loses_wanted = loses_wanted(scan, wanted.as_slice());
     let originals = original_blocks(alloc, scan, wanted.as_slice(), loses_wanted)?;
@@ -114,7 +114,12 @@ fn loses_wanted(scan: &Scan, wanted: &[bool]) -> bool {
 
 // Returns the indexes of the original blocks that were found, all of them if `all` is set, and otherwise those that
 // must be written.
-fn original_blocks(alloc: Global, scan: &Scan, wanted: &[bool], all: bool) -> Result<Vec<usize>> {
+fn original_blocks(
+    alloc: Global,
+    scan: &Scan,
+    wanted: &[bool],
+    all: bool,
+) -> Result<Vec<usize>, AllocError> {
     let mut originals = Vec::new(alloc);
     for (index, is_wanted) in wanted.iter().enumerate() {
         if is_found(scan, index) && (all || *is_wanted) {
@@ -125,7 +130,11 @@ fn original_blocks(alloc: Global, scan: &Scan, wanted: &[bool], all: bool) -> Re
 }
 
 // Returns for each original block whether its file has a part, so that the block must be written.
-fn wanted_blocks(alloc: Global, scan: &Scan, parts: &[Option<Part>]) -> Result<Vec<bool>> {
+fn wanted_blocks(
+    alloc: Global,
+    scan: &Scan,
+    parts: &[Option<Part>],
+) -> Result<Vec<bool>, AllocError> {
     let mut wanted = Vec::new(alloc);
     for place in &scan.places {
         wanted.push(matches!(parts.get(place.file), Some(Some(_))))?;
@@ -134,7 +143,12 @@ fn wanted_blocks(alloc: Global, scan: &Scan, parts: &[Option<Part>]) -> Result<V
 }
 
 // Returns the numbers of the first recovery blocks that were found, at most `count` of them.
-fn recovery_blocks(alloc: Global, scan: &Scan, k: usize, count: usize) -> Result<Vec<usize>> {
+fn recovery_blocks(
+    alloc: Global,
+    scan: &Scan,
+    k: usize,
+    count: usize,
+) -> Result<Vec<usize>, AllocError> {
     let mut recovery = Vec::new(alloc);
     for (index, origin) in scan.origins.iter().enumerate() {
         if index >= k && origin.is_some() && recovery.len() < count {

@@ -4,13 +4,13 @@ use crate::failure::{Failure, Result, warn};
 use crate::output::at_path;
 use crate::progress::Progress;
 use crate::settings::Request;
-use crate::source::Origin;
+use crate::source::{Origin, read_at};
 use crate::volume::{Copies, RECORD_HEAD_BYTES, Volume, open_volume};
 use rs_volumes::description::{Description, FileEntry};
 use rs_volumes::digest::is_digest;
 use rs_volumes::placement::{Place, places_of};
 use sha2::{Digest, Sha256};
-use std::alloc::Global;
+use std::alloc::{AllocError, Global};
 use std::fs::OpenFile;
 use std::io::{ErrorKind, Read, Seek, SeekFrom};
 use std::rt::{Clock, Files};
@@ -307,7 +307,11 @@ struct Scanner {
 
 impl Scanner {
     // Begins a scan. No block has been found yet.
-    fn new(alloc: Global, description: &Description, progress: Progress) -> Result<Scanner> {
+    fn new(
+        alloc: Global,
+        description: &Description,
+        progress: Progress,
+    ) -> Result<Scanner, AllocError> {
         Ok(Scanner {
             origins: vec![in alloc; None; blocks_of(description)]?,
             states: Vec::new(alloc),
@@ -579,8 +583,7 @@ fn find_in_record<F: Read + Seek>(
 // Reads the index of the block in the record at `offset`.
 fn index_at<F: Read + Seek>(file: &mut F, offset: u64) -> io::Result<usize> {
     let mut bytes = [0u8; 4];
-    file.seek(SeekFrom::Start(offset))?;
-    file.read_exact(&mut bytes)?;
+    read_at(file, offset, &mut bytes)?;
     Ok(u32::from_le_bytes(bytes) as usize)
 }
 

@@ -83,12 +83,19 @@ impl<'a, R: Files + Clock + Eprint> FileBlocks<'a, R> {
     }
 
     // Opens the file with the index `holder` in the list of paths.
-    fn open(&self, holder: usize) -> io::Result<Opened<R::File>> {
-        let Some(path) = self.paths.get(holder) else {
-            return Err(io::Error::from(ErrorKind::NotFound));
-        };
-        let file = fs::open(self.rt, path.as_str())?;
-        Ok(Opened { holder, file })
+    fn open(&self, holder: usize) -> io::Result<R::File> {
+        match self.paths.get(holder) {
+            Some(path) => fs::open(self.rt, path.as_str()),
+            None => Err(io::Error::from(ErrorKind::NotFound)),
+        }
+    }
+
+    // Returns whether the file that was read last has the index `holder` in the list of paths.
+    fn has_open(&self, holder: usize) -> bool {
+        match &self.opened {
+            Some(opened) => opened.holder == holder,
+            None => false,
+        }
     }
 
     // Fills `piece` with the bytes of a block from byte `start` of the block on. Bytes that the file or volume does not
@@ -108,14 +115,14 @@ impl<'a, R: Files + Clock + Eprint> FileBlocks<'a, R> {
 
     // Fills `piece` with the bytes of a file from `offset` on. `holder` is the index of the file in the list of paths.
     fn fill(&mut self, holder: usize, offset: u64, piece: &mut [u8]) -> io::Result<()> {
-        let mut opened = match self.opened.take() {
-            Some(opened) if opened.holder == holder => opened,
-            _ => self.open(holder)?,
-        };
-        opened.file.seek(SeekFrom::Start(offset))?;
-        opened.file.read_exact(piece)?;
-        self.opened = Some(opened);
-        Ok(())
+        if !self.has_open(holder) {
+            let file = self.open(holder)?;
+            self.opened = Some(Opened { holder, file });
+        }
+        match &mut self.opened {
+            Some(opened) => read_at(&mut opened.file, offset, piece),
+            None => Err(io::Error::from(ErrorKind::NotFound)),
+        }
     }
 }
 
@@ -128,6 +135,16 @@ impl<'a, R: Files + Clock + Eprint> BlockSource for FileBlocks<'a, R> {
         self.progress.advance(self.rt, (end - start) as u64);
         Ok(piece)
     }
+}
+
+/// Fills `bytes` with the bytes of a file from byte `offset` of the file on.
+///
+/// # Errors
+///
+/// Any error of the system. [`ErrorKind::UnexpectedEof`] if the file ends before.
+pub fn read_at<F: Read + Seek>(file: &mut F, offset: u64, bytes: &mut [u8]) -> io::Result<()> {
+    file.seek(SeekFrom::Start(offset))?;
+    file.read_exact(bytes)
 }
 
 /// Returns the failure for an error of coding. `read` is the path of the file that could not be read, and `written` the

@@ -4,11 +4,11 @@ use crate::creating::make;
 use crate::failure::{Failure, Result};
 use crate::names::path_in;
 use crate::settings::{Recovery, Request, STATUS_WHOLE};
-use std::alloc::Global;
+use std::alloc::{AllocError, Global};
 use std::rt::Runtime;
 
 // Returns the paths of all volumes in a folder.
-fn outputs_in(alloc: Global, volumes: u32, folder: &str) -> Result<Vec<String>> {
+fn outputs_in(alloc: Global, volumes: u32, folder: &str) -> Result<Vec<String>, AllocError> {
     let mut paths = Vec::new(alloc);
     for number in 0..volumes {
         let shown = u64::from(number) + 1;

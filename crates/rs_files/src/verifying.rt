@@ -214,7 +214,7 @@ fn tell_found<R: Print>(rt: &R, scan: &Scan, folder: &str) -> io::Result<()> {
 }
 
 // Returns the words for the states of the files.
-fn words_of(alloc: Global, scan: &Scan) -> std::result::Result<Vec<&'static str>, AllocError> {
+fn words_of(alloc: Global, scan: &Scan) -> Result<Vec<&'static str>, AllocError> {
     let mut words = Vec::new(alloc);
     for state in &scan.states {
         words.push(word_of(*state))?;
@@ -223,7 +223,7 @@ fn words_of(alloc: Global, scan: &Scan) -> std::result::Result<Vec<&'static str>
 }
 
 // Returns the name of a volume and a word for its state as JSON.
-fn volume_json(alloc: Global, name: &str, word: &str) -> std::result::Result<Value, AllocError> {
+fn volume_json(alloc: Global, name: &str, word: &str) -> Result<Value, AllocError> {
     let mut object = Map::new(alloc);
     add_text(alloc, &mut object, "name", name)?;
     add_text(alloc, &mut object, "state", word)?;
@@ -231,7 +231,7 @@ fn volume_json(alloc: Global, name: &str, word: &str) -> std::result::Result<Val
 }
 
 // Returns the volumes with their states as JSON.
-fn volumes_json(alloc: Global, scan: &Scan) -> std::result::Result<Value, AllocError> {
+fn volumes_json(alloc: Global, scan: &Scan) -> Result<Value, AllocError> {
     let mut volumes = Vec::new(alloc);
     for volume in &scan.volumes {
         let word = if volume.is_whole() {
@@ -246,11 +246,7 @@ fn volumes_json(alloc: Global, scan: &Scan) -> std::result::Result<Value, AllocE
 }
 
 // Appends the volumes that cannot be read, as JSON.
-fn add_unreadable(
-    alloc: Global,
-    scan: &Scan,
-    volumes: &mut Vec<Value>,
-) -> std::result::Result<(), AllocError> {
+fn add_unreadable(alloc: Global, scan: &Scan, volumes: &mut Vec<Value>) -> Result<(), AllocError> {
     for path in &scan.unreadable {
         volumes.push(volume_json(alloc, path.as_str(), "unreadable")?)?;
     }
@@ -264,11 +260,7 @@ fn tell_json<R: Print>(rt: &R, alloc: Global, scan: &Scan, counts: Counts) -> Re
 }
 
 // Returns the result of a scan as the text of a JSON object.
-fn result_json(
-    alloc: Global,
-    scan: &Scan,
-    counts: Counts,
-) -> std::result::Result<String, AllocError> {
+fn result_json(alloc: Global, scan: &Scan, counts: Counts) -> Result<String, AllocError> {
     let numbers = [
         ("status", u64::from(status_of(scan, counts))),
         ("lost_blocks", counts.lost as u64),

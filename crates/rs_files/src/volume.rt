@@ -1,6 +1,7 @@
 //! Reads volumes.
 use crate::failure::{Failure, Result};
 use crate::output::at_path;
+use crate::source::read_at;
 use rs_volumes::description::Description;
 use rs_volumes::digest::digest_of;
 use rs_volumes::fault::Fault;
@@ -9,7 +10,7 @@ use rs_volumes::read_description;
 use std::alloc::Global;
 use std::fs;
 use std::fs::OpenFile;
-use std::io::{Read, Seek, SeekFrom};
+use std::io::{Read, Seek};
 use std::rt::Files;
 
 /// The number of bytes of a record before its block: 4 for the index of the block, and 4 that are zero.
@@ -55,21 +56,20 @@ fn too_long() -> Failure {
 }
 
 // Reads `count` bytes of a file from `offset` on.
-fn read_at<F: Read + Seek>(
+fn bytes_at<F: Read + Seek>(
     file: &mut F,
     alloc: Global,
     offset: u64,
     count: usize,
 ) -> Result<Vec<u8>> {
     let mut bytes = vec![in alloc; 0u8; count]?;
-    file.seek(SeekFrom::Start(offset))?;
-    file.read_exact(&mut bytes)?;
+    read_at(file, offset, &mut bytes)?;
     Ok(bytes)
 }
 
 // Reads the head of a volume at `offset`.
 fn head_at<F: Read + Seek>(file: &mut F, alloc: Global, offset: u64) -> Result<Head> {
-    let bytes = read_at(file, alloc, offset, HEAD_BYTES)?;
+    let bytes = bytes_at(file, alloc, offset, HEAD_BYTES)?;
     match bytes.first_chunk::<HEAD_BYTES>() {
         Some(bytes) => Ok(read_head(bytes)?),
         None => Err(too_short()),
@@ -90,7 +90,7 @@ fn described<F: Read + Seek>(
     if length > LARGEST_DESCRIPTION || length > size.saturating_sub(offset) {
         return Err(too_long());
     }
-    let bytes = read_at(file, alloc, offset, length as usize)?;
+    let bytes = bytes_at(file, alloc, offset, length as usize)?;
     if digest_of(bytes.as_slice()) != head.digest {
         return Err(Failure::of("its description does not have its digest"));
     }
@@ -125,7 +125,7 @@ fn ends_in<F: Read + Seek>(file: &mut F, alloc: Global, head: &Head, size: u64) 
     {
         return Ok(false);
     }
-    let bytes = read_at(file, alloc, size - head_bytes - length, length as usize)?;
+    let bytes = bytes_at(file, alloc, size - head_bytes - length, length as usize)?;
     Ok(digest_of(bytes.as_slice()) == head.digest)
 }
 
@@ -200,7 +200,7 @@ pub fn is_volume<R: Files>(rt: &R, alloc: Global, path: &str) -> Result<bool> {
 
 // Returns whether the 64 bytes of a file at `offset` begin with the magic number of a volume.
 fn has_magic<F: Read + Seek>(file: &mut F, alloc: Global, path: &str, offset: u64) -> Result<bool> {
-    match read_at(file, alloc, offset, HEAD_BYTES) {
+    match bytes_at(file, alloc, offset, HEAD_BYTES) {
         Ok(bytes) => match bytes.first_chunk::<HEAD_BYTES>() {
             Some(bytes) => Ok(!matches!(read_head(bytes), Err(Fault::Magic))),
             None => Ok(false),

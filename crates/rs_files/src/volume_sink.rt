@@ -284,13 +284,24 @@ impl<'a, R: Files> BlockSink for VolumeSink<'a, R> {
         let Some(file) = self.files.get_mut(number) else {
             return Err(io::Error::from(ErrorKind::NotFound));
         };
-        if start == 0 {
-            let index = (index as u64).to_le_bytes();
-            write_at(file, record, &index)?;
-        }
-        let offset = record
-            .wrapping_add(RECORD_HEAD_BYTES)
-            .wrapping_add(start as u64);
-        write_at(file, offset, piece)
+        write_piece(file, record, index, start, piece)
     }
+}
+
+// Writes a piece of the block with the index `index` into its record at the offset `record`. The first piece of a block
+// also writes the head of the record.
+fn write_piece<F: Seek + Write>(
+    file: &mut F,
+    record: u64,
+    index: usize,
+    start: usize,
+    piece: &[u8],
+) -> io::Result<()> {
+    if start == 0 {
+        write_at(file, record, &(index as u64).to_le_bytes())?;
+    }
+    let offset = record
+        .wrapping_add(RECORD_HEAD_BYTES)
+        .wrapping_add(start as u64);
+    write_at(file, offset, piece)
 }

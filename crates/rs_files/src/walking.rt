@@ -4,7 +4,7 @@ use crate::names::{folder_to_open, last_of, parent_of, path_in, text_of, trimmed
 use crate::output::{Identity, at_path, identities, identity_of, is_one_of};
 use rs_volumes::checking::is_name;
 use rs_volumes::description::FileEntry;
-use std::alloc::Global;
+use std::alloc::{AllocError, Global};
 use std::fs;
 use std::os::unix::fs::{MetadataExt, PermissionsExt};
 use std::rt::Files;
@@ -136,9 +136,8 @@ fn is_same_folder<R: Files>(rt: &R, one: &str, other: &str) -> bool {
 }
 
 // Sorts files by their names.
-fn sort_files(files: &mut Vec<FileEntry>) -> Result<()> {
-    files.sort_by(|one, other| one.name.as_slice().cmp(other.name.as_slice()))?;
-    Ok(())
+fn sort_files(files: &mut Vec<FileEntry>) -> Result<(), AllocError> {
+    files.sort_by(|one, other| one.name.as_slice().cmp(other.name.as_slice()))
 }
 
 // Checks that no two files of a sorted list have the same name.
