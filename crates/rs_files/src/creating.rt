@@ -133,12 +133,10 @@ fn code_files<R: Files + Clock + Eprint>(
         return Ok(Vec::new(alloc));
     }
     let origins = origins_of(alloc, description)?;
-    let tables = Tables::new(alloc)?;
-    let engine = DefaultEngine::new(&tables, EngineKind::Ssse3);
     let total = (shape.original_count as u64).saturating_mul(description.block_bytes);
     let progress = Progress::new(rt, request.progress, total);
-    let source = FileBlocks::new(rt, alloc, paths, origins.as_slice(), progress);
-    code_blocks(alloc, shape, request.memory, engine, source, sink)
+    let mut source = FileBlocks::new(rt, alloc, paths, origins.as_slice(), progress);
+    code_blocks(alloc, shape, request.memory, &mut source, sink)
 }
 
 // Makes the recovery blocks of the blocks of a source, and writes blocks into the sink. Returns the digests of all
@@ -147,12 +145,13 @@ fn code_blocks<R: Files + Clock + Eprint>(
     alloc: Global,
     shape: Shape,
     memory: u64,
-    engine: DefaultEngine<'_>,
-    mut source: FileBlocks<'_, R>,
+    source: &mut FileBlocks<'_, R>,
     sink: &mut VolumeSink<'_, R>,
 ) -> Result<Vec<u8>> {
+    let tables = Tables::new(alloc)?;
+    let engine = DefaultEngine::new(&tables, EngineKind::Ssse3);
     let piece = piece_bytes(&shape, memory);
-    let outcome = create_blocks(alloc, shape, piece, engine, &mut source, sink);
+    let outcome = create_blocks(alloc, shape, piece, engine, source, sink);
     source.end();
     match outcome {
         Ok(digests) => Ok(digests),

@@ -64,6 +64,15 @@ fn tell_files<R: Print>(rt: &R, files: &[FileEntry]) -> io::Result<()> {
     Ok(())
 }
 
+// Opens a volume, and prints what it describes.
+fn tell_volume<R: Files + Print>(rt: &R, alloc: Global, path: &str, json: bool) -> Result<()> {
+    let volume = open_volume(rt, alloc, path)?;
+    if json {
+        return tell_json(rt, alloc, &volume);
+    }
+    Ok(tell(rt, path, &volume)?)
+}
+
 /// Runs `info`: prints what each volume describes. Returns the exit status.
 ///
 /// # Errors
@@ -75,12 +84,7 @@ pub fn info<R: Files + Print>(rt: &R, alloc: Global, request: &Request) -> Resul
         return Err(Failure::of("no volume is given"));
     }
     for path in &request.paths {
-        let volume = open_volume(rt, alloc, path.as_str())?;
-        if request.json {
-            tell_json(rt, alloc, &volume)?;
-        } else {
-            tell(rt, path.as_str(), &volume)?;
-        }
+        tell_volume(rt, alloc, path.as_str(), request.json)?;
     }
     Ok(STATUS_WHOLE)
 }

@@ -117,27 +117,27 @@ impl Part {
         size: u64,
         mode: u32,
     ) -> Result<Part> {
-        let folder = parent_of(path);
-        if !folder.is_empty() {
-            if let Err(error) = fs::create_dir_all(rt, folder) {
-                let reason = format_args!("its folder cannot be made: {error}");
-                return Err(Failure::at(alloc, path, reason));
-            }
-        }
+        make_folder(rt, alloc, path)?;
         let part = Part {
             path: String::from_str(alloc, path)?,
             part: free_path(rt, alloc, path, "part")?,
         };
+        match part.create(rt, size, mode) {
+            Ok(()) => Ok(part),
+            Err(error) => Err(Failure::at(alloc, path, error)),
+        }
+    }
+
+    // Makes the file, with `size` bytes. If this fails, no file is left.
+    fn create<R: Files>(&self, rt: &R, size: u64, mode: u32) -> std::io::Result<()> {
         let mut options = OpenOptions::new();
         options.write(true).create_new(true).mode(mode);
-        let file = at_path(alloc, path, options.open(rt, part.part.as_str()))?;
-        match file.set_len(size) {
-            Ok(()) => Ok(part),
-            Err(error) => {
-                part.remove(rt);
-                Err(Failure::at(alloc, path, error))
-            }
+        let file = options.open(rt, self.part.as_str())?;
+        let outcome = file.set_len(size);
+        if outcome.is_err() {
+            self.remove(rt);
         }
+        outcome
     }
 
     /// Removes the file, if it does not have its final name. Nothing is reported if the file cannot be removed, because
@@ -176,6 +176,21 @@ impl Part {
     pub fn rename<R: Files>(&self, rt: &R, alloc: Global) -> Result<()> {
         let path = self.path.as_str();
         at_path(alloc, path, fs::rename(rt, self.part.as_str(), path))
+    }
+}
+
+// Makes the folder of a file, and the folders above it.
+fn make_folder<R: Files>(rt: &R, alloc: Global, path: &str) -> Result<()> {
+    let folder = parent_of(path);
+    if folder.is_empty() {
+        return Ok(());
+    }
+    match fs::create_dir_all(rt, folder) {
+        Ok(()) => Ok(()),
+        Err(error) => {
+            let reason = format_args!("its folder cannot be made: {error}");
+            Err(Failure::at(alloc, path, reason))
+        }
     }
 }
 

@@ -178,12 +178,10 @@ pub fn write_blocks<R: Files + Clock + Eprint>(
     let plan = plan_for(alloc, scan, targets.parts.as_slice())?;
     let blocks = (plan.originals.len() as u64).saturating_add(plan.recovery.len() as u64);
     let total = blocks.saturating_mul(scan.description.block_bytes);
-    let tables = Tables::new(alloc)?;
-    let engine = DefaultEngine::new(&tables, EngineKind::Ssse3);
     let progress = Progress::new(rt, shown, total);
     let (paths, origins) = (scan.paths.as_slice(), scan.origins.as_slice());
-    let source = FileBlocks::new(rt, alloc, paths, origins, progress);
-    let sink = FileSink {
+    let mut source = FileBlocks::new(rt, alloc, paths, origins, progress);
+    let mut sink = FileSink {
         rt,
         alloc,
         shown,
@@ -196,9 +194,8 @@ pub fn write_blocks<R: Files + Clock + Eprint>(
         &scan.description,
         &plan,
         memory,
-        engine,
-        source,
-        sink,
+        &mut source,
+        &mut sink,
     )
 }
 
@@ -208,23 +205,15 @@ fn restore_blocks<R: Files + Clock + Eprint>(
     description: &Description,
     plan: &Plan,
     memory: u64,
-    engine: DefaultEngine<'_>,
-    mut source: FileBlocks<'_, R>,
-    mut sink: FileSink<'_, R>,
+    source: &mut FileBlocks<'_, R>,
+    sink: &mut FileSink<'_, R>,
 ) -> Result<()> {
+    let tables = Tables::new(alloc)?;
+    let engine = DefaultEngine::new(&tables, EngineKind::Ssse3);
     let shape = shape_of(description);
     let piece = piece_bytes(&shape, memory);
     let digests = description.digests.as_slice();
-    let outcome = restore(
-        alloc,
-        shape,
-        piece,
-        engine,
-        plan,
-        digests,
-        &mut source,
-        &mut sink,
-    );
+    let outcome = restore(alloc, shape, piece, engine, plan, digests, source, sink);
     source.end();
     match outcome {
         Ok(()) => Ok(()),

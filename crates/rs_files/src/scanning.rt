@@ -119,22 +119,36 @@ impl Volumes {
     // Opens a volume. If the volume cannot be read, the function prints a message.
     fn open<R: Files + Eprint>(&mut self, rt: &R, alloc: Global, path: &str) -> Result<()> {
         match open_volume(rt, alloc, path) {
-            Ok(volume) => {
-                self.add(alloc, path, &volume)?;
-                if self.first.is_none() {
-                    self.first = Some(volume);
-                }
-            }
-            Err(failure) => {
-                eprintln!(rt; "rs_files: {failure}")?;
-                self.unreadable.push(String::from_str(alloc, path)?)?;
-            }
+            Ok(volume) => self.add(alloc, path, volume),
+            Err(failure) => self.add_unreadable(rt, alloc, path, &failure),
         }
+    }
+
+    // Prints why a volume cannot be read, and adds its path.
+    fn add_unreadable<R: Eprint>(
+        &mut self,
+        rt: &R,
+        alloc: Global,
+        path: &str,
+        failure: &Failure,
+    ) -> Result<()> {
+        eprintln!(rt; "rs_files: {failure}")?;
+        self.unreadable.push(String::from_str(alloc, path)?)?;
         Ok(())
     }
 
     // Adds a volume that was read. Fails if the volume belongs to another set than the first one.
-    fn add(&mut self, alloc: Global, path: &str, volume: &Volume) -> Result<()> {
+    fn add(&mut self, alloc: Global, path: &str, volume: Volume) -> Result<()> {
+        self.add_read(alloc, path, &volume)?;
+        if self.first.is_none() {
+            self.first = Some(volume);
+        }
+        Ok(())
+    }
+
+    // Adds a volume that was read, without its description. Fails if the volume belongs to another set than the first
+    // one.
+    fn add_read(&mut self, alloc: Global, path: &str, volume: &Volume) -> Result<()> {
         if let Some(first) = &self.first {
             if first.digest != volume.digest {
                 return Err(Failure::at(alloc, path, "this volume belongs to another set"));

@@ -345,9 +345,15 @@ fn keep_damaged<R: Files>(rt: &R, alloc: Global, path: &str) -> Result<Option<Ke
         return Ok(None);
     }
     let name = free_path(rt, alloc, path, "damaged")?;
-    let linked = fs::hard_link(rt, path, name.as_str()).is_ok();
-    if !linked {
-        at_path(alloc, path, fs::rename(rt, path, name.as_str()))?;
-    }
+    let linked = at_path(alloc, path, link_or_rename(rt, path, name.as_str()))?;
     Ok(Some(Kept { name, linked }))
+}
+
+// Gives a file a second name. Returns whether the file also has its own name still.
+fn link_or_rename<R: Files>(rt: &R, path: &str, name: &str) -> std::io::Result<bool> {
+    if fs::hard_link(rt, path, name).is_ok() {
+        return Ok(true);
+    }
+    fs::rename(rt, path, name)?;
+    Ok(false)
 }
