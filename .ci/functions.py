@@ -1,4 +1,4 @@
-"""The functions of a crate, as the prover names them, and copies of a crate in which most functions have no body."""
+"""The functions of a crate, as the prover names them, and copies of a crate in which most functions have an empty body: `loop {}`."""
 import re
 import shutil
 from pathlib import Path
@@ -6,7 +6,7 @@ from pathlib import Path
 FUNCTION = re.compile(r'(\s*)(?:pub(?:\([a-z]+\))? )?(?:const |unsafe )*(?:extern "C" )?fn (\w+)')
 IMPL = re.compile(r"impl(?:<.*?>)? (?:(?:\w+::)*(\w+)(?:<([A-Z]\w+)?.*>)? for )?(\w+)")
 TRAIT = re.compile(r"(?:pub(?:\([a-z]+\))? )?trait (\w+)")
-# The proof of a function without a body. A check with holes takes the contract as if it was proved.
+# A proof that is left open, which is called a hole. A check with holes treats the contract of the function as proved.
 HOLE = "use Rattle.{path}.Statement.{{statement}}\n\npub {name}_spec : {{M : Type 1}} → statement M\n{name}_spec = ?\n"
 
 
@@ -16,12 +16,15 @@ def module_of(file):
 
 
 def owner_of(lines):
-    """Returns the name that the prover gives to the impl or trait which the last of these lines are in."""
+    """Returns the name that the prover gives to the impl or trait which the last of these lines are in. Returns an empty text for an impl for a
+    type without a name, such as a reference."""
     for line in reversed(lines):
         trait = TRAIT.match(line)
         if trait:
             return trait[1]
         made = IMPL.match(line)
+        if made and " for " in line and not made[1]:
+            return ""
         if made:
             kind = made[3] if len(made[3]) > 1 else "Any"
             return kind + (made[1] or "") + (made[2] or "")
@@ -29,7 +32,7 @@ def owner_of(lines):
 
 
 def path_of(file, lines, head):
-    """Returns the path below the crate of the function with this head, which stands after these lines of a file."""
+    """Returns the path below the crate of the function with this head, which comes after these lines of a file."""
     owner = [owner_of(lines)] if head[1] else []
     return [*module_of(file), *owner, head[2]]
 
@@ -60,13 +63,15 @@ class Function:
 def body_after(lines, number, indent):
     """Returns the numbers of the lines that open and close the body of the function whose head is this line. `rt fmt` lays files out in this
     way. Returns a pair of `None` if the function has no body, or one in a single line."""
+    depth = 0
     for opening in range(number, len(lines)):
         line = lines[opening]
         outside = not line.startswith(indent + " ")
-        if line.endswith(";") or outside and line.endswith("}"):
-            break
         if outside and line.endswith("{"):
             return opening, lines.index(indent + "}", opening)
+        depth += line.count("{") - line.count("}")
+        if depth == 0 and line.endswith(";") or outside and line.endswith("}"):
+            break
     return None, None
 
 
@@ -80,33 +85,34 @@ def cycle_before(lines, number):
 
 
 def functions_of(file, lines):
-    """Returns the functions of a file whose bodies have lines of their own, without `const` functions, on which types may depend."""
-    heads = [(number, FUNCTION.match(line)) for number, line in enumerate(lines) if "const fn" not in line]
-    found = [Function(file, lines, number, head) for number, head in heads if head]
-    return [function for function in found if function.opening]
+    """Returns the functions of a file whose bodies have lines of their own and whose impls have names. Leaves out `const` functions, because
+    types may depend on them."""
+    heads = [(number, FUNCTION.match(line)) for number, line in enumerate(lines)]
+    found = [Function(file, lines, number, head) for number, head in heads if head and "const " not in head[0]]
+    return [function for function in found if function.opening is not None and "" not in function.path]
 
 
 def empty_bodies(folder, crate, kept):
-    """Gives the functions of a copy of a crate a body that never ends, and a hole as their proof. Those whose paths are in `kept` stay as they
-    are, and so do the other functions of their cycles."""
+    """Gives the functions of a copy of a crate an empty body, and a hole as their proof. Functions whose paths are in `kept` stay as they are, and
+    so do the other functions of their cycles."""
     for file in sorted((folder / "src").glob("**/*.rt")):
         lines = file.read_text().split("\n")
         functions = functions_of(file.relative_to(folder), lines)
         stay = [function for function in functions if "::".join([crate, *function.path]) in kept]
-        cycles = {lines[function.cycle] for function in stay if function.cycle}
+        cycles = {lines[function.cycle] for function in stay if function.cycle is not None}
         # From the last one to the first, so that the numbers of the lines above stay right.
         for function in reversed(functions):
-            if function in stay or function.cycle and lines[function.cycle] in cycles:
+            if function in stay or function.cycle is not None and lines[function.cycle] in cycles:
                 continue
             lines[function.opening + 1 : function.closing] = [f"{function.indent}    loop {{}}"]
-            if function.cycle:
+            if function.cycle is not None:
                 del lines[function.cycle]
             leave_hole(folder / "proofs", crate, function.path)
         file.write_text("\n".join(lines))
 
 
 def leave_hole(proofs, crate, path):
-    """Makes a hole of the proof of a function."""
+    """Puts a hole in the place of the proof of a function."""
     for name in (path[-1], f"+{path[-1]}"):
         shutil.rmtree(proofs.joinpath(*path[:-1], name), ignore_errors=True)
     place = proofs.joinpath(*path)
