@@ -15,20 +15,28 @@ def module_of(file):
     return [part for part in Path(file).with_suffix("").parts[1:] if part not in ("lib", "main")]
 
 
-def owner_of(lines):
-    """Returns the name that the prover gives to the impl or trait which the last of these lines are in. Returns an empty text for an impl for a
-    type without a name, such as a reference."""
+def type_of(lines):
+    """Returns the type or the trait that the impl or trait is for which the last of these lines are in. It is `Any` for a type parameter, and an
+    empty text for a type without a name, such as a reference."""
     for line in reversed(lines):
         trait = TRAIT.match(line)
         if trait:
             return trait[1]
         made = IMPL.match(line)
-        if made and " for " in line and not made[1]:
-            return ""
         if made:
-            kind = made[3] if len(made[3]) > 1 else "Any"
-            return kind + (made[1] or "") + (made[2] or "")
+            return "" if " for " in line and not made[1] else "Any" if len(made[3]) == 1 else made[3]
     return ""
+
+
+def owner_of(lines):
+    """Returns the name that the prover gives to the impl or trait which the last of these lines are in."""
+    for line in reversed(lines):
+        if TRAIT.match(line):
+            break
+        made = IMPL.match(line)
+        if made:
+            return type_of([line]) + (made[1] or "") + (made[2] or "")
+    return type_of(lines)
 
 
 def path_of(file, lines, head):
@@ -85,11 +93,16 @@ def cycle_before(lines, number):
 
 
 def functions_of(file, lines):
-    """Returns the functions of a file whose bodies have lines of their own and whose impls have names. Leaves out `const` functions, because
-    types may depend on them."""
-    heads = [(number, FUNCTION.match(line)) for number, line in enumerate(lines)]
-    found = [Function(file, lines, number, head) for number, head in heads if head and "const " not in head[0]]
-    return [function for function in found if function.opening is not None and "" not in function.path]
+    """Returns the functions of a file that can get an empty body. Leaves out functions whose body is in a single line, and `const` functions,
+    because types may depend on them. Leaves out the functions of impls for types that are not declared in the file, because the prover has other
+    names for some of them."""
+    declared = {found[1] for line in lines if (found := re.match(r"(?:pub(?:\([a-z]+\))? )?(?:struct|enum|trait) (\w+)", line))}
+    functions = []
+    for number, line in enumerate(lines):
+        head = FUNCTION.match(line)
+        if head and "const " not in head[0] and (not head[1] or type_of(lines[:number]) in declared | {"Any"}):
+            functions.append(Function(file, lines, number, head))
+    return [function for function in functions if function.opening is not None]
 
 
 def empty_bodies(folder, crate, kept):
