@@ -239,7 +239,8 @@ lent-named s out encoded message agrees (Recovery i ∷ wanted) restored can cod
     let long : length encoded ≡ s.configuration.recovery_count =
     ap length same ∙ agrees.coded.1.shards.length_is in
     ap₂ (λ (x : Option Shard) (l : List (Option Shard)). x ∷ l)
-    (ap (λ (b : Bool). cond b (Some (get_or encoded i [])) None) (lt-ltb i (length encoded) (omega (arith, here.0, long)))
+    (ap (λ (b : Bool). cond b (Some (get_or encoded i [])) None)
+    (lt-ltb i (length encoded) (omega (arith, here.0, long)))
     ∙ ap (λ (l : List Shard). Some (get_or l i [])) same)
     (lent-named s out encoded message agrees wanted restored (λ k d h. can (suc k) d (omega (arith, h))) (λ _. same))
 

@@ -113,8 +113,8 @@ vectors-sized size vectors others is sized =
     (λ j d inside. ap length (sym (get_or-map (λ v. v.items) vectors j d [] inside))
     ∙ sized j [] (let long = length-map vectors (λ v. v.items) in omega (arith, inside, long)))
 
--- The shards of a message for supported counts have a valid size. If enough shards are left for k originals, then enough
--- are left for the lent ones.
+-- The shards of a message for supported counts have a valid size. If enough shards are left for k originals, then
+-- enough are left for the lent ones.
 pub lent-valid : {Y : Type 0} (k r : ℕ) (message lost recovery_lost : List ℕ) (vectors lent : List (Vec ℕ Y))
     → lent ≡ vectors → AreShardsOf k message (map (λ v. v.items) vectors) → counts_outcome k r ≡ Ok tt
     → k ≤ left_below k lost + left_below r recovery_lost

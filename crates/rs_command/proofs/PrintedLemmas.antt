@@ -19,7 +19,8 @@ use Rattle.reed_solomon_simd.specs.Given.{Shards, Lists}
 use Rattle.rs_command.specs.declared.fault.Fault.{Fault}
 use Rattle.rs_command.specs.declared.fault.Fault.TheVariants.{Usage, Refused}
 use Rattle.rs_command.specs.CommandLine.{GivenItems}
-use Rattle.rs_command.specs.Printed.{ListsShards, lines_of, concatenation, CodesLines, RestoresLines, OrLacksMemory, Refuses}
+use Rattle.rs_command.specs.Printed.{ListsShards, lines_of, concatenation, CodesLines, RestoresLines, OrLacksMemory}
+use Rattle.rs_command.specs.Printed.{Refuses}
 use Rattle.rs_command.specs.Printed.{HasFault}
 use Rattle.rs_command.specs.Told.{status_of, IsReportedAs}
 use Rattle.rs_command.proofs.ListedLemmas.{lists-sorted}

@@ -1,4 +1,5 @@
-use Rattle.std.proofs.Common.{rules, ◌≡◌, ℕ, ◌+◌, ◌-◌, ◌<◌, List, [], length, get_or, MutBor, inl, inr, sym, ap, ◌∙◌, subst}
+use Rattle.std.proofs.Common.{rules, ◌≡◌, ℕ, ◌+◌, ◌-◌, ◌<◌, List, [], length, get_or, MutBor, inl, inr, sym, ap, ◌∙◌}
+use Rattle.std.proofs.Common.{subst}
 use Rattle.std.proofs.Common.{arith}
 use Rattle.std.specs.Prelude.{slice_index}
 use Rattle.std.proofs.lemmas.Bool.{cases_lt}
@@ -71,9 +72,11 @@ loop-i-preserved g c =
             let here : i ≡ c.loop-i.i = omega (arith, h, not_before) in
             subst (λ (s : Shard). IsChangedStrip start end c.args.old.now c.args.new.now (log i) (initial i) s)
             (sym (shard-set rooms index i _ inside here))
-            (subst (λ (n : ℕ). IsChangedStrip start end c.args.old.now c.args.new.now (log n) (initial n) c.add_to_strip.new.shard)
+            (subst (λ (n : ℕ). IsChangedStrip start end c.args.old.now c.args.new.now (log n) (initial n)
+            c.add_to_strip.new.shard)
             (sym here)
-            (subst (λ (s : Shard). IsChangedStrip start end c.args.old.now c.args.new.now (log c.loop-i.i) s c.add_to_strip.new.shard)
+            (subst (λ (s : Shard). IsChangedStrip start end c.args.old.now c.args.new.now (log c.loop-i.i) s
+            c.add_to_strip.new.shard)
             was strip))
       ];
       others = λ i h.

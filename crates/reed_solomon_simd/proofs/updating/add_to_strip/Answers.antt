@@ -12,7 +12,8 @@ returns g c =
     let long = length-piece start end shard c.requires.inside in
     let sized : length c.add_change.new.piece ≡ c.args.start + length c.args.change.now - c.args.start =
     c.add_change.ensures.length ∙ long in
-    let spliced = put-piece start (end - start) end shard piece (omega arith) (omega (arith, c.requires.inside)) sized in
+    let spliced =
+    put-piece start (end - start) end shard piece (omega arith) (omega (arith, c.requires.inside)) sized in
     record {
       length_is = search rules;
       bytes = c.are_bytes.ensures.all;

@@ -1,4 +1,5 @@
-use Rattle.std.proofs.Common.{rules, ◌≡◌, ◌+◌, ◌-◌, ◌*◌, ◌<◌, ◌≤◌, length, take, drop, ap, sym, subst, ◌∙◌, ℕ, List, arith}
+use Rattle.std.proofs.Common.{rules, ◌≡◌, ◌+◌, ◌-◌, ◌*◌, ◌<◌, ◌≤◌, length, take, drop, ap, sym, subst, ◌∙◌, ℕ, List}
+use Rattle.std.proofs.Common.{arith}
 use Rattle.std.specs.List.{between}
 use Rattle.rs_calls.proofs.CutLemmas.{cut-length, cut-at, cut-inside}
 use Rattle.rs_calls.proofs.layouts.BufferShardsOriginals.piece.Goals as goal

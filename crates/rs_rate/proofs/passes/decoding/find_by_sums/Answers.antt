@@ -18,8 +18,8 @@ use Rattle.rs_rate.specs.Sums.{AreSumsCheaper}
 use Rattle.rs_rate.proofs.HowMany.{how_many-most, how_many-rest}
 use Rattle.rs_rate.proofs.passes.decoding.find_by_sums.Goals as goal
 
--- Fewer than four products for each row are no more than three transforms and one product for each row. With at most two
--- rows, there are at most as many sums as rows, and at most as many products in each sum.
+-- Fewer than four products for each row are no more than three transforms and one product for each row. With at most
+-- two rows, there are at most as many sums as rows, and at most as many products in each sum.
 products_within : (rows e steps sums k : ℕ) → rows ≡ 2 ^ e → 2 * steps ≡ rows * e → sums ≤ rows → k ≤ rows
     → sums * k < 4 * rows → sums * k ≤ rows + 3 * steps
 products_within rows zero steps sums k is twice few most fewer =
