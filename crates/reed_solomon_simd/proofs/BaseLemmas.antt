@@ -21,9 +21,9 @@ use Rattle.rs_field.specs.words.DirectSum.{direct_factor, direct_sum}
 use Rattle.rs_field.specs.words.Field.{product, power}
 use Rattle.rs_field.specs.words.Transform.{sum_below}
 use Rattle.rs_field.proofs.of_code.Entries.{count_most}
-use Rattle.rs_field.proofs.of_code.Frame.{IsFrame}
+use Rattle.rs_field.proofs.of_code.Frame.{HasDistinctRows}
 use Rattle.rs_field.proofs.of_code.PieceStates.{is_some-map}
-use Rattle.rs_field.proofs.of_code.RateFrames.{has_frame}
+use Rattle.rs_field.proofs.of_code.RateFrames.{distinct_rows}
 use Rattle.rs_field.proofs.of_code.RestoredBelow.{count-pieces}
 use Rattle.rs_field.proofs.of_words.Combination.{sum_below-same}
 use Rattle.rs_rate.specs.Sums.{AreMarksOf, ListsMarked}
@@ -34,9 +34,9 @@ use Rattle.reed_solomon_simd.specs.Base.{frame_in, shard_in_row, marked_part, ma
 
 -- The frame of a decoder.
 pub decoder_frame : (s : DecoderState) → IsDecoder default_rate s
-    → IsFrame (frame_in s) s.configuration.original_count s.configuration.recovery_count
+    → HasDistinctRows (frame_in s) s.configuration.original_count s.configuration.recovery_count
 decoder_frame s is =
-    has_frame s.configuration.rate s.configuration.original_count s.configuration.recovery_count
+    distinct_rows s.configuration.rate s.configuration.original_count s.configuration.recovery_count
     (valid-supported s.configuration is.valid)
 
 -- There are at most as many surplus shards as rows.

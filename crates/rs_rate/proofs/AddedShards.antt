@@ -17,7 +17,7 @@ use Rattle.rs_rate.specs.DecoderView.{state_over}
 use Rattle.rs_rate.specs.Entering.{entry_outcome}
 use Rattle.rs_rate.specs.Marks.{originals_in, recovery_in}
 use Rattle.rs_rate.proofs.RowMaps.{part-in, original-entered, recovery-entered}
-use Rattle.rs_field.proofs.of_code.Frame.{IsFrame}
+use Rattle.rs_field.proofs.of_code.Frame.{HasDistinctRows}
 
 -- An outcome for shards in rows, as an outcome for the state of a decoder over the rows.
 abbrev over : Rate → Configuration → Result Shards Error → Result DecoderState Error
@@ -48,8 +48,8 @@ over-state : (rate : Rate) (c : Configuration) (old : Shards) (outcome : Result 
 over-state rate c old (Ok rows) = refl
 over-state rate c old (Err e) = refl
 
-module _ (rate : Rate) (c : Configuration) (is : IsFrame c.frame c.original_count c.recovery_count) (rows : Shards)
-    (index : ℕ) (shard : Shard) where
+module _ (rate : Rate) (c : Configuration) (is : HasDistinctRows c.frame c.original_count c.recovery_count)
+    (rows : Shards) (index : ℕ) (shard : Shard) where
   -- The outcome of adding an original is that of entering it in its row.
   original-added : index < c.original_count
       → with_original (state_over rate c rows) index shard

@@ -34,9 +34,9 @@ use Rattle.rs_field.specs.code.OneChange.{AreChangeFactors}
 use Rattle.rs_field.specs.rows.MarkedRows.{is_marked}
 use Rattle.rs_field.specs.words.DirectSum.{direct_factor}
 use Rattle.rs_field.specs.words.Field.{product, power, log}
-use Rattle.rs_field.proofs.of_code.Frame.{IsFrame}
+use Rattle.rs_field.proofs.of_code.Frame.{HasDistinctRows}
 use Rattle.rs_field.proofs.of_code.OneChange.{AreMessageRows, word_changed}
-use Rattle.rs_field.proofs.of_code.RateFrames.{has_frame}
+use Rattle.rs_field.proofs.of_code.RateFrames.{distinct_rows}
 use Rattle.rs_rate.specs.Decoding.{IsLocatorOf}
 use Rattle.rs_rate.specs.Marks.{erasure}
 use Rattle.rs_rate.proofs.Erased.{are_erased}
@@ -45,7 +45,7 @@ use Rattle.rs_field.proofs.of_words.LocatorLemmas.{log_sum-zero, log_sum-itself,
 use Rattle.rs_field.proofs.of_words.Power.{log_lt}
 
 -- The row of a recovery shard is not that of an original.
-pub rows_apart : (frame : Frame) (k r i : ℕ) → IsFrame frame k r → i < r
+pub rows_apart : (frame : Frame) (k r i : ℕ) → HasDistinctRows frame k r → i < r
     → (recovery_row frame i < frame.originals_from) ⊎ (original_row frame k ≤ recovery_row frame i)
 rows_apart frame k r i f inside =
     let zeros = f.zeros in
@@ -56,13 +56,13 @@ rows_apart frame k r i f inside =
     ]
 
 -- The frame of supported counts.
-pub is_frame_of : (frame : Frame) (k r : ℕ) → frame ≡ frame_of default_rate k r → supports default_rate k r ≡ true
-    → IsFrame frame k r
-is_frame_of frame k r framed supported =
-    subst (λ (p : Frame). IsFrame p k r) (sym framed) (has_frame default_rate k r supported)
+pub distinct_rows_of : (frame : Frame) (k r : ℕ) → frame ≡ frame_of default_rate k r → supports default_rate k r ≡ true
+    → HasDistinctRows frame k r
+distinct_rows_of frame k r framed supported =
+    subst (λ (p : Frame). HasDistinctRows p k r) (sym framed) (distinct_rows default_rate k r supported)
 
 -- The rows of a message, if exactly the rows of the originals are marked as given.
-message_rows : (frame : Frame) (k r : ℕ) (given : List Bool) (locator : List ℕ) → IsFrame frame k r
+message_rows : (frame : Frame) (k r : ℕ) (given : List Bool) (locator : List ℕ) → HasDistinctRows frame k r
     → ((i : ℕ) → i < k → is_marked given (original_row frame i) ≡ true)
     → ((p : ℕ) → (p < frame.originals_from) ⊎ (original_row frame k ≤ p) → is_marked given p ≡ false)
     → IsLocatorOf frame given locator
@@ -71,7 +71,7 @@ message_rows frame k r given locator f own others is =
     let e = are_erased frame given k r f (λ i. Some []) nothing (λ p not_own not_coded. others p not_own)
     (λ i hi. sym (own i hi)) (λ i hi. sym (others (recovery_row frame i) (rows_apart frame k r i f hi))) in
     record {
-      is_frame = f;
+      distinct = f;
       are_marks = e.are_marks;
       own = e.own;
       coded = e.coded;
@@ -115,7 +115,7 @@ factors_of_change frame k r index given locator factors framed supported inside 
           hj.
           word_changed (configuration default_rate k r size) (erasure (frame_of default_rate k r) given)
           (λ x. slice_index locator x) (is_marked given)
-          (message_rows (frame_of default_rate k r) k r given locator (has_frame default_rate k r supported) own_at
+          (message_rows (frame_of default_rate k r) k r given locator (distinct_rows default_rate k r supported) own_at
           others_at is_at)
           index i j message changed recovery changed_recovery inside shards changed_shards only coded changed_coded hi
           hj

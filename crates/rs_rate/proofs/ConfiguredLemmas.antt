@@ -8,8 +8,8 @@ use Rattle.rs_field.specs.code.Configuration.{Configuration as AsDefined, config
 use Rattle.rs_field.specs.code.Configuration.{start_outcome}
 use Rattle.rs_field.specs.code.Counts.{Rate, next_power, supports}
 use Rattle.rs_field.specs.code.Frame.{encoder_rows, frame_of, next_multiple, row_count}
-use Rattle.rs_field.proofs.of_code.Frame.{IsFrame}
-use Rattle.rs_field.proofs.of_code.RateFrames.{has_frame}
+use Rattle.rs_field.proofs.of_code.Frame.{HasDistinctRows}
+use Rattle.rs_field.proofs.of_code.RateFrames.{distinct_rows}
 use Rattle.rs_rate.specs.declared.values.configuration.Configuration.{Configuration}
 use Rattle.rs_rate.specs.Configured.{configuration_at, rate_configuration, low_or_high, block_of, rows_to_encode}
 use Rattle.rs_rate.specs.Configured.{rate_of, IsConfigured}
@@ -34,7 +34,7 @@ rate_configuration-is rate k r size is some even =
     let supported = chosen rate k r (frame_of rate k r).is_low is (sym (frame-low rate k r)) in
     let framed = frame_alike rate (low_or_high (frame_of rate k r).is_low) k r
     (sym (frame-low rate k r) ∙ sym (chooses (frame_of rate k r).is_low k r)) in
-    let places = has_frame rate k r is in
+    let places = distinct_rows rate k r is in
     let fit = coded-fit (frame_of rate k r).is_low k r supported in
     record {
       positive = some;
@@ -50,9 +50,9 @@ rate_configuration-is rate k r size is some even =
     }
 
 -- The frame of a valid configuration has the facts of a frame.
-pub places-known : (c : Configuration) → IsConfigured c → IsFrame c.frame c.original_count c.recovery_count
-places-known c is = subst (λ (f : Frame). IsFrame f c.original_count c.recovery_count) (sym is.framed)
-    (has_frame (rate_of c) c.original_count c.recovery_count is.supported)
+pub places-known : (c : Configuration) → IsConfigured c → HasDistinctRows c.frame c.original_count c.recovery_count
+places-known c is = subst (λ (f : Frame). HasDistinctRows f c.original_count c.recovery_count) (sym is.framed)
+    (distinct_rows (rate_of c) c.original_count c.recovery_count is.supported)
 
 -- The low rate or the high rate supports the counts of a configuration, and a block has the next power of two of the
 -- originals or the recovery shards.

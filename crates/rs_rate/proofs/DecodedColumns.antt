@@ -214,7 +214,7 @@ module _ (rate : Rate) (k r size : ℕ) (marks : List Bool) (locator : List ℕ)
         has = λ j inside. rows_have j;
         each = λ j inside.
             record {
-              is_frame = places;
+              distinct = places;
               erasures = rows_erased;
               are_words = λ x hx. given_lt marks before size d.given.sized j x;
               known = λ x above below. words_given-at marks before size j x false (zero_row x above below);
@@ -235,7 +235,7 @@ module _ (rate : Rate) (k r size : ℕ) (marks : List Bool) (locator : List ℕ)
     has = λ j inside. rows_have j;
     each = λ j inside.
         record {
-          is_frame = places-known (rate_configuration rate k r size) d.configured;
+          distinct = places-known (rate_configuration rate k r size) d.configured;
           erasures = rows_erased;
           known = λ x above below. words_given-at marks before size j x false (zero_row x above below);
           are_received = record {

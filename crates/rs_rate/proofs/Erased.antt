@@ -10,7 +10,7 @@ use Rattle.rs_field.specs.declared.code.frame.Frame.{Frame}
 use Rattle.rs_field.specs.rows.MarkedRows.{is_marked}
 use Rattle.rs_field.proofs.of_code.ErasedCount.{AreErasures}
 use Rattle.rs_rate.specs.Marks.{erasure}
-use Rattle.rs_field.proofs.of_code.Frame.{IsFrame, zeros_end}
+use Rattle.rs_field.proofs.of_code.Frame.{HasDistinctRows, zeros_end}
 
 -- The entry of a row, from the test for a known zero and the mark of the row.
 by_tests : Bool → Bool → ℕ
@@ -56,7 +56,7 @@ module _ (frame : Frame) (marks : List Bool) where
       either true = refl
       either false = refl
 
-  module _ (k r : ℕ) (f : IsFrame frame k r) where
+  module _ (k r : ℕ) (f : HasDistinctRows frame k r) where
     -- Among the rows, the known zeros end at the end of the zeros among the rows.
     zeros_in : (x : ℕ) → x < row_count frame → (x < frame.zeros_from) ⊎ (zeros_end frame ≤ x)
         → (x < frame.zeros_from) ⊎ (frame.zeros_to ≤ x)

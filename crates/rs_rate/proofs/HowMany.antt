@@ -6,7 +6,7 @@ use Rattle.std.proofs.lemmas.Bool.{cases_lt}
 use Rattle.rs_field.specs.code.Frame.{original_row, recovery_row, row_count}
 use Rattle.rs_field.specs.declared.code.frame.Frame.{Frame}
 use Rattle.rs_field.specs.code.Given.{Shards, count_below}
-use Rattle.rs_field.proofs.of_code.Frame.{IsFrame}
+use Rattle.rs_field.proofs.of_code.Frame.{HasDistinctRows}
 use Rattle.rs_field.proofs.of_code.Given.{count_below-zero, count_below-suc}
 use Rattle.rs_rate.specs.declared.values.configuration.Configuration.{Configuration}
 use Rattle.rs_rate.specs.Marks.{how_many, originals_in, recovery_in, HoldGiven}
@@ -118,7 +118,7 @@ how_many-gap a (suc n) b has end none =
     ∙ add-zero (how_many (a + n) has) ∙ how_many-gap a n (a + n) has refl (λ x from to. none x from (omega arith))
 
 -- The rows with a property are rows of originals and rows of recovery shards, if no other row has it.
-pub many_in_frame : (frame : Frame) (k r : ℕ) → IsFrame frame k r → (has : ℕ → Bool)
+pub many_in_frame : (frame : Frame) (k r : ℕ) → HasDistinctRows frame k r → (has : ℕ → Bool)
     → ((p : ℕ) → (p < frame.originals_from) ⊎ (original_row frame k ≤ p)
     → (p < frame.recovery_from) ⊎ (recovery_row frame r ≤ p) → has p ≡ false)
     → how_many (row_count frame) has
@@ -148,7 +148,7 @@ many_in_frame frame k r f has none =
           omega (arith, start, own, gap, coded, rest)
     ]
 
-module _ (c : Configuration) (f : IsFrame c.frame c.original_count c.recovery_count) (originals recovery : ℕ)
+module _ (c : Configuration) (f : HasDistinctRows c.frame c.original_count c.recovery_count) (originals recovery : ℕ)
     (rows : Shards) (given : HoldGiven c originals recovery rows) where
   -- The number of given originals.
   pub many_originals : how_many c.original_count (λ i. is_some (rows (original_row c.frame i))) ≡ originals

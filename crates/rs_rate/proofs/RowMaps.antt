@@ -20,7 +20,7 @@ use Rattle.rs_rate.specs.Configured.{configuration_at}
 use Rattle.rs_rate.specs.DecoderView.{state_over}
 use Rattle.rs_field.specs.rows.MarkedRows.{is_marked}
 use Rattle.rs_rate.specs.Marks.{marks_of_given, given_marks, marked_shards, part, originals_in, recovery_in, HoldGiven}
-use Rattle.rs_field.proofs.of_code.Frame.{IsFrame}
+use Rattle.rs_field.proofs.of_code.Frame.{HasDistinctRows}
 
 -- ---- marked rows
 
@@ -163,7 +163,7 @@ given_if_some c originals recovery marks shards some given = by_kind marks.shard
         ))
 
 -- The row of an original is never that of a recovery shard.
-apart : (c : Configuration) (i j : ℕ) → IsFrame c.frame c.original_count c.recovery_count → i < c.original_count
+apart : (c : Configuration) (i j : ℕ) → HasDistinctRows c.frame c.original_count c.recovery_count → i < c.original_count
     → j < c.recovery_count → original_row c.frame i ≢ recovery_row c.frame j
 apart c i j is own coded same =
     let zeros = is.zeros in
@@ -172,7 +172,7 @@ apart c i j is own coded same =
       | inr high ↦ omega (arith, high.0, high.1)
     ]
 
-module _ (c : Configuration) (is : IsFrame c.frame c.original_count c.recovery_count) (originals recovery : ℕ)
+module _ (c : Configuration) (is : HasDistinctRows c.frame c.original_count c.recovery_count) (originals recovery : ℕ)
     (rows : Shards) (given : HoldGiven c originals recovery rows) (index : ℕ) (shard : Shard)
     (sized : IsShard c.shard_bytes shard) where
   entered-sized : (row p : ℕ) (other : Shard) → with_entry rows row shard p ≡ Some other → IsShard c.shard_bytes other
@@ -229,7 +229,7 @@ module _ (c : Configuration) (is : IsFrame c.frame c.original_count c.recovery_c
 
 -- ---- adding a shard
 
-module _ (rate : Rate) (c : Configuration) (is : IsFrame c.frame c.original_count c.recovery_count)
+module _ (rate : Rate) (c : Configuration) (is : HasDistinctRows c.frame c.original_count c.recovery_count)
     (rows : Shards) (index : ℕ) (shard : Shard) where
   -- Entering a shard in a row of originals changes the originals alone.
   pub original-entered : index < c.original_count

@@ -58,7 +58,7 @@ module _ (c : Configuration) (originals recovery : Shards) (marks : ℕ → ℕ)
       ≡ column j (shard_at message i)
   restored_column message added i j l enough agrees hi hj step one hl same =
       let (p, codes, takes) = column_taken c originals recovery message j (words j) hj agrees (h.has j hj) in
-      let below = (h.each j hj).is_frame.originals in
+      let below = (h.each j hj).distinct.originals in
       restored_word c.rate c.original_count c.recovery_count originals recovery marks (words j) (located j) (rows j)
       (h.each j hj) (columns j message) p codes takes added (original_row (frame_at c) i) l enough step
       (omega arith) one hl same

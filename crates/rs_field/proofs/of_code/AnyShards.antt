@@ -18,8 +18,8 @@ use Rattle.rs_field.proofs.of_words.Product.{product_lt}
 use Rattle.rs_field.proofs.of_words.ExactCheck.{AreLocated}
 use Rattle.rs_field.proofs.of_words.PointValues.{coefficients_of}
 use Rattle.rs_field.proofs.of_code.Columns.{column_lt}
-use Rattle.rs_field.proofs.of_code.Frame.{IsFrame, zeros_end}
-use Rattle.rs_field.proofs.of_code.RateFrames.{has_frame}
+use Rattle.rs_field.proofs.of_code.Frame.{HasDistinctRows, zeros_end}
+use Rattle.rs_field.proofs.of_code.RateFrames.{distinct_rows}
 use Rattle.rs_field.proofs.of_code.ErasedCount.{AreErasures}
 use Rattle.rs_field.proofs.of_code.DecodedColumn.{IsColumnOf, some_message}
 use Rattle.rs_field.proofs.of_code.AgreeingMessages.{AreSized, HasWords, consistent, frame_at, sized-within}
@@ -43,7 +43,7 @@ unfolding given_at
 given_at-own p k r i originals recovery hi = entry_in-at p.originals_from k i originals _ hi
 
 pub given_at-coded : (p : Frame) (k r i : ℕ) (originals recovery : Shards)
-    → IsFrame p k r → i < r
+    → HasDistinctRows p k r → i < r
     → given_at p k r originals recovery (recovery_row p i) ≡ recovery i
 unfolding given_at
 given_at-coded p k r i originals recovery f hi =
@@ -113,7 +113,7 @@ word_at_lt p k r size originals recovery j x own coded =
 
 -- The words of a column are those of the given shards.
 pub words_given : (p : Frame) (k r size : ℕ) (originals recovery : Shards) (j : ℕ)
-    → IsFrame p k r → AreSized k size originals → AreSized r size recovery
+    → HasDistinctRows p k r → AreSized k size originals → AreSized r size recovery
     → HasWords p originals recovery j (word_at p k r originals recovery j)
 unfolding word_of
 words_given p k r size originals recovery j f own coded = record {
@@ -127,7 +127,7 @@ words_given p k r size originals recovery j f own coded = record {
 
 -- The word at a known zero is 0.
 pub word_at-zero : (p : Frame) (k r : ℕ) (originals recovery : Shards) (j x : ℕ)
-    → IsFrame p k r → p.zeros_from ≤ x → x < (zeros_end p) → word_at p k r originals recovery j x ≡ 0
+    → HasDistinctRows p k r → p.zeros_from ≤ x → x < (zeros_end p) → word_at p k r originals recovery j x ≡ 0
 unfolding word_of
 word_at-zero p k r originals recovery j x f above below =
     let follow : p.zeros_from ≡ p.originals_from + k = f.follow in
@@ -141,7 +141,7 @@ unfolding mark_at
 mark_at-most p k r originals recovery x = grind (arith, common_steps)
 
 -- Below the last row, the zero points among the rows are all zero points.
-zeros_among : (p : Frame) (k r x : ℕ) → IsFrame p k r
+zeros_among : (p : Frame) (k r x : ℕ) → HasDistinctRows p k r
     → (x < zeros_end p → x < p.zeros_to) × (x < row_count p → zeros_end p ≤ x → p.zeros_to ≤ x)
 zeros_among p k r x f =
     let room : row_count p ≤ 2 ^ 16 = pow_mono f.few in
@@ -164,7 +164,7 @@ mark_at-row p k r originals recovery x o outside is = grind (arith, common_steps
 
 -- These entries mark the erased rows of a frame.
 pub are_erasures : (p : Frame) (k r : ℕ) (originals recovery : Shards)
-    → IsFrame p k r
+    → HasDistinctRows p k r
     → AreErasures p k r originals recovery (mark_at p k r originals recovery)
 are_erasures p k r originals recovery f =
     let follow : p.zeros_from ≡ p.originals_from + k = f.follow in
@@ -205,7 +205,7 @@ located_at_lt n marks words x = grind (arith, common_steps, product_lt)
 
 -- The rows of a column that is made from the given shards.
 is_column : (p : Frame) (k r size : ℕ) (originals recovery : Shards) (j : ℕ)
-    → IsFrame p k r → AreSized k size originals → AreSized r size recovery
+    → HasDistinctRows p k r → AreSized k size originals → AreSized r size recovery
     → (rows : ℕ → ℕ) × IsColumnOf p k r originals recovery
     (mark_at p k r originals recovery) (word_at p k r originals recovery j)
     (located_at (row_count p) (mark_at p k r originals recovery) (word_at p k r originals recovery j)) rows
@@ -216,7 +216,7 @@ is_column p k r size originals recovery j f own coded =
     (located_at_lt (row_count p) marks words) in (
       rows,
       record {
-        is_frame = f;
+        distinct = f;
         erasures = are_erasures p k r originals recovery f;
         are_words = λ x hx. word_at_lt p k r size originals recovery j x own coded;
         known = λ x above below. word_at-zero p k r originals recovery j x f above below;
@@ -236,7 +236,7 @@ pub any_consistent : (c : Configuration) (originals recovery : Shards)
     → Consistent c originals recovery
 any_consistent c originals recovery is even own coded count =
     let k = c.original_count in let r = c.recovery_count in let p = frame_at c in
-    let f = has_frame c.rate c.original_count c.recovery_count is in
+    let f = distinct_rows c.rate c.original_count c.recovery_count is in
     consistent c originals recovery (word_at p k r originals recovery) even own coded
     (λ j hj. words_given p k r c.shard_bytes originals recovery j f own coded)
     (λ j hj.

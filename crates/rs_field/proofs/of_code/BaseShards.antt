@@ -17,7 +17,7 @@ use Rattle.rs_field.specs.code.Given.{Shards, count_below, AreAmong, Agrees, Con
 use Rattle.rs_field.proofs.of_code.Given.{some_of}
 use Rattle.rs_field.proofs.of_code.Columns.{shard_from_columns, shard_in}
 use Rattle.rs_field.proofs.of_code.AgreeingMessages.{AreSized, frame_at, sized-within}
-use Rattle.rs_field.proofs.of_code.RateFrames.{has_frame}
+use Rattle.rs_field.proofs.of_code.RateFrames.{distinct_rows}
 use Rattle.rs_field.proofs.of_code.DirectColumn.{AreDirectColumns, direct_original, direct_recovery}
 use Rattle.rs_field.proofs.of_code.AnyShards.{any_consistent, words_given, are_erasures, word_at-zero}
 use Rattle.rs_field.specs.code.DirectLaws.{given_at, word_of, word_at, mark_at, locator_at, summed_word}
@@ -55,11 +55,11 @@ direct_columns : (c : Configuration) (originals recovery : Shards)
 unfolding locator_at mark_at word_at word_of
 direct_columns c originals recovery is own coded =
     let k = c.original_count in let r = c.recovery_count in let p = frame_at c in
-    let f = has_frame c.rate k r is in
+    let f = distinct_rows c.rate k r is in
     record {
       has = λ j hj. words_given p k r c.shard_bytes originals recovery j f own coded;
       each = λ j hj. record {
-        is_frame = f;
+        distinct = f;
         erasures = are_erasures p k r originals recovery f;
         known = λ x above below. word_at-zero p k r originals recovery j x f above below;
         are_received = record {

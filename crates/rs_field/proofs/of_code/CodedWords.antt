@@ -11,8 +11,8 @@ use Rattle.rs_field.specs.code.Frame.{frame_of, row_count, original_row, recover
 use Rattle.rs_field.specs.code.Code.{Codes, AreRecoveryWords}
 use Rattle.rs_field.proofs.of_words.Roots.{value_lt, words_from}
 use Rattle.rs_field.proofs.of_words.Interpolation.{interpolated}
-use Rattle.rs_field.proofs.of_code.Frame.{IsFrame, coefficient_count, CodesIn, unframed}
-use Rattle.rs_field.proofs.of_code.RateFrames.{has_frame}
+use Rattle.rs_field.proofs.of_code.Frame.{HasDistinctRows, coefficient_count, CodesIn, unframed}
+use Rattle.rs_field.proofs.of_code.RateFrames.{distinct_rows}
 
 -- The first k values of a function, and zero from k on.
 first : ℕ → (ℕ → ℕ) → ℕ → ℕ
@@ -30,7 +30,7 @@ first-word : (k : ℕ) (f : ℕ → ℕ) → ((i : ℕ) → i < k → f i < 2 ^ 
 first-word k f words i = grind (arith, common_steps, cases_lt, first-below, first-past)
 
 -- In a frame, any k words are coded by a polynomial.
-coded_in : (frame : Frame) (k r : ℕ) (words : List ℕ) → IsFrame frame k r
+coded_in : (frame : Frame) (k r : ℕ) (words : List ℕ) → HasDistinctRows frame k r
     → ((j : ℕ) → j < k → slice_index words j < 65536)
     → (q : List ℕ) × CodesIn frame k words q
 coded_in frame k r words f are_words =
@@ -55,7 +55,7 @@ pub coded : (rate : Rate) (k r : ℕ) (words : List ℕ) → supports rate k r �
     → ((j : ℕ) → j < k → slice_index words j < 65536)
     → (p : List ℕ) × Codes rate k r words p
 coded rate k r words is are_words =
-    let f = has_frame rate k r is in
+    let f = distinct_rows rate k r is in
     let q = coded_in (frame_of rate k r) k r words f are_words in
     let p = unframed rate k r f words q.0 q.1 in
     (p.0, p.1)

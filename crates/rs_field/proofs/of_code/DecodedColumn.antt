@@ -20,7 +20,7 @@ use Rattle.rs_field.proofs.of_words.LocatorProduct.{marked, residue_undone}
 use Rattle.rs_field.proofs.of_words.Total.{product-comm}
 use Rattle.rs_field.proofs.of_words.Restored.{restored}
 use Rattle.rs_field.proofs.of_words.ExactCheck.{located_values, AreLocated, Takes, zero_rows, taken_from_zero_rows}
-use Rattle.rs_field.proofs.of_code.Frame.{IsFrame, coefficient_count, zeros_end, CodesIn, framed, unframed}
+use Rattle.rs_field.proofs.of_code.Frame.{HasDistinctRows, coefficient_count, zeros_end, CodesIn, framed, unframed}
 use Rattle.rs_field.proofs.of_code.ErasedCount.{AreErasures, erased_count}
 use Rattle.rs_field.proofs.of_code.CodedWords.{values_of, values_of-at, length-values_of}
 
@@ -36,7 +36,7 @@ pub record TakesGiven (frame : Frame) (k r : ℕ) (originals recovery : Shards) 
 -- transform the located words are.
 pub record IsColumnOf (frame : Frame) (k r : ℕ) (originals recovery : Shards)
     (marks words located rows : ℕ → ℕ) : Type 0 where
-  pub is_frame : IsFrame frame k r
+  pub distinct : HasDistinctRows frame k r
   pub erasures : AreErasures frame k r originals recovery marks
   pub are_words : (x : ℕ) → x < row_count frame → words x < 2 ^ 16
   pub known : (x : ℕ) → frame.zeros_from ≤ x → x < zeros_end frame → words x ≡ 0
@@ -86,12 +86,13 @@ module _ (frame : Frame) (k r : ℕ) (originals recovery : Shards) (marks words 
       ]
 
   -- A polynomial that takes the words at all rows that are not erased takes the given words.
-  takes_same : (q o : List ℕ) → IsFrame frame k r → Takes (row_count frame) (coefficient_count frame) marks words q
+  takes_same : (q o : List ℕ) → HasDistinctRows frame k r
+      → Takes (row_count frame) (coefficient_count frame) marks words q
       → ((x : ℕ) → x < row_count frame → value o x ≡ value q x) → TakesGiven frame k r originals recovery words o
   takes_same q o f takes same = grind (arith, common_steps)
 
   -- Such a polynomial codes its values at the originals' points.
-  own_message : (q : List ℕ) → IsFrame frame k r
+  own_message : (q : List ℕ) → HasDistinctRows frame k r
       → ((x : ℕ) → frame.zeros_from ≤ x → x < zeros_end frame → words x ≡ 0)
       → Takes (row_count frame) (coefficient_count frame) marks words q
       → CodesIn frame k (values_of k (λ j. value q (original_row frame j))) q
@@ -106,7 +107,7 @@ module _ (frame : Frame) (k r : ℕ) (originals recovery : Shards) (marks words 
 
 -- A polynomial that codes and takes the given words is, at the rows, a polynomial of the frame that takes them.
 pub taken_from : (rate : Rate) (k r : ℕ) (originals recovery : Shards) (marks words : ℕ → ℕ)
-    → IsFrame (frame_of rate k r) k r → AreErasures (frame_of rate k r) k r originals recovery marks
+    → HasDistinctRows (frame_of rate k r) k r → AreErasures (frame_of rate k r) k r originals recovery marks
     → ((x : ℕ) → (frame_of rate k r).zeros_from ≤ x → x < zeros_end (frame_of rate k r) → words x ≡ 0)
     → (message p : List ℕ) → Codes rate k r message p
     → TakesGiven (frame_of rate k r) k r originals recovery words p
@@ -134,7 +135,7 @@ module _ (rate : Rate) (k r : ℕ) (originals recovery : Shards) (marks words lo
   -- The erased rows, the coefficients and the given shards are together as many as the rows and the originals.
   counted : length (marked (row_count (frame_of rate k r)) marks) + coefficient_count (frame_of rate k r)
       + (count_below k originals + count_below r recovery) ≡ row_count (frame_of rate k r) + k
-  counted = erased_count (frame_of rate k r) k r originals recovery marks c.is_frame c.erasures
+  counted = erased_count (frame_of rate k r) k r originals recovery marks c.distinct c.erasures
 
   -- If the last rows are zero, as many as there are surplus shards, some polynomial that codes takes the given words.
   pub some_message : (t : ℕ) → count_below k originals + count_below r recovery ≡ k + t
@@ -145,16 +146,16 @@ module _ (rate : Rate) (k r : ℕ) (originals recovery : Shards) (marks words lo
       let frame = frame_of rate k r in
       let total = counted in
       let (q, takes) = taken_from_zero_rows (row_count frame) (coefficient_count frame) t marks words located rows
-      (pow_mono c.is_frame.few) c.erasures.are_marks (omega arith) c.are_located
+      (pow_mono c.distinct.few) c.erasures.are_marks (omega arith) c.are_located
       (λ x hx _. c.are_words x hx) c.back none in
       let message = values_of k (λ j. value q (original_row frame j)) in
-      let (p, codes, same) = unframed rate k r c.is_frame (values_of k (λ j. value q (original_row frame j))) q
-      (own_message frame k r originals recovery marks words c.erasures q c.is_frame c.known takes) in (
+      let (p, codes, same) = unframed rate k r c.distinct (values_of k (λ j. value q (original_row frame j))) q
+      (own_message frame k r originals recovery marks words c.erasures q c.distinct c.known takes) in (
         values_of k (λ j. value q (original_row frame j)),
         p,
         length-values_of k (λ j. value q (original_row frame j)),
         codes,
-        takes_same frame k r originals recovery marks words c.erasures q p c.is_frame takes same,
+        takes_same frame k r originals recovery marks words c.erasures q p c.distinct takes same,
       )
 
   module _ (message p : List ℕ) (codes : Codes rate k r message p)
@@ -162,7 +163,7 @@ module _ (rate : Rate) (k r : ℕ) (originals recovery : Shards) (marks words lo
     taken_in : (q : List ℕ)
         × Takes (row_count (frame_of rate k r)) (coefficient_count (frame_of rate k r)) marks words q
         × ((x : ℕ) → x < row_count (frame_of rate k r) → value q x ≡ value p x)
-    taken_in = taken_from rate k r originals recovery marks words c.is_frame c.erasures c.known message p codes takes
+    taken_in = taken_from rate k r originals recovery marks words c.distinct c.erasures c.known message p codes takes
 
     -- The last rows are zero, as many as there are surplus shards.
     pub surplus_rows : (t : ℕ) → count_below k originals + count_below r recovery ≡ k + t
@@ -171,7 +172,7 @@ module _ (rate : Rate) (k r : ℕ) (originals recovery : Shards) (marks words lo
         let total = counted in
         let (q, takes_q, same) = taken_in in
         zero_rows (row_count (frame_of rate k r)) (coefficient_count (frame_of rate k r)) t marks words located rows
-        (pow_mono c.is_frame.few) c.erasures.are_marks (omega arith) c.are_located c.row_words c.back (q, takes_q)
+        (pow_mono c.distinct.few) c.erasures.are_marks (omega arith) c.are_located c.row_words c.back (q, takes_q)
 
     module _ (added : ℕ → ℕ) (x l : ℕ) (enough : k ≤ count_below k originals + count_below r recovery)
         (step : IsDerivativeAdded (row_count (frame_of rate k r)) rows added)
@@ -183,11 +184,11 @@ module _ (rate : Rate) (k r : ℕ) (originals recovery : Shards) (marks words lo
           let frame = frame_of rate k r in
           let total = counted in
           let (q, takes_q, same) = taken_in in
-          restored frame.exponent rows added marks q c.is_frame.few takes_q.coefficients c.erasures.are_marks
+          restored frame.exponent rows added marks q c.distinct.few takes_q.coefficients c.erasures.are_marks
           (let less = takes_q.degree in omega arith)
           (λ i hi. c.back i hi
           ∙ located_values (row_count frame) (coefficient_count frame) marks words located q
-          (pow_mono c.is_frame.few) c.erasures.are_marks c.are_located takes_q i hi) step x hx one
+          (pow_mono c.distinct.few) c.erasures.are_marks c.are_located takes_q i hi) step x hx one
           ∙ ap (product (power (log_sum (row_count frame) marks x))) (same x hx)
 
       -- A power for 65535 minus any residue of the locator, times this value, is the wanted word.

@@ -15,7 +15,7 @@ use Rattle.rs_field.specs.code.Given.{Shards, count_below, Agrees}
 use Rattle.rs_field.proofs.of_words.DirectSum.{AreReceived, direct_value}
 use Rattle.rs_field.proofs.of_code.Columns.{columns-at}
 use Rattle.rs_field.proofs.of_code.Unique.{codes_unique}
-use Rattle.rs_field.proofs.of_code.Frame.{IsFrame, zeros_end, coefficient_count}
+use Rattle.rs_field.proofs.of_code.Frame.{HasDistinctRows, zeros_end, coefficient_count}
 use Rattle.rs_field.proofs.of_code.ErasedCount.{AreErasures, erased_count}
 use Rattle.rs_field.proofs.of_code.DecodedColumn.{TakesGiven, taken_from}
 use Rattle.rs_field.proofs.of_code.AgreeingMessages.{HasWords, frame_at, column_taken}
@@ -24,7 +24,7 @@ use Rattle.rs_field.proofs.of_code.AgreeingMessages.{HasWords, frame_at, column_
 -- of the received shards.
 pub record IsDirectColumn (frame : Frame) (k r : ℕ) (originals recovery : Shards)
     (marks words locator : ℕ → ℕ) (received : ℕ → Bool) : Type 0 where
-  pub is_frame : IsFrame frame k r
+  pub distinct : HasDistinctRows frame k r
   pub erasures : AreErasures frame k r originals recovery marks
   pub known : (x : ℕ) → frame.zeros_from ≤ x → x < zeros_end frame → words x ≡ 0
   pub are_received : AreReceived (row_count frame) marks words received
@@ -41,10 +41,10 @@ direct_word : (rate : Rate) (k r : ℕ) (originals recovery : Shards) (marks wor
     → direct_sum (row_count (frame_of rate k r)) received locator words x ≡ value p x
 direct_word rate k r originals recovery marks words locator received message p d enough codes takes x hx one =
     let frame = frame_of rate k r in
-    let total = erased_count frame k r originals recovery marks d.is_frame d.erasures in
-    let (q, takes_q, same) = taken_from rate k r originals recovery marks words d.is_frame d.erasures d.known message p
+    let total = erased_count frame k r originals recovery marks d.distinct d.erasures in
+    let (q, takes_q, same) = taken_from rate k r originals recovery marks words d.distinct d.erasures d.known message p
     codes takes in
-    direct_value frame.exponent (coefficient_count frame) x marks words locator received q d.is_frame.few
+    direct_value frame.exponent (coefficient_count frame) x marks words locator received q d.distinct.few
     d.erasures.are_marks (omega arith) takes_q d.are_received d.logarithms (d.most x hx) hx one
     ∙ same x hx
 
@@ -67,7 +67,7 @@ module _ (c : Configuration) (originals recovery : Shards) (marks locator : ℕ 
       ≡ column j (shard_at message i)
   direct_original hi missing =
       let (p, codes, takes) = column_taken c originals recovery message j (words j) hj agrees (d.has j hj) in
-      let below = (d.each j hj).is_frame.originals in
+      let below = (d.each j hj).distinct.originals in
       direct_word c.rate c.original_count c.recovery_count originals recovery marks (words j) locator received
       (columns j message) p (d.each j hj) enough codes takes (original_row (frame_at c) i) (omega arith)
       ((d.each j hj).erasures.own i hi ∙ ap (λ (b : Bool). cond b 0 1) missing)
@@ -80,10 +80,10 @@ module _ (c : Configuration) (originals recovery : Shards) (marks locator : ℕ 
   direct_recovery hi missing =
       let (p, codes, takes) = column_taken c originals recovery message j (words j) hj agrees (d.has j hj) in
       let (o, codes_o, at) = agrees.coded.1.words j hj in
-      let is_frame = (d.each j hj).is_frame in
-      let room : row_count (frame_at c) ≤ 2 ^ 16 = pow_mono is_frame.few in
-      let own = is_frame.originals in
-      let below = is_frame.recovery in
+      let distinct = (d.each j hj).distinct in
+      let room : row_count (frame_at c) ≤ 2 ^ 16 = pow_mono distinct.few in
+      let own = distinct.originals in
+      let below = distinct.recovery in
       direct_word c.rate c.original_count c.recovery_count originals recovery marks (words j) locator received
       (columns j message) p (d.each j hj) enough codes takes (recovery_row (frame_at c) i) (omega arith)
       ((d.each j hj).erasures.coded i hi ∙ ap (λ (b : Bool). cond b 0 1) missing)

@@ -18,7 +18,7 @@ use Rattle.rs_field.proofs.of_code.Unique.{codes_unique}
 use Rattle.rs_field.proofs.of_code.NextPower.{next_power-small, next_power-least, next_power-above}
 use Rattle.rs_field.proofs.of_code.Frame.{coefficient_count, zeros_end, framed}
 use Rattle.rs_field.proofs.of_code.SupportedCounts.{high_fits}
-use Rattle.rs_field.proofs.of_code.RateFrames.{high_is}
+use Rattle.rs_field.proofs.of_code.RateFrames.{high_distinct}
 use Rattle.rs_field.proofs.of_code.CodedWords.{recovered, coded_lt}
 
 -- ---- a polynomial with its argument moved by c
@@ -76,7 +76,7 @@ moved_codes : (k r d : ℕ) (words p : List ℕ) → 0 < k → d ≤ 16 → next
     → Codes high_rate k r words p → (q : List ℕ) × IsMoved k r d words p q
 unfolding frame_of low_frame high_frame is_low next_power zeros_end coefficient_count
 moved_codes k r d words p some hd power_r power_k most_k most_r fit codes =
-    let f = high_is k r fit (omega arith) in
+    let f = high_distinct k r fit (omega arith) in
     let e = exponent_of (2 ^ exponent_of r + k) in
     let rows : 2 ^ exponent_of (2 ^ exponent_of r + k) ≡ 2 ^ d + 2 ^ d =
     rows_double k r d (exponent_of (2 ^ exponent_of r + k)) some hd power_r most_k refl f.originals in

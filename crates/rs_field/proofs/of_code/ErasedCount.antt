@@ -11,7 +11,7 @@ use Rattle.rs_field.specs.words.Walsh.{total}
 use Rattle.rs_field.proofs.of_words.Totals.{total-zero, total-suc}
 use Rattle.rs_field.proofs.of_code.Given.{count_below-zero, count_below-suc}
 use Rattle.rs_field.proofs.of_words.LocatorProduct.{marked, marked-more, marked-same, AreMarks}
-use Rattle.rs_field.proofs.of_code.Frame.{IsFrame, coefficient_count, zeros_end}
+use Rattle.rs_field.proofs.of_code.Frame.{HasDistinctRows, coefficient_count, zeros_end}
 
 -- The marks of the rows: each row is marked except the known zeros and the places of given shards.
 pub record AreErasures (frame : Frame) (k r : ℕ) (originals recovery : Shards) (marks : ℕ → ℕ) : Type 0 where
@@ -68,7 +68,7 @@ past_given a (suc n) f g is =
 
 -- In a frame, the erased points, the coefficients and the given shards are together as many as the rows and the
 -- originals.
-pub erased_count : (frame : Frame) (k r : ℕ) (originals recovery : Shards) (marks : ℕ → ℕ) → IsFrame frame k r
+pub erased_count : (frame : Frame) (k r : ℕ) (originals recovery : Shards) (marks : ℕ → ℕ) → HasDistinctRows frame k r
     → AreErasures frame k r originals recovery marks
     → length (marked (row_count frame) marks) + coefficient_count frame
     + (count_below k originals + count_below r recovery) ≡ row_count frame + k

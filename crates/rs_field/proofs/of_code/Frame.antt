@@ -24,7 +24,7 @@ coefficient_count frame = zeros_end frame - frame.originals_from
 -- In a frame, k originals, r recovery shards and the zero points have different rows, at most 65536. The zero points
 -- come right after the originals; recovery shards come after the zero points, or before the originals. The zero points
 -- end among the rows, or they are all further points.
-pub record IsFrame (frame : Frame) (k r : ℕ) : Type 0 where
+pub record HasDistinctRows (frame : Frame) (k r : ℕ) : Type 0 where
   pub few : frame.exponent ≤ 16
   pub originals : original_row frame k ≤ row_count frame
   pub recovery : recovery_row frame r ≤ row_count frame
@@ -44,7 +44,7 @@ pub record CodesIn (frame : Frame) (k : ℕ) (words q : List ℕ) : Type 0 where
   pub originals : (j : ℕ) → j < k → value q (original_row frame j) ≡ slice_index words j
   pub zeros : (x : ℕ) → frame.zeros_from ≤ x → x < zeros_end frame → value q x ≡ 0
 
-module _ (rate : Rate) (k r : ℕ) (f : IsFrame (frame_of rate k r) k r) (words p : List ℕ) where
+module _ (rate : Rate) (k r : ℕ) (f : HasDistinctRows (frame_of rate k r) k r) (words p : List ℕ) where
   -- A polynomial that codes words has, at each row, the value of a polynomial of the frame.
   pub framed : Codes rate k r words p
       → (q : List ℕ) × CodesIn (frame_of rate k r) k words q

@@ -19,12 +19,12 @@ use Rattle.rs_field.proofs.of_words.DirectSum.{direct_sum-changed}
 use Rattle.rs_field.proofs.of_words.LocatorProduct.{AreMarks}
 use Rattle.rs_field.proofs.of_code.AgreeingMessages.{frame_at}
 use Rattle.rs_field.proofs.of_code.DirectColumn.{AreDirectColumns, direct_recovery}
-use Rattle.rs_field.proofs.of_code.Frame.{IsFrame, zeros_end}
+use Rattle.rs_field.proofs.of_code.Frame.{HasDistinctRows, zeros_end}
 use Rattle.rs_field.proofs.of_code.Given.{count_below-zero, count_below-suc, nothing_among}
 
 -- The rows of a message: the originals are received, all other rows are erased or known to be zero.
 pub record AreMessageRows (frame : Frame) (k r : ℕ) (marks locator : ℕ → ℕ) (received : ℕ → Bool) : Type 0 where
-  pub is_frame : IsFrame frame k r
+  pub distinct : HasDistinctRows frame k r
   pub are_marks : AreMarks (row_count frame) marks
   pub own : (i : ℕ) → i < k → marks (original_row frame i) ≡ 0
   pub coded : (i : ℕ) → i < r → marks (recovery_row frame i) ≡ 1
@@ -103,7 +103,7 @@ module _ (c : Configuration) (marks locator : ℕ → ℕ) (received : ℕ → B
   message_columns : (message : List Shard)
       → AreDirectColumns c (all_of c.original_count message) nothing marks locator received (words_of message)
   message_columns message =
-      let follow = rows.is_frame.follow in
+      let follow = rows.distinct.follow in
       record {
         has = λ j hj. record {
           own = λ i shard is.
@@ -112,7 +112,7 @@ module _ (c : Configuration) (marks locator : ℕ → ℕ) (received : ℕ → B
           coded = λ i shard is. absurd (none-some shard is);
         };
         each = λ j hj. record {
-          is_frame = rows.is_frame;
+          distinct = rows.distinct;
           erasures = record {
             are_marks = rows.are_marks;
             own = λ i hi.
@@ -172,7 +172,7 @@ module _ (c : Configuration) (marks locator : ℕ → ℕ) (received : ℕ → B
       let n = row_count (frame_at c) in
       let z = original_row (frame_at c) index in
       let y = recovery_row (frame_at c) i in
-      let own = rows.is_frame.originals in
+      let own = rows.distinct.originals in
       sym (summed_recovery changed changed_recovery i j changed_shards changed_coded hi hj)
       ∙ direct_sum-changed n received locator (words_of changed j) (words_of message j) y z (omega arith)
       (rows.received_own index inside) same

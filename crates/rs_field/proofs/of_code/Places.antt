@@ -18,8 +18,8 @@ use Rattle.rs_field.proofs.of_words.Roots.{words_from}
 use Rattle.rs_field.proofs.of_words.Values.{same_from_values}
 use Rattle.rs_field.proofs.of_code.Columns.{columns-at, shards_from_columns}
 use Rattle.rs_field.proofs.of_code.Given.{count_below-zero, count_below-suc, count_below-same}
-use Rattle.rs_field.proofs.of_code.RateFrames.{has_frame}
-use Rattle.rs_field.proofs.of_code.Frame.{IsFrame}
+use Rattle.rs_field.proofs.of_code.RateFrames.{distinct_rows}
+use Rattle.rs_field.proofs.of_code.Frame.{HasDistinctRows}
 
 -- A choice between two functions, by whether a number is below a bound.
 below_or : {A : Type 0} → ℕ → (ℕ → A) → (ℕ → A) → ℕ → A
@@ -44,7 +44,7 @@ record IsSpread (frame : Frame) (k r : ℕ) : Type 0 where
   apart : (i : ℕ) → i < r → (frame.zeros_to ≤ recovery_row frame i) ⊎ (recovery_row frame i < frame.originals_from)
   counts : degree_bound frame + frame.zeros_from ≡ k + frame.zeros_to
 
-spread : (frame : Frame) (k r : ℕ) → IsFrame frame k r → IsSpread frame k r
+spread : (frame : Frame) (k r : ℕ) → HasDistinctRows frame k r → IsSpread frame k r
 spread frame k r f = grind (arith, common_steps, pow_mono)
 
 -- The point of a place: first the originals' points, then the points of the recovery shards.
@@ -98,7 +98,7 @@ fixed_by_points : (rate : Rate) (k r : ℕ) (words other p o : List ℕ) (place 
     → ((i : ℕ) → i < k → value p (point (frame_of rate k r) k (place i))
     ≡ value o (point (frame_of rate k r) k (place i))) → p ≡ o
 fixed_by_points rate k r words other p o place is cp co are same =
-    by_spread (spread (frame_of rate k r) k r (has_frame rate k r is))
+    by_spread (spread (frame_of rate k r) k r (distinct_rows rate k r is))
   where
     -- The k points, followed by the known zeros.
     at : ℕ → ℕ

@@ -31,7 +31,7 @@ use Rattle.rs_field.proofs.of_code.ListedMaps.{lists-same, listed-changed, liste
 use Rattle.rs_field.proofs.of_code.Pieces.{put-length, room-from, room-further, room-whole}
 use Rattle.rs_field.proofs.of_code.PieceStates.{is_some-map, agrees-cut, restored-cut, consistent-whole}
 use Rattle.rs_field.proofs.of_code.PieceStates.{AreConsistentBelow}
-use Rattle.rs_field.proofs.of_code.RateFrames.{has_frame}
+use Rattle.rs_field.proofs.of_code.RateFrames.{distinct_rows}
 
 -- ---- numbers of pieces
 
@@ -84,7 +84,7 @@ pub all-consistent : (s : DecoderState)
 all-consistent s supported even own_sized coded_sized each =
     let c = s.configuration in
     let p = frame_of c.rate c.original_count c.recovery_count in
-    let h = has_frame c.rate c.original_count c.recovery_count supported in
+    let h = distinct_rows c.rate c.original_count c.recovery_count supported in
     consistent-whole c.rate c.original_count c.recovery_count c.shard_bytes s.originals s.recovery
     (word_at p c.original_count c.recovery_count s.originals s.recovery) even own_sized coded_sized
     (λ j inside. words_given p c.original_count c.recovery_count c.shard_bytes s.originals s.recovery j h own_sized

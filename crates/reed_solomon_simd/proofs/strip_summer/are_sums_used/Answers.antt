@@ -1,16 +1,16 @@
 use Rattle.std.proofs.Common.{◌^◌, ◌≤◌, arith, pow_mono}
 use Rattle.rs_field.specs.code.Frame.{row_count}
-use Rattle.rs_rate.proofs.ChangeLemmas.{is_frame_of}
+use Rattle.rs_rate.proofs.ChangeLemmas.{distinct_rows_of}
 use Rattle.reed_solomon_simd.proofs.strip_summer.are_sums_used.Goals as goal
 
 pub row_count-requires : goal.row_count-requires
 row_count-requires c =
     let counts = c.args.counts in
-    (is_frame_of counts.frame counts.original_count counts.recovery_count counts.framed counts.supported).few
+    (distinct_rows_of counts.frame counts.original_count counts.recovery_count counts.framed counts.supported).few
 
 pub overflow_add-wanted : goal.overflow_add-wanted
 overflow_add-wanted c =
-    let f = is_frame_of c.args.counts.frame c.args.counts.original_count c.args.counts.recovery_count
+    let f = distinct_rows_of c.args.counts.frame c.args.counts.original_count c.args.counts.recovery_count
     c.args.counts.framed c.args.counts.supported in
     let rows : row_count c.args.counts.frame ≤ 2 ^ 16 = pow_mono f.few in
     omega (arith, rows, c.row_count.ensures, c.if-wanted-row_count.true, c.requires)
@@ -18,18 +18,18 @@ overflow_add-wanted c =
 pub are_sums_cheaper-requires-clause-few : goal.are_sums_cheaper-requires-clause-few
 are_sums_cheaper-requires-clause-few c =
     let counts = c.args.counts in
-    (is_frame_of counts.frame counts.original_count counts.recovery_count counts.framed counts.supported).few
+    (distinct_rows_of counts.frame counts.original_count counts.recovery_count counts.framed counts.supported).few
 
 pub are_sums_cheaper-requires-clause-originals : goal.are_sums_cheaper-requires-clause-originals
 are_sums_cheaper-requires-clause-originals c =
-    let f = is_frame_of c.args.counts.frame c.args.counts.original_count c.args.counts.recovery_count
+    let f = distinct_rows_of c.args.counts.frame c.args.counts.original_count c.args.counts.recovery_count
     c.args.counts.framed c.args.counts.supported in
     let rows : row_count c.args.counts.frame ≤ 2 ^ 16 = pow_mono f.few in
     omega (arith, rows, f.originals)
 
 pub are_sums_cheaper-requires-clause-sums : goal.are_sums_cheaper-requires-clause-sums
 are_sums_cheaper-requires-clause-sums c =
-    let f = is_frame_of c.args.counts.frame c.args.counts.original_count c.args.counts.recovery_count
+    let f = distinct_rows_of c.args.counts.frame c.args.counts.original_count c.args.counts.recovery_count
     c.args.counts.framed c.args.counts.supported in
     let rows : row_count c.args.counts.frame ≤ 2 ^ 16 = pow_mono f.few in
     omega (arith, rows, c.row_count.ensures, c.if-wanted-row_count.true, c.requires)

@@ -4,19 +4,19 @@ use Rattle.rs_field.specs.code.Frame.{row_count, recovery_row}
 use Rattle.rs_field.specs.declared.code.frame.Frame.{Frame}
 use Rattle.rs_field.specs.words.DirectSum.{direct_factor}
 use Rattle.rs_rate.specs.Decoding.{IsLocatorOf}
-use Rattle.rs_rate.proofs.ChangeLemmas.{is_frame_of, rows_apart, made_factors}
+use Rattle.rs_rate.proofs.ChangeLemmas.{distinct_rows_of, rows_apart, made_factors}
 use Rattle.rs_rate.proofs.passes.changes.change_factors.Goals as goal
 
 pub original_row-row-requires : goal.original_row-row-requires
 original_row-row-requires g c =
-    let f = is_frame_of c.args.counts.frame c.args.counts.original_count c.args.counts.recovery_count
+    let f = distinct_rows_of c.args.counts.frame c.args.counts.original_count c.args.counts.recovery_count
     c.args.counts.framed c.args.counts.supported in
     let rows : row_count c.args.counts.frame ≤ 2 ^ 16 = pow_mono f.few in
     omega (arith, rows, f.originals, c.requires)
 
 pub recovery_factors-requires-clause-from : goal.recovery_factors-requires-clause-from
 recovery_factors-requires-clause-from g c =
-    let f = is_frame_of c.args.counts.frame c.args.counts.original_count c.args.counts.recovery_count
+    let f = distinct_rows_of c.args.counts.frame c.args.counts.original_count c.args.counts.recovery_count
     c.args.counts.framed c.args.counts.supported in
     let same : row_count c.in_ok-base.base.counts.frame ≡ row_count c.args.counts.frame =
     ap (λ m. row_count m.frame) c.in_ok-base.ensures.made.0 in
@@ -24,7 +24,7 @@ recovery_factors-requires-clause-from g c =
 
 pub recovery_factors-requires-clause-apart : goal.recovery_factors-requires-clause-apart
 recovery_factors-requires-clause-apart g c i inside same =
-    let f = is_frame_of c.args.counts.frame c.args.counts.original_count c.args.counts.recovery_count
+    let f = distinct_rows_of c.args.counts.frame c.args.counts.original_count c.args.counts.recovery_count
     c.args.counts.framed c.args.counts.supported in
     let row = c.original_row-row.ensures in
     let there : i < c.args.counts.recovery_count =

@@ -3,31 +3,31 @@ use Rattle.std.proofs.lemmas.Bool.{cases_eq}
 use Rattle.std.proofs.lemmas.List.{get_or-set_same, get_or-set_other}
 use Rattle.rs_field.specs.code.Frame.{original_row, row_count}
 use Rattle.rs_field.specs.rows.MarkedRows.{is_marked}
-use Rattle.rs_rate.proofs.ChangeLemmas.{is_frame_of}
+use Rattle.rs_rate.proofs.ChangeLemmas.{distinct_rows_of}
 use Rattle.rs_rate.proofs.passes.changes.original_marks.Goals as goal
 
 pub row_count-requires : goal.row_count-requires
 row_count-requires c =
-    let f = is_frame_of c.args.counts.frame c.args.counts.original_count c.args.counts.recovery_count
+    let f = distinct_rows_of c.args.counts.frame c.args.counts.original_count c.args.counts.recovery_count
     c.args.counts.framed c.args.counts.supported in
     f.few
 
 pub original_row-requires : goal.original_row-requires
 original_row-requires c =
-    let f = is_frame_of c.args.counts.frame c.args.counts.original_count c.args.counts.recovery_count
+    let f = distinct_rows_of c.args.counts.frame c.args.counts.original_count c.args.counts.recovery_count
     c.args.counts.framed c.args.counts.supported in
     let rows : row_count c.args.counts.frame ≤ 2 ^ 16 = pow_mono f.few in
     omega (arith, rows, f.originals, c.loop-i-test.true)
 
 pub index_mut-requires : goal.index_mut-requires
 index_mut-requires c =
-    let f = is_frame_of c.args.counts.frame c.args.counts.original_count c.args.counts.recovery_count
+    let f = distinct_rows_of c.args.counts.frame c.args.counts.original_count c.args.counts.recovery_count
     c.args.counts.framed c.args.counts.supported in
     omega (arith, f.originals, c.loop-i-test.true)
 
 pub loop-i-preserved : goal.loop-i-preserved
 loop-i-preserved c =
-    let f = is_frame_of c.args.counts.frame c.args.counts.original_count c.args.counts.recovery_count
+    let f = distinct_rows_of c.args.counts.frame c.args.counts.original_count c.args.counts.recovery_count
     c.args.counts.framed c.args.counts.supported in
     let marks = c.loop-i.marks.items in
     let row = c.original_row.ensures in

@@ -3,31 +3,31 @@ use Rattle.std.specs.Prelude.{slice_index}
 use Rattle.rs_field.specs.code.Frame.{row_count}
 use Rattle.rs_rate.specs.Sums.{ListsMarked}
 use Rattle.rs_rate.specs.Decoding.{IsLocatorOf}
-use Rattle.rs_rate.proofs.ChangeLemmas.{is_frame_of}
+use Rattle.rs_rate.proofs.ChangeLemmas.{distinct_rows_of}
 use Rattle.rs_rate.proofs.SumLemmas.{written-back}
 use Rattle.rs_rate.proofs.passes.sums.SumBase.new.Goals as goal
 
 pub row_count-requires : goal.row_count-requires
 row_count-requires g c =
-    let f = is_frame_of c.args.counts.frame c.args.counts.original_count c.args.counts.recovery_count
+    let f = distinct_rows_of c.args.counts.frame c.args.counts.original_count c.args.counts.recovery_count
     c.args.counts.framed c.args.counts.supported in
     f.few
 
 pub row_count-requires-2 : goal.row_count-requires-2
 row_count-requires-2 g c =
-    let f = is_frame_of c.args.counts.frame c.args.counts.original_count c.args.counts.recovery_count
+    let f = distinct_rows_of c.args.counts.frame c.args.counts.original_count c.args.counts.recovery_count
     c.args.counts.framed c.args.counts.supported in
     f.few
 
 pub make_locator-requires-clause-few : goal.make_locator-requires-clause-few
 make_locator-requires-clause-few g c =
-    let f = is_frame_of c.args.counts.frame c.args.counts.original_count c.args.counts.recovery_count
+    let f = distinct_rows_of c.args.counts.frame c.args.counts.original_count c.args.counts.recovery_count
     c.args.counts.framed c.args.counts.supported in
     f.few
 
 pub locate_zero-requires-clause-few : goal.locate_zero-requires-clause-few
 locate_zero-requires-clause-few g c =
-    let f = is_frame_of c.args.counts.frame c.args.counts.original_count c.args.counts.recovery_count
+    let f = distinct_rows_of c.args.counts.frame c.args.counts.original_count c.args.counts.recovery_count
     c.args.counts.framed c.args.counts.supported in
     f.few
 
