@@ -9,7 +9,7 @@ ghost use Rattle.reed_solomon_simd.specs.Rooms.{shards_of};
 
 use rs_field::bytes::are_bytes;
 use rs_field::error::Error;
-use rs_rate::rate::DefaultRateCounts;
+use rs_rate::rate::{DefaultRateCounts, check_encoder_rows};
 
 /// Checks the originals of one message, and returns their size in bytes.
 ///
@@ -35,7 +35,7 @@ pub fn check_originals(counts: DefaultRateCounts, originals: &[&[u8]]) -> Result
         });
     }
     let shard_bytes = originals[0].len();
-    counts.check_encoder_rows(shard_bytes)?;
+    check_encoder_rows(counts, shard_bytes)?;
     for index in 0..originals.len() {
         check_original(original_count, shard_bytes, index, originals[index])?;
     }

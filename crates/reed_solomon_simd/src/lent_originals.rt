@@ -14,7 +14,7 @@ use crate::strip_encoder::encode_strips;
 use rs_field::bytes::are_bytes;
 use rs_field::engine::Engine;
 use rs_field::error::Error;
-use rs_rate::rate::DefaultRateCounts;
+use rs_rate::rate::{DefaultRateCounts, check_encoder_rows};
 use std::alloc::Global;
 
 /// The originals of one message, in order.
@@ -64,7 +64,7 @@ impl<'a> LentOriginals<'a> {
         ensures made { IfOk result (λ x. lent_state x
             ≡ fresh_encoder (default_of counts.original_count counts.recovery_count shard_bytes)) }
     {
-        counts.check_encoder_rows(shard_bytes)?;
+        check_encoder_rows(counts, shard_bytes)?;
         Ok(LentOriginals {
             counts,
             shard_bytes,

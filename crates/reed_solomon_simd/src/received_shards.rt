@@ -13,7 +13,7 @@ ghost use Rattle.reed_solomon_simd.specs.Received.{given_in};
 
 use rs_field::bytes::are_bytes;
 use rs_field::error::Error;
-use rs_rate::rate::DefaultRateCounts;
+use rs_rate::rate::{DefaultRateCounts, check_decoder_rows};
 use std::alloc::Global;
 
 /// Received shards of one kind: originals or recovery shards.
@@ -96,7 +96,7 @@ impl<'a> ReceivedShards<'a> {
             (λ x. received_state x
             ≡ fresh_decoder (default_of counts.original_count counts.recovery_count shard_bytes)) }
     {
-        counts.check_decoder_rows(shard_bytes)?;
+        check_decoder_rows(counts, shard_bytes)?;
         Ok(ReceivedShards {
             counts,
             shard_bytes,

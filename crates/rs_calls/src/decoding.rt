@@ -27,7 +27,7 @@ use reed_solomon_simd::rooms::check_rooms;
 use rs_field::bytes::are_bytes;
 use rs_field::engine::Engine;
 use rs_field::error::Error;
-use rs_rate::rate::DefaultRateCounts;
+use rs_rate::rate::{DefaultRateCounts, check_decoder_rows};
 use std::alloc::Global;
 
 /// Restores the originals whose mark is 0, and writes each of them into its place in the buffer `originals`. `marks`
@@ -68,7 +68,7 @@ pub fn decode_buffer<E: Engine>(
     if count_marked(recovery_marks) == 0 {
         return Ok(check_all_marked(original_marks)?);
     }
-    counts.check_decoder_rows(shard_bytes)?;
+    check_decoder_rows(counts, shard_bytes)?;
     restore_marked(
         alloc,
         engine,

@@ -16,7 +16,7 @@ use reed_solomon_simd::strip_encoder::encode_strips;
 use reed_solomon_simd::{Error, encode_into};
 use rs_field::bytes::are_bytes;
 use rs_field::engine::Engine;
-use rs_rate::rate::DefaultRateCounts;
+use rs_rate::rate::{DefaultRateCounts, check_encoder_rows};
 use std::alloc::Global;
 
 /// Encodes the originals in a buffer, and writes their recovery shards into the buffer `recovery`, one after the other.
@@ -45,7 +45,7 @@ pub fn encode_buffer<E: Engine>(
     let counts = DefaultRateCounts::new(original_count, recovery_count)?;
     check_length(0, original_count, shard_bytes, originals.len())?;
     check_length(1, recovery_count, shard_bytes, recovery.len())?;
-    counts.check_encoder_rows(shard_bytes)?;
+    check_encoder_rows(counts, shard_bytes)?;
     are_bytes(originals);
     write_recovery(alloc, engine, counts, shard_bytes, originals, recovery)?;
     Ok(())

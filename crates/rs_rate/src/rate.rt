@@ -7,5 +7,6 @@ pub use crate::objects::{giving, names, originals_alone, rounds};
 pub use crate::passes::{changes, sums};
 pub use crate::rows::decoder_work::DecoderWork;
 pub use crate::rows::encoder_work::EncoderWork;
+pub use crate::values::configuration::{check_decoder_rows, check_encoder_rows};
 pub use crate::values::frames::are_sums_cheaper;
 pub use crate::values::supported_counts::{DefaultRateCounts, HighRateCounts, LowRateCounts};

@@ -107,38 +107,42 @@ impl Configuration {
     }
 }
 
-impl<C: RateMarker> SupportedCounts<C> {
-    /// Checks a shard size for an encoder of these counts, without allocating anything.
-    ///
-    /// # Errors
-    ///
-    /// - [`Error::InvalidShardSize`] if `shard_bytes` is zero or odd.
-    /// - [`Error::OutOfMemory`] if the bytes of an encoder's rows exceed `usize::MAX`.
-    pub fn check_encoder_rows(self, shard_bytes: usize) -> Result<(), Error>
-        ensures { let c =
-            configuration C.rate self.original_count self.recovery_count shard_bytes in
-            result ≡ start_outcome (encoder_rows C.rate c.original_count c.recovery_count) c }
-    {
-        let rows = Configuration::new(self, shard_bytes)?.encoder_rows();
-        chunk_count(rows, shard_bytes)?;
-        Ok(())
-    }
+/// Checks a shard size for an encoder of these counts, without allocating anything.
+///
+/// # Errors
+///
+/// - [`Error::InvalidShardSize`] if `shard_bytes` is zero or odd.
+/// - [`Error::OutOfMemory`] if the bytes of an encoder's rows exceed `usize::MAX`.
+pub fn check_encoder_rows<C: RateMarker>(
+    counts: SupportedCounts<C>,
+    shard_bytes: usize,
+) -> Result<(), Error>
+    ensures { let c =
+        configuration C.rate counts.original_count counts.recovery_count shard_bytes in
+        result ≡ start_outcome (encoder_rows C.rate c.original_count c.recovery_count) c }
+{
+    let rows = Configuration::new(counts, shard_bytes)?.encoder_rows();
+    chunk_count(rows, shard_bytes)?;
+    Ok(())
+}
 
-    /// Checks a shard size for a decoder of these counts, without allocating anything.
-    ///
-    /// # Errors
-    ///
-    /// - [`Error::InvalidShardSize`] if `shard_bytes` is zero or odd.
-    /// - [`Error::OutOfMemory`] if the bytes of a decoder's rows exceed `usize::MAX`.
-    pub fn check_decoder_rows(self, shard_bytes: usize) -> Result<(), Error>
-        ensures { let c =
-            configuration C.rate self.original_count self.recovery_count shard_bytes in
-            result ≡ start_outcome (decoder_rows C.rate c.original_count c.recovery_count) c }
-    {
-        let configuration = Configuration::new(self, shard_bytes)?;
-        chunk_count(configuration.frame.row_count(), shard_bytes)?;
-        Ok(())
-    }
+/// Checks a shard size for a decoder of these counts, without allocating anything.
+///
+/// # Errors
+///
+/// - [`Error::InvalidShardSize`] if `shard_bytes` is zero or odd.
+/// - [`Error::OutOfMemory`] if the bytes of a decoder's rows exceed `usize::MAX`.
+pub fn check_decoder_rows<C: RateMarker>(
+    counts: SupportedCounts<C>,
+    shard_bytes: usize,
+) -> Result<(), Error>
+    ensures { let c =
+        configuration C.rate counts.original_count counts.recovery_count shard_bytes in
+        result ≡ start_outcome (decoder_rows C.rate c.original_count c.recovery_count) c }
+{
+    let configuration = Configuration::new(counts, shard_bytes)?;
+    chunk_count(configuration.frame.row_count(), shard_bytes)?;
+    Ok(())
 }
 
 // Returns the number of chunks of n rows, or fails with `OutOfMemory` if their size in bytes does not fit a `usize`.
