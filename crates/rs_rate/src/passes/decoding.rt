@@ -21,7 +21,7 @@ use crate::passes::direct::{Logarithms, MOST_ROWS, are_sums_used, mark_base, sum
 use crate::passes::restoring::restore_rows;
 use crate::rows::decoder_work::{DecoderMemory, DecoderRows};
 use crate::rows::marks::Marks;
-use crate::rows::shard_rows::{in_order_are_bytes, move_tail};
+use crate::rows::shard_rows::{move_tail, rows_are_bytes};
 use crate::values::configuration::{Configuration, Tally};
 use rs_field::bytes::are_words;
 use rs_field::engine::layout::row_len;
@@ -62,7 +62,7 @@ pub(crate) fn decode_rows<E: Engine>(
             recovery_received_count: rows.recovery_given,
         })
     };
-    in_order_are_bytes(
+    rows_are_bytes(
         rows.memory.chunks.as_slice(),
         tally.configuration.frame.row_count(),
         tally.configuration.shard_bytes,

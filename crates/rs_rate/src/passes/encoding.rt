@@ -12,7 +12,7 @@ ghost use Rattle.rs_rate.specs.ShardRows.{chunk_count, word_in};
 use crate::passes::high_encoding::code_high;
 use crate::passes::low_encoding::code_low;
 use crate::rows::encoder_work::EncoderRows;
-use crate::rows::shard_rows::{laid_out_are_bytes, move_tails};
+use crate::rows::shard_rows::{move_tails, rows_are_bytes};
 use crate::values::configuration::Configuration;
 use rs_field::engine::layout::row_len;
 use rs_field::engine::{Engine, ShardsRefMut, Steps};
@@ -34,7 +34,7 @@ pub(crate) fn encode_rows<E: Engine>(engine: &E, steps: &mut Steps, rows: &mut E
     rows.originals_given = 0;
     let chunks = rows.chunks.as_mut_slice();
     code_chunks(engine, steps, chunks, configuration);
-    laid_out_are_bytes(chunks, recovery_count, configuration.shard_bytes);
+    rows_are_bytes(chunks, recovery_count, configuration.shard_bytes);
     move_tails(steps, chunks, recovery_count, configuration.shard_bytes);
 }
 

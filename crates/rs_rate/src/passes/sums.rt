@@ -15,7 +15,7 @@ ghost use Rattle.rs_rate.specs.Sums.{AreMarksOf, ListsMarked, sum_word};
 
 use crate::passes::decoding::make_locator;
 use crate::passes::direct::Logarithms;
-use crate::rows::shard_rows::{in_order_are_bytes, insert_at, move_tail, shard_at};
+use crate::rows::shard_rows::{insert_at, move_tail, rows_are_bytes, shard_at};
 use crate::values::supported_counts::DefaultRateCounts;
 use rs_field::engine::{Engine, GfElement, Steps};
 use rs_field::error::Error;
@@ -201,7 +201,7 @@ pub fn finish_sum(sum: &mut [[u8; 64]], piece_len: usize)
     ensures bytes { IsShard piece_len (shard_in_order sum.new piece_len 0) }
 {
     move_tail(sum, 0, piece_len);
-    in_order_are_bytes(sum, 1, piece_len);
+    rows_are_bytes(sum, 1, piece_len);
 }
 
 /// Lends the bytes of a sum of pieces that was finished by [`finish_sum`].

@@ -69,18 +69,14 @@ pub(crate) fn move_tail(chunks: &mut [[u8; 64]], index: usize, shard_bytes: usiz
     undo_last_chunk_encoding(&mut chunks[start..start + len], shard_bytes);
 }
 
-// Proves that the shards in rows consist of bytes. When the program runs, the function does nothing.
-pub(crate) fn laid_out_are_bytes(chunks: &[[u8; 64]], count: usize, shard_bytes: usize)
+// Proves that the shards in rows consist of bytes, before and after their tails are moved. When the program runs, the
+// function does nothing.
+pub(crate) fn rows_are_bytes(chunks: &[[u8; 64]], count: usize, shard_bytes: usize)
     requires room { chunk_count count shard_bytes ≤ length chunks.now }
-    ensures { (i : ℕ) → i < count → IsShard shard_bytes (shard_laid_out chunks.now shard_bytes i) }
-{
-    are_bytes(chunks.as_flattened());
-}
-
-// Proves that shards whose tails were moved consist of bytes. When the program runs, the function does nothing.
-pub(crate) fn in_order_are_bytes(chunks: &[[u8; 64]], count: usize, shard_bytes: usize)
-    requires room { chunk_count count shard_bytes ≤ length chunks.now }
-    ensures { (i : ℕ) → i < count → IsShard shard_bytes (shard_in_order chunks.now shard_bytes i) }
+    ensures laid_out { (i : ℕ) → i < count
+        → IsShard shard_bytes (shard_laid_out chunks.now shard_bytes i) }
+    ensures in_order { (i : ℕ) → i < count
+        → IsShard shard_bytes (shard_in_order chunks.now shard_bytes i) }
 {
     are_bytes(chunks.as_flattened());
 }

@@ -109,7 +109,7 @@ returns-clause-answer g c = λ rate is.
             restores = made;
             marked = missing.missing;
             sized = λ i inside.
-                rw (tally.configuration, c.as_slice.ensures.value) at (c.in_order_are_bytes.ensures
+                rw (tally.configuration, c.as_slice.ensures.value) at (c.rows_are_bytes.ensures.in_order
                 (original_row own.frame i) (omega (arith, inside, rows, old.configured.own_rows)));
           })
     ] in

@@ -15,8 +15,8 @@ use Rattle.rs_rate.proofs.Coded.{are_recovery, words-read}
 use Rattle.rs_rate.proofs.EncodeCounting.{counts_both, tails_within}
 use Rattle.rs_rate.proofs.passes.encoding.encode_rows.Goals as goal
 
-pub laid_out_are_bytes-requires : goal.laid_out_are_bytes-requires
-laid_out_are_bytes-requires g c =
+pub rows_are_bytes-requires : goal.rows_are_bytes-requires
+rows_are_bytes-requires g c =
     let w = c.args.rows.now in
     let rise = chunk_count-more w.configuration.recovery_count (rows_to_encode w.configuration)
     w.configuration.shard_bytes
@@ -42,7 +42,7 @@ returns-clause-recovery g c =
     are_recovery (configuration_at rate w.configuration) (shard_laid_out before size)
     (shard_in_order c.move_tails.new.chunks size)
     (λ i few. subst (λ s. IsShard size s) (sym (c.move_tails.ensures.moved i (omega arith)))
-    (c.laid_out_are_bytes.ensures i few))
+    (c.rows_are_bytes.ensures.laid_out i few))
     (λ j inside.
     let read = λ (xs : Chunks) (i : ℕ). column-put xs size i j w.configured.even inside in
     words-read rate own.original_count own.recovery_count

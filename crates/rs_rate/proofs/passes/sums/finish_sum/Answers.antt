@@ -6,8 +6,8 @@ use Rattle.rs_rate.proofs.passes.sums.finish_sum.Goals as goal
 pub move_tail-requires-clause-room : goal.move_tail-requires-clause-room
 move_tail-requires-clause-room c = one_row c.args.piece_len _ c.requires.room
 
-pub in_order_are_bytes-requires : goal.in_order_are_bytes-requires
-in_order_are_bytes-requires c = record { room = one_row c.args.piece_len _ (omega (arith, c.requires.room)) }
+pub rows_are_bytes-requires : goal.rows_are_bytes-requires
+rows_are_bytes-requires c = record { room = one_row c.args.piece_len _ (omega (arith, c.requires.room)) }
 
 pub returns-clause-words : goal.returns-clause-words
 returns-clause-words c j inside =
