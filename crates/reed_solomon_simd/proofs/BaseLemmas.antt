@@ -26,8 +26,8 @@ use Rattle.rs_field.proofs.of_code.PieceStates.{is_some-map}
 use Rattle.rs_field.proofs.of_code.RateFrames.{distinct_rows}
 use Rattle.rs_field.proofs.of_code.RestoredBelow.{count-pieces}
 use Rattle.rs_field.proofs.of_words.Combination.{sum_below-same}
-use Rattle.rs_rate.specs.Sums.{AreMarksOf, ListsMarked}
-use Rattle.rs_rate.proofs.StateLemmas.{valid-supported}
+use Rattle.rs_rate.specs.passes.Sums.{AreMarksOf, ListsMarked}
+use Rattle.rs_rate.proofs.of_rows.StateLemmas.{valid-supported}
 use Rattle.reed_solomon_simd.specs.Base.{frame_in, shard_in_row, marked_part, marked_state, MarkBase, base_sum}
 
 -- ---- the shards in rows

@@ -12,8 +12,8 @@ use Rattle.rs_field.specs.code.Decoder.{DecoderState, IsDecoder, originals_given
 use Rattle.rs_field.specs.code.Frame.{row_count, original_row, recovery_row}
 use Rattle.rs_field.specs.rows.MarkedRows.{is_marked}
 use Rattle.rs_field.proofs.of_code.AnyShards.{given_at-own, given_at-coded}
-use Rattle.rs_rate.specs.Marks.{how_many}
-use Rattle.rs_rate.proofs.HowMany.{how_many-suc, how_many-same, count_below-many, many_in_frame}
+use Rattle.rs_rate.specs.rows.Marks.{how_many}
+use Rattle.rs_rate.proofs.of_rows.HowMany.{how_many-suc, how_many-same, count_below-many, many_in_frame}
 use Rattle.reed_solomon_simd.specs.Base.{frame_in, shard_in_row, marked_state}
 use Rattle.reed_solomon_simd.proofs.BaseLemmas.{decoder_frame, in_row-none, in_row-marked}
 

@@ -23,7 +23,7 @@ use Rattle.rs_field.proofs.of_code.AgreeingMessages.{sized-within}
 use Rattle.rs_field.proofs.of_code.AnyShards.{given_at-own, given_at-coded}
 use Rattle.rs_field.proofs.of_code.BaseShards.{agrees_with_part, summed_directly, consistent_by_base}
 use Rattle.rs_field.proofs.of_code.Columns.{shard_from_columns, shard_in}
-use Rattle.rs_rate.proofs.StateLemmas.{valid-supported}
+use Rattle.rs_rate.proofs.of_rows.StateLemmas.{valid-supported}
 use Rattle.reed_solomon_simd.specs.declared.shard_index.ShardIndex.{ShardIndex}
 use Rattle.reed_solomon_simd.specs.declared.shard_index.ShardIndex.TheVariants.{Original, Recovery}
 use Rattle.reed_solomon_simd.specs.Base.{frame_in, row_of, shard_in_row, marked_part, marked_state, MarkBase}

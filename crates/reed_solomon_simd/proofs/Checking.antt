@@ -14,10 +14,10 @@ use Rattle.rs_field.specs.code.Encoder.{EncoderState, fresh_encoder, with_shard,
 use Rattle.rs_field.specs.code.OneCall.{default_of, with_shards, OneEncodeAnswers}
 use Rattle.rs_field.specs.code.Outcome.{answer_of}
 use Rattle.rs_field.specs.code.Frame.{encoder_rows}
-use Rattle.rs_rate.specs.Giving.{IsEncoding}
-use Rattle.rs_rate.proofs.Giving.{adds-ok, adds-err, outcome-err}
-use Rattle.rs_rate.proofs.OneCall.{encoding-unset, encoding-given, encoding-refused, encoding-answers}
-use Rattle.rs_rate.proofs.StateLemmas.{encode_answers-refused}
+use Rattle.rs_rate.specs.objects.Giving.{IsEncoding}
+use Rattle.rs_rate.proofs.of_objects.Giving.{adds-ok, adds-err, outcome-err}
+use Rattle.rs_rate.proofs.of_objects.OneCall.{encoding-unset, encoding-given, encoding-refused, encoding-answers}
+use Rattle.rs_rate.proofs.of_rows.StateLemmas.{encode_answers-refused}
 use Rattle.reed_solomon_simd.proofs.ObjectRoundTrip.{takes-all}
 use Rattle.reed_solomon_simd.proofs.Gathering.{has-made, encoded-all}
 use Rattle.reed_solomon_simd.proofs.SetUp.{started-parts}

@@ -23,7 +23,7 @@ use Rattle.rs_field.proofs.of_code.ListedMaps.{listed-all, listed-changed}
 use Rattle.rs_field.proofs.of_code.PieceStates.{shard_at-pieces, shards-cut}
 use Rattle.rs_field.proofs.of_code.RestoredBelow.{count-pieces}
 use Rattle.rs_field.proofs.of_code.Unique.{recovery_unique}
-use Rattle.rs_rate.proofs.StateLemmas.{valid-supported}
+use Rattle.rs_rate.proofs.of_rows.StateLemmas.{valid-supported}
 use Rattle.reed_solomon_simd.proofs.ConsistentStrips.{even-strip, few-originals}
 
 -- If a map has a shard at each of n indexes, the list of these shards has each of them at its place.

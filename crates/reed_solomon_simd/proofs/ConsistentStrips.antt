@@ -10,7 +10,7 @@ use Rattle.rs_field.proofs.of_code.AnyShards.{any_consistent}
 use Rattle.rs_field.proofs.of_code.PieceStates.{AreConsistentBelow, agrees-cut}
 use Rattle.rs_field.proofs.of_code.RestoredBelow.{all-consistent}
 use Rattle.rs_field.proofs.of_code.SupportedCounts.{default_fits}
-use Rattle.rs_rate.proofs.StateLemmas.{valid-supported}
+use Rattle.rs_rate.proofs.of_rows.StateLemmas.{valid-supported}
 use Rattle.reed_solomon_simd.proofs.SetUp.{valid-even}
 
 -- Each column of the first bytes is in a strip whose pieces are consistent.

@@ -1,10 +1,10 @@
-pub use Rattle.rs_rate.proofs.DecoderRows
-pub use Rattle.rs_rate.proofs.PowerLemmas
-pub use Rattle.rs_rate.proofs.ShardRowsLemmas
-pub use Rattle.rs_rate.proofs.StateLemmas
+pub use Rattle.rs_rate.proofs.of_rows.DecoderRows
+pub use Rattle.rs_rate.proofs.of_values.PowerLemmas
+pub use Rattle.rs_rate.proofs.of_rows.ShardRowsLemmas
+pub use Rattle.rs_rate.proofs.of_rows.StateLemmas
 pub mod ObjectLaws
-pub use Rattle.rs_rate.proofs.Giving
-pub use Rattle.rs_rate.proofs.OneCall
+pub use Rattle.rs_rate.proofs.of_objects.Giving
+pub use Rattle.rs_rate.proofs.of_objects.OneCall
 pub mod Collecting
 pub mod ReceivedLemmas
 pub mod StripDecodeLemmas

@@ -12,7 +12,7 @@ use Rattle.rs_field.specs.code.Given.{Shards, count_below, items_at, items_below
 use Rattle.rs_field.specs.code.PieceStates.{shards_listed, HoldRestored}
 use Rattle.rs_field.proofs.of_code.Given.{count_below-zero, count_below-suc}
 use Rattle.rs_field.proofs.of_code.Listed.{items_from-zero, items_from-more}
-use Rattle.rs_rate.proofs.AddedShards.{none_of}
+use Rattle.rs_rate.proofs.of_rows.AddedShards.{none_of}
 use Rattle.reed_solomon_simd.specs.declared.shard_index.ShardIndex.{ShardIndex}
 use Rattle.reed_solomon_simd.specs.declared.shard_index.ShardIndex.TheVariants.{Original}
 use Rattle.reed_solomon_simd.specs.Reconstructed.{AreReconstructed, CanBeRebuilt, NamesMissing}

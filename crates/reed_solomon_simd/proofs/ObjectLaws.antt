@@ -5,9 +5,9 @@ use Rattle.rs_field.specs.code.Counts.{default_rate}
 use Rattle.rs_field.specs.code.Encoder.{IsEncoder}
 use Rattle.rs_field.specs.code.Decoder.{IsDecoder}
 use Rattle.rs_field.specs.code.Frame.{encoder_rows, decoder_rows}
-use Rattle.rs_rate.specs.DecoderRoom.{HasRoom}
-use Rattle.rs_rate.specs.ObjectLaws.{is_encoder, is_decoder, has_own_room, has_own_decoder_room}
-use Rattle.rs_rate.specs.ShardRows.{chunk_count}
+use Rattle.rs_rate.specs.rows.DecoderRoom.{HasRoom}
+use Rattle.rs_rate.specs.objects.ObjectLaws.{is_encoder, is_decoder, has_own_room, has_own_decoder_room}
+use Rattle.rs_rate.specs.values.ChunkCounts.{chunk_count}
 use Rattle.reed_solomon_simd.specs.declared.encoder.ReedSolomonEncoder.{ReedSolomonEncoder}
 use Rattle.reed_solomon_simd.specs.declared.decoder.ReedSolomonDecoder.{ReedSolomonDecoder}
 use Rattle.reed_solomon_simd.specs.EncoderObject.{state_of as encoder_state, room_of as encoder_room}

@@ -20,8 +20,8 @@ use Rattle.rs_field.specs.code.Given.{Shards, Lists}
 use Rattle.rs_field.specs.code.OneCall.{Items, with_shards, with_originals, with_recoveries}
 use Rattle.rs_field.specs.code.Outcome.{result_and_then}
 use Rattle.rs_field.specs.code.RoundTrip.{GivesBack}
-use Rattle.rs_rate.specs.Giving.{Reaches}
-use Rattle.rs_rate.proofs.Giving.{reached-err}
+use Rattle.rs_rate.specs.objects.Giving.{Reaches}
+use Rattle.rs_rate.proofs.of_objects.Giving.{reached-err}
 use Rattle.rs_field.proofs.of_code.Left.{kept_of, kept-left, just-lost, enough-left}
 use Rattle.rs_field.proofs.of_code.OneRoundTrip.{encoded_all, all_taken, taken_gives_back}
 

@@ -22,8 +22,8 @@ use Rattle.rs_field.proofs.of_code.Agreement.{one_message}
 use Rattle.rs_field.proofs.of_code.Pieces.{put-length, room-from, room-further, room-whole}
 use Rattle.rs_field.proofs.of_code.PieceStates.{shard_at-pieces, agrees-cut, recovery-cut}
 use Rattle.rs_field.proofs.of_code.Unique.{recovery_unique}
-use Rattle.rs_rate.proofs.DecoderRows.{enough-least}
-use Rattle.rs_rate.proofs.StateLemmas.{valid-supported}
+use Rattle.rs_rate.proofs.of_rows.DecoderRows.{enough-least}
+use Rattle.rs_rate.proofs.of_rows.StateLemmas.{valid-supported}
 use Rattle.reed_solomon_simd.specs.declared.shard_index.ShardIndex.{ShardIndex}
 use Rattle.reed_solomon_simd.specs.declared.shard_index.ShardIndex.TheVariants.{Original, Recovery}
 use Rattle.reed_solomon_simd.specs.Reconstructed.{AreReconstructed, CanBeRebuilt, lent_at}

@@ -5,8 +5,8 @@ use Rattle.rs_field.specs.code.Counts.{default_rate}
 use Rattle.rs_field.specs.code.Decoder.{DecoderState, IsDecoder, enough_given}
 use Rattle.rs_field.specs.code.PieceStates.{HoldRestored}
 use Rattle.rs_field.proofs.of_code.RestoredBelow.{IsRestoredBelow, restored-all}
-use Rattle.rs_rate.proofs.DecoderRows.{enough-least}
-use Rattle.rs_rate.proofs.StateLemmas.{valid-supported}
+use Rattle.rs_rate.proofs.of_rows.DecoderRows.{enough-least}
+use Rattle.rs_rate.proofs.of_rows.StateLemmas.{valid-supported}
 use Rattle.reed_solomon_simd.proofs.SetUp.{valid-even}
 
 -- After all strips are restored, the rooms hold the restored originals.

@@ -14,8 +14,8 @@ use Rattle.rs_field.specs.code.Configuration.{Configuration, start_outcome}
 use Rattle.rs_field.specs.code.Counts.{default_rate}
 use Rattle.rs_field.specs.code.OneCall.{Items, default_of, decode_opening, LacksMemory, OneDecodeAnswers}
 use Rattle.rs_field.specs.code.Frame.{decoder_rows}
-use Rattle.rs_rate.specs.Giving.{IsDecoding}
-use Rattle.rs_rate.proofs.OneCall.{decoding-led, decoding-answers, decoding-nothing, lists-none}
+use Rattle.rs_rate.specs.objects.Giving.{IsDecoding}
+use Rattle.rs_rate.proofs.of_objects.OneCall.{decoding-led, decoding-answers, decoding-nothing, lists-none}
 use Rattle.reed_solomon_simd.proofs.SetUp.{started-parts, started-of}
 use Rattle.rs_field.specs.code.Pieces.{ArePut}
 use Rattle.rs_field.specs.code.PieceStates.{HoldRestored, shards_listed}

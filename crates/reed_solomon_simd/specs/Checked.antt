@@ -5,7 +5,7 @@ use Rattle.rs_field.specs.code.Configuration.{start_outcome}
 use Rattle.rs_field.specs.code.Counts.{default_rate}
 use Rattle.rs_field.specs.code.OneCall.{default_of}
 use Rattle.rs_field.specs.code.Frame.{encoder_rows}
-use Rattle.rs_rate.specs.Giving.{IsEncoding}
+use Rattle.rs_rate.specs.objects.Giving.{IsEncoding}
 
 -- shards are k originals of this size, all of which can be added to an encoder
 pub record AreChecked (k r size : ℕ) (shards : List Shard) : Type 0 where

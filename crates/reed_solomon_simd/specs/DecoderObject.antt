@@ -5,9 +5,9 @@ use Rattle.std.specs.Borrow.{MutBor, Fml}
 use Rattle.rs_field.specs.code.Counts.{default_rate}
 use Rattle.rs_field.specs.code.Decoder.{DecoderState, after_decode}
 use Rattle.rs_engines.specs.declared.engine_default.DefaultEngine.{DefaultEngine}
-use Rattle.rs_rate.specs.DecoderRoom.{DecoderRoom, memory_room}
-use Rattle.rs_rate.specs.DecoderView.{decoder_state}
-use Rattle.rs_rate.specs.Loan.{AfterLoan}
+use Rattle.rs_rate.specs.rows.DecoderRoom.{DecoderRoom, memory_room}
+use Rattle.rs_rate.specs.rows.DecoderView.{decoder_state}
+use Rattle.rs_rate.specs.objects.Loan.{AfterLoan}
 use Rattle.reed_solomon_simd.specs.contracts.decoder.ReedSolomonDecoder.{the_row}
 use Rattle.reed_solomon_simd.specs.declared.decoder.ReedSolomonDecoder.{ReedSolomonDecoder}
 

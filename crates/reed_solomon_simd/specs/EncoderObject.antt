@@ -6,8 +6,8 @@ use Rattle.std.specs.Vec.{vec_capacity}
 use Rattle.rs_field.specs.code.Counts.{default_rate}
 use Rattle.rs_field.specs.code.Encoder.{EncoderState, after_encode}
 use Rattle.rs_engines.specs.declared.engine_default.DefaultEngine.{DefaultEngine}
-use Rattle.rs_rate.specs.EncoderView.{encoder_state}
-use Rattle.rs_rate.specs.Loan.{AfterLoan}
+use Rattle.rs_rate.specs.rows.EncoderView.{encoder_state}
+use Rattle.rs_rate.specs.objects.Loan.{AfterLoan}
 use Rattle.reed_solomon_simd.specs.contracts.encoder.ReedSolomonEncoder.{the_row}
 use Rattle.reed_solomon_simd.specs.declared.encoder.ReedSolomonEncoder.{ReedSolomonEncoder}
 

@@ -22,12 +22,12 @@ pub use Rattle.rs_field.specs.code.Given
 pub use Rattle.rs_field.specs.code.Encoder
 pub use Rattle.rs_field.specs.code.Decoder
 pub use Rattle.rs_engines.specs.Kind
-pub use Rattle.rs_rate.specs.ShardRows
-pub use Rattle.rs_rate.specs.EncoderView
-pub use Rattle.rs_rate.specs.DecoderRoom
-pub use Rattle.rs_rate.specs.DecoderView
-pub use Rattle.rs_rate.specs.ResultView
-pub use Rattle.rs_rate.specs.Loan
+pub use Rattle.rs_rate.specs.rows.ShardRows
+pub use Rattle.rs_rate.specs.rows.EncoderView
+pub use Rattle.rs_rate.specs.rows.DecoderRoom
+pub use Rattle.rs_rate.specs.rows.DecoderView
+pub use Rattle.rs_rate.specs.objects.ResultView
+pub use Rattle.rs_rate.specs.objects.Loan
 pub mod Rooms
 pub mod Received
 pub mod ReceivedState
@@ -49,6 +49,6 @@ pub use Rattle.rs_field.specs.code.RoundTrip
 pub use Rattle.rs_field.specs.words.Laws
 pub use Rattle.rs_field.specs.code.CodeLaws
 pub use Rattle.rs_field.specs.code.CountLaws
-pub use Rattle.rs_rate.specs.Calls
-pub use Rattle.rs_rate.specs.Giving
+pub use Rattle.rs_rate.specs.objects.Calls
+pub use Rattle.rs_rate.specs.objects.Giving
 pub mod Base

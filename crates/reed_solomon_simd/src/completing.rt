@@ -3,7 +3,7 @@ ghost use Rattle.std.specs.Prelude.{◌≡◌, ◌⊎◌, map, Ok, Err, MatchRes
 ghost use Rattle.rs_field.specs.code.Given.{with_entry};
 ghost use Rattle.rs_field.specs.code.OneCall.{one_by_one, shards_in, collected_shards};
 ghost use Rattle.rs_field.specs.code.Outcome.{answer_of};
-ghost use Rattle.rs_rate.specs.Giving.{Reaches};
+ghost use Rattle.rs_rate.specs.objects.Giving.{Reaches};
 ghost use Rattle.reed_solomon_simd.specs.Messages.{enter_outcome, whole_outcome, HasInOrder};
 ghost use Rattle.reed_solomon_simd.specs.Messages.{AreBelow, IsPast, Completes};
 

@@ -7,8 +7,8 @@ ghost use Rattle.rs_field.specs.code.Decoder.{fresh_decoder, with_original, with
 ghost use Rattle.rs_field.specs.code.OneCall.{default_of};
 ghost use Rattle.rs_field.specs.code.Outcome.{answer_of, state_after};
 ghost use Rattle.rs_field.specs.code.Frame.{decoder_rows};
-ghost use Rattle.rs_rate.specs.DecoderRoom.{HasRoom, Grows};
-ghost use Rattle.rs_rate.specs.ResultView.{answered_originals};
+ghost use Rattle.rs_rate.specs.rows.DecoderRoom.{HasRoom, Grows};
+ghost use Rattle.rs_rate.specs.objects.ResultView.{answered_originals};
 
 use crate::engine::{DefaultEngine, Steps};
 use crate::rate::{DefaultRateDecoder, RateDecoder};

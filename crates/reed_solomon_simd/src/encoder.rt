@@ -7,8 +7,8 @@ ghost use Rattle.rs_field.specs.code.Encoder.{fresh_encoder, with_shard, EncodeA
 ghost use Rattle.rs_field.specs.code.OneCall.{default_of};
 ghost use Rattle.rs_field.specs.code.Outcome.{answer_of, state_after};
 ghost use Rattle.rs_field.specs.code.Frame.{encoder_rows};
-ghost use Rattle.rs_rate.specs.ResultView.{answered_shards};
-ghost use Rattle.rs_rate.specs.ShardRows.{chunk_count};
+ghost use Rattle.rs_rate.specs.objects.ResultView.{answered_shards};
+ghost use Rattle.rs_rate.specs.values.ChunkCounts.{chunk_count};
 
 use crate::engine::{DefaultEngine, Steps};
 use crate::rate::{DefaultRateEncoder, RateEncoder};

@@ -43,8 +43,8 @@ impl<'a> LentOriginals<'a> {
     ghost use Rattle.rs_field.specs.code.OneCall.{with_shards, collected_shards};
     ghost use Rattle.rs_field.specs.code.Outcome.{answer_of, state_after};
     ghost use Rattle.rs_field.specs.code.Pieces.{room_length};
-    ghost use Rattle.rs_rate.specs.Calls.{Calls, BeginsWith};
-    ghost use Rattle.rs_rate.specs.Giving.{Reaches, IsEncoding};
+    ghost use Rattle.rs_rate.specs.objects.Calls.{Calls, BeginsWith};
+    ghost use Rattle.rs_rate.specs.objects.Giving.{Reaches, IsEncoding};
     ghost use Rattle.reed_solomon_simd.specs.LentState.{lent_state};
 
     // Makes a list without originals, for these counts and this size. Fails with `InvalidShardSize`, and then with

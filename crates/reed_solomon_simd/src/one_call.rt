@@ -6,7 +6,7 @@ ghost use Rattle.rs_field.specs.code.OneCall.{Items, Lends, LendsItems, counts_o
 ghost use Rattle.rs_field.specs.code.OneCall.{collected_shards, collected_map, OneEncodeAnswers};
 ghost use Rattle.rs_field.specs.code.OneCall.{OneDecodeAnswers};
 ghost use Rattle.rs_field.specs.code.RoundTrip.{AreCoded};
-ghost use Rattle.rs_rate.specs.Calls.{Calls, BeginsWith, BeginsWithItems};
+ghost use Rattle.rs_rate.specs.objects.Calls.{Calls, BeginsWith, BeginsWithItems};
 
 use crate::lent_originals::LentOriginals;
 use crate::receiving::received_shards;

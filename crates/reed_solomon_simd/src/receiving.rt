@@ -4,8 +4,8 @@ ghost use Rattle.std.specs.Iterator.{IsFinite};
 ghost use Rattle.std.specs.Option.{option_map};
 ghost use Rattle.std.specs.Result.{result_map_both};
 ghost use Rattle.rs_field.specs.code.OneCall.{Items, with_originals, with_recoveries};
-ghost use Rattle.rs_rate.specs.Calls.{Calls, BeginsWithItems};
-ghost use Rattle.rs_rate.specs.Giving.{Reaches, IsDecoding};
+ghost use Rattle.rs_rate.specs.objects.Calls.{Calls, BeginsWithItems};
+ghost use Rattle.rs_rate.specs.objects.Giving.{Reaches, IsDecoding};
 ghost use Rattle.reed_solomon_simd.specs.ReceivedState.{received_state};
 ghost use Rattle.reed_solomon_simd.specs.Verified.{IsReceiving, first_size, received_size};
 

@@ -10,9 +10,9 @@ ghost use Rattle.rs_field.specs.code.Given.{AreAmong, items_below};
 ghost use Rattle.rs_field.specs.code.OneCall.{with_shards};
 ghost use Rattle.rs_field.specs.code.Pieces.{IsStrip};
 ghost use Rattle.rs_field.specs.code.PieceStates.{pieces_of, state_of_pieces, shards_listed};
-ghost use Rattle.rs_rate.specs.EncoderView.{encoder_state};
-ghost use Rattle.rs_rate.specs.Giving.{Reaches};
-ghost use Rattle.rs_rate.specs.ResultView.{recovery_shards};
+ghost use Rattle.rs_rate.specs.rows.EncoderView.{encoder_state};
+ghost use Rattle.rs_rate.specs.objects.Giving.{Reaches};
+ghost use Rattle.rs_rate.specs.objects.ResultView.{recovery_shards};
 
 use crate::pieces::Pieces;
 use crate::strip_encoder::STRIP_BYTES;

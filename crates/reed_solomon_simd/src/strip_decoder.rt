@@ -8,8 +8,8 @@ ghost use Rattle.rs_field.specs.code.Given.{Shards, Lists, nothing};
 ghost use Rattle.rs_field.specs.code.OneCall.{Items};
 ghost use Rattle.rs_field.specs.code.Pieces.{ArePut, IsStrip, room_length};
 ghost use Rattle.rs_field.specs.code.PieceStates.{pieces_of, state_of_pieces, shards_listed, HoldRestored};
-ghost use Rattle.rs_rate.specs.DecoderView.{decoder_state, restored_by_rows, restored_from};
-ghost use Rattle.rs_rate.specs.ResultView.{restored_originals};
+ghost use Rattle.rs_rate.specs.rows.DecoderView.{decoder_state, restored_by_rows, restored_from};
+ghost use Rattle.rs_rate.specs.objects.ResultView.{restored_originals};
 
 use crate::pieces::Pieces;
 use crate::rooms::Rooms;

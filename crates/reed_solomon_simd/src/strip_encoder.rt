@@ -8,9 +8,9 @@ ghost use Rattle.rs_field.specs.code.Counts.{default_rate};
 ghost use Rattle.rs_field.specs.code.Encoder.{fresh_encoder};
 ghost use Rattle.rs_field.specs.code.OneCall.{default_of, with_shards};
 ghost use Rattle.rs_field.specs.code.Pieces.{pieces, ArePut, room_length};
-ghost use Rattle.rs_rate.specs.EncoderView.{encoder_state};
-ghost use Rattle.rs_rate.specs.Giving.{Reaches};
-ghost use Rattle.rs_rate.specs.ResultView.{recovery_shards};
+ghost use Rattle.rs_rate.specs.rows.EncoderView.{encoder_state};
+ghost use Rattle.rs_rate.specs.objects.Giving.{Reaches};
+ghost use Rattle.rs_rate.specs.objects.ResultView.{recovery_shards};
 
 use crate::originals::Originals;
 use crate::rooms::Rooms;

@@ -11,10 +11,10 @@ ghost use Rattle.rs_field.specs.code.Encoder.{fresh_encoder};
 ghost use Rattle.rs_field.specs.code.OneCall.{with_shards};
 ghost use Rattle.rs_field.specs.code.Pieces.{IsStrip, ArePut, room_length};
 ghost use Rattle.rs_field.specs.code.PieceStates.{state_of_pieces};
-ghost use Rattle.rs_rate.specs.DecoderView.{decoder_state};
-ghost use Rattle.rs_rate.specs.EncoderView.{encoder_state, lent_shards};
-ghost use Rattle.rs_rate.specs.Giving.{Reaches};
-ghost use Rattle.rs_rate.specs.ResultView.{recovery_shards, restored_originals};
+ghost use Rattle.rs_rate.specs.rows.DecoderView.{decoder_state};
+ghost use Rattle.rs_rate.specs.rows.EncoderView.{encoder_state, lent_shards};
+ghost use Rattle.rs_rate.specs.objects.Giving.{Reaches};
+ghost use Rattle.rs_rate.specs.objects.ResultView.{recovery_shards, restored_originals};
 ghost use Rattle.reed_solomon_simd.specs.Reconstructed.{AreReconstructed, CanBeRebuilt, lent_at};
 ghost use Rattle.reed_solomon_simd.specs.ShardNames.{is_recovery};
 

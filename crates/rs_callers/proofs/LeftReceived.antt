@@ -36,7 +36,7 @@ use Rattle.reed_solomon_simd.specs.Verified.{received_size, receiving_outcome}
 use Rattle.reed_solomon_simd.proofs.Entries.{AreFree, entered_all, count-nothing, count-entered_all, among-entered_all}
 use Rattle.reed_solomon_simd.proofs.Given.{nothing_among}
 use Rattle.reed_solomon_simd.proofs.OneRoundTrip.{left_with, all_taken}
-use Rattle.rs_rate.proofs.StateLemmas.{valid-supported}
+use Rattle.rs_rate.proofs.of_rows.StateLemmas.{valid-supported}
 
 -- Success unless there are too few shards.
 abbrev pub unless_few : ℕ → ℕ → ℕ → Bool → Result (Unit {0}) Error

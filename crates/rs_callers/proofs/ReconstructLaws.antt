@@ -30,7 +30,7 @@ use Rattle.reed_solomon_simd.proofs.Left.{kept-left}
 use Rattle.reed_solomon_simd.proofs.SetUp.{valid-even}
 use Rattle.rs_field.proofs.of_code.SupportedCounts.{default_fits}
 use Rattle.rs_field.proofs.of_code.Unique.{recovery_unique}
-use Rattle.rs_rate.proofs.StateLemmas.{valid-supported}
+use Rattle.rs_rate.proofs.of_rows.StateLemmas.{valid-supported}
 use Rattle.rs_callers.specs.Losing.{is_lost, left_of, left_below, lost_at, ListsLost}
 use Rattle.rs_callers.proofs.LeftCount.{left-count}
 use Rattle.rs_callers.proofs.LostIndexes.{lost-wanted, lost-mapped, named_at}

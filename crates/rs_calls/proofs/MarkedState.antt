@@ -21,7 +21,7 @@ use Rattle.rs_field.specs.code.OneCall.{Items, default_of, one_by_one, with_orig
 use Rattle.rs_field.specs.code.Outcome.{result_and_then}
 use Rattle.rs_field.specs.code.Frame.{decoder_rows}
 use Rattle.rs_field.proofs.of_code.Given.{count_below-zero, count_below-suc}
-use Rattle.rs_rate.specs.Giving.{IsDecoding}
+use Rattle.rs_rate.specs.objects.Giving.{IsDecoding}
 use Rattle.reed_solomon_simd.proofs.SetUp.{started-parts}
 use Rattle.reed_solomon_simd.proofs.StripDecodeLemmas.{first, first-none, first-all, first-skipped, original-taken}
 use Rattle.reed_solomon_simd.proofs.StripDecodeLemmas.{recovery-taken}

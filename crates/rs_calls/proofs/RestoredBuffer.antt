@@ -17,8 +17,8 @@ use Rattle.rs_field.specs.code.PieceStates.{shards_listed, HoldRestored}
 use Rattle.rs_field.proofs.of_code.Listed.{items_from-zero, items_from-suc}
 use Rattle.rs_field.proofs.of_code.ListedMaps.{lists-same}
 use Rattle.rs_field.proofs.of_code.RestoredBelow.{missing-past}
-use Rattle.rs_rate.specs.Giving.{IsDecoding}
-use Rattle.rs_rate.proofs.OneCall.{decoding-refused}
+use Rattle.rs_rate.specs.objects.Giving.{IsDecoding}
+use Rattle.rs_rate.proofs.of_objects.OneCall.{decoding-refused}
 use Rattle.reed_solomon_simd.proofs.RestoringLemmas.{decoding-answered, decoding-few, decoding-none-agrees}
 use Rattle.reed_solomon_simd.proofs.RestoringLemmas.{decoding-restored}
 use Rattle.rs_calls.specs.Buffers.{lost_indexes, marked_shards, marked_map, marked_state, shard_place, with_restored}

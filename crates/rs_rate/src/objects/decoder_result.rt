@@ -2,7 +2,7 @@
 ghost use Rattle.std.specs.Prelude.{◌≡◌, length, Some, IfSome};
 ghost use Rattle.std.specs.Iterator.{YieldsFirstBy, item_count, at_most, UpTo};
 ghost use Rattle.std.specs.Iterator.SizeHint.{IsWithinCount};
-ghost use Rattle.rs_rate.specs.DecoderView.{restored_from};
+ghost use Rattle.rs_rate.specs.rows.DecoderView.{restored_from};
 
 use crate::rows::decoder_work::DecoderRows;
 use std::iter::FusedIterator;
@@ -19,8 +19,8 @@ pub struct DecoderResult<'a> {
 impl<'a> DecoderResult<'a> {
     ghost use Rattle.std.specs.Prelude.{◌^◌, ◌<◌, option_copied};
     ghost use Rattle.rs_field.specs.code.Given.{Lists};
-    ghost use Rattle.rs_rate.specs.DecoderView.{restored_by_rows};
-    ghost use Rattle.rs_rate.specs.ResultView.{restored_originals};
+    ghost use Rattle.rs_rate.specs.rows.DecoderView.{restored_by_rows};
+    ghost use Rattle.rs_rate.specs.objects.ResultView.{restored_originals};
 
     // Makes the result over the rows. `restored_count` is the number of restored originals in the rows.
     pub(crate) fn new(rows: &'a DecoderRows, restored_count: usize) -> DecoderResult<'a>
@@ -70,7 +70,7 @@ pub struct RestoredOriginal<'a> {
 impl<'a> Model for RestoredOriginal<'a> {
     ghost use Rattle.std.specs.Prelude.{◌≡◌, ℕ, List, length};
     ghost use Rattle.rs_field.specs.code.Column.{Shard};
-    ghost use Rattle.rs_rate.specs.DecoderView.{restored_from};
+    ghost use Rattle.rs_rate.specs.rows.DecoderView.{restored_from};
 
     ghost Value = { List (ℕ × Shard) };
 

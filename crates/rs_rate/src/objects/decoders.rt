@@ -1,6 +1,6 @@
 //! The decoders of the rates.
-ghost use Rattle.rs_rate.specs.DecoderRoom.{memory_room};
-ghost use Rattle.rs_rate.specs.DecoderView.{decoder_state};
+ghost use Rattle.rs_rate.specs.rows.DecoderRoom.{memory_room};
+ghost use Rattle.rs_rate.specs.rows.DecoderView.{decoder_state};
 
 use crate::objects::decoder_result::DecoderResult;
 use crate::objects::rates::RateOf;
@@ -24,7 +24,7 @@ pub type HighRateDecoder<E> = Decoder<E, HighRateMarker>;
 pub type DefaultRateDecoder<E> = Decoder<E, DefaultRateMarker>;
 
 impl<E: Engine, C: RateMarker> RateDecoder<E> for Decoder<E, C> {
-    ghost use Rattle.rs_rate.specs.ObjectLaws.{is_decoder, has_own_decoder_room};
+    ghost use Rattle.rs_rate.specs.objects.ObjectLaws.{is_decoder, has_own_decoder_room};
 
     type Rate = RateOf<E, C>;
 

@@ -16,8 +16,8 @@ pub struct EncoderResult<'a> {
 impl<'a> EncoderResult<'a> {
     ghost use Rattle.std.specs.Prelude.{◌≡◌, ◌^◌, ◌<◌, ◌≤◌, length, MatchOption};
     ghost use Rattle.rs_field.specs.code.Column.{shard_at};
-    ghost use Rattle.rs_rate.specs.EncoderView.{lent_shards};
-    ghost use Rattle.rs_rate.specs.ResultView.{recovery_shards};
+    ghost use Rattle.rs_rate.specs.rows.EncoderView.{lent_shards};
+    ghost use Rattle.rs_rate.specs.objects.ResultView.{recovery_shards};
 
     // Makes the result over the rows.
     pub(crate) fn new(rows: &'a EncoderRows) -> EncoderResult<'a>
@@ -60,7 +60,7 @@ pub struct Recovery<'a> {
 impl<'a> Model for Recovery<'a> {
     ghost use Rattle.std.specs.Prelude.{◌≤◌, List, drop};
     ghost use Rattle.rs_field.specs.code.Column.{Shard};
-    ghost use Rattle.rs_rate.specs.EncoderView.{lent_shards};
+    ghost use Rattle.rs_rate.specs.rows.EncoderView.{lent_shards};
 
     ghost Value = { List Shard };
 

@@ -1,6 +1,6 @@
 //! The encoders of the rates.
 ghost use Rattle.std.specs.Vec.{vec_capacity};
-ghost use Rattle.rs_rate.specs.EncoderView.{encoder_state};
+ghost use Rattle.rs_rate.specs.rows.EncoderView.{encoder_state};
 
 use crate::objects::encoder_result::EncoderResult;
 use crate::objects::rates::RateOf;
@@ -24,7 +24,7 @@ pub type HighRateEncoder<E> = Encoder<E, HighRateMarker>;
 pub type DefaultRateEncoder<E> = Encoder<E, DefaultRateMarker>;
 
 impl<E: Engine, C: RateMarker> RateEncoder<E> for Encoder<E, C> {
-    ghost use Rattle.rs_rate.specs.ObjectLaws.{is_encoder, has_own_room};
+    ghost use Rattle.rs_rate.specs.objects.ObjectLaws.{is_encoder, has_own_room};
 
     type Rate = RateOf<E, C>;
 

@@ -3,8 +3,8 @@ ghost use Rattle.std.specs.Prelude.{◌≡◌, List};
 ghost use Rattle.std.specs.Iterator.{IsFinite};
 ghost use Rattle.rs_field.specs.code.Column.{Shard};
 ghost use Rattle.rs_field.specs.code.OneCall.{Items, with_shards, with_originals, with_recoveries};
-ghost use Rattle.rs_rate.specs.Calls.{Calls, BeginsWith, BeginsWithItems};
-ghost use Rattle.rs_rate.specs.Giving.{Reaches};
+ghost use Rattle.rs_rate.specs.objects.Calls.{Calls, BeginsWith, BeginsWithItems};
+ghost use Rattle.rs_rate.specs.objects.Giving.{Reaches};
 
 use crate::objects::traits::{RateDecoder, RateEncoder};
 use rs_field::engine::Engine;

@@ -3,8 +3,8 @@ ghost use Rattle.std.specs.Prelude.{◌≡◌, ◌⊎◌, if◌then◌else◌, �
 ghost use Rattle.std.specs.Prelude.{slice_index_or, slice_set, Err, Ok, OnOk};
 ghost use Rattle.std.specs.Iterator.{IsFinite};
 ghost use Rattle.rs_field.specs.code.OneCall.{Items, one_by_one, note_outcome, originals_alone};
-ghost use Rattle.rs_rate.specs.Calls.{Calls, BeginsWithItems};
-ghost use Rattle.rs_rate.specs.Giving.{Reaches, AreNoted};
+ghost use Rattle.rs_rate.specs.objects.Calls.{Calls, BeginsWithItems};
+ghost use Rattle.rs_rate.specs.objects.Giving.{Reaches, AreNoted};
 
 use rs_field::error::Error;
 use std::alloc::Global;

@@ -1,5 +1,5 @@
 //! The part that encoders and decoders share: an object holds an engine, and rows for two counts and a shard size.
-ghost use Rattle.rs_rate.specs.SetUp.{IsSetUp};
+ghost use Rattle.rs_rate.specs.values.SetUp.{IsSetUp};
 
 use crate::rows::object_rows::ObjectRows;
 use crate::values::configuration::Configuration;
@@ -25,7 +25,7 @@ impl<E: Engine, C: RateMarker, R: ObjectRows + Drop> RateObject<E, C, R> {
     ghost use Rattle.std.specs.Prelude.{◌≡◌, ◌≢◌, Err, IfOk, OnOk, OnErr};
     ghost use Rattle.rs_field.specs.code.Configuration.{configuration, start_outcome, UpToMemory, FitsWithin};
     ghost use Rattle.rs_field.specs.code.Outcome.{answer_of};
-    ghost use Rattle.rs_rate.specs.Configured.{configuration_at};
+    ghost use Rattle.rs_rate.specs.values.Configured.{configuration_at};
 
     /// Makes an object with nothing added, for counts that its rate supports. If a `work` is passed, its memory is used.
     ///

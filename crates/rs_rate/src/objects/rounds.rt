@@ -5,9 +5,9 @@ ghost use Rattle.std.specs.Result.{result_map_both};
 ghost use Rattle.rs_field.specs.code.Bounds.{EncodeCountsAt, DecodeCountsAt};
 ghost use Rattle.rs_field.specs.code.Decoder.{DecodeAnswers, after_decode};
 ghost use Rattle.rs_field.specs.code.Encoder.{EncodeAnswers, after_encode};
-ghost use Rattle.rs_rate.specs.DecoderView.{restored_by_rows, restored_from};
-ghost use Rattle.rs_rate.specs.EncoderView.{lent_shards};
-ghost use Rattle.rs_rate.specs.ResultView.{recovery_shards, restored_originals};
+ghost use Rattle.rs_rate.specs.rows.DecoderView.{restored_by_rows, restored_from};
+ghost use Rattle.rs_rate.specs.rows.EncoderView.{lent_shards};
+ghost use Rattle.rs_rate.specs.objects.ResultView.{recovery_shards, restored_originals};
 
 use crate::objects::decoder_result::DecoderResult;
 use crate::objects::encoder_result::EncoderResult;

@@ -17,9 +17,9 @@ pub trait Rate<E: Engine>: Sized {
     ghost use Rattle.rs_field.specs.code.Configuration.{configuration, validation_outcome, start_outcome, UpToMemory};
     ghost use Rattle.rs_field.specs.code.Encoder.{fresh_encoder};
     ghost use Rattle.rs_field.specs.code.Decoder.{fresh_decoder};
-    ghost use Rattle.rs_rate.specs.ShardRows.{chunk_count};
-    ghost use Rattle.rs_rate.specs.EncoderView.{work_room};
-    ghost use Rattle.rs_rate.specs.DecoderRoom.{HasRoom, Grows, work_room as decoder_work_room};
+    ghost use Rattle.rs_rate.specs.values.ChunkCounts.{chunk_count};
+    ghost use Rattle.rs_rate.specs.rows.EncoderView.{work_room};
+    ghost use Rattle.rs_rate.specs.rows.DecoderRoom.{HasRoom, Grows, work_room as decoder_work_room};
 
     /// The encoder of the rate.
     type RateEncoder: RateEncoder<E, Rate = Self> + Drop;
@@ -163,10 +163,10 @@ pub trait RateEncoder<E: Engine>: Sized {
     ghost use Rattle.rs_field.specs.code.Configuration.{start_outcome, UpToMemory, FitsWithin};
     ghost use Rattle.rs_field.specs.code.Encoder.{EncoderState, IsEncoder, fresh_encoder};
     ghost use Rattle.rs_field.specs.code.Encoder.{with_shard, EncodeAnswers, after_encode};
-    ghost use Rattle.rs_rate.specs.ShardRows.{chunk_count};
-    ghost use Rattle.rs_rate.specs.EncoderView.{work_room};
-    ghost use Rattle.rs_rate.specs.ResultView.{answered_shards};
-    ghost use Rattle.rs_rate.specs.Loan.{AfterLoan};
+    ghost use Rattle.rs_rate.specs.values.ChunkCounts.{chunk_count};
+    ghost use Rattle.rs_rate.specs.rows.EncoderView.{work_room};
+    ghost use Rattle.rs_rate.specs.objects.ResultView.{answered_shards};
+    ghost use Rattle.rs_rate.specs.objects.Loan.{AfterLoan};
 
     /// The rate.
     type Rate;
@@ -325,9 +325,9 @@ pub trait RateDecoder<E: Engine>: Sized {
     ghost use Rattle.rs_field.specs.code.Decoder.{DecoderState, IsDecoder, fresh_decoder};
     ghost use Rattle.rs_field.specs.code.Decoder.{with_original, with_recovery, DecodeAnswers};
     ghost use Rattle.rs_field.specs.code.Decoder.{after_decode};
-    ghost use Rattle.rs_rate.specs.DecoderRoom.{DecoderRoom, HasRoom, Grows, work_room};
-    ghost use Rattle.rs_rate.specs.ResultView.{answered_originals};
-    ghost use Rattle.rs_rate.specs.Loan.{AfterLoan};
+    ghost use Rattle.rs_rate.specs.rows.DecoderRoom.{DecoderRoom, HasRoom, Grows, work_room};
+    ghost use Rattle.rs_rate.specs.objects.ResultView.{answered_originals};
+    ghost use Rattle.rs_rate.specs.objects.Loan.{AfterLoan};
 
     /// The rate.
     type Rate;

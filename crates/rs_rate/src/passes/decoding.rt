@@ -7,15 +7,17 @@ ghost use Rattle.rs_field.specs.code.Bounds.{DecodeCounts};
 ghost use Rattle.rs_field.specs.code.Counts.{Rate};
 ghost use Rattle.rs_field.specs.code.Decoder.{fresh_decoder, Restored, NoneAgrees};
 ghost use Rattle.rs_field.specs.rows.MarkedRows.{is_marked};
-ghost use Rattle.rs_rate.specs.DecoderRoom.{memory_room};
+ghost use Rattle.rs_rate.specs.rows.DecoderRoom.{memory_room};
 ghost use Rattle.rs_field.specs.code.Frame.{original_row, row_count};
-ghost use Rattle.rs_rate.specs.Configured.{configuration_at, IsConfigured, rows_to_decode};
-ghost use Rattle.rs_rate.specs.DecoderView.{decoder_state, restored_by_rows, restored_from};
-ghost use Rattle.rs_rate.specs.Decoding.{AreRowsOf, CanBeRestored, IsLocatorOf, restore_steps, FindsWords, RestoresShards};
+ghost use Rattle.rs_rate.specs.values.Configured.{configuration_at, IsConfigured, rows_to_decode};
+ghost use Rattle.rs_rate.specs.rows.DecoderView.{decoder_state, restored_by_rows, restored_from};
+ghost use Rattle.rs_rate.specs.passes.Decoding.{AreRowsOf, IsLocatorOf, restore_steps, FindsWords, RestoresShards};
+ghost use Rattle.rs_rate.specs.rows.Marks.{CanBeRestored};
 ghost use Rattle.rs_field.specs.rows.View.{word, SameExtent};
-ghost use Rattle.rs_rate.specs.Marks.{erasure, given_marks, restored_marks, mark_count, WantsMissing};
-ghost use Rattle.rs_rate.specs.SetUp.{IsSetUp};
-ghost use Rattle.rs_rate.specs.ShardRows.{chunk_count, shard_laid_out, shard_in_order};
+ghost use Rattle.rs_rate.specs.rows.Marks.{erasure, given_marks, restored_marks, mark_count, WantsMissing};
+ghost use Rattle.rs_rate.specs.values.SetUp.{IsSetUp};
+ghost use Rattle.rs_rate.specs.values.ChunkCounts.{chunk_count};
+ghost use Rattle.rs_rate.specs.rows.ShardRows.{shard_laid_out, shard_in_order};
 
 use crate::passes::direct::{Logarithms, MOST_ROWS, are_sums_used, mark_base, sum_rows};
 use crate::passes::restoring::restore_rows;
@@ -75,7 +77,7 @@ pub(crate) fn decode_rows<E: Engine>(
 // Restores the missing originals in their rows if some message agrees with all given shards, and returns whether one does. If
 // all originals and no recovery shards are given, there is nothing to restore. Afterwards the marks are those of restored
 // originals. `entries` is memory for the locator.
-#[tactic(auto, unfolding(crate::specs::ShardRows::chunk_count))]
+#[tactic(auto, unfolding(crate::specs::values::ChunkCounts::chunk_count))]
 fn restore<E: Engine>(
     engine: &E,
     steps: &mut Steps,

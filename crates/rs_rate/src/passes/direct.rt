@@ -14,10 +14,10 @@ ghost use Rattle.rs_field.specs.rows.View.{cell, word, Fits, SameExtent, SameRow
 ghost use Rattle.rs_field.specs.words.DirectSum.{direct_factor, direct_term, direct_sum};
 ghost use Rattle.rs_field.specs.words.Field.{log};
 ghost use Rattle.rs_field.specs.words.StepBounds.{CountsUpTo};
-ghost use Rattle.rs_rate.specs.Configured.{IsConfigured, rows_to_decode};
-ghost use Rattle.rs_rate.specs.Decoding.{AreRowsOf, is_outside, IsBaseOf, SumsWords};
-ghost use Rattle.rs_rate.specs.Marks.{how_many};
-ghost use Rattle.rs_rate.specs.Sums.{AreSumsCheaper};
+ghost use Rattle.rs_rate.specs.values.Configured.{IsConfigured, rows_to_decode};
+ghost use Rattle.rs_rate.specs.passes.Decoding.{AreRowsOf, is_outside, IsBaseOf, SumsWords};
+ghost use Rattle.rs_rate.specs.rows.Marks.{how_many};
+ghost use Rattle.rs_rate.specs.values.SumCosts.{AreSumsCheaper};
 
 use crate::values::configuration::{Configuration, Tally};
 use crate::values::frames::are_sums_cheaper;

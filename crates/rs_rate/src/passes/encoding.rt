@@ -4,10 +4,11 @@ ghost use Rattle.std.specs.Vec.{vec_capacity};
 ghost use Rattle.rs_field.specs.code.Bounds.{EncodeCountsAt};
 ghost use Rattle.rs_field.specs.code.Code.{AreRecovery};
 ghost use Rattle.rs_field.specs.rows.Layout.{row_len};
-ghost use Rattle.rs_rate.specs.Coding.{CodesWords, CodingCounts};
-ghost use Rattle.rs_rate.specs.Configured.{configuration_at, IsConfigured, rate_of, rows_to_encode};
-ghost use Rattle.rs_rate.specs.EncoderView.{given_originals, lent_shards};
-ghost use Rattle.rs_rate.specs.ShardRows.{chunk_count, word_in};
+ghost use Rattle.rs_rate.specs.passes.Coding.{CodesWords, CodingCounts};
+ghost use Rattle.rs_rate.specs.values.Configured.{configuration_at, IsConfigured, rate_of, rows_to_encode};
+ghost use Rattle.rs_rate.specs.rows.EncoderView.{given_originals, lent_shards};
+ghost use Rattle.rs_rate.specs.values.ChunkCounts.{chunk_count};
+ghost use Rattle.rs_rate.specs.rows.ShardRows.{word_in};
 
 use crate::passes::high_encoding::code_high;
 use crate::passes::low_encoding::code_low;
@@ -39,7 +40,7 @@ pub(crate) fn encode_rows<E: Engine>(engine: &E, steps: &mut Steps, rows: &mut E
 }
 
 // Computes the words of the recovery shards in all chunks, with the coding of the low or of the high rate.
-#[tactic(auto, unfolding(crate::specs::ShardRows::chunk_count))]
+#[tactic(auto, unfolding(crate::specs::values::ChunkCounts::chunk_count))]
 fn code_chunks<E: Engine>(
     engine: &E,
     steps: &mut Steps,

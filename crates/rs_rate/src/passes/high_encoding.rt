@@ -6,7 +6,7 @@ ghost use Rattle.rs_field.specs.code.Counts.{next_power, supports, high_rate};
 ghost use Rattle.rs_field.specs.code.Frame.{encoder_rows};
 ghost use Rattle.rs_field.specs.words.Transform.{forward};
 ghost use Rattle.rs_field.specs.rows.View.{word, Fits, SameExtent, SameRowsOutside};
-ghost use Rattle.rs_rate.specs.Coding.{SumsBlocks, CodesWords, CodingCounts, further_blocks};
+ghost use Rattle.rs_rate.specs.passes.Coding.{SumsBlocks, CodesWords, CodingCounts, further_blocks};
 
 use rs_field::engine::rows::clear_rows;
 use rs_field::engine::utils::xor_within;

@@ -6,7 +6,7 @@ ghost use Rattle.rs_field.specs.code.Counts.{low_rate, next_power, supports};
 ghost use Rattle.rs_field.specs.code.Frame.{encoder_rows};
 ghost use Rattle.rs_field.specs.words.Transform.{forward};
 ghost use Rattle.rs_field.specs.rows.View.{cell, word, Fits, SameExtent};
-ghost use Rattle.rs_rate.specs.Coding.{CodesWords, CodingCounts, further_blocks};
+ghost use Rattle.rs_rate.specs.passes.Coding.{CodesWords, CodingCounts, further_blocks};
 
 use rs_field::engine::rows::{clear_rows, copy_rows};
 use rs_field::engine::{Engine, ShardsRefMut, Steps};

@@ -13,11 +13,12 @@ ghost use Rattle.rs_field.specs.words.Field.{product, power};
 ghost use Rattle.rs_field.specs.rows.Layout.{row_len};
 ghost use Rattle.rs_field.specs.rows.View.{cell, word, Fits, SameExtent};
 ghost use Rattle.rs_field.specs.rows.MarkedRows.{is_marked};
-ghost use Rattle.rs_rate.specs.Decoding.{located_word, AreRowsOf, AreCoefficients, CanBeRestored};
-ghost use Rattle.rs_rate.specs.Decoding.{restore_steps, RestoresWords};
-ghost use Rattle.rs_rate.specs.Marks.{given_marks, restored_marks, mark_count, WantsMissing};
+ghost use Rattle.rs_rate.specs.passes.Decoding.{located_word, AreRowsOf, AreCoefficients};
+ghost use Rattle.rs_rate.specs.rows.Marks.{CanBeRestored};
+ghost use Rattle.rs_rate.specs.passes.Decoding.{restore_steps, RestoresWords};
+ghost use Rattle.rs_rate.specs.rows.Marks.{given_marks, restored_marks, mark_count, WantsMissing};
 ghost use Rattle.rs_field.specs.code.Frame.{original_row};
-ghost use Rattle.rs_rate.specs.Configured.{IsConfigured, rows_to_decode};
+ghost use Rattle.rs_rate.specs.values.Configured.{IsConfigured, rows_to_decode};
 
 use crate::rows::marks::Marks;
 use crate::values::configuration::{Configuration, Tally};

@@ -9,9 +9,9 @@ ghost use Rattle.rs_field.specs.code.Given.{Shards};
 ghost use Rattle.rs_field.specs.rows.Layout.{row_len};
 ghost use Rattle.rs_field.specs.words.DirectSum.{direct_factor};
 ghost use Rattle.rs_field.specs.words.Field.{product, power, log};
-ghost use Rattle.rs_rate.specs.Decoding.{IsLocatorOf};
-ghost use Rattle.rs_rate.specs.ShardRows.{shard_in_order};
-ghost use Rattle.rs_rate.specs.Sums.{AreMarksOf, ListsMarked, sum_word};
+ghost use Rattle.rs_rate.specs.passes.Decoding.{IsLocatorOf};
+ghost use Rattle.rs_rate.specs.rows.ShardRows.{shard_in_order};
+ghost use Rattle.rs_rate.specs.passes.Sums.{AreMarksOf, ListsMarked, sum_word};
 
 use crate::passes::decoding::make_locator;
 use crate::passes::direct::Logarithms;

@@ -8,11 +8,12 @@ ghost use Rattle.rs_field.specs.code.Outcome.{answer_of, state_after};
 ghost use Rattle.rs_field.specs.code.Configuration.{UpToMemory};
 ghost use Rattle.rs_field.specs.code.Decoder.{fresh_decoder, enough_given, with_original, with_recovery};
 ghost use Rattle.rs_field.specs.rows.MarkedRows.{is_marked};
-ghost use Rattle.rs_rate.specs.Configured.{IsConfigured, rows_to_decode};
-ghost use Rattle.rs_rate.specs.Entering.{given_rows, entry_outcome};
-ghost use Rattle.rs_rate.specs.ShardRows.{memory_outcome, chunk_count, shard_laid_out};
-ghost use Rattle.rs_rate.specs.Marks.{given_marks, mark_count, mark_room, AreSameMarks, HoldGiven};
-ghost use Rattle.rs_rate.specs.DecoderRoom.{IsLaidOut};
+ghost use Rattle.rs_rate.specs.values.Configured.{IsConfigured, rows_to_decode};
+ghost use Rattle.rs_rate.specs.rows.Entering.{given_rows, entry_outcome};
+ghost use Rattle.rs_rate.specs.values.ChunkCounts.{memory_outcome, chunk_count};
+ghost use Rattle.rs_rate.specs.rows.ShardRows.{shard_laid_out};
+ghost use Rattle.rs_rate.specs.rows.Marks.{given_marks, mark_count, mark_room, AreSameMarks, HoldGiven};
+ghost use Rattle.rs_rate.specs.rows.DecoderRoom.{IsLaidOut};
 
 use crate::rows::marks::Marks;
 use crate::rows::memory::{make_room, set_chunks, set_length};
@@ -59,7 +60,7 @@ pub struct DecoderRows {
 }
 
 impl DecoderWork {
-    ghost use Rattle.rs_rate.specs.DecoderRoom.{work_room};
+    ghost use Rattle.rs_rate.specs.rows.DecoderRoom.{work_room};
 
     /// Makes a work that holds no memory.
     pub fn new() -> DecoderWork
@@ -70,7 +71,7 @@ impl DecoderWork {
 }
 
 impl Default for DecoderWork {
-    ghost use Rattle.rs_rate.specs.DecoderRoom.{work_room};
+    ghost use Rattle.rs_rate.specs.rows.DecoderRoom.{work_room};
 
     ghost is_default = { λ work. work_room work ≡ record { chunks = 0; rows = 0; entries = 0 } };
 
@@ -80,7 +81,7 @@ impl Default for DecoderWork {
 }
 
 impl DecoderMemory {
-    ghost use Rattle.rs_rate.specs.DecoderRoom.{HasRoom, Grows, memory_room, decoder_chunks, work_room, IsLaidOut};
+    ghost use Rattle.rs_rate.specs.rows.DecoderRoom.{HasRoom, Grows, memory_room, decoder_chunks, work_room, IsLaidOut};
 
     // Returns the memory that another object passes on, if there is any.
     fn of(work: Option<DecoderWork>) -> Option<DecoderMemory>
@@ -248,9 +249,9 @@ impl ObjectRows for DecoderRows {
     ghost use Rattle.std.proofs.Common.{le_refl};
     ghost use Rattle.rs_field.specs.code.Decoder.{DecoderState};
     ghost use Rattle.rs_field.specs.code.Frame.{decoder_rows};
-    ghost use Rattle.rs_rate.specs.RowsLaws.{some_anyway, decoder_rows_set_up, room_within};
-    ghost use Rattle.rs_rate.specs.DecoderRoom.{DecoderRoom, HasRoom, Grows, memory_room, work_room};
-    ghost use Rattle.rs_rate.specs.DecoderView.{decoder_state};
+    ghost use Rattle.rs_rate.specs.rows.RowsLaws.{some_anyway, decoder_rows_set_up, room_within};
+    ghost use Rattle.rs_rate.specs.rows.DecoderRoom.{DecoderRoom, HasRoom, Grows, memory_room, work_room};
+    ghost use Rattle.rs_rate.specs.rows.DecoderView.{decoder_state};
 
     type Work = Option<DecoderWork>;
 
@@ -317,9 +318,9 @@ impl ObjectRows for DecoderRows {
 }
 
 impl DecoderRows {
-    ghost use Rattle.rs_rate.specs.DecoderRoom.{memory_room};
-    ghost use Rattle.rs_rate.specs.DecoderView.{decoder_state, restored_by_rows, restored_from};
-    ghost use Rattle.rs_rate.specs.Decoding.{CanBeRestored};
+    ghost use Rattle.rs_rate.specs.rows.DecoderRoom.{memory_room};
+    ghost use Rattle.rs_rate.specs.rows.DecoderView.{decoder_state, restored_by_rows, restored_from};
+    ghost use Rattle.rs_rate.specs.rows.Marks.{CanBeRestored};
 
     // Adds an original: copies it into its row and marks the row. Fails with `InvalidOriginalShardIndex`, then with
     // `DuplicateOriginalShardIndex`, then with `DifferentShardSize`.

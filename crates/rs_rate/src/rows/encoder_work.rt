@@ -5,8 +5,9 @@ ghost use Rattle.rs_field.specs.code.Column.{IsShard};
 ghost use Rattle.rs_field.specs.code.Counts.{Rate};
 ghost use Rattle.rs_field.specs.code.Outcome.{answer_of, state_after};
 ghost use Rattle.rs_field.specs.code.Encoder.{fresh_encoder, with_shard, message_of};
-ghost use Rattle.rs_rate.specs.Configured.{IsConfigured, rows_to_encode};
-ghost use Rattle.rs_rate.specs.ShardRows.{chunk_count, shard_laid_out, shard_in_order};
+ghost use Rattle.rs_rate.specs.values.Configured.{IsConfigured, rows_to_encode};
+ghost use Rattle.rs_rate.specs.values.ChunkCounts.{chunk_count};
+ghost use Rattle.rs_rate.specs.rows.ShardRows.{shard_laid_out, shard_in_order};
 
 use crate::rows::memory::{make_room, set_chunks, vec_of};
 use crate::rows::object_rows::ObjectRows;
@@ -45,7 +46,7 @@ pub struct EncoderRows {
 }
 
 impl EncoderWork {
-    ghost use Rattle.rs_rate.specs.EncoderView.{work_room};
+    ghost use Rattle.rs_rate.specs.rows.EncoderView.{work_room};
 
     /// Makes a work that holds no memory.
     pub fn new() -> EncoderWork
@@ -56,7 +57,7 @@ impl EncoderWork {
 }
 
 impl Default for EncoderWork {
-    ghost use Rattle.rs_rate.specs.EncoderView.{work_room};
+    ghost use Rattle.rs_rate.specs.rows.EncoderView.{work_room};
 
     ghost is_default = { λ work. work_room work ≡ 0 };
 
@@ -69,8 +70,8 @@ impl ObjectRows for EncoderRows {
     ghost use Rattle.std.proofs.Common.{le_refl, refl};
     ghost use Rattle.rs_field.specs.code.Encoder.{EncoderState};
     ghost use Rattle.rs_field.specs.code.Frame.{encoder_rows};
-    ghost use Rattle.rs_rate.specs.RowsLaws.{some_anyway, encoder_rows_set_up, chunks_within};
-    ghost use Rattle.rs_rate.specs.EncoderView.{encoder_state, work_room};
+    ghost use Rattle.rs_rate.specs.rows.RowsLaws.{some_anyway, encoder_rows_set_up, chunks_within};
+    ghost use Rattle.rs_rate.specs.rows.EncoderView.{encoder_state, work_room};
 
     type Work = Option<EncoderWork>;
 
@@ -137,7 +138,7 @@ impl ObjectRows for EncoderRows {
 }
 
 impl EncoderRows {
-    ghost use Rattle.rs_rate.specs.EncoderView.{encoder_state};
+    ghost use Rattle.rs_rate.specs.rows.EncoderView.{encoder_state};
 
     // Adds the next original. Fails with `TooManyOriginalShards` if all originals were added, and then with
     // `DifferentShardSize` if the shard has another size.

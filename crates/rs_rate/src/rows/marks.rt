@@ -2,7 +2,8 @@
 //! which rows hold restored originals.
 ghost use Rattle.std.specs.Prelude.{◌≡◌, ◌≢◌, ℕ, ◌^◌, ◌<◌, ◌≤◌, ◌⊎◌, not, true, false, length, IfOk, IfErr, OnOk};
 ghost use Rattle.rs_field.specs.rows.MarkedRows.{is_marked};
-ghost use Rattle.rs_rate.specs.Marks.{given_marks, restored_marks, mark_count, mark_room, AreSameMarks, WantsMissing};
+ghost use Rattle.rs_rate.specs.rows.Marks.{given_marks, restored_marks, mark_count, mark_room, AreSameMarks};
+ghost use Rattle.rs_rate.specs.rows.Marks.{WantsMissing};
 ghost use Rattle.rs_field.specs.code.Frame.{original_row};
 
 use crate::rows::memory::{make_room, set_length};

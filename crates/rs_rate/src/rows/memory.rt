@@ -1,7 +1,7 @@
 //! Growth of vectors: room is made before anything changes.
 ghost use Rattle.std.specs.Prelude.{◌≡◌, ℕ, ◌<◌, ◌≤◌, vec_len, slice_index_or, IfErr, OnOk};
 ghost use Rattle.std.specs.Vec.{vec_capacity};
-ghost use Rattle.rs_rate.specs.Memory.{room_of};
+ghost use Rattle.rs_rate.specs.rows.Memory.{room_of};
 
 use rs_field::error::Error;
 use std::alloc::Global;

@@ -1,5 +1,5 @@
 //! What the rows of encoders and the rows of decoders have in common.
-ghost use Rattle.rs_rate.specs.SetUp.{IsSetUp};
+ghost use Rattle.rs_rate.specs.values.SetUp.{IsSetUp};
 
 use crate::values::configuration::Configuration;
 use rs_field::error::Error;
@@ -12,9 +12,9 @@ pub trait ObjectRows: Sized {
     ghost use Rattle.rs_field.specs.code.Counts.{Rate};
     ghost use Rattle.rs_field.specs.code.Outcome.{answer_of};
     ghost use Rattle.rs_rate.specs.declared.values.configuration.Configuration.{Configuration};
-    ghost use Rattle.rs_rate.specs.Configured.{configuration_at, IsConfigured};
-    ghost use Rattle.rs_rate.specs.SetUp.{Answer, rows_of, set_up_outcome};
-    ghost use Rattle.rs_rate.specs.ShardRows.{chunk_count};
+    ghost use Rattle.rs_rate.specs.values.Configured.{configuration_at, IsConfigured};
+    ghost use Rattle.rs_rate.specs.values.SetUp.{Answer, rows_of, set_up_outcome};
+    ghost use Rattle.rs_rate.specs.values.ChunkCounts.{chunk_count};
 
     /// The memory of an earlier object, if there is one.
     type Work: Drop;

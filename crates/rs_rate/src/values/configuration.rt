@@ -2,9 +2,9 @@
 ghost use Rattle.std.specs.Prelude.{◌≡◌, ◌*◌, ◌^◌, ◌<◌, ◌≤◌, Err, MatchResult};
 ghost use Rattle.rs_field.specs.code.Configuration.{configuration, validation_outcome, start_outcome};
 ghost use Rattle.rs_field.specs.code.Frame.{encoder_rows, decoder_rows};
-ghost use Rattle.rs_rate.specs.Configured.{rate_configuration, IsConfigured, block_of, rows_to_encode};
-ghost use Rattle.rs_rate.specs.SetUp.{IsSetUp};
-ghost use Rattle.rs_rate.specs.ShardRows.{chunk_count};
+ghost use Rattle.rs_rate.specs.values.Configured.{rate_configuration, IsConfigured, block_of, rows_to_encode};
+ghost use Rattle.rs_rate.specs.values.SetUp.{IsSetUp};
+ghost use Rattle.rs_rate.specs.values.ChunkCounts.{chunk_count};
 
 use crate::values::frames::next_multiple_of_power;
 use crate::values::rate_marker::RateMarker;

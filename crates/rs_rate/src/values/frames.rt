@@ -3,8 +3,8 @@ ghost use Rattle.std.specs.Prelude.{◌≡◌, ◌↔◌, ℕ, ◌+◌, ◌%◌,
 ghost use Rattle.rs_field.specs.code.Counts.{next_power, exponent_of, is_low};
 ghost use Rattle.rs_field.specs.code.Counts.{low_rate, high_rate, default_rate};
 ghost use Rattle.rs_field.specs.code.Frame.{low_frame, high_frame};
-ghost use Rattle.rs_rate.specs.Configured.{frame_if};
-ghost use Rattle.rs_rate.specs.Sums.{AreSumsCheaper};
+ghost use Rattle.rs_rate.specs.values.Configured.{frame_if};
+ghost use Rattle.rs_rate.specs.values.SumCosts.{AreSumsCheaper};
 
 use rs_field::engine::GF_ORDER;
 use rs_field::frame::Frame;
@@ -142,7 +142,7 @@ pub(crate) fn default_frame(original_count: usize, recovery_count: usize) -> Opt
 /// Returns whether a decode uses direct sums instead of transforms, if it needs this number of sums. A sum takes one
 /// product of a row for each original. With long shards, both ways take about the same time if there are four times as
 /// many products as rows of a decoder.
-#[tactic(auto, unfolding(crate::specs::Sums::AreSumsCheaper))]
+#[tactic(auto, unfolding(crate::specs::values::SumCosts::AreSumsCheaper))]
 pub fn are_sums_cheaper(frame: Frame, original_count: usize, sums: usize) -> bool
     requires few { frame.exponent ≤ 16 }
     requires originals { original_count ≤ 65536 }

@@ -3,8 +3,8 @@ use Rattle.std.proofs.lemmas.Iterator.{YieldsList-from_slice, YieldsList-from_ma
 use Rattle.std.proofs.lemmas.List.Elements.{All-nil}
 use Rattle.rs_field.specs.code.Column.{Shard}
 use Rattle.rs_field.specs.code.OneCall.{Items}
-use Rattle.rs_rate.proofs.Giving.{always-both}
-use Rattle.rs_rate.proofs.OneCall.{decoding-uncounted, decoding-refused}
+use Rattle.rs_rate.proofs.of_objects.Giving.{always-both}
+use Rattle.rs_rate.proofs.of_objects.OneCall.{decoding-uncounted, decoding-refused}
 use Rattle.reed_solomon_simd.specs.ReceivedState.{received_state}
 use Rattle.reed_solomon_simd.specs.Rooms.{bytes_in}
 use Rattle.reed_solomon_simd.proofs.RestoringLemmas.{decodes-refused, decodes-nothing, decodes-restored}

@@ -5,7 +5,7 @@ use Rattle.rs_field.specs.code.Decoder.{DecoderState}
 use Rattle.rs_field.specs.code.Pieces.{IsStrip}
 use Rattle.rs_field.proofs.of_code.Pieces.{is_strip}
 use Rattle.rs_field.proofs.of_code.RestoredBelow.{none-pieces}
-use Rattle.rs_rate.specs.DecoderView.{decoder_state}
+use Rattle.rs_rate.specs.rows.DecoderView.{decoder_state}
 use Rattle.reed_solomon_simd.proofs.ConsistentStrips.{AreCheckedBelow, checked-none, checked-further, checked-all}
 use Rattle.reed_solomon_simd.proofs.strip_checker.check_by_decoding.Goals.{then-left-width+in_ok-reset, else-left-width}
 use Rattle.reed_solomon_simd.proofs.strip_checker.check_by_decoding.Goals as goal

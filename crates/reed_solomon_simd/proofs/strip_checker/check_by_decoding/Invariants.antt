@@ -2,7 +2,7 @@ use Rattle.std.proofs.Common.{◌≡◌, ◌⊎◌, ◌-◌, ◌%◌, ◌<◌, �
 use Rattle.rs_field.specs.code.Counts.{default_rate}
 use Rattle.rs_field.specs.code.Decoder.{fresh_decoder}
 use Rattle.rs_field.specs.code.OneCall.{default_of}
-use Rattle.rs_rate.specs.DecoderView.{decoder_state}
+use Rattle.rs_rate.specs.rows.DecoderView.{decoder_state}
 use Rattle.reed_solomon_simd.proofs.ConsistentStrips.{AreCheckedBelow}
 use Rattle.reed_solomon_simd.proofs.strip_checker.check_by_decoding.Given as goal
 

@@ -8,8 +8,8 @@ use Rattle.rs_field.specs.code.OneCall.{Items, with_shards}
 use Rattle.rs_field.specs.code.Outcome.{result_and_then}
 use Rattle.rs_field.specs.code.PieceStates.{pieces_of, shards_listed}
 use Rattle.rs_field.proofs.of_code.Listed.{items_from-some, items_from-none, items_from-past}
-use Rattle.rs_rate.proofs.Giving.{outcome-ok, outcome-err, reaches-ok, reaches-err}
-use Rattle.rs_rate.specs.EncoderView.{encoder_state}
+use Rattle.rs_rate.proofs.of_objects.Giving.{outcome-ok, outcome-err, reaches-ok, reaches-err}
+use Rattle.rs_rate.specs.rows.EncoderView.{encoder_state}
 use Rattle.reed_solomon_simd.proofs.strip_comparer.add_received_originals.Goals.{in-Some+in_ok-add_original_shard}
 use Rattle.reed_solomon_simd.proofs.strip_comparer.add_received_originals.Goals.{in_default}
 use Rattle.reed_solomon_simd.proofs.strip_comparer.add_received_originals.Goals as goal

@@ -3,7 +3,7 @@ use Rattle.rs_field.specs.code.Counts.{default_rate}
 use Rattle.rs_field.specs.code.Given.{items_from, items_below}
 use Rattle.rs_field.specs.code.OneCall.{with_shards}
 use Rattle.rs_field.specs.code.PieceStates.{pieces_of, shards_listed}
-use Rattle.rs_rate.specs.EncoderView.{encoder_state}
+use Rattle.rs_rate.specs.rows.EncoderView.{encoder_state}
 use Rattle.reed_solomon_simd.proofs.strip_comparer.add_received_originals.Given as goal
 
 -- Adding all pieces to the first encoder is adding the pieces from the index on to the encoder.

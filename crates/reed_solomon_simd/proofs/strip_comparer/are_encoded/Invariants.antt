@@ -1,7 +1,7 @@
 use Rattle.std.proofs.Common.{◌≡◌, ℕ, ◌<◌, Some}
 use Rattle.rs_field.specs.code.Column.{Shard, shard_at}
 use Rattle.rs_field.specs.code.PieceStates.{pieces_of}
-use Rattle.rs_rate.specs.ResultView.{recovery_shards}
+use Rattle.rs_rate.specs.objects.ResultView.{recovery_shards}
 use Rattle.reed_solomon_simd.proofs.strip_comparer.are_encoded.Given as goal
 
 -- The pieces with the indexes below the index are the encoded ones.

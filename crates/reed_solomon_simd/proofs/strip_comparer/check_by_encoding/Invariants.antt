@@ -2,7 +2,7 @@ use Rattle.std.proofs.Common.{◌≡◌, ◌⊎◌, ◌-◌, ◌%◌, ◌<◌, �
 use Rattle.rs_field.specs.code.Counts.{default_rate}
 use Rattle.rs_field.specs.code.Encoder.{fresh_encoder}
 use Rattle.rs_field.specs.code.OneCall.{default_of}
-use Rattle.rs_rate.specs.EncoderView.{encoder_state}
+use Rattle.rs_rate.specs.rows.EncoderView.{encoder_state}
 use Rattle.reed_solomon_simd.proofs.ConsistentStrips.{AreCheckedBelow}
 use Rattle.reed_solomon_simd.proofs.strip_comparer.check_by_encoding.Given as goal
 

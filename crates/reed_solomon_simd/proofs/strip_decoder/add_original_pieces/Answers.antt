@@ -4,7 +4,7 @@ use Rattle.rs_field.specs.code.Counts.{default_rate}
 use Rattle.rs_field.specs.code.Decoder.{DecoderState}
 use Rattle.rs_field.specs.code.Given.{Shards}
 use Rattle.rs_field.specs.code.PieceStates.{pieces_of}
-use Rattle.rs_rate.specs.DecoderView.{decoder_state}
+use Rattle.rs_rate.specs.rows.DecoderView.{decoder_state}
 use Rattle.reed_solomon_simd.proofs.StripDecodeLemmas.{first-none, first-all, first-skipped, original-next}
 use Rattle.reed_solomon_simd.proofs.StripDecodeLemmas.{original-refused, piece-sized, pieces-past, long-enough}
 use Rattle.reed_solomon_simd.proofs.strip_decoder.add_original_pieces.Goals.{in-Some+in_ok-add_original_shard}

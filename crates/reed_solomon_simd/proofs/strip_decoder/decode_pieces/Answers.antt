@@ -1,7 +1,7 @@
 use Rattle.std.proofs.Common.{rules, ◌≡◌, ℕ, Err, sym, ◌∙◌}
 use Rattle.rs_field.specs.code.Counts.{default_rate}
 use Rattle.rs_field.specs.code.Decoder.{DecoderState}
-use Rattle.rs_rate.specs.DecoderView.{decoder_state, restored_by_rows}
+use Rattle.rs_rate.specs.rows.DecoderView.{decoder_state, restored_by_rows}
 use Rattle.reed_solomon_simd.proofs.StripDecodeLemmas.{pieces-added, round-made, round-refused, round-ends}
 use Rattle.reed_solomon_simd.proofs.strip_decoder.decode_pieces.Goals as goal
 

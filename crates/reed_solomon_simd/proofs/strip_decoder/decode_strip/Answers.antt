@@ -2,7 +2,7 @@ use Rattle.std.proofs.Common.{ℕ, subst, arith}
 use Rattle.rs_field.specs.code.Decoder.{DecoderState}
 use Rattle.rs_field.specs.code.Given.{Shards, Lists}
 use Rattle.rs_field.proofs.of_code.RestoredBelow.{pieces-number, pieces-sized}
-use Rattle.rs_rate.specs.DecoderView.{restored_by_rows}
+use Rattle.rs_rate.specs.rows.DecoderView.{restored_by_rows}
 use Rattle.reed_solomon_simd.proofs.strip_decoder.decode_strip.Goals as goal
 
 pub put_pieces-requires-clause-pieces : goal.put_pieces-requires-clause-pieces

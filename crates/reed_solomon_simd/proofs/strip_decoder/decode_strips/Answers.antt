@@ -4,7 +4,7 @@ use Rattle.rs_field.specs.code.Decoder.{DecoderState}
 use Rattle.rs_field.specs.code.Counts.{default_rate}
 use Rattle.rs_field.proofs.of_code.Pieces.{is_strip}
 use Rattle.rs_field.proofs.of_code.RestoredBelow.{IsRestoredBelow}
-use Rattle.rs_rate.specs.DecoderView.{decoder_state}
+use Rattle.rs_rate.specs.rows.DecoderView.{decoder_state}
 use Rattle.reed_solomon_simd.proofs.ReceivedLaws.{strips-restored}
 use Rattle.reed_solomon_simd.proofs.StripDecodeLemmas.{strip-restored, strip-refused}
 use Rattle.reed_solomon_simd.proofs.strip_decoder.decode_strips.Goals.{then-left-width+in_ok-reset, else-left-width}

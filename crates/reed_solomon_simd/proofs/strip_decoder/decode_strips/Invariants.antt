@@ -3,7 +3,7 @@ use Rattle.rs_field.specs.code.Counts.{default_rate}
 use Rattle.rs_field.specs.code.Decoder.{fresh_decoder}
 use Rattle.rs_field.specs.code.OneCall.{default_of}
 use Rattle.rs_field.proofs.of_code.RestoredBelow.{IsRestoredBelow}
-use Rattle.rs_rate.specs.DecoderView.{decoder_state}
+use Rattle.rs_rate.specs.rows.DecoderView.{decoder_state}
 use Rattle.reed_solomon_simd.proofs.strip_decoder.decode_strips.Given as goal
 
 -- All bytes before `start` are restored. A chunk begins at `start`, or the shards end there. If bytes are left, the

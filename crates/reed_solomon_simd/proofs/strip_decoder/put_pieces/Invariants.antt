@@ -2,7 +2,7 @@ use Rattle.std.proofs.Common.{◌≡◌, ℕ, ◌<◌, ◌≤◌, [], ◌++◌, 
 use Rattle.rs_field.specs.code.Given.{Lists}
 use Rattle.rs_field.specs.code.OneCall.{Items}
 use Rattle.rs_field.specs.code.PieceStates.{shards_listed}
-use Rattle.rs_rate.specs.ResultView.{restored_originals}
+use Rattle.rs_rate.specs.objects.ResultView.{restored_originals}
 use Rattle.reed_solomon_simd.proofs.strip_decoder.put_pieces.Given as goal
 
 -- The rooms below the index hold their pieces, the others hold what they held before the loop, and the iterator holds

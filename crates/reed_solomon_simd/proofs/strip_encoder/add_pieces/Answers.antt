@@ -6,8 +6,8 @@ use Rattle.rs_field.specs.code.Encoder.{EncoderState, with_shard}
 use Rattle.rs_field.specs.code.OneCall.{with_shards}
 use Rattle.rs_field.specs.code.Pieces.{pieces}
 use Rattle.rs_field.proofs.of_code.Pieces.{given-next, given-refused}
-use Rattle.rs_rate.specs.EncoderView.{encoder_state}
-use Rattle.rs_rate.proofs.Giving.{outcome-ok, outcome-err, reaches-ok, reaches-err}
+use Rattle.rs_rate.specs.rows.EncoderView.{encoder_state}
+use Rattle.rs_rate.proofs.of_objects.Giving.{outcome-ok, outcome-err, reaches-ok, reaches-err}
 use Rattle.reed_solomon_simd.proofs.strip_encoder.add_pieces.Goals as goal
 
 pub returns-in_err-add_original_shard : goal.returns-in_err-add_original_shard

@@ -2,7 +2,7 @@ use Rattle.std.proofs.Common.{◌≡◌, take, Ok}
 use Rattle.rs_field.specs.code.Counts.{default_rate}
 use Rattle.rs_field.specs.code.OneCall.{with_shards}
 use Rattle.rs_field.specs.code.Pieces.{pieces}
-use Rattle.rs_rate.specs.EncoderView.{encoder_state}
+use Rattle.rs_rate.specs.rows.EncoderView.{encoder_state}
 use Rattle.reed_solomon_simd.proofs.strip_encoder.add_pieces.Given as goal
 
 -- Adding the pieces below the index to the first state gives the current state.

@@ -5,10 +5,10 @@ use Rattle.rs_field.specs.code.Column.{Shard}
 use Rattle.rs_field.specs.code.Counts.{default_rate}
 use Rattle.rs_field.specs.code.OneCall.{default_of}
 use Rattle.rs_field.specs.code.Pieces.{pieces}
-use Rattle.rs_rate.proofs.Giving.{reached-ok}
-use Rattle.rs_rate.specs.EncoderView.{encoder_state, lent_shards}
-use Rattle.rs_rate.specs.ObjectLaws.{is_encoder}
-use Rattle.rs_rate.specs.ResultView.{recovery_shards}
+use Rattle.rs_rate.proofs.of_objects.Giving.{reached-ok}
+use Rattle.rs_rate.specs.rows.EncoderView.{encoder_state, lent_shards}
+use Rattle.rs_rate.specs.objects.ObjectLaws.{is_encoder}
+use Rattle.rs_rate.specs.objects.ResultView.{recovery_shards}
 use Rattle.reed_solomon_simd.proofs.StripLemmas.{strip-added, strip-encoded, strip-ends, strip-codes}
 use Rattle.reed_solomon_simd.proofs.strip_encoder.encode_strip.Goals as goal
 

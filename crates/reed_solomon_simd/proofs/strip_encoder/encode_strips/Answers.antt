@@ -7,7 +7,7 @@ use Rattle.rs_field.specs.code.Counts.{default_rate}
 use Rattle.rs_field.specs.code.OneCall.{default_of}
 use Rattle.rs_field.specs.code.Pieces.{pieces, IsStrip, ArePut}
 use Rattle.rs_field.proofs.of_code.Pieces.{IsDone, is_strip, done-none, done-further, done-all}
-use Rattle.rs_rate.specs.EncoderView.{encoder_state}
+use Rattle.rs_rate.specs.rows.EncoderView.{encoder_state}
 use Rattle.reed_solomon_simd.proofs.strip_encoder.encode_strips.Goals.{then-left-width+in_ok-reset, else-left-width}
 use Rattle.reed_solomon_simd.proofs.strip_encoder.encode_strips.Goals as goal
 

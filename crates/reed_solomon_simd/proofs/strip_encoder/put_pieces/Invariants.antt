@@ -1,5 +1,5 @@
 use Rattle.std.proofs.Common.{◌≡◌, ℕ, ◌<◌, ◌≤◌, [], ◌++◌, length, take, drop, get_or}
-use Rattle.rs_rate.specs.ResultView.{recovery_shards}
+use Rattle.rs_rate.specs.objects.ResultView.{recovery_shards}
 use Rattle.reed_solomon_simd.proofs.strip_encoder.put_pieces.Given as goal
 
 -- The rooms below the index hold their pieces, and the others hold what they held before the loop.

@@ -8,8 +8,8 @@ use Rattle.rs_field.specs.code.Counts.{default_rate}
 use Rattle.rs_field.specs.code.Encoder.{EncoderState, with_shard}
 use Rattle.rs_field.specs.code.OneCall.{with_shards}
 use Rattle.rs_field.specs.code.Outcome.{result_and_then}
-use Rattle.rs_rate.proofs.Giving.{outcome-ok, outcome-err, reaches-ok, reaches-err}
-use Rattle.rs_rate.specs.EncoderView.{encoder_state}
+use Rattle.rs_rate.proofs.of_objects.Giving.{outcome-ok, outcome-err, reaches-ok, reaches-err}
+use Rattle.rs_rate.specs.rows.EncoderView.{encoder_state}
 use Rattle.reed_solomon_simd.proofs.strip_rebuilder.add_message.Goals.{in-Some+in_ok-add_original_shard, in_default}
 use Rattle.reed_solomon_simd.proofs.strip_rebuilder.add_message.Goals as goal
 

@@ -4,7 +4,7 @@ use Rattle.rs_field.specs.code.Counts.{default_rate}
 use Rattle.rs_field.specs.code.Decoder.{IsAgreeing}
 use Rattle.rs_field.specs.code.OneCall.{with_shards}
 use Rattle.rs_field.specs.code.PieceStates.{state_of_pieces}
-use Rattle.rs_rate.specs.EncoderView.{encoder_state}
+use Rattle.rs_rate.specs.rows.EncoderView.{encoder_state}
 use Rattle.reed_solomon_simd.proofs.strip_rebuilder.add_message.Given as goal
 
 -- Adding all originals to the first encoder is adding the originals from the index on to the encoder.

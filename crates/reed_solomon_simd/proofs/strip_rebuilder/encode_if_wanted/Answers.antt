@@ -3,9 +3,9 @@ use Rattle.rs_field.specs.code.Column.{Shard}
 use Rattle.rs_field.specs.code.Counts.{default_rate}
 use Rattle.rs_field.specs.code.Decoder.{DecoderState}
 use Rattle.rs_field.specs.code.PieceStates.{state_of_pieces}
-use Rattle.rs_rate.proofs.Giving.{reached-ok}
-use Rattle.rs_rate.specs.EncoderView.{encoder_state, lent_shards}
-use Rattle.rs_rate.specs.ObjectLaws.{is_encoder}
+use Rattle.rs_rate.proofs.of_objects.Giving.{reached-ok}
+use Rattle.rs_rate.specs.rows.EncoderView.{encoder_state, lent_shards}
+use Rattle.rs_rate.specs.objects.ObjectLaws.{is_encoder}
 use Rattle.reed_solomon_simd.proofs.ObjectRoundTrip.{codes-given, gives-all, encodes, round-ends}
 use Rattle.reed_solomon_simd.proofs.strip_rebuilder.encode_if_wanted.Goals as goal
 

@@ -1,7 +1,7 @@
 use Rattle.std.proofs.Common.{sym, ◌∙◌}
 use Rattle.rs_field.specs.code.Decoder.{DecoderState}
 use Rattle.rs_field.specs.code.PieceStates.{state_of_pieces}
-use Rattle.rs_rate.specs.ResultView.{restored_originals}
+use Rattle.rs_rate.specs.objects.ResultView.{restored_originals}
 use Rattle.reed_solomon_simd.proofs.RebuiltStrips.{restored-there}
 use Rattle.reed_solomon_simd.proofs.strip_rebuilder.message_piece.Goals as goal
 

@@ -4,7 +4,7 @@ use Rattle.std.specs.Prelude.{unwrap_or}
 use Rattle.std.proofs.lemmas.Bool.{cases_eq}
 use Rattle.std.proofs.lemmas.Option.{none-some}
 use Rattle.rs_field.specs.code.Column.{Shard}
-use Rattle.rs_rate.specs.ResultView.{recovery_shards, restored_originals}
+use Rattle.rs_rate.specs.objects.ResultView.{recovery_shards, restored_originals}
 use Rattle.reed_solomon_simd.proofs.RebuiltStrips.{piece-there}
 use Rattle.reed_solomon_simd.proofs.strip_rebuilder.put_wanted.Goals.{in-Some+in_ok-put, in_default}
 use Rattle.reed_solomon_simd.proofs.strip_rebuilder.put_wanted.Goals as goal

@@ -1,6 +1,6 @@
 use Rattle.std.proofs.Common.{◌≡◌, ℕ, ◌-◌, ◌<◌, ◌≤◌, List, [], ◌++◌, length, take, drop, get_or, map, Some, All}
 use Rattle.rs_field.specs.code.Column.{Shard}
-use Rattle.rs_rate.specs.ResultView.{recovery_shards, restored_originals}
+use Rattle.rs_rate.specs.objects.ResultView.{recovery_shards, restored_originals}
 use Rattle.reed_solomon_simd.specs.Reconstructed.{lent_at}
 use Rattle.reed_solomon_simd.proofs.strip_rebuilder.put_wanted.Given as goal
 

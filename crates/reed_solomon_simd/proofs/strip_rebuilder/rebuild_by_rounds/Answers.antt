@@ -4,8 +4,8 @@ use Rattle.rs_field.specs.code.Counts.{default_rate}
 use Rattle.rs_field.specs.code.Decoder.{DecoderState}
 use Rattle.rs_field.specs.code.Pieces.{IsStrip}
 use Rattle.rs_field.proofs.of_code.Pieces.{is_strip}
-use Rattle.rs_rate.specs.DecoderView.{decoder_state}
-use Rattle.rs_rate.specs.EncoderView.{encoder_state}
+use Rattle.rs_rate.specs.rows.DecoderView.{decoder_state}
+use Rattle.rs_rate.specs.rows.EncoderView.{encoder_state}
 use Rattle.reed_solomon_simd.proofs.RebuiltStrips.{IsRebuiltBelow, rebuilt-none, rebuilt-further, rebuilt-all}
 use Rattle.reed_solomon_simd.proofs.StripDecodeLemmas.{strip-refused}
 use Rattle.reed_solomon_simd.proofs.SetUp.{left-lacks, valid-even}

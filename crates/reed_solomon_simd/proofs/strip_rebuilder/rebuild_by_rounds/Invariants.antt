@@ -3,8 +3,8 @@ use Rattle.rs_field.specs.code.Counts.{default_rate}
 use Rattle.rs_field.specs.code.Decoder.{fresh_decoder}
 use Rattle.rs_field.specs.code.Encoder.{fresh_encoder}
 use Rattle.rs_field.specs.code.OneCall.{default_of}
-use Rattle.rs_rate.specs.DecoderView.{decoder_state}
-use Rattle.rs_rate.specs.EncoderView.{encoder_state}
+use Rattle.rs_rate.specs.rows.DecoderView.{decoder_state}
+use Rattle.rs_rate.specs.rows.EncoderView.{encoder_state}
 use Rattle.reed_solomon_simd.proofs.RebuiltStrips.{IsRebuiltBelow}
 use Rattle.reed_solomon_simd.proofs.strip_rebuilder.rebuild_by_rounds.Given as goal
 

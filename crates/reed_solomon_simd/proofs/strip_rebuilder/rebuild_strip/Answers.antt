@@ -6,8 +6,8 @@ use Rattle.rs_field.specs.code.Decoder.{DecoderState}
 use Rattle.rs_field.specs.code.Given.{Shards}
 use Rattle.rs_field.specs.code.PieceStates.{state_of_pieces}
 use Rattle.rs_field.proofs.of_code.Unique.{recovery_unique}
-use Rattle.rs_rate.specs.DecoderView.{restored_by_rows}
-use Rattle.rs_rate.specs.EncoderView.{lent_shards}
+use Rattle.rs_rate.specs.rows.DecoderView.{restored_by_rows}
+use Rattle.rs_rate.specs.rows.EncoderView.{lent_shards}
 use Rattle.reed_solomon_simd.specs.Reconstructed.{lent_at}
 use Rattle.reed_solomon_simd.specs.ShardNames.{is_recovery}
 use Rattle.reed_solomon_simd.proofs.ConsistentStrips.{even-strip, few-originals}

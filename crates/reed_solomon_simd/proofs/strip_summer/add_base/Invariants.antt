@@ -2,7 +2,7 @@ use Rattle.std.proofs.Common.{◌≡◌, ℕ, ◌-◌, ◌/◌, ◌<◌}
 use Rattle.std.specs.Prelude.{slice_index}
 use Rattle.rs_field.specs.code.PieceStates.{state_of_pieces}
 use Rattle.rs_field.specs.words.Transform.{sum_below}
-use Rattle.rs_rate.specs.Sums.{sum_word}
+use Rattle.rs_rate.specs.passes.Sums.{sum_word}
 use Rattle.reed_solomon_simd.proofs.BaseLemmas.{base_term}
 use Rattle.reed_solomon_simd.proofs.strip_summer.add_base.Given as goal
 

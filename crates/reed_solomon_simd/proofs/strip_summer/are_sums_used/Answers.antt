@@ -1,6 +1,6 @@
 use Rattle.std.proofs.Common.{◌^◌, ◌≤◌, arith, pow_mono}
 use Rattle.rs_field.specs.code.Frame.{row_count}
-use Rattle.rs_rate.proofs.ChangeLemmas.{distinct_rows_of}
+use Rattle.rs_rate.proofs.of_passes.ChangeLemmas.{distinct_rows_of}
 use Rattle.reed_solomon_simd.proofs.strip_summer.are_sums_used.Goals as goal
 
 pub row_count-requires : goal.row_count-requires

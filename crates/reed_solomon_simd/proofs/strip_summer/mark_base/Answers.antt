@@ -9,9 +9,9 @@ use Rattle.rs_field.specs.code.Decoder.{DecoderState, IsDecoder, originals_given
 use Rattle.rs_field.specs.code.Frame.{frame_of, row_count}
 use Rattle.rs_field.specs.declared.code.frame.Frame.{Frame}
 use Rattle.rs_field.specs.rows.MarkedRows.{is_marked}
-use Rattle.rs_rate.specs.Marks.{how_many}
-use Rattle.rs_rate.proofs.HowMany.{how_many-zero, how_many-most}
-use Rattle.rs_rate.proofs.DecoderRows.{enough-least}
+use Rattle.rs_rate.specs.rows.Marks.{how_many}
+use Rattle.rs_rate.proofs.of_rows.HowMany.{how_many-zero, how_many-most}
+use Rattle.rs_rate.proofs.of_rows.DecoderRows.{enough-least}
 use Rattle.reed_solomon_simd.specs.Base.{frame_in, shard_in_row}
 use Rattle.reed_solomon_simd.proofs.BaseLemmas.{decoder_frame, frame_same, some-pieces}
 use Rattle.reed_solomon_simd.proofs.BaseMarks.{some-copied, all-found, base-count, marked-more, many-more, many-passed}

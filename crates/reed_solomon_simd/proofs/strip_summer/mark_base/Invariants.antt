@@ -1,7 +1,7 @@
 use Rattle.std.proofs.Common.{◌≡◌, ℕ, ◌≤◌, true, false, min, vec_len}
 use Rattle.std.specs.Prelude.{is_some}
 use Rattle.rs_field.specs.rows.MarkedRows.{is_marked}
-use Rattle.rs_rate.specs.Marks.{how_many}
+use Rattle.rs_rate.specs.rows.Marks.{how_many}
 use Rattle.reed_solomon_simd.specs.Base.{shard_in_row}
 use Rattle.reed_solomon_simd.proofs.strip_summer.mark_base.Given as goal
 

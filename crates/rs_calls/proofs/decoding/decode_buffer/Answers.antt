@@ -5,7 +5,7 @@ use Rattle.std.proofs.lemmas.List.{length-take-le, length-drop}
 use Rattle.rs_field.specs.code.Given.{nothing}
 use Rattle.rs_field.proofs.of_code.SupportedCounts.{default_fits}
 use Rattle.rs_field.specs.code.OneCall.{OneDecodeAnswers}
-use Rattle.rs_rate.proofs.OneCall.{decoding-refused, decoding-nothing}
+use Rattle.rs_rate.proofs.of_objects.OneCall.{decoding-refused, decoding-nothing}
 use Rattle.rs_calls.specs.Answers.{all_or_refused}
 use Rattle.rs_calls.specs.Buffers.{lost_indexes, marked_shards, shard_place}
 use Rattle.rs_calls.proofs.EncodeLemmas.{fits-length}

@@ -1,8 +1,9 @@
 use Rattle.std.proofs.Common.{rules}
 use Rattle.rs_field.specs.code.Encoder.{with_shard}
-use Rattle.rs_rate.proofs.Giving.{no-calls, ended-calls, ended-run, first-then, outcome-ok, outcome-err, reached-ok}
-use Rattle.rs_rate.proofs.Giving.{reached-err, adds-ok, adds-err}
-use Rattle.rs_rate.proofs.OneCall.{encoding-unset, encoding-given}
+use Rattle.rs_rate.proofs.of_objects.Giving.{no-calls, ended-calls, ended-run, first-then, outcome-ok, outcome-err}
+use Rattle.rs_rate.proofs.of_objects.Giving.{reached-ok}
+use Rattle.rs_rate.proofs.of_objects.Giving.{reached-err, adds-ok, adds-err}
+use Rattle.rs_rate.proofs.of_objects.OneCall.{encoding-unset, encoding-given}
 use Rattle.reed_solomon_simd.proofs.lent_originals.LentOriginals.gather.Goals as goal
 
 pub returns-in_default-clause-gathered : goal.returns-in_default-clause-gathered

@@ -12,6 +12,7 @@ decreases-transform_parts g l = 2 * l.block.size
 
 abbrev pub invariant-transform_parts-loop-j : goal.invariant-transform_parts-loop-j
 invariant-transform_parts-loop-j g l = record {
-  done : PartsDone l.direction (is_used l.used) l.block.size l.part l.block.skew_delta l.block.pos l.j l.initial.data l.data;
+  done : PartsDone l.direction (is_used l.used) l.block.size l.part l.block.skew_delta l.block.pos l.j l.initial.data
+      l.data;
   counts : CountsUpTo (l.j * transform_steps l.part) 0 0 l.initial.steps l.steps;
 }

@@ -1,7 +1,7 @@
 use Rattle.std.proofs.Common.{length, bit_xor, sym, ap, ◌∙◌, arith}
 use Rattle.rs_field.specs.words.Field.{product, power}
 use Rattle.rs_field.specs.code.Column.{Shard, column}
-use Rattle.rs_rate.proofs.SumLemmas.{one_row, column-sum}
+use Rattle.rs_rate.proofs.of_passes.SumLemmas.{one_row, column-sum}
 use Rattle.rs_rate.proofs.passes.changes.add_in_row.Goals as goal
 
 pub insert_at-requires-clause-room : goal.insert_at-requires-clause-room

@@ -3,7 +3,7 @@ use Rattle.std.proofs.lemmas.Bool.{cases_eq}
 use Rattle.std.proofs.lemmas.List.{get_or-set_same, get_or-set_other}
 use Rattle.rs_field.specs.code.Frame.{original_row, row_count}
 use Rattle.rs_field.specs.rows.MarkedRows.{is_marked}
-use Rattle.rs_rate.proofs.ChangeLemmas.{distinct_rows_of}
+use Rattle.rs_rate.proofs.of_passes.ChangeLemmas.{distinct_rows_of}
 use Rattle.rs_rate.proofs.passes.changes.original_marks.Goals as goal
 
 pub row_count-requires : goal.row_count-requires

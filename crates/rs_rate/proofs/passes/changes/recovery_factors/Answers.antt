@@ -1,6 +1,6 @@
 use Rattle.std.proofs.Common.{◌^◌, ◌≤◌, ◌∙◌, arith, pow_mono}
 use Rattle.rs_field.specs.code.Frame.{row_count}
-use Rattle.rs_rate.proofs.ChangeLemmas.{distinct_rows_of}
+use Rattle.rs_rate.proofs.of_passes.ChangeLemmas.{distinct_rows_of}
 use Rattle.rs_rate.proofs.passes.changes.recovery_factors.Goals as goal
 
 pub recovery_row-requires : goal.recovery_row-requires

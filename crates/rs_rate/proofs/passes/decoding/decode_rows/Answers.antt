@@ -3,16 +3,16 @@ use Rattle.std.proofs.Math.Nat.{sub-zero}
 use Rattle.std.specs.Prelude.{Ok}
 use Rattle.std.proofs.lemmas.Bool.{cases_eq}
 use Rattle.rs_field.specs.code.Frame.{original_row}
-use Rattle.rs_rate.specs.Configured.{rows_to_decode}
-use Rattle.rs_rate.specs.DecoderRoom.{DecoderRoom, HasRoom}
-use Rattle.rs_rate.specs.Decoding.{RestoresShards}
-use Rattle.rs_rate.specs.Entering.{given_rows}
-use Rattle.rs_rate.proofs.SumLemmas.{written-back}
-use Rattle.rs_rate.specs.Marks.{given_marks, restored_marks, shards_by_row, HoldGiven, WantsMissing}
-use Rattle.rs_rate.specs.ShardRows.{shard_laid_out}
-use Rattle.rs_rate.proofs.DecodeAnswer.{AnswersOver, decode_answers, complete_answers, told_answer}
-use Rattle.rs_rate.proofs.ResultLemmas.{length-restored}
-use Rattle.rs_rate.proofs.RowMaps.{hold_nothing, none-marked, none_told, nothing-given}
+use Rattle.rs_rate.specs.values.Configured.{rows_to_decode}
+use Rattle.rs_rate.specs.rows.DecoderRoom.{DecoderRoom, HasRoom}
+use Rattle.rs_rate.specs.passes.Decoding.{RestoresShards}
+use Rattle.rs_rate.specs.rows.Entering.{given_rows}
+use Rattle.rs_rate.proofs.of_passes.SumLemmas.{written-back}
+use Rattle.rs_rate.specs.rows.Marks.{given_marks, restored_marks, shards_by_row, HoldGiven, WantsMissing}
+use Rattle.rs_rate.specs.rows.ShardRows.{shard_laid_out}
+use Rattle.rs_rate.proofs.of_passes.DecodeAnswer.{AnswersOver, decode_answers, complete_answers, told_answer}
+use Rattle.rs_rate.proofs.of_rows.ResultLemmas.{length-restored}
+use Rattle.rs_rate.proofs.of_rows.RowMaps.{hold_nothing, none-marked, none_told, nothing-given}
 use Rattle.std.proofs.Common.{rules, List, length}
 use Rattle.std.specs.Vec.{with_items}
 use Rattle.rs_rate.specs.declared.rows.decoder_work.DecoderMemory.{DecoderMemory}

@@ -11,11 +11,11 @@ use Rattle.rs_field.specs.declared.words.steps.Steps.{Steps}
 use Rattle.rs_field.proofs.of_words.Counting.{counted}
 use Rattle.rs_field.proofs.of_words.Power.{log_lt}
 use Rattle.rs_field.proofs.of_words.Halves.{steps_twice}
-use Rattle.rs_rate.specs.Configured.{rows_to_decode}
-use Rattle.rs_rate.specs.Decoding.{restore_steps, sum_steps, is_outside}
-use Rattle.rs_rate.specs.Marks.{given_marks, how_many}
-use Rattle.rs_rate.specs.Sums.{AreSumsCheaper}
-use Rattle.rs_rate.proofs.HowMany.{how_many-most, how_many-rest}
+use Rattle.rs_rate.specs.values.Configured.{rows_to_decode}
+use Rattle.rs_rate.specs.passes.Decoding.{restore_steps, sum_steps, is_outside}
+use Rattle.rs_rate.specs.rows.Marks.{given_marks, how_many}
+use Rattle.rs_rate.specs.values.SumCosts.{AreSumsCheaper}
+use Rattle.rs_rate.proofs.of_rows.HowMany.{how_many-most, how_many-rest}
 use Rattle.rs_rate.proofs.passes.decoding.find_by_sums.Goals as goal
 
 -- Fewer than four products for each row are no more than three transforms and one product for each row. With at most

@@ -2,8 +2,8 @@ use Rattle.std.proofs.Common.{◌≡◌, ℕ, length, ◌∙◌, subst, arith}
 use Rattle.std.specs.Prelude.{slice_index}
 use Rattle.rs_field.specs.words.Locator.{IsLocatorBelow}
 use Rattle.rs_field.specs.code.Frame.{row_count}
-use Rattle.rs_rate.specs.Marks.{erasure}
-use Rattle.rs_rate.proofs.RestoredRows.{locator_same}
+use Rattle.rs_rate.specs.rows.Marks.{erasure}
+use Rattle.rs_rate.proofs.of_passes.RestoredRows.{locator_same}
 use Rattle.rs_rate.proofs.passes.decoding.make_locator.Goals as goal
 
 pub locate-requires-clause-power : goal.locate-requires-clause-power

@@ -1,5 +1,5 @@
 use Rattle.std.proofs.Common.{◌≡◌, ℕ, ◌<◌, slice_index, length}
-use Rattle.rs_rate.specs.Marks.{erasure}
+use Rattle.rs_rate.specs.rows.Marks.{erasure}
 use Rattle.rs_rate.proofs.passes.decoding.mark_erased.Given as goal
 
 abbrev pub invariant-loop-row : goal.invariant-loop-row

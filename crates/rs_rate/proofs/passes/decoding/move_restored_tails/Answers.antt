@@ -5,11 +5,11 @@ use Rattle.rs_field.specs.declared.words.steps.Steps.{Steps}
 use Rattle.rs_field.specs.rows.MarkedRows.{is_marked}
 use Rattle.rs_field.proofs.of_words.Counting.{counts_rows, counts_none, counts_then}
 use Rattle.rs_field.proofs.of_rows.LayoutLemmas.{laid_out-same, in_order-same}
-use Rattle.rs_rate.specs.Configured.{rows_to_decode}
-use Rattle.rs_rate.specs.Marks.{restored_marks}
-use Rattle.rs_rate.specs.ShardRows.{row_chunk, shard_laid_out, shard_in_order}
-use Rattle.rs_rate.proofs.RestoredRows.{TailMoved}
-use Rattle.rs_rate.proofs.ShardRowsLemmas.{chunk_count-within}
+use Rattle.rs_rate.specs.values.Configured.{rows_to_decode}
+use Rattle.rs_rate.specs.rows.Marks.{restored_marks}
+use Rattle.rs_rate.specs.rows.ShardRows.{row_chunk, shard_laid_out, shard_in_order}
+use Rattle.rs_rate.proofs.of_passes.RestoredRows.{TailMoved}
+use Rattle.rs_rate.proofs.of_rows.ShardRowsLemmas.{chunk_count-within}
 use Rattle.rs_rate.proofs.passes.decoding.move_restored_tails.Goals as goal
 use Rattle.rs_rate.proofs.passes.decoding.move_restored_tails.Goals.{then-is_restored, else-is_restored}
 

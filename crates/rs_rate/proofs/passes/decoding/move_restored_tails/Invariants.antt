@@ -2,8 +2,8 @@ use Rattle.std.proofs.Common.{◌≡◌, ℕ, ◌+◌, ◌<◌, ◌≤◌, true}
 use Rattle.rs_field.specs.words.StepBounds.{CountsUpTo}
 use Rattle.rs_field.specs.rows.Layout.{row_len}
 use Rattle.rs_field.specs.rows.MarkedRows.{is_marked}
-use Rattle.rs_rate.specs.Marks.{restored_marks}
-use Rattle.rs_rate.specs.ShardRows.{row_chunk, shard_laid_out, shard_in_order}
+use Rattle.rs_rate.specs.rows.Marks.{restored_marks}
+use Rattle.rs_rate.specs.rows.ShardRows.{row_chunk, shard_laid_out, shard_in_order}
 use Rattle.rs_rate.proofs.passes.decoding.move_restored_tails.Given as goal
 
 abbrev pub invariant-loop-i : goal.invariant-loop-i

@@ -4,12 +4,12 @@ use Rattle.rs_field.specs.code.Column.{column}
 use Rattle.rs_field.specs.rows.Layout.{row_len}
 use Rattle.rs_field.proofs.of_code.DecodeSteps.{counts_decode}
 use Rattle.rs_field.proofs.of_words.Counting.{counts_none}
-use Rattle.rs_rate.specs.Configured.{rows_to_decode}
-use Rattle.rs_rate.specs.Decoding.{restore_steps}
-use Rattle.rs_rate.specs.Marks.{given_marks}
-use Rattle.rs_rate.specs.ShardRows.{word_in}
-use Rattle.rs_rate.proofs.RestoredRows.{found_read}
-use Rattle.rs_rate.proofs.ShardRowsLemmas.{column-put}
+use Rattle.rs_rate.specs.values.Configured.{rows_to_decode}
+use Rattle.rs_rate.specs.passes.Decoding.{restore_steps}
+use Rattle.rs_rate.specs.rows.Marks.{given_marks}
+use Rattle.rs_rate.specs.rows.ShardRows.{word_in}
+use Rattle.rs_rate.proofs.of_passes.RestoredRows.{found_read}
+use Rattle.rs_rate.proofs.of_rows.ShardRowsLemmas.{column-put}
 use Rattle.rs_rate.proofs.passes.decoding.restore.Goals as goal
 
 pub returns-then-agrees-clause-restored : goal.returns-then-agrees-clause-restored

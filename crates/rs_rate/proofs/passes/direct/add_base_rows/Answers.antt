@@ -4,7 +4,7 @@ use Rattle.rs_field.specs.rows.MarkedRows.{is_marked}
 use Rattle.rs_field.specs.rows.View.{word}
 use Rattle.rs_field.specs.words.DirectSum.{direct_term, direct_sum}
 use Rattle.rs_field.specs.words.Transform.{sum_below}
-use Rattle.rs_rate.proofs.DirectRows.{none_added, one_more_added}
+use Rattle.rs_rate.proofs.of_passes.DirectRows.{none_added, one_more_added}
 use Rattle.rs_rate.proofs.passes.direct.add_base_rows.Goals as goal
 
 pub loop-x-init : goal.loop-x-init

@@ -7,7 +7,7 @@ use Rattle.rs_field.specs.rows.View.{word}
 use Rattle.rs_field.specs.words.DirectSum.{direct_sum}
 use Rattle.rs_field.proofs.of_rows.Recursion.{fits_kept}
 use Rattle.rs_field.proofs.of_words.Roots.{same_from_xor}
-use Rattle.rs_rate.proofs.RestoringRows.{row-read}
+use Rattle.rs_rate.proofs.of_passes.RestoringRows.{row-read}
 use Rattle.rs_rate.proofs.passes.direct.is_equal_to_sum.Goals as goal
 
 pub returns-clause-equal : goal.returns-clause-equal

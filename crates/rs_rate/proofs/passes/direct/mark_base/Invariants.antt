@@ -1,6 +1,6 @@
 use Rattle.std.proofs.Common.{◌≡◌, ℕ, ◌+◌, ◌<◌, true, length}
 use Rattle.rs_field.specs.rows.MarkedRows.{is_marked}
-use Rattle.rs_rate.specs.Marks.{how_many}
+use Rattle.rs_rate.specs.rows.Marks.{how_many}
 use Rattle.rs_rate.proofs.passes.direct.mark_base.Given as goal
 
 abbrev pub invariant-loop-row : goal.invariant-loop-row

@@ -6,8 +6,8 @@ use Rattle.rs_field.specs.rows.Rows.{symbol}
 use Rattle.rs_field.specs.rows.View.{word}
 use Rattle.rs_field.specs.words.DirectSum.{direct_sum}
 use Rattle.rs_field.proofs.of_words.DirectSum.{direct_sum-same}
-use Rattle.rs_rate.specs.Configured.{rows_to_decode}
-use Rattle.rs_rate.specs.Decoding.{is_outside}
+use Rattle.rs_rate.specs.values.Configured.{rows_to_decode}
+use Rattle.rs_rate.specs.passes.Decoding.{is_outside}
 use Rattle.rs_rate.proofs.passes.direct.sum_rows.Goals as goal
 
 -- The test of all rows, in the number of rows of a configuration.

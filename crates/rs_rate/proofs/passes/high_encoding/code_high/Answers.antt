@@ -8,10 +8,10 @@ use Rattle.rs_field.specs.code.Counts.{high_rate}
 use Rattle.rs_field.proofs.of_words.Combination.{forward-same}
 use Rattle.rs_field.proofs.of_rows.Recursion.{fits_kept}
 use Rattle.rs_field.proofs.of_code.SupportedCounts.{high_fits}
-use Rattle.rs_rate.specs.Coding.{SumsBlocks, further_blocks}
-use Rattle.rs_rate.proofs.HighCounts.{rows-fit}
-use Rattle.rs_rate.proofs.HighCoding.{high_coded}
-use Rattle.rs_rate.proofs.EncodeCounting.{counts_both, high_total}
+use Rattle.rs_rate.specs.passes.Coding.{SumsBlocks, further_blocks}
+use Rattle.rs_rate.proofs.of_values.HighCounts.{rows-fit}
+use Rattle.rs_rate.proofs.of_passes.HighCoding.{high_coded}
+use Rattle.rs_rate.proofs.of_passes.EncodeCounting.{counts_both, high_total}
 use Rattle.rs_rate.proofs.passes.high_encoding.code_high.Goals as goal
 
 pub sum_blocks-requires : goal.sum_blocks-requires

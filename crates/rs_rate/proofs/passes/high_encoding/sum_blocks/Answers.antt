@@ -7,10 +7,10 @@ use Rattle.rs_field.proofs.of_rows.RowOffsets.{outside_cell, extent_then}
 use Rattle.rs_field.specs.words.StepBounds.{transform_steps}
 use Rattle.rs_field.proofs.of_rows.Recursion.{fits_kept}
 use Rattle.rs_field.proofs.of_words.Counting.{counts_rows, counts_within}
-use Rattle.rs_rate.specs.Coding.{further_blocks}
-use Rattle.rs_rate.proofs.PowerLemmas.{multiple_least, next_block}
-use Rattle.rs_rate.proofs.HighCoding.{sums-start, sums-next}
-use Rattle.rs_rate.proofs.EncodeCounting.{counts_both, further-next, further-within}
+use Rattle.rs_rate.specs.passes.Coding.{further_blocks}
+use Rattle.rs_rate.proofs.of_values.PowerLemmas.{multiple_least, next_block}
+use Rattle.rs_rate.proofs.of_passes.HighCoding.{sums-start, sums-next}
+use Rattle.rs_rate.proofs.of_passes.EncodeCounting.{counts_both, further-next, further-within}
 use Rattle.rs_rate.proofs.passes.high_encoding.sum_blocks.Goals as goal
 
 pub loop-start-init : goal.loop-start-init

@@ -1,7 +1,7 @@
 use Rattle.std.proofs.Common.{◌≡◌, ℕ, ◌+◌, ◌-◌, ◌*◌, ◌/◌, ◌%◌, ◌<◌, ◌≤◌}
 use Rattle.rs_field.specs.words.StepBounds.{CountsUpTo, transform_steps}
 use Rattle.rs_field.specs.rows.View.{cell, word, Fits, SameExtent}
-use Rattle.rs_rate.specs.Coding.{SumsBlocks, further_blocks}
+use Rattle.rs_rate.specs.passes.Coding.{SumsBlocks, further_blocks}
 use Rattle.rs_rate.proofs.passes.high_encoding.sum_blocks.Given as goal
 
 abbrev pub invariant-loop-start : goal.invariant-loop-start

@@ -7,10 +7,10 @@ use Rattle.rs_field.specs.rows.View.{cell, word}
 use Rattle.rs_field.proofs.of_rows.RowOffsets.{outside_cell}
 use Rattle.rs_field.proofs.of_rows.Recursion.{fits_kept}
 use Rattle.rs_field.proofs.of_words.Counting.{counts_rows, counts_then, counts_within}
-use Rattle.rs_rate.specs.Coding.{further_blocks}
-use Rattle.rs_rate.proofs.PowerLemmas.{next_block}
-use Rattle.rs_rate.proofs.EncodeCounting.{counts_both, further-next, further-within}
-use Rattle.rs_rate.proofs.LowCoding.{further-more}
+use Rattle.rs_rate.specs.passes.Coding.{further_blocks}
+use Rattle.rs_rate.proofs.of_values.PowerLemmas.{next_block}
+use Rattle.rs_rate.proofs.of_passes.EncodeCounting.{counts_both, further-next, further-within}
+use Rattle.rs_rate.proofs.of_passes.LowCoding.{further-more}
 use Rattle.rs_rate.proofs.passes.low_encoding.code_further.Goals as goal
 
 pub copy_rows-requires-clause-within : goal.copy_rows-requires-clause-within

@@ -2,7 +2,7 @@ use Rattle.std.proofs.Common.{◌≡◌, ℕ, ◌+◌, ◌-◌, ◌*◌, ◌%◌
 use Rattle.rs_field.specs.words.StepBounds.{CountsUpTo, transform_steps}
 use Rattle.rs_field.specs.words.Transform.{forward}
 use Rattle.rs_field.specs.rows.View.{cell, word, Fits, SameExtent}
-use Rattle.rs_rate.specs.Coding.{further_blocks}
+use Rattle.rs_rate.specs.passes.Coding.{further_blocks}
 use Rattle.rs_rate.proofs.passes.low_encoding.code_further.Given as goal
 
 abbrev pub invariant-loop-start : goal.invariant-loop-start

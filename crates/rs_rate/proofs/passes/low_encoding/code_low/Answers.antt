@@ -10,10 +10,10 @@ use Rattle.rs_field.proofs.of_words.Counting.{counts_rows, counts_then}
 use Rattle.rs_field.proofs.of_rows.Recursion.{fits_kept}
 use Rattle.rs_field.proofs.of_rows.RowOffsets.{outside_cell}
 use Rattle.rs_field.proofs.of_rows.Symbols.{symbol-zero}
-use Rattle.rs_rate.specs.Coding.{CodesLow, further_blocks}
-use Rattle.rs_rate.proofs.HighCounts.{rows-fit}
-use Rattle.rs_rate.proofs.LowCoding.{coded, codes_words}
-use Rattle.rs_rate.proofs.EncodeCounting.{counts_both, low_total}
+use Rattle.rs_rate.specs.passes.Coding.{CodesLow, further_blocks}
+use Rattle.rs_rate.proofs.of_values.HighCounts.{rows-fit}
+use Rattle.rs_rate.proofs.of_passes.LowCoding.{coded, codes_words}
+use Rattle.rs_rate.proofs.of_passes.EncodeCounting.{counts_both, low_total}
 use Rattle.rs_rate.proofs.passes.low_encoding.code_low.Goals as goal
 
 pub clear_rows-requires : goal.clear_rows-requires

@@ -2,7 +2,7 @@ use Rattle.std.proofs.Common.{◌≡◌, ◌/◌, ◌%◌, sym, ap, ◌∙◌, a
 use Rattle.std.proofs.lemmas.Bool.{cases_lt}
 use Rattle.rs_field.specs.rows.Rows.{chunk, symbol}
 use Rattle.rs_field.specs.rows.View.{word}
-use Rattle.rs_rate.proofs.RestoringRows.{row-read}
+use Rattle.rs_rate.proofs.of_passes.RestoringRows.{row-read}
 use Rattle.rs_rate.proofs.passes.restoring.are_zero_rows.Goals as goal
 
 pub returns-then-not-is_zero_row-clause-zero : goal.returns-then-not-is_zero_row-clause-zero

@@ -3,7 +3,7 @@ use Rattle.std.specs.Prelude.{replicate}
 use Rattle.rs_field.specs.words.StepBounds.{CountsUpTo}
 use Rattle.rs_field.specs.rows.View.{cell, word, Fits, SameExtent}
 use Rattle.rs_field.specs.rows.MarkedRows.{is_marked}
-use Rattle.rs_rate.specs.Decoding.{located_word}
+use Rattle.rs_rate.specs.passes.Decoding.{located_word}
 use Rattle.rs_rate.proofs.passes.restoring.locate_rows.Given as goal
 
 abbrev pub invariant-loop-p : goal.invariant-loop-p

@@ -10,8 +10,8 @@ use Rattle.rs_field.specs.rows.MarkedRows.{is_marked}
 use Rattle.rs_field.proofs.of_words.Counting.{counts_then, counts_none}
 use Rattle.rs_field.proofs.of_rows.Recursion.{fits_kept}
 use Rattle.rs_field.proofs.of_rows.RowOffsets.{outside_cell, extent_then}
-use Rattle.rs_rate.specs.Marks.{restored_marks}
-use Rattle.rs_rate.proofs.RestoringRows.{RowRevealed}
+use Rattle.rs_rate.specs.rows.Marks.{restored_marks}
+use Rattle.rs_rate.proofs.of_passes.RestoringRows.{RowRevealed}
 use Rattle.rs_rate.proofs.passes.restoring.reveal_rows.Goals as goal
 use Rattle.rs_rate.proofs.passes.restoring.reveal_rows.Goals.{then-is_restored, else-is_restored}
 

@@ -4,7 +4,7 @@ use Rattle.rs_field.specs.words.StepBounds.{CountsUpTo}
 use Rattle.rs_field.specs.words.Field.{product, power}
 use Rattle.rs_field.specs.rows.View.{cell, word, Fits, SameExtent}
 use Rattle.rs_field.specs.rows.MarkedRows.{is_marked}
-use Rattle.rs_rate.specs.Marks.{restored_marks}
+use Rattle.rs_rate.specs.rows.Marks.{restored_marks}
 use Rattle.rs_rate.proofs.passes.restoring.reveal_rows.Given as goal
 
 abbrev pub invariant-loop-i : goal.invariant-loop-i

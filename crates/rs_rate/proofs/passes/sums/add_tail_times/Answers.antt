@@ -1,8 +1,8 @@
 use Rattle.std.proofs.Common.{◌/◌, ◌%◌, length, bit_xor, sym, ap, ◌∙◌, arith}
 use Rattle.rs_field.specs.code.Column.{column}
 use Rattle.rs_field.specs.words.Field.{product, power}
-use Rattle.rs_rate.specs.Sums.{sum_word}
-use Rattle.rs_rate.proofs.SumLemmas.{one_row, times_known, column-sum}
+use Rattle.rs_rate.specs.passes.Sums.{sum_word}
+use Rattle.rs_rate.proofs.of_passes.SumLemmas.{one_row, times_known, column-sum}
 use Rattle.rs_rate.proofs.passes.sums.add_tail_times.Goals as goal
 
 pub insert_at-requires-clause-room : goal.insert_at-requires-clause-room

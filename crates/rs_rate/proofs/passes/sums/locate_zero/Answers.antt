@@ -1,7 +1,7 @@
 use Rattle.std.proofs.Common.{◌^◌, ◌≤◌, get_or, set, ◌∙◌, arith, pow_mono}
 use Rattle.std.proofs.lemmas.List.{get_or-set_same, get_or-set_other, length-set}
 use Rattle.rs_field.specs.code.Frame.{row_count}
-use Rattle.rs_rate.proofs.ChangeLemmas.{first_located}
+use Rattle.rs_rate.proofs.of_passes.ChangeLemmas.{first_located}
 use Rattle.rs_rate.proofs.passes.sums.locate_zero.Goals as goal
 
 pub returns : goal.returns

@@ -1,6 +1,6 @@
 use Rattle.std.proofs.Common.{◌+◌, List, ℕ, subst, sym, ap, ◌∙◌}
-use Rattle.rs_rate.specs.Sums.{ListsMarked}
-use Rattle.rs_rate.proofs.SumLemmas.{listed-none, listed-more, listed-passed}
+use Rattle.rs_rate.specs.passes.Sums.{ListsMarked}
+use Rattle.rs_rate.proofs.of_passes.SumLemmas.{listed-none, listed-more, listed-passed}
 use Rattle.rs_rate.proofs.passes.sums.marked_rows.Goals.{then-marks-row+in_ok-push, else-marks-row}
 use Rattle.rs_rate.proofs.passes.sums.marked_rows.Goals as goal
 

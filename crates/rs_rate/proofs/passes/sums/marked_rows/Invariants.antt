@@ -1,4 +1,4 @@
-use Rattle.rs_rate.specs.Sums.{ListsMarked}
+use Rattle.rs_rate.specs.passes.Sums.{ListsMarked}
 use Rattle.rs_rate.proofs.passes.sums.marked_rows.Given as goal
 
 abbrev pub invariant-loop-row : goal.invariant-loop-row

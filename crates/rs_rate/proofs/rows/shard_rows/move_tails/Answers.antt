@@ -1,8 +1,8 @@
 use Rattle.std.proofs.Common.{◌≢◌, length, sym, ap, ◌∙◌, arith, inl, inr}
 use Rattle.std.proofs.lemmas.Bool.{cases_eq}
 use Rattle.rs_field.proofs.of_rows.LayoutLemmas.{laid_out-same, in_order-same}
-use Rattle.rs_rate.specs.ShardRows.{row_chunk, shard_laid_out, shard_in_order}
-use Rattle.rs_rate.proofs.ShardRowsLemmas.{chunk_count-within}
+use Rattle.rs_rate.specs.rows.ShardRows.{row_chunk, shard_laid_out, shard_in_order}
+use Rattle.rs_rate.proofs.of_rows.ShardRowsLemmas.{chunk_count-within}
 use Rattle.rs_rate.proofs.rows.shard_rows.move_tails.Goals as goal
 
 pub move_tail-requires-clause-room : goal.move_tail-requires-clause-room

@@ -1,7 +1,7 @@
 use Rattle.std.proofs.Common.{◌≡◌, ℕ, ◌<◌, ◌≤◌}
 use Rattle.rs_field.specs.rows.Layout.{row_len}
 use Rattle.rs_field.specs.words.StepBounds.{CountsRows}
-use Rattle.rs_rate.specs.ShardRows.{row_chunk, shard_laid_out, shard_in_order}
+use Rattle.rs_rate.specs.rows.ShardRows.{row_chunk, shard_laid_out, shard_in_order}
 use Rattle.rs_rate.proofs.rows.shard_rows.move_tails.Given as goal
 
 abbrev pub invariant-loop-i : goal.invariant-loop-i

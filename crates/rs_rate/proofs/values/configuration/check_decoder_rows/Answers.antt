@@ -2,9 +2,9 @@ use Rattle.std.proofs.Common.{rules, ◌≡◌, ◌^◌, ℕ, Bool, cond, Ok, Er
 use Rattle.std.proofs.lemmas.Bool.{lt-leb, le-leb}
 use Rattle.rs_field.specs.declared.code.error.Error.TheVariants.{OutOfMemory}
 use Rattle.rs_field.specs.code.Frame.{decoder_rows}
-use Rattle.rs_rate.specs.RowsLaws.{decoder_rows_set_up}
-use Rattle.rs_rate.specs.ShardRows.{chunk_count, memory_outcome}
-use Rattle.rs_rate.proofs.ConfiguredLemmas.{is_asked}
+use Rattle.rs_rate.specs.rows.RowsLaws.{decoder_rows_set_up}
+use Rattle.rs_rate.specs.values.ChunkCounts.{chunk_count, memory_outcome}
+use Rattle.rs_rate.proofs.of_values.ConfiguredLemmas.{is_asked}
 use Rattle.rs_rate.proofs.values.configuration.check_decoder_rows.Goals as goal
 
 pub returns-in_err-chunk_count : goal.returns-in_err-chunk_count

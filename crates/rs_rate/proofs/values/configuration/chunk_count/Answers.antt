@@ -1,5 +1,5 @@
 use Rattle.std.proofs.Common.{◌*◌, ap, refl, arith}
-use Rattle.rs_rate.proofs.ShardRowsLemmas.{chunk_count-is}
+use Rattle.rs_rate.proofs.of_rows.ShardRowsLemmas.{chunk_count-is}
 use Rattle.rs_rate.proofs.values.configuration.chunk_count.Goals as goal
 
 pub returns-in_default : goal.returns-in_default

@@ -3,7 +3,7 @@ use Rattle.std.specs.Prelude.{Option, Some, None, MatchOption}
 use Rattle.rs_field.specs.code.Column.{Shard, shard_at}
 use Rattle.rs_field.specs.words.UpTo.{up_to}
 use Rattle.rs_field.proofs.of_words.UpTo.{length-up_to, get-up_to}
-use Rattle.rs_rate.specs.ShardRows.{shard_in_order}
+use Rattle.rs_rate.specs.rows.ShardRows.{shard_in_order}
 use Rattle.rs_rate.proofs.objects.encoder_result.EncoderResult.recovery.Goals as goal
 
 -- The shard with an index below the count is the shard in the list at this index.

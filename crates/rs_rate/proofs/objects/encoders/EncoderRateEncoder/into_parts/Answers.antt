@@ -1,4 +1,4 @@
-use Rattle.rs_rate.specs.ObjectLaws.{has_own_room}
+use Rattle.rs_rate.specs.objects.ObjectLaws.{has_own_room}
 use Rattle.rs_rate.proofs.objects.encoders.EncoderRateEncoder.into_parts.Goals as goal
 
 pub returns-clause-enough : goal.returns-clause-enough

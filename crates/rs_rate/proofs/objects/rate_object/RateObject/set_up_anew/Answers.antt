@@ -1,7 +1,7 @@
 use Rattle.std.proofs.Common.{ap₂, sym, ◌∙◌, refl}
-use Rattle.rs_rate.specs.SetUp.{IsSetUp}
-use Rattle.rs_rate.proofs.ConfiguredLemmas.{is_asked, either_way}
-use Rattle.rs_rate.proofs.StateLemmas.{memory_outcome-made, on_ok-at, on_err-at}
+use Rattle.rs_rate.specs.values.SetUp.{IsSetUp}
+use Rattle.rs_rate.proofs.of_values.ConfiguredLemmas.{is_asked, either_way}
+use Rattle.rs_rate.proofs.of_rows.StateLemmas.{memory_outcome-made, on_ok-at, on_err-at}
 use Rattle.rs_rate.proofs.objects.rate_object.RateObject.set_up_anew.Goals as goal
 
 pub returns-in_err-configuration-clause-grown : goal.returns-in_err-configuration-clause-grown

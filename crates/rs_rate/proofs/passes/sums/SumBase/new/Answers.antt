@@ -1,10 +1,10 @@
 use Rattle.std.proofs.Common.{rules, ◌≡◌, ℕ, ◌%◌, Bool, List, length, subst, sym, ap, ◌∙◌, arith}
 use Rattle.std.specs.Prelude.{slice_index}
 use Rattle.rs_field.specs.code.Frame.{row_count}
-use Rattle.rs_rate.specs.Sums.{ListsMarked}
-use Rattle.rs_rate.specs.Decoding.{IsLocatorOf}
-use Rattle.rs_rate.proofs.ChangeLemmas.{distinct_rows_of}
-use Rattle.rs_rate.proofs.SumLemmas.{written-back}
+use Rattle.rs_rate.specs.passes.Sums.{ListsMarked}
+use Rattle.rs_rate.specs.passes.Decoding.{IsLocatorOf}
+use Rattle.rs_rate.proofs.of_passes.ChangeLemmas.{distinct_rows_of}
+use Rattle.rs_rate.proofs.of_passes.SumLemmas.{written-back}
 use Rattle.rs_rate.proofs.passes.sums.SumBase.new.Goals as goal
 
 pub row_count-requires : goal.row_count-requires

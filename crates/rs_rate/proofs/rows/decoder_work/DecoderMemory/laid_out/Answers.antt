@@ -3,8 +3,8 @@ use Rattle.std.specs.Prelude.{IfSome, Option, Some, None}
 use Rattle.std.proofs.lemmas.Nat.{pow_pos}
 use Rattle.rs_rate.specs.declared.values.configuration.Configuration.{Configuration}
 use Rattle.rs_rate.specs.declared.rows.decoder_work.DecoderWork.{DecoderWork}
-use Rattle.rs_rate.specs.Configured.{rows_to_decode}
-use Rattle.rs_rate.specs.DecoderRoom.{HasRoom, room_if, work_room}
+use Rattle.rs_rate.specs.values.Configured.{rows_to_decode}
+use Rattle.rs_rate.specs.rows.DecoderRoom.{HasRoom, room_if, work_room}
 use Rattle.rs_rate.proofs.rows.decoder_work.DecoderMemory.laid_out.Goals as goal
 
 -- A work without memory has no room for the rows of a decoder.

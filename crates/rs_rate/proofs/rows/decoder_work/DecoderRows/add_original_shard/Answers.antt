@@ -2,15 +2,15 @@ use Rattle.std.proofs.Common.{◌≡◌, ◌+◌, sym, ap, ◌∙◌, subst, ari
 use Rattle.std.specs.Prelude.{Err, length}
 use Rattle.rs_field.specs.declared.code.error.Error.TheVariants.{DuplicateOriginalShardIndex}
 use Rattle.rs_field.specs.code.Outcome.{state_after}
-use Rattle.rs_rate.specs.Configured.{rows_to_decode}
-use Rattle.rs_rate.specs.DecoderRoom.{DecoderRoom, HasRoom, IsLaidOut}
-use Rattle.rs_rate.specs.DecoderView.{state_over}
-use Rattle.rs_rate.specs.Entering.{given_rows}
-use Rattle.rs_rate.specs.Marks.{HoldGiven}
-use Rattle.rs_rate.proofs.AddedShards.{original-answer, original-state, entry-made, entry-refused}
-use Rattle.rs_rate.proofs.ConfiguredLemmas.{places-known}
-use Rattle.rs_rate.proofs.RowMaps.{hold-most, hold-original}
-use Rattle.rs_rate.proofs.ShardRowsLemmas.{chunk_count-within}
+use Rattle.rs_rate.specs.values.Configured.{rows_to_decode}
+use Rattle.rs_rate.specs.rows.DecoderRoom.{DecoderRoom, HasRoom, IsLaidOut}
+use Rattle.rs_rate.specs.rows.DecoderView.{state_over}
+use Rattle.rs_rate.specs.rows.Entering.{given_rows}
+use Rattle.rs_rate.specs.rows.Marks.{HoldGiven}
+use Rattle.rs_rate.proofs.of_rows.AddedShards.{original-answer, original-state, entry-made, entry-refused}
+use Rattle.rs_rate.proofs.of_values.ConfiguredLemmas.{places-known}
+use Rattle.rs_rate.proofs.of_rows.RowMaps.{hold-most, hold-original}
+use Rattle.rs_rate.proofs.of_rows.ShardRowsLemmas.{chunk_count-within}
 use Rattle.rs_rate.proofs.rows.decoder_work.DecoderRows.add_original_shard.Goals as goal
 use Rattle.rs_rate.proofs.rows.decoder_work.DecoderRows.add_original_shard.Goals.{After-enter}
 

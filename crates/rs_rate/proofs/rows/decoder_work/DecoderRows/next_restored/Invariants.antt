@@ -1,5 +1,5 @@
 use Rattle.std.proofs.Common.{◌≡◌}
-use Rattle.rs_rate.specs.DecoderView.{restored_from}
+use Rattle.rs_rate.specs.rows.DecoderView.{restored_from}
 use Rattle.rs_rate.proofs.rows.decoder_work.DecoderRows.next_restored.Given as goal
 
 -- No restored original was skipped.

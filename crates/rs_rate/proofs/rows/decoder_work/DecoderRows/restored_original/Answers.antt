@@ -2,11 +2,11 @@ use Rattle.std.proofs.Common.{◌<◌, true, false, length, sym, ap, ◌∙◌, 
 use Rattle.std.specs.Prelude.{Some}
 use Rattle.rs_field.specs.rows.MarkedRows.{is_marked}
 use Rattle.rs_field.specs.rows.Rows.{Chunks}
-use Rattle.rs_rate.specs.Configured.{rows_to_decode}
-use Rattle.rs_rate.specs.Marks.{restored_marks, restored_by_row}
-use Rattle.rs_rate.specs.ShardRows.{shard_in_order}
-use Rattle.rs_rate.proofs.RowMaps.{marked-at, part-in, part-out}
-use Rattle.rs_rate.proofs.ShardRowsLemmas.{chunk_count-within}
+use Rattle.rs_rate.specs.values.Configured.{rows_to_decode}
+use Rattle.rs_rate.specs.rows.Marks.{restored_marks, restored_by_row}
+use Rattle.rs_rate.specs.rows.ShardRows.{shard_in_order}
+use Rattle.rs_rate.proofs.of_rows.RowMaps.{marked-at, part-in, part-out}
+use Rattle.rs_rate.proofs.of_rows.ShardRowsLemmas.{chunk_count-within}
 use Rattle.rs_rate.proofs.rows.decoder_work.DecoderRows.restored_original.Goals as goal
 
 pub returns-then-index-self : goal.returns-then-index-self

@@ -1,15 +1,16 @@
 use Rattle.std.proofs.Common.{rules, ◌≡◌, ◌≢◌, ℕ, ◌+◌, arith, ap, ◌<◌, ◌∙◌, sym, length, List, subst}
 use Rattle.std.proofs.lemmas.List.{with_items_is}
 use Rattle.rs_field.proofs.of_words.UpTo.{length-up_to}
-use Rattle.rs_rate.proofs.ShardRowsLemmas.{chunk_count-within, given-more, shard-entered}
+use Rattle.rs_rate.proofs.of_rows.ShardRowsLemmas.{chunk_count-within, given-more, shard-entered}
 use Rattle.rs_field.specs.code.Column.{Shard, IsShard}
 use Rattle.rs_field.specs.code.Encoder.{EncoderState}
 use Rattle.rs_field.specs.words.UpTo.{up_to}
 use Rattle.rs_field.specs.rows.Rows.{Chunks}
-use Rattle.rs_rate.specs.Configured.{configuration_at, rows_to_encode}
-use Rattle.rs_rate.specs.EncoderView.{encoder_state}
-use Rattle.rs_rate.proofs.StateLemmas.{with_shard-added}
-use Rattle.rs_rate.specs.ShardRows.{chunk_count, shard_laid_out}
+use Rattle.rs_rate.specs.values.Configured.{configuration_at, rows_to_encode}
+use Rattle.rs_rate.specs.rows.EncoderView.{encoder_state}
+use Rattle.rs_rate.proofs.of_rows.StateLemmas.{with_shard-added}
+use Rattle.rs_rate.specs.values.ChunkCounts.{chunk_count}
+use Rattle.rs_rate.specs.rows.ShardRows.{shard_laid_out}
 use Rattle.rs_rate.proofs.rows.encoder_work.EncoderRows.add_original_shard.Goals as goal
 
 pub returns-then-self-clause-answer : goal.returns-then-self-clause-answer

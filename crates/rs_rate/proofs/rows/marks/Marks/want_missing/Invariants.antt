@@ -2,7 +2,7 @@ use Rattle.std.proofs.Common.{◌≡◌, ℕ, ◌<◌, ◌≤◌, ◌⊎◌, fal
 use Rattle.std.specs.Prelude.{not}
 use Rattle.std.specs.Vec.{vec_capacity}
 use Rattle.rs_field.specs.rows.MarkedRows.{is_marked}
-use Rattle.rs_rate.specs.Marks.{given_marks}
+use Rattle.rs_rate.specs.rows.Marks.{given_marks}
 use Rattle.rs_field.specs.code.Frame.{original_row}
 use Rattle.rs_rate.proofs.rows.marks.Marks.want_missing.Given as goal
 

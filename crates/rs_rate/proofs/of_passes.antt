@@ -1,0 +1,13 @@
+-- Lemmas of the passes over rows: encoding, decoding, direct sums and changes.
+pub mod LowCoding
+pub mod HighCoding
+pub mod EncodeCounting
+pub mod Coded
+pub mod RestoringRows
+pub mod RestoredRows
+pub mod DecodedColumns
+pub mod BaseAnswer
+pub mod DecodeAnswer
+pub mod DirectRows
+pub mod SumLemmas
+pub mod ChangeLemmas

@@ -1,0 +1,140 @@
+-- Outcomes of setting up an encoder and of the calls on it.
+use Rattle.std.proofs.Common.{◌≡◌, ℕ, ◌<◌, ◌≤◌, ◌*◌, ◌^◌, ◌%◌, ◌++◌, ◌∷◌, [], length, refl, sym, ap, ap₂, ◌∙◌, subst}
+use Rattle.std.proofs.Common.{Bool, true, false, cond}
+use Rattle.std.specs.Prelude.{nat_le, Result, Ok, Err, OnOk, OnErr, not, ◌||◌, ◌==◌, List, nat_lt, is_ok, IsOkAnd}
+use Rattle.std.specs.Prelude.{MatchResult}
+use Rattle.std.proofs.lemmas.Bool.{lt-leb, eq-eqb, ltb-false}
+use Rattle.rs_field.specs.declared.code.error.Error.{Error}
+use Rattle.rs_field.specs.declared.code.error.Error.TheVariants.{OutOfMemory, UnsupportedShardCount, InvalidShardSize}
+use Rattle.rs_field.specs.declared.code.error.Error.TheVariants.{TooFewOriginalShards}
+use Rattle.rs_field.specs.code.Column.{Shard}
+use Rattle.rs_field.specs.code.Counts.{Rate, supports}
+use Rattle.rs_field.specs.code.Outcome.{answer_of, state_after, result_and_then}
+use Rattle.rs_field.specs.code.Configuration.{Configuration as AsDefined, validation_outcome, bytes_of_rows}
+use Rattle.rs_field.specs.code.Configuration.{start_outcome}
+use Rattle.rs_field.specs.code.Encoder.{EncoderState, fresh_encoder, with_shard, message_of, EncodeAnswers}
+use Rattle.rs_field.specs.code.Encoder.{after_encode}
+use Rattle.rs_field.specs.code.Code.{AreRecovery}
+use Rattle.rs_field.specs.words.UpTo.{up_to}
+use Rattle.rs_rate.specs.declared.rows.encoder_work.EncoderRows.{EncoderRows}
+use Rattle.rs_rate.specs.declared.values.configuration.Configuration.{Configuration}
+use Rattle.rs_rate.specs.values.Configured.{configuration_at}
+use Rattle.rs_rate.specs.rows.EncoderView.{encoder_state}
+use Rattle.rs_rate.specs.values.ChunkCounts.{memory_outcome, chunk_count}
+use Rattle.rs_rate.specs.rows.ShardRows.{shard_laid_out}
+
+-- If an encoder has room, a shard of the size is added.
+pub with_shard-added : (s : EncoderState) (shard : Shard) → length s.given < s.configuration.original_count
+    → length shard ≡ s.configuration.shard_bytes
+    → state_after s (with_shard s shard) ≡ record s { given = s.given ++ shard ∷ [] }
+with_shard-added s shard room same =
+    rw (
+      lt-leb s.configuration.original_count (length s.given) room,
+      eq-eqb
+          (length shard) s.configuration.shard_bytes same,
+    ) refl
+
+-- The outcome of setting up a valid configuration is the outcome of allocating its chunks.
+pub start_outcome-by : (rows : ℕ) (c : AsDefined) (chunks : ℕ) → validation_outcome c ≡ Ok tt
+    → chunks ≡ chunk_count rows c.shard_bytes → start_outcome rows c ≡ memory_outcome chunks
+unfolding chunk_count
+start_outcome-by rows c chunks valid is =
+    ap (result_and_then (λ _. cond (nat_le (2 ^ 64) (bytes_of_rows rows c.shard_bytes)) (Err OutOfMemory) (Ok tt)))
+    valid ∙ ap memory_outcome (sym is)
+
+-- If the size of chunks in bytes fits a `usize`, the outcome of allocating them is a success.
+memory_outcome-fits : (chunks : ℕ) → chunks * 64 < 2 ^ 64 → memory_outcome chunks ≡ Ok tt
+memory_outcome-fits chunks fits =
+    ap (λ (b : Bool). cond b (Err OutOfMemory) (Ok tt)) (lt-leb (2 ^ 64) (chunks * 64) fits)
+
+pub start_outcome-roomy : (rows : ℕ) (c : AsDefined) → validation_outcome c ≡ Ok tt
+    → chunk_count rows c.shard_bytes * 64 < 2 ^ 64 → start_outcome rows c ≡ Ok tt
+start_outcome-roomy rows c valid fits = start_outcome-by rows c (chunk_count rows c.shard_bytes) valid refl
+    ∙ memory_outcome-fits (chunk_count rows c.shard_bytes) fits
+
+pub memory_outcome-made : (chunks : ℕ) (result : Result (Unit {0}) Error) → chunks * 64 < 2 ^ 64
+    → result ≡ memory_outcome chunks → result ≡ Err OutOfMemory → ⊥
+memory_outcome-made chunks result fits is short = let no = sym short ∙ is ∙ memory_outcome-fits chunks fits in cc
+
+-- A property that holds for each rate after a success or an error holds for one rate.
+pub on_ok-at : {S : Type 0} (rate : Rate) (result : Result S Error) (P : Rate → Type 0)
+    → OnOk result ((each : Rate) → P each) → OnOk result (P rate)
+on_ok-at rate (Ok x) P h = h rate
+on_ok-at rate (Err e) P h = tt
+
+pub on_err-at : {S : Type 0} (rate : Rate) (result : Result S Error) (P : Rate → Type 0)
+    → OnErr result ((each : Rate) → P each) → OnErr result (P rate)
+on_err-at rate (Ok x) P h = tt
+on_err-at rate (Err e) P h = h rate
+
+-- The errors of a configuration, from the tests of its counts and its size.
+abbrev tested : AsDefined → Bool → Bool → Bool → Result (Unit {0}) Error
+tested c supported none odd =
+    cond (not supported) (Err (UnsupportedShardCount c.original_count c.recovery_count))
+    (cond (none || odd) (Err (InvalidShardSize c.shard_bytes)) (Ok tt))
+
+-- A valid configuration has counts that its rate supports.
+pub valid-supported : (c : AsDefined) → validation_outcome c ≡ Ok tt
+    → supports c.rate c.original_count c.recovery_count ≡ true
+valid-supported c valid = by_support (supports c.rate c.original_count c.recovery_count) valid
+  where
+    by_support : (b : Bool) → tested c b (c.shard_bytes == 0) (c.shard_bytes % 2 == 1) ≡ Ok tt → b ≡ true
+    by_support true h = refl
+    by_support false h = absurd (let no : ⊥ = cc in no)
+
+-- If originals are missing, encoding does not change the state of the encoder.
+pub after_encode-refused : (s : EncoderState) (e : Error) → Err e ≡ answer_of (message_of s) → s ≡ after_encode s
+after_encode-refused s e refused = by_message (message_of s) refused
+  where
+    by_message : (m : Result (List Shard) Error) → Err e ≡ answer_of m
+        → s ≡ cond (is_ok m) (fresh_encoder s.configuration) s
+    by_message (Ok message) h = absurd (let no : ⊥ = cc in no)
+    by_message (Err f) h = refl
+
+-- The result of `encode` for the message that an encoder holds.
+abbrev AnswersOf : EncoderState → Result (List Shard) Error → Result (List Shard) Error → Type 0
+AnswersOf s m result =
+    MatchResult m (λ message. IsOkAnd result (AreRecovery s.configuration message)) (λ e. result ≡ Err e)
+
+-- If originals are missing, `encode` returns the error of `message_of`.
+pub encode_answers-refused : (s : EncoderState) (e : Error) → Err e ≡ answer_of (message_of s) → EncodeAnswers s (Err e)
+encode_answers-refused s e refused = by_message (message_of s) refused
+  where
+    by_message : (m : Result (List Shard) Error) → Err e ≡ answer_of m
+        → AnswersOf s m (Err e)
+    by_message (Ok message) h = absurd (let no : ⊥ = cc in no)
+    by_message (Err f) h = let same : e ≡ f = cc in ap Err same
+
+-- An encoder that can encode holds a whole message.
+pub message-whole : (s : EncoderState) → Ok tt ≡ answer_of (message_of s)
+    → (s.configuration.original_count ≤ length s.given) × (message_of s ≡ Ok s.given)
+message-whole s made = by_test (nat_lt (length s.given) s.configuration.original_count) refl made
+  where
+    tests : Bool → Result (List Shard) Error
+    tests b = cond b (Err (TooFewOriginalShards s.configuration.original_count (length s.given))) (Ok s.given)
+
+    by_test : (b : Bool) → nat_lt (length s.given) s.configuration.original_count ≡ b → Ok tt ≡ answer_of (tests b)
+        → (s.configuration.original_count ≤ length s.given) × (tests b ≡ Ok s.given)
+    by_test true e h = absurd (let no : ⊥ = cc in no)
+    by_test false e h = (ltb-false (length s.given) s.configuration.original_count e, refl)
+
+-- After a round, an encoder holds no shards.
+pub after_encode-made : (s : EncoderState) → Ok tt ≡ answer_of (message_of s)
+    → after_encode s ≡ fresh_encoder s.configuration
+after_encode-made s made =
+    ap (λ (m : Result (List Shard) Error). cond (is_ok m) (fresh_encoder s.configuration) s) (message-whole s made).1
+
+-- If an encoder holds a whole message, `encode` returns the recovery shards of the message.
+pub encode_answers-made : (s : EncoderState) (recovery : List Shard) → Ok tt ≡ answer_of (message_of s)
+    → AreRecovery s.configuration s.given recovery → EncodeAnswers s (Ok recovery)
+encode_answers-made s recovery made right =
+    subst (λ (m : Result (List Shard) Error). AnswersOf s m (Ok recovery))
+    (sym (message-whole s made).1) right
+
+-- An encoder to whose rows no original was added is a fresh encoder.
+pub encoder_state-fresh : (rate : Rate) (rows : EncoderRows) (c : Configuration) → rows.configuration ≡ c
+    → rows.originals_given ≡ 0 → encoder_state rate rows ≡ fresh_encoder (configuration_at rate c)
+encoder_state-fresh rate rows c same none =
+    let F : Configuration → List Shard → EncoderState = λ x given.
+    record { configuration = configuration_at rate x; given = given } in
+    ap₂ F same (ap (λ n. up_to n (shard_laid_out rows.chunks.items rows.configuration.shard_bytes)) none)

@@ -1,0 +1,4 @@
+-- What the passes over rows compute: encoding, decoding and direct sums.
+pub mod Coding
+pub mod Decoding
+pub mod Sums

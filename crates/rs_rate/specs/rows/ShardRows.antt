@@ -1,0 +1,21 @@
+-- Rows of chunks, and the shards in them.
+use Rattle.std.specs.Prelude.{ℕ, ◌+◌, ◌*◌, List}
+use Rattle.rs_field.specs.code.Column.{Shard}
+use Rattle.rs_field.specs.rows.Rows.{Chunks, chunk, symbol}
+use Rattle.rs_field.specs.rows.Layout.{row_len, laid_out, in_order}
+
+-- chunk k of row i, in rows for shards of this size
+unfoldable pub row_chunk : Chunks → ℕ → ℕ → ℕ → List ℕ
+row_chunk chunks size i k = chunk chunks (i * row_len size + k)
+
+-- the shard that was laid into row i
+abbrev pub shard_laid_out : Chunks → ℕ → ℕ → Shard
+shard_laid_out chunks size i = laid_out size (row_chunk chunks size i)
+
+-- the shard in row i after its tail was moved
+abbrev pub shard_in_order : Chunks → ℕ → ℕ → Shard
+shard_in_order chunks size i = in_order size (row_chunk chunks size i)
+
+-- symbol s of chunk k of row i, in rows of n chunks
+abbrev pub word_in : Chunks → ℕ → ℕ → ℕ → ℕ → ℕ
+word_in chunks n k s i = symbol (chunk chunks (i * n + k)) s
