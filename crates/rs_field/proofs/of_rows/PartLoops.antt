@@ -157,7 +157,6 @@ pub record IsBegun (direction : Direction) (used : UsedRows) (block : Block) (ol
   pub counts : direction ≡ Direction.Forward → CountsUpTo (layer_steps block.size) 0 0 from to
   pub unchanged : direction ≡ Direction.Backward → (new ≡ old) × (to ≡ from)
 
-
 -- If the layers leave parts of the whole, transforms of the parts are the transform of the whole.
 joined : (size n shift i : ℕ) (values parts whole : ℕ → ℕ) → IsPart size n → ArePartsOf size n shift whole parts
     → i < size

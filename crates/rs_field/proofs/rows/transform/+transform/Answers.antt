@@ -140,9 +140,9 @@ parted g t c =
     let end = c.loop-j.auto.j-end in
     let last : c.loop-j.j ≡ block.size / n = let past = c.loop-j-test.false in omega arith in (
       all_parts c.args.direction (is_used c.args.used) block n c.loop-j.j c.match-direction.data c.loop-j.data
-      c.part_rows-part.ensures c.requires.large last c.loop-j.invariant.done,
+          c.part_rows-part.ensures c.requires.large last c.loop-j.invariant.done,
       counts_of_parts block.size n c.loop-j.j c.match-direction.steps c.loop-j.steps part
-      (omega (arith, parts_number block.size n part, end)) c.loop-j.invariant.counts,
+          (omega (arith, parts_number block.size n part, end)) c.loop-j.invariant.counts,
     )
 
 pub transform_parts-returns-in-Backward-clause-values : goal.transform_parts-returns-in-Backward-clause-values
