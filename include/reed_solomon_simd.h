@@ -132,7 +132,8 @@ uint32_t rs_supports(size_t original_count, size_t recovery_count);
  * fault. They write the number and its values to *fault. If they return RS_OK, they write zeros to *fault. If they fail, they write
  * nothing but *fault. The comment of each call lists its faults in the order in which the call checks for them. This order is proved,
  * except for the place of RS_OUT_OF_MEMORY: the contracts allow it at any place after the checks of the counts, of the lengths of
- * buffers and of the size of the first shard that the call looks at.
+ * buffers and of the size of the first shard that the call looks at. There is one more place: if an entry of an array has NULL as its
+ * pointer, the call copies this array before it checks anything, and fails with RS_OUT_OF_MEMORY if it cannot allocate the copy.
  *
  * Before all checks that these comments list, each call checks the tables. It fails with RS_TABLES_NOT_MADE if rs_tables_make has not
  * filled them: for example, if they hold only zeros, or if a version with another layout, such as 1.1, filled them. The stamp is no
@@ -235,7 +236,8 @@ uint32_t rs_encode_shards(const struct rs_tables *tables, size_t original_count,
  *   - RS_OUT_OF_MEMORY for the rows, and for the missing originals if there are more than original_count shards or the rooms don't fit
  *   - RS_INCONSISTENT_SHARDS
  *
- * The faults if there is no recovery shard, in order. In this case the call accepts any sizes and needs no memory:
+ * The faults if there is no recovery shard, in order. In this case the call accepts any sizes, and it needs memory only for the copy of
+ * an array that has NULL:
  *   - For each original in order: RS_INVALID_ORIGINAL_SHARD_INDEX or RS_DUPLICATE_ORIGINAL_SHARD_INDEX.
  *   - RS_NOT_ENOUGH_SHARDS */
 uint32_t rs_decode_shards(const struct rs_tables *tables, size_t original_count, size_t recovery_count,

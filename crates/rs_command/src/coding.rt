@@ -30,7 +30,7 @@ impl Lines {
     ghost use Rattle.rs_command.specs.Reading.{as_request};
 
     /// Encodes or decodes as the command says, with this engine, and makes a line of text for each resulting shard. The
-    /// function gets no tables, so it cannot make another engine.
+    /// result records the kind of the engine.
     ///
     /// # Errors
     ///
