@@ -16,7 +16,7 @@ use Rattle.rs_field.specs.declared.rows.shards.ShardsRefMut.{ShardsRefMut}
 use Rattle.rs_field.specs.code.Frame.{row_count, original_row}
 use Rattle.rs_field.specs.declared.code.frame.Frame.{Frame}
 use Rattle.rs_rate.specs.declared.values.configuration.Configuration.{Configuration}
-use Rattle.rs_rate.specs.rows.Marks.{erasure}
+use Rattle.rs_rate.specs.rows.Marks.{how_many, erasure}
 use Rattle.rs_rate.specs.values.Configured.{rows_to_decode}
 use Rattle.rs_rate.specs.rows.ShardRows.{word_in, shard_in_order}
 
