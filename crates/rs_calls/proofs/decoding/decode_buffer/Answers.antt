@@ -1,7 +1,8 @@
 use Rattle.std.proofs.Common.{rules, subst, ◌≡◌, ℕ, ◌+◌, ◌*◌, ◌<◌, ◌==◌, not, List, length, map, take, drop, Ok, Err}
-use Rattle.std.proofs.Common.{sym, ap, ◌∙◌, refl, arith}
+use Rattle.std.proofs.Common.{sym, ap, ◌∙◌, refl, arith, true}
 use Rattle.std.specs.List.{count_by}
 use Rattle.std.proofs.lemmas.List.{length-take-le, length-drop}
+use Rattle.rs_field.specs.code.Counts.{default_rate, supports}
 use Rattle.rs_field.specs.code.Given.{nothing}
 use Rattle.rs_field.proofs.of_code.SupportedCounts.{default_fits}
 use Rattle.rs_field.specs.code.OneCall.{OneDecodeAnswers}
@@ -12,6 +13,8 @@ use Rattle.rs_calls.proofs.EncodeLemmas.{fits-length}
 use Rattle.rs_calls.proofs.DecodeLemmas.{decodes-unmarked, with-nothing, decodes}
 use Rattle.rs_calls.proofs.MarkedLemmas.{present, count-present}
 use Rattle.rs_calls.proofs.RestoredBuffer.{unset-answers, failed-answers, done-answers, buffer-restored}
+use Rattle.rs_calls.proofs.decoding.decode_buffer.Given.{Over}
+use Rattle.rs_calls.proofs.decoding.decode_buffer.Goals.{After-split_at}
 use Rattle.rs_calls.proofs.decoding.decode_buffer.Goals as goal
 
 pub overflow_add-original_count : goal.overflow_add-original_count
@@ -20,22 +23,48 @@ overflow_add-original_count g c =
     c.in_ok-counts.counts.supported in
     omega (arith, fits, c.in_ok-counts.ensures.0, c.in_ok-counts.ensures.1)
 
+-- The marks are those of the originals and those of the recovery shards, and the buffers hold whole shards.
+record IsDivided (k r size : ℕ) (marks own other old recovery : List ℕ) : Type 0 where
+  supported : supports default_rate k r ≡ true
+  own_marks : own ≡ take k marks
+  other_marks : other ≡ drop k marks
+  own_number : length own ≡ k
+  other_number : length other ≡ r
+  own_whole : length old ≡ k * size
+  other_whole : length recovery ≡ r * size
+
+divided : (g : Over) (c : After-split_at g)
+    → IsDivided c.args.original_count c.args.recovery_count c.args.shard_bytes c.args.marks.now
+    c.split_at.result.0.now c.split_at.result.1.now c.args.originals.now c.args.recovery.now
+divided g c =
+    let k = c.args.original_count in let r = c.args.recovery_count in let size = c.args.shard_bytes in
+    let marks = c.args.marks.now in
+    let front : c.split_at.result.0.now ≡ take k marks = search rules in
+    let back : c.split_at.result.1.now ≡ drop k marks = search rules in
+    let many : length marks ≡ (k + r) * 1 = fits-length 2 (k + r) 1 (length marks) c.in_ok-check_length-3.ensures in
+    record {
+      supported = rw (c.in_ok-counts.ensures.0, c.in_ok-counts.ensures.1) at c.in_ok-counts.counts.supported;
+      own_marks = front;
+      other_marks = back;
+      own_number = ap length front ∙ length-take-le k marks (omega (arith, many));
+      other_number = ap length back ∙ length-drop k marks ∙ omega (arith, many);
+      own_whole = fits-length 0 k size (length c.args.originals.now) c.in_ok-check_length.ensures;
+      other_whole = fits-length 1 r size (length c.args.recovery.now) c.in_ok-check_length-2.ensures;
+    }
+
 pub returns-in_err-check_all_marked-clause-answer : goal.returns-in_err-check_all_marked-clause-answer
 returns-in_err-check_all_marked-clause-answer g c =
     let k = c.args.original_count in let r = c.args.recovery_count in let size = c.args.shard_bytes in
     let marks = c.args.marks.now in let old = c.args.originals.now in let recovery = c.args.recovery.now in
-    let front : c.split_at.result.0.now ≡ take k marks = search rules in
-    let back : c.split_at.result.1.now ≡ drop k marks = search rules in
+    let d = divided g (goal.at.returns-in_err-check_all_marked-clause-answer g c).After-split_at in
     let e = c.in_err-check_all_marked.field-0.0 in
-    let many : length marks ≡ (k + r) * 1 = fits-length 2 (k + r) 1 (length marks) c.in_ok-check_length-3.ensures in
-    let led = decodes-unmarked k r size (take k marks) (drop k marks) old recovery (Err e)
-    (rw (c.in_ok-counts.ensures.0, c.in_ok-counts.ensures.1) at c.in_ok-counts.counts.supported)
-    (length-take-le k marks (omega (arith, many)))
-    (ap (count_by (λ mark. not (mark == 0))) (sym back) ∙ sym c.count_marked.ensures ∙ c.if-count_marked-eq0.true)
+    let led = decodes-unmarked k r size (take k marks) (drop k marks) old recovery (Err e) d.supported
+    (ap length (sym d.own_marks) ∙ d.own_number)
+    (ap (count_by (λ mark. not (mark == 0))) (sym d.other_marks)
+    ∙ sym c.count_marked.ensures ∙ c.if-count_marked-eq0.true)
     (c.in_err-check_all_marked.ensures
-    ∙ ap (λ l. all_or_refused (length l) (count_by (λ mark. not (mark == 0)) l)) front) in
-    decodes k r size marks recovery old _ _ (Err e)
-    (rw (c.in_ok-counts.ensures.0, c.in_ok-counts.ensures.1) at c.in_ok-counts.counts.supported)
+    ∙ ap (λ l. all_or_refused (length l) (count_by (λ mark. not (mark == 0)) l)) d.own_marks) in
+    decodes k r size marks recovery old _ _ (Err e) d.supported
     c.in_ok-check_length.ensures c.in_ok-check_length-2.ensures c.in_ok-check_length-3.ensures
     (decoding-refused k r (marked_shards 0 size (take k marks) old)
     (marked_shards 0 size (drop k marks) recovery) e led) (search rules, refl)
@@ -44,148 +73,73 @@ pub returns-then-count_marked-eq0-clause-answer : goal.returns-then-count_marked
 returns-then-count_marked-eq0-clause-answer g c =
     let k = c.args.original_count in let r = c.args.recovery_count in let size = c.args.shard_bytes in
     let marks = c.args.marks.now in let old = c.args.originals.now in let recovery = c.args.recovery.now in
-    let front : c.split_at.result.0.now ≡ take k marks = search rules in
-    let back : c.split_at.result.1.now ≡ drop k marks = search rules in
-    let many : length marks ≡ (k + r) * 1 = fits-length 2 (k + r) 1 (length marks) c.in_ok-check_length-3.ensures in
-    let led = decodes-unmarked k r size (take k marks) (drop k marks) old recovery (Ok tt)
-    (rw (c.in_ok-counts.ensures.0, c.in_ok-counts.ensures.1) at c.in_ok-counts.counts.supported)
-    (length-take-le k marks (omega (arith, many)))
-    (ap (count_by (λ mark. not (mark == 0))) (sym back) ∙ sym c.count_marked.ensures ∙ c.if-count_marked-eq0.true)
+    let d = divided g (goal.at.returns-then-count_marked-eq0-clause-answer g c).After-split_at in
+    let led = decodes-unmarked k r size (take k marks) (drop k marks) old recovery (Ok tt) d.supported
+    (ap length (sym d.own_marks) ∙ d.own_number)
+    (ap (count_by (λ mark. not (mark == 0))) (sym d.other_marks)
+    ∙ sym c.count_marked.ensures ∙ c.if-count_marked-eq0.true)
     (c.in_ok-check_all_marked.ensures
-    ∙ ap (λ l. all_or_refused (length l) (count_by (λ mark. not (mark == 0)) l)) front) in
-    decodes k r size marks recovery old _ _ (Ok nothing)
-    (rw (c.in_ok-counts.ensures.0, c.in_ok-counts.ensures.1) at c.in_ok-counts.counts.supported)
+    ∙ ap (λ l. all_or_refused (length l) (count_by (λ mark. not (mark == 0)) l)) d.own_marks) in
+    decodes k r size marks recovery old _ _ (Ok nothing) d.supported
     c.in_ok-check_length.ensures c.in_ok-check_length-2.ensures c.in_ok-check_length-3.ensures
     (decoding-nothing k r (marked_shards 0 size (take k marks) old) (marked_shards 0 size (drop k marks) recovery) led)
-    (search rules, sym (with-nothing 0 size k old (fits-length 0 k size (length old) c.in_ok-check_length.ensures)))
+    (search rules, sym (with-nothing 0 size k old d.own_whole))
 
 pub returns-in_err-check_decoder_rows-clause-answer : goal.returns-in_err-check_decoder_rows-clause-answer
 returns-in_err-check_decoder_rows-clause-answer g c =
     let k = c.args.original_count in let r = c.args.recovery_count in let size = c.args.shard_bytes in
     let marks = c.args.marks.now in let old = c.args.originals.now in let recovery = c.args.recovery.now in
     let own = c.split_at.result.0.now in let other = c.split_at.result.1.now in
-    let front : c.split_at.result.0.now ≡ take k marks = search rules in
-    let back : c.split_at.result.1.now ≡ drop k marks = search rules in
-    let many : length marks ≡ (k + r) * 1 = fits-length 2 (k + r) 1 (length marks) c.in_ok-check_length-3.ensures in
-    let own_number : length c.split_at.result.0.now ≡ c.args.original_count =
-    ap length front ∙ length-take-le k marks (omega (arith, many)) in
-    let other_number : length c.split_at.result.1.now ≡ c.args.recovery_count =
-    ap length back ∙ length-drop k marks ∙ omega (arith, many) in
-    let own_whole = fits-length 0 k size (length old) c.in_ok-check_length.ensures in
-    let other_whole = fits-length 1 r size (length recovery) c.in_ok-check_length-2.ensures in
+    let d = divided g (goal.at.returns-in_err-check_decoder_rows-clause-answer g c).After-split_at in
     let counted = c.count_marked.ensures ∙ sym (count-present other) in
     let some : 0 < present c.split_at.result.1.now = omega (arith, counted, c.if-count_marked-eq0.false) in
-    let supported = rw (c.in_ok-counts.ensures.0, c.in_ok-counts.ensures.1) at c.in_ok-counts.counts.supported in
     let e = c.in_err-check_decoder_rows.field-0.0 in
     let unset = rw (c.in_ok-counts.ensures.0, c.in_ok-counts.ensures.1) at c.in_err-check_decoder_rows.ensures in
-    let answers = rw (front, back) at
-    (unset-answers k r size own other old recovery own_number other_number own_whole other_whole some e (sym unset))
+    let answers = rw (d.own_marks, d.other_marks) at
+    (unset-answers k r size own other old recovery d.own_number d.other_number d.own_whole d.other_whole some e
+    (sym unset))
     in
     decodes k r size marks recovery old _ _
-    (Err e) supported c.in_ok-check_length.ensures c.in_ok-check_length-2.ensures c.in_ok-check_length-3.ensures
+    (Err e) d.supported c.in_ok-check_length.ensures c.in_ok-check_length-2.ensures c.in_ok-check_length-3.ensures
     answers (search rules, refl)
 
 pub restore_marked-requires-clause-own_marks : goal.restore_marked-requires-clause-own_marks
 restore_marked-requires-clause-own_marks g c =
-    let k = c.args.original_count in let r = c.args.recovery_count in let size = c.args.shard_bytes in
-    let marks = c.args.marks.now in let old = c.args.originals.now in let recovery = c.args.recovery.now in
-    let own = c.split_at.result.0.now in let other = c.split_at.result.1.now in
-    let front : c.split_at.result.0.now ≡ take k marks = search rules in
-    let back : c.split_at.result.1.now ≡ drop k marks = search rules in
-    let many : length marks ≡ (k + r) * 1 = fits-length 2 (k + r) 1 (length marks) c.in_ok-check_length-3.ensures in
-    let own_number : length c.split_at.result.0.now ≡ c.args.original_count =
-    ap length front ∙ length-take-le k marks (omega (arith, many)) in
-    let other_number : length c.split_at.result.1.now ≡ c.args.recovery_count =
-    ap length back ∙ length-drop k marks ∙ omega (arith, many) in
-    let own_whole = fits-length 0 k size (length old) c.in_ok-check_length.ensures in
-    let other_whole = fits-length 1 r size (length recovery) c.in_ok-check_length-2.ensures in
-    let counted = c.count_marked.ensures ∙ sym (count-present other) in
-    let some : 0 < present c.split_at.result.1.now = omega (arith, counted, c.if-count_marked-eq0.false) in
-    let supported = rw (c.in_ok-counts.ensures.0, c.in_ok-counts.ensures.1) at c.in_ok-counts.counts.supported in
-    rw c.in_ok-counts.ensures.0 own_number
+    rw c.in_ok-counts.ensures.0
+    (divided g (goal.at.restore_marked-requires-clause-own_marks g c).After-split_at).own_number
 
 pub restore_marked-requires-clause-other_marks : goal.restore_marked-requires-clause-other_marks
 restore_marked-requires-clause-other_marks g c =
-    let k = c.args.original_count in let r = c.args.recovery_count in let size = c.args.shard_bytes in
-    let marks = c.args.marks.now in let old = c.args.originals.now in let recovery = c.args.recovery.now in
-    let own = c.split_at.result.0.now in let other = c.split_at.result.1.now in
-    let front : c.split_at.result.0.now ≡ take k marks = search rules in
-    let back : c.split_at.result.1.now ≡ drop k marks = search rules in
-    let many : length marks ≡ (k + r) * 1 = fits-length 2 (k + r) 1 (length marks) c.in_ok-check_length-3.ensures in
-    let own_number : length c.split_at.result.0.now ≡ c.args.original_count =
-    ap length front ∙ length-take-le k marks (omega (arith, many)) in
-    let other_number : length c.split_at.result.1.now ≡ c.args.recovery_count =
-    ap length back ∙ length-drop k marks ∙ omega (arith, many) in
-    let own_whole = fits-length 0 k size (length old) c.in_ok-check_length.ensures in
-    let other_whole = fits-length 1 r size (length recovery) c.in_ok-check_length-2.ensures in
-    let counted = c.count_marked.ensures ∙ sym (count-present other) in
-    let some : 0 < present c.split_at.result.1.now = omega (arith, counted, c.if-count_marked-eq0.false) in
-    let supported = rw (c.in_ok-counts.ensures.0, c.in_ok-counts.ensures.1) at c.in_ok-counts.counts.supported in
-    rw c.in_ok-counts.ensures.1 other_number
+    rw c.in_ok-counts.ensures.1
+    (divided g (goal.at.restore_marked-requires-clause-other_marks g c).After-split_at).other_number
 
 pub restore_marked-requires-clause-own_whole : goal.restore_marked-requires-clause-own_whole
 restore_marked-requires-clause-own_whole g c =
-    let k = c.args.original_count in let r = c.args.recovery_count in let size = c.args.shard_bytes in
-    let marks = c.args.marks.now in let old = c.args.originals.now in let recovery = c.args.recovery.now in
-    let own = c.split_at.result.0.now in let other = c.split_at.result.1.now in
-    let front : c.split_at.result.0.now ≡ take k marks = search rules in
-    let back : c.split_at.result.1.now ≡ drop k marks = search rules in
-    let many : length marks ≡ (k + r) * 1 = fits-length 2 (k + r) 1 (length marks) c.in_ok-check_length-3.ensures in
-    let own_number : length c.split_at.result.0.now ≡ c.args.original_count =
-    ap length front ∙ length-take-le k marks (omega (arith, many)) in
-    let other_number : length c.split_at.result.1.now ≡ c.args.recovery_count =
-    ap length back ∙ length-drop k marks ∙ omega (arith, many) in
-    let own_whole = fits-length 0 k size (length old) c.in_ok-check_length.ensures in
-    let other_whole = fits-length 1 r size (length recovery) c.in_ok-check_length-2.ensures in
-    let counted = c.count_marked.ensures ∙ sym (count-present other) in
-    let some : 0 < present c.split_at.result.1.now = omega (arith, counted, c.if-count_marked-eq0.false) in
-    let supported = rw (c.in_ok-counts.ensures.0, c.in_ok-counts.ensures.1) at c.in_ok-counts.counts.supported in
-    rw c.in_ok-counts.ensures.0 own_whole
+    rw c.in_ok-counts.ensures.0
+    (divided g (goal.at.restore_marked-requires-clause-own_whole g c).After-split_at).own_whole
 
 pub restore_marked-requires-clause-other_whole : goal.restore_marked-requires-clause-other_whole
 restore_marked-requires-clause-other_whole g c =
-    let k = c.args.original_count in let r = c.args.recovery_count in let size = c.args.shard_bytes in
-    let marks = c.args.marks.now in let old = c.args.originals.now in let recovery = c.args.recovery.now in
-    let own = c.split_at.result.0.now in let other = c.split_at.result.1.now in
-    let front : c.split_at.result.0.now ≡ take k marks = search rules in
-    let back : c.split_at.result.1.now ≡ drop k marks = search rules in
-    let many : length marks ≡ (k + r) * 1 = fits-length 2 (k + r) 1 (length marks) c.in_ok-check_length-3.ensures in
-    let own_number : length c.split_at.result.0.now ≡ c.args.original_count =
-    ap length front ∙ length-take-le k marks (omega (arith, many)) in
-    let other_number : length c.split_at.result.1.now ≡ c.args.recovery_count =
-    ap length back ∙ length-drop k marks ∙ omega (arith, many) in
-    let own_whole = fits-length 0 k size (length old) c.in_ok-check_length.ensures in
-    let other_whole = fits-length 1 r size (length recovery) c.in_ok-check_length-2.ensures in
-    let counted = c.count_marked.ensures ∙ sym (count-present other) in
-    let some : 0 < present c.split_at.result.1.now = omega (arith, counted, c.if-count_marked-eq0.false) in
-    let supported = rw (c.in_ok-counts.ensures.0, c.in_ok-counts.ensures.1) at c.in_ok-counts.counts.supported in
-    rw c.in_ok-counts.ensures.1 other_whole
+    rw c.in_ok-counts.ensures.1
+    (divided g (goal.at.restore_marked-requires-clause-other_whole g c).After-split_at).other_whole
 
 pub returns-in_err-restore_marked-clause-answer : goal.returns-in_err-restore_marked-clause-answer
 returns-in_err-restore_marked-clause-answer g c =
     let k = c.args.original_count in let r = c.args.recovery_count in let size = c.args.shard_bytes in
     let marks = c.args.marks.now in let old = c.args.originals.now in let recovery = c.args.recovery.now in
     let own = c.split_at.result.0.now in let other = c.split_at.result.1.now in
-    let front : c.split_at.result.0.now ≡ take k marks = search rules in
-    let back : c.split_at.result.1.now ≡ drop k marks = search rules in
-    let many : length marks ≡ (k + r) * 1 = fits-length 2 (k + r) 1 (length marks) c.in_ok-check_length-3.ensures in
-    let own_number : length c.split_at.result.0.now ≡ c.args.original_count =
-    ap length front ∙ length-take-le k marks (omega (arith, many)) in
-    let other_number : length c.split_at.result.1.now ≡ c.args.recovery_count =
-    ap length back ∙ length-drop k marks ∙ omega (arith, many) in
-    let own_whole = fits-length 0 k size (length old) c.in_ok-check_length.ensures in
-    let other_whole = fits-length 1 r size (length recovery) c.in_ok-check_length-2.ensures in
+    let d = divided g (goal.at.returns-in_err-restore_marked-clause-answer g c).After-split_at in
     let counted = c.count_marked.ensures ∙ sym (count-present other) in
     let some : 0 < present c.split_at.result.1.now = omega (arith, counted, c.if-count_marked-eq0.false) in
-    let supported = rw (c.in_ok-counts.ensures.0, c.in_ok-counts.ensures.1) at c.in_ok-counts.counts.supported in
     let e = c.in_err-restore_marked.field-0.0 in
     let made = rw (c.in_ok-counts.ensures.0, c.in_ok-counts.ensures.1) at c.in_ok-check_decoder_rows.ensures in
     let does = rw (c.in_ok-counts.ensures.0, c.in_ok-counts.ensures.1) at c.in_err-restore_marked.ensures.answer in
-    let answers = rw (front, back) at
-    (failed-answers k r size own other old recovery own_number other_number own_whole other_whole some (sym made)
+    let answers = rw (d.own_marks, d.other_marks) at
+    (failed-answers k r size own other old recovery d.own_number d.other_number d.own_whole d.other_whole some
+    (sym made)
     (map (λ i. shard_place c.args.shard_bytes c.restore_marked.new.originals i) (lost_indexes 0 own)) e does) in
     decodes k r size marks recovery old _ _
-    (Err e) supported c.in_ok-check_length.ensures c.in_ok-check_length-2.ensures c.in_ok-check_length-3.ensures
+    (Err e) d.supported c.in_ok-check_length.ensures c.in_ok-check_length-2.ensures c.in_ok-check_length-3.ensures
     answers (search rules, c.in_err-restore_marked.ensures.untouched)
 
 pub returns-clause-answer : goal.returns-clause-answer
@@ -193,32 +147,24 @@ returns-clause-answer g c =
     let k = c.args.original_count in let r = c.args.recovery_count in let size = c.args.shard_bytes in
     let marks = c.args.marks.now in let old = c.args.originals.now in let recovery = c.args.recovery.now in
     let own = c.split_at.result.0.now in let other = c.split_at.result.1.now in
-    let front : c.split_at.result.0.now ≡ take k marks = search rules in
-    let back : c.split_at.result.1.now ≡ drop k marks = search rules in
-    let many : length marks ≡ (k + r) * 1 = fits-length 2 (k + r) 1 (length marks) c.in_ok-check_length-3.ensures in
-    let own_number : length c.split_at.result.0.now ≡ c.args.original_count =
-    ap length front ∙ length-take-le k marks (omega (arith, many)) in
-    let other_number : length c.split_at.result.1.now ≡ c.args.recovery_count =
-    ap length back ∙ length-drop k marks ∙ omega (arith, many) in
-    let own_whole = fits-length 0 k size (length old) c.in_ok-check_length.ensures in
-    let other_whole = fits-length 1 r size (length recovery) c.in_ok-check_length-2.ensures in
+    let d = divided g (goal.at.returns-clause-answer g c).After-split_at in
     let counted = c.count_marked.ensures ∙ sym (count-present other) in
     let some : 0 < present c.split_at.result.1.now = omega (arith, counted, c.if-count_marked-eq0.false) in
-    let supported = rw (c.in_ok-counts.ensures.0, c.in_ok-counts.ensures.1) at c.in_ok-counts.counts.supported in
     let made = rw (c.in_ok-counts.ensures.0, c.in_ok-counts.ensures.1) at c.in_ok-check_decoder_rows.ensures in
     let does = rw (c.in_ok-counts.ensures.0, c.in_ok-counts.ensures.1) at c.in_ok-restore_marked.ensures.answer in
-    let (holds, one) = done-answers k r size own other old recovery own_number other_number own_whole other_whole some
-    (sym made)
+    let (holds, one) = done-answers k r size own other old recovery d.own_number d.other_number d.own_whole
+    d.other_whole some (sym made)
     (map (λ i. shard_place c.args.shard_bytes c.restore_marked.new.originals i) (lost_indexes 0 own)) does in
-    let new_is = buffer-restored k r size own old other recovery c.restore_marked.new.originals own_number own_whole
-    c.in_ok-restore_marked.ensures.long c.in_ok-restore_marked.ensures.marked holds in
+    let new_is = buffer-restored k r size own old other recovery c.restore_marked.new.originals d.own_number
+    d.own_whole c.in_ok-restore_marked.ensures.long c.in_ok-restore_marked.ensures.marked holds in
     let answers = subst (λ (l : List ℕ).
     OneDecodeAnswers k r (marked_shards 0 size l old) (marked_shards 0 size (drop k marks) recovery) (Ok holds.out))
-    front
+    d.own_marks
     (subst (λ (l : List ℕ).
-    OneDecodeAnswers k r (marked_shards 0 size own old) (marked_shards 0 size l recovery) (Ok holds.out)) back one)
+    OneDecodeAnswers k r (marked_shards 0 size own old) (marked_shards 0 size l recovery) (Ok holds.out))
+    d.other_marks one)
     in
     decodes k r size marks recovery old _ _
-    (Ok holds.out) supported c.in_ok-check_length.ensures c.in_ok-check_length-2.ensures
+    (Ok holds.out) d.supported c.in_ok-check_length.ensures c.in_ok-check_length-2.ensures
     c.in_ok-check_length-3.ensures
     answers (refl, new_is)
