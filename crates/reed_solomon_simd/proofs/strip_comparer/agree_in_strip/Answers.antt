@@ -12,8 +12,8 @@ use Rattle.reed_solomon_simd.proofs.ComparedStrips.{compared-consistent, consist
 use Rattle.reed_solomon_simd.proofs.ObjectRoundTrip.{codes-given, gives-all, encodes, round-ends}
 use Rattle.reed_solomon_simd.proofs.strip_comparer.agree_in_strip.Goals as goal
 
-pub returns-in_err-add_received_originals-clause-refused : goal.returns-in_err-add_received_originals-clause-refused
-returns-in_err-add_received_originals-clause-refused g c =
+pub returns-in_err-add_received_originals : goal.returns-in_err-add_received_originals
+returns-in_err-add_received_originals g c =
     let x : DecoderState = g.P.Pieces.received c.args.received.now in
     let start : ℕ = c.args.start in let end : ℕ = c.args.end in
     absurd (gives-all (state_of_pieces start end x).configuration
@@ -24,34 +24,8 @@ returns-in_err-add_received_originals-clause-refused g c =
     (λ s. encoder_state default_rate c.add_received_originals.new.encoder.rows ≡ s)
     c.in_err-add_received_originals.field-0.0 c.in_err-add_received_originals.ensures)
 
-pub returns-in_err-add_received_originals-clause-fresh : goal.returns-in_err-add_received_originals-clause-fresh
-returns-in_err-add_received_originals-clause-fresh g c =
-    let x : DecoderState = g.P.Pieces.received c.args.received.now in
-    let start : ℕ = c.args.start in let end : ℕ = c.args.end in
-    absurd (gives-all (state_of_pieces start end x).configuration
-    (listed_pieces x c.requires.set_up c.requires.all start end c.requires.strip)
-    (encoder_state default_rate c.args.encoder.now.rows) c.requires.fresh
-    (listed-number x c.requires.set_up c.requires.all start end c.requires.strip)
-    (listed-sized x c.requires.set_up c.requires.all start end c.requires.strip)
-    (λ s. encoder_state default_rate c.add_received_originals.new.encoder.rows ≡ s)
-    c.in_err-add_received_originals.field-0.0 c.in_err-add_received_originals.ensures)
-
-pub returns-in_err-encode_round-clause-refused : goal.returns-in_err-encode_round-clause-refused
-returns-in_err-encode_round-clause-refused g c =
-    let x : DecoderState = g.P.Pieces.received c.args.received.now in
-    let start : ℕ = c.args.start in let end : ℕ = c.args.end in
-    let led = reached-ok _ (encoder_state default_rate c.add_received_originals.new.encoder.rows)
-    c.in_ok-add_received_originals.ensures in
-    absurd (encodes (state_of_pieces start end x).configuration
-    (listed_pieces x c.requires.set_up c.requires.all start end c.requires.strip)
-    (encoder_state default_rate c.args.encoder.now.rows) c.requires.fresh
-    (listed-number x c.requires.set_up c.requires.all start end c.requires.strip)
-    (listed-sized x c.requires.set_up c.requires.all start end c.requires.strip)
-    (encoder_state default_rate c.add_received_originals.new.encoder.rows)
-    c.in_err-encode_round.field-0.0 led c.in_err-encode_round.ensures.answer)
-
-pub returns-in_err-encode_round-clause-fresh : goal.returns-in_err-encode_round-clause-fresh
-returns-in_err-encode_round-clause-fresh g c =
+pub returns-in_err-encode_round : goal.returns-in_err-encode_round
+returns-in_err-encode_round g c =
     let x : DecoderState = g.P.Pieces.received c.args.received.now in
     let start : ℕ = c.args.start in let end : ℕ = c.args.end in
     let led = reached-ok _ (encoder_state default_rate c.add_received_originals.new.encoder.rows)

@@ -30,18 +30,8 @@ returns-in_err-add_pieces-clause-fresh g c =
     (λ s. encoder_state default_rate c.add_pieces.new.encoder.rows ≡ s)
     c.in_err-add_pieces.field-0.0 c.in_err-add_pieces.ensures)
 
-pub returns-in_err-encode_round-clause-refused : goal.returns-in_err-encode_round-clause-refused
-returns-in_err-encode_round-clause-refused g c =
-    let led = reached-ok _ (encoder_state default_rate c.add_pieces.new.encoder.rows) c.in_ok-add_pieces.ensures in
-    absurd (strip-encoded c.args.start c.args.end
-    (length (g.R.Rooms.held c.args.rooms.now)) (g.O.Originals.shards c.args.originals.now)
-    c.requires.order c.requires.originals
-    (encoder_state default_rate c.args.encoder.now.rows) c.requires.fresh
-    (encoder_state default_rate c.add_pieces.new.encoder.rows) led
-    c.in_err-encode_round.field-0.0 c.in_err-encode_round.ensures.answer)
-
-pub returns-in_err-encode_round-clause-fresh : goal.returns-in_err-encode_round-clause-fresh
-returns-in_err-encode_round-clause-fresh g c =
+pub returns-in_err-encode_round : goal.returns-in_err-encode_round
+returns-in_err-encode_round g c =
     let led = reached-ok _ (encoder_state default_rate c.add_pieces.new.encoder.rows) c.in_ok-add_pieces.ensures in
     absurd (strip-encoded c.args.start c.args.end
     (length (g.R.Rooms.held c.args.rooms.now)) (g.O.Originals.shards c.args.originals.now)

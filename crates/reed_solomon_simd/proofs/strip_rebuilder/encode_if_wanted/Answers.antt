@@ -9,8 +9,8 @@ use Rattle.rs_rate.specs.objects.ObjectLaws.{is_encoder}
 use Rattle.reed_solomon_simd.proofs.ObjectRoundTrip.{codes-given, gives-all, encodes, round-ends}
 use Rattle.reed_solomon_simd.proofs.strip_rebuilder.encode_if_wanted.Goals as goal
 
-pub returns-in_err-add_message-clause-coded : goal.returns-in_err-add_message-clause-coded
-returns-in_err-add_message-clause-coded g c =
+pub returns-in_err-add_message : goal.returns-in_err-add_message
+returns-in_err-add_message g c =
     let x : DecoderState = g.P.Pieces.received c.args.received.now in
     let s : DecoderState = state_of_pieces c.args.start c.args.end x in
     let message : List Shard = c.requires.restored.message in
@@ -20,56 +20,8 @@ returns-in_err-add_message-clause-coded g c =
     (λ t. encoder_state default_rate c.add_message.new.encoder.rows ≡ t)
     c.in_err-add_message.field-0.0 (c.in_err-add_message.ensures message agrees))
 
-pub returns-in_err-add_message-clause-answer : goal.returns-in_err-add_message-clause-answer
-returns-in_err-add_message-clause-answer g c =
-    let x : DecoderState = g.P.Pieces.received c.args.received.now in
-    let s : DecoderState = state_of_pieces c.args.start c.args.end x in
-    let message : List Shard = c.requires.restored.message in
-    let agrees = c.requires.restored.agrees in
-    absurd (gives-all s.configuration message (encoder_state default_rate c.args.encoder.now.rows) c.requires.fresh
-    agrees.shards.length_is (λ i d h. (agrees.shards.each i d h).length_is)
-    (λ t. encoder_state default_rate c.add_message.new.encoder.rows ≡ t)
-    c.in_err-add_message.field-0.0 (c.in_err-add_message.ensures message agrees))
-
-pub returns-in_err-add_message-clause-fresh : goal.returns-in_err-add_message-clause-fresh
-returns-in_err-add_message-clause-fresh g c =
-    let x : DecoderState = g.P.Pieces.received c.args.received.now in
-    let s : DecoderState = state_of_pieces c.args.start c.args.end x in
-    let message : List Shard = c.requires.restored.message in
-    let agrees = c.requires.restored.agrees in
-    absurd (gives-all s.configuration message (encoder_state default_rate c.args.encoder.now.rows) c.requires.fresh
-    agrees.shards.length_is (λ i d h. (agrees.shards.each i d h).length_is)
-    (λ t. encoder_state default_rate c.add_message.new.encoder.rows ≡ t)
-    c.in_err-add_message.field-0.0 (c.in_err-add_message.ensures message agrees))
-
-pub returns-in_err-encode_round-clause-coded : goal.returns-in_err-encode_round-clause-coded
-returns-in_err-encode_round-clause-coded g c =
-    let x : DecoderState = g.P.Pieces.received c.args.received.now in
-    let s : DecoderState = state_of_pieces c.args.start c.args.end x in
-    let message : List Shard = c.requires.restored.message in
-    let agrees = c.requires.restored.agrees in
-    let led = reached-ok _ (encoder_state default_rate c.add_message.new.encoder.rows)
-    (c.in_ok-add_message.ensures message agrees) in
-    absurd (encodes s.configuration message (encoder_state default_rate c.args.encoder.now.rows) c.requires.fresh
-    agrees.shards.length_is (λ i d h. (agrees.shards.each i d h).length_is)
-    (encoder_state default_rate c.add_message.new.encoder.rows)
-    c.in_err-encode_round.field-0.0 led c.in_err-encode_round.ensures.answer)
-
-pub returns-in_err-encode_round-clause-answer : goal.returns-in_err-encode_round-clause-answer
-returns-in_err-encode_round-clause-answer g c =
-    let x : DecoderState = g.P.Pieces.received c.args.received.now in
-    let s : DecoderState = state_of_pieces c.args.start c.args.end x in
-    let message : List Shard = c.requires.restored.message in
-    let agrees = c.requires.restored.agrees in
-    let led = reached-ok _ (encoder_state default_rate c.add_message.new.encoder.rows)
-    (c.in_ok-add_message.ensures message agrees) in
-    absurd (encodes s.configuration message (encoder_state default_rate c.args.encoder.now.rows) c.requires.fresh
-    agrees.shards.length_is (λ i d h. (agrees.shards.each i d h).length_is)
-    (encoder_state default_rate c.add_message.new.encoder.rows)
-    c.in_err-encode_round.field-0.0 led c.in_err-encode_round.ensures.answer)
-
-pub returns-in_err-encode_round-clause-fresh : goal.returns-in_err-encode_round-clause-fresh
-returns-in_err-encode_round-clause-fresh g c =
+pub returns-in_err-encode_round : goal.returns-in_err-encode_round
+returns-in_err-encode_round g c =
     let x : DecoderState = g.P.Pieces.received c.args.received.now in
     let s : DecoderState = state_of_pieces c.args.start c.args.end x in
     let message : List Shard = c.requires.restored.message in
