@@ -12,17 +12,8 @@ use Rattle.rs_rate.specs.objects.ResultView.{recovery_shards}
 use Rattle.reed_solomon_simd.proofs.StripLemmas.{strip-added, strip-encoded, strip-ends, strip-codes}
 use Rattle.reed_solomon_simd.proofs.strip_encoder.encode_strip.Goals as goal
 
-pub returns-in_err-add_pieces-clause-refused : goal.returns-in_err-add_pieces-clause-refused
-returns-in_err-add_pieces-clause-refused g c =
-    absurd (strip-added c.args.start c.args.end
-    (length (g.R.Rooms.held c.args.rooms.now)) (g.O.Originals.shards c.args.originals.now)
-    c.requires.order c.requires.originals
-    (encoder_state default_rate c.args.encoder.now.rows) c.requires.fresh
-    (λ s. encoder_state default_rate c.add_pieces.new.encoder.rows ≡ s)
-    c.in_err-add_pieces.field-0.0 c.in_err-add_pieces.ensures)
-
-pub returns-in_err-add_pieces-clause-fresh : goal.returns-in_err-add_pieces-clause-fresh
-returns-in_err-add_pieces-clause-fresh g c =
+pub returns-in_err-add_pieces : goal.returns-in_err-add_pieces
+returns-in_err-add_pieces g c =
     absurd (strip-added c.args.start c.args.end
     (length (g.R.Rooms.held c.args.rooms.now)) (g.O.Originals.shards c.args.originals.now)
     c.requires.order c.requires.originals
