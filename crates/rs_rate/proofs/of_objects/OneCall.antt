@@ -8,7 +8,7 @@ use Rattle.rs_field.specs.code.Column.{Shard}
 use Rattle.rs_field.specs.code.Configuration.{Configuration, validation_outcome, start_outcome, UpToMemory}
 use Rattle.rs_field.specs.code.Counts.{default_rate, supports}
 use Rattle.rs_field.specs.code.Decoder.{DecoderState, fresh_decoder, with_original, with_recovery, DecodeAnswers}
-use Rattle.rs_field.specs.code.Encoder.{EncoderState, IsEncoder, fresh_encoder, with_shard, EncodeAnswers}
+use Rattle.rs_field.specs.code.Encoder.{EncoderState, IsEncoder, fresh_encoder, EncodeAnswers}
 use Rattle.rs_field.specs.code.Given.{Shards, nothing, Lists}
 use Rattle.rs_field.specs.code.OneCall.{Items, default_of, counts_outcome, originals_alone, encode_opening, one_by_one}
 use Rattle.rs_field.specs.code.OneCall.{with_shards, with_originals, with_recoveries, with_both, encoding_outcome}
