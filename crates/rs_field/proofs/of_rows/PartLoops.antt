@@ -46,10 +46,6 @@ pub record PartsDone (direction : Direction) (used : ℕ → Bool) (size n shift
       (λ q. word new k s (pos + (m * n + q)))
   pub rest : (k i : ℕ) → k < old.shard_len_64 → j * n ≤ i → i < size → cell new k (pos + i) ≡ cell old k (pos + i)
 
-pub parts_begun : (direction : Direction) (used : ℕ → Bool) (size n shift pos : ℕ) (rows : ShardsRefMut)
-    → PartsDone direction used size n shift pos 0 rows rows
-parts_begun direction used size n shift pos rows = grind (arith, common_steps)
-
 pub parts_next : (direction : Direction) (used used' : ℕ → Bool) (size n shift pos j : ℕ) (old mid new : ShardsRefMut)
     → IsPart size n → j * n < size
     → PartsDone direction used size n shift pos j old mid → SameExtent mid new

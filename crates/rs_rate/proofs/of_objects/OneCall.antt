@@ -1,16 +1,15 @@
 -- From encoders and decoders to which shards were added, to the result of one call.
 use Rattle.std.proofs.Common.{◌≡◌, ℕ, true, false, List, [], ◌∷◌, length, Some, None, Result, Ok, Err, IsOk, IfOk}
-use Rattle.std.proofs.Common.{MatchResult, inl, inr, refl, sym, ap, subst, ◌⊎◌, ◌∙◌, arith}
-use Rattle.std.proofs.lemmas.Grind.{common_steps}
+use Rattle.std.proofs.Common.{MatchResult, inl, inr, refl, sym, ap, subst, ◌⊎◌, ◌∙◌}
 use Rattle.rs_field.specs.declared.code.error.Error.{Error}
 use Rattle.rs_field.specs.declared.code.error.Error.TheVariants.{OutOfMemory, UnsupportedShardCount}
 use Rattle.rs_field.specs.code.Column.{Shard}
 use Rattle.rs_field.specs.code.Configuration.{Configuration, validation_outcome, start_outcome, UpToMemory}
 use Rattle.rs_field.specs.code.Counts.{default_rate, supports}
-use Rattle.rs_field.specs.code.Decoder.{DecoderState, fresh_decoder, with_original, with_recovery, DecodeAnswers}
+use Rattle.rs_field.specs.code.Decoder.{DecoderState, fresh_decoder, DecodeAnswers}
 use Rattle.rs_field.specs.code.Encoder.{EncoderState, IsEncoder, fresh_encoder, EncodeAnswers}
 use Rattle.rs_field.specs.code.Given.{Shards, nothing, Lists}
-use Rattle.rs_field.specs.code.OneCall.{Items, default_of, counts_outcome, originals_alone, encode_opening, one_by_one}
+use Rattle.rs_field.specs.code.OneCall.{Items, default_of, counts_outcome, originals_alone, encode_opening}
 use Rattle.rs_field.specs.code.OneCall.{with_shards, with_originals, with_recoveries, with_both, encoding_outcome}
 use Rattle.rs_field.specs.code.OneCall.{decoding_outcome, OneEncodeAnswers, OneDecodeAnswers}
 use Rattle.rs_field.specs.code.Outcome.{result_and_then}
@@ -139,24 +138,6 @@ module _ (k r : ℕ) (shards : List Shard) (s : EncoderState) (is : IsEncoding k
 
 -- ---- decoders
 
--- A view of the state that each single addition keeps is kept by adding all items.
-kept-by-all : {S T A : Type 0} (add : S → T → Result S Error) (view : S → A)
-    (kept : (s t : S) (x : T) → add s x ≡ Ok t → view t ≡ view s)
-    → (items : List T) (s t : S) → one_by_one add s items ≡ Ok t → view t ≡ view s
-kept-by-all add view kept [] s t is = ap view (let same : t ≡ s = cc in same)
-kept-by-all add view kept (x ∷ xs) s t is =
-    let one = first-ok (λ next. one_by_one add next xs) (add s x) t (sym is) in
-    kept-by-all add view kept xs one.0 t one.2 ∙ kept s one.0 x one.1
-
--- Adding an original or a recovery shard does not change the configuration of a decoder.
-kept-original : (s t : DecoderState) (item : ℕ × Shard) → with_original s item.0 item.1 ≡ Ok t
-    → t.configuration ≡ s.configuration
-kept-original s t item is = grind (arith, common_steps)
-
-kept-recovery : (s t : DecoderState) (item : ℕ × Shard) → with_recovery s item.0 item.1 ≡ Ok t
-    → t.configuration ≡ s.configuration
-kept-recovery s t item is = grind (arith, common_steps)
-
 -- If the originals were added, adding both kinds has the outcome of adding the recovery shards.
 pub both-ok : (s now : DecoderState) (originals recovery : Items) (o : Result DecoderState Error)
     → with_originals s originals ≡ Ok now → with_recoveries now recovery ≡ o → with_both s originals recovery ≡ o
@@ -268,21 +249,3 @@ module _ (k r : ℕ) (originals recovery : Items) (s : DecoderState)
       let opened = start_outcome-valid (decoder_rows default_rate k r) (default_of k r (length led.0.1))
       (subst (λ (o : Result (Unit {0}) Error). IsOk o) (sym one.1) refl) in
       subst (λ items. OneDecodeAnswers k r originals items (Err e)) (sym led.2) (inr (opened, ap Err short))
-
-  -- The decoder has the size of the first recovery shard.
-  pub decoding-kept : (first : ℕ × Shard) × (rest : Items) × (recovery ≡ first ∷ rest)
-      × (s.configuration ≡ default_of k r (length first.1))
-  decoding-kept =
-      let led = decoding-led in
-      let set_up = first-ok _ (start_outcome (decoder_rows default_rate k r) (default_of k r (length led.0.1))) s
-      (sym led.3) in
-      let one = first-ok (λ now. with_recoveries now (led.0 ∷ led.1))
-      (with_originals (fresh_decoder (default_of k r (length led.0.1))) originals) s (sym set_up.2) in (
-        led.0,
-        led.1,
-        led.2,
-        kept-by-all (λ s item. with_recovery s item.0 item.1) (λ s. s.configuration) kept-recovery
-            (led.0 ∷ led.1) one.0 s one.2
-            ∙ kept-by-all (λ s item. with_original s item.0 item.1)
-            (λ s. s.configuration) kept-original originals _ one.0 one.1,
-      )

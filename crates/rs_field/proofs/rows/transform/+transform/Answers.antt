@@ -1,16 +1,16 @@
 -- The layers, and the transforms of the parts that they leave, make the whole transform.
-use Rattle.std.proofs.Common.{◌≡◌, ◌≢◌, ℕ, ◌+◌, ◌-◌, ◌*◌, ◌/◌, ◌<◌, ◌≤◌, arith, subst, sym, refl, rules, ◌∙◌}
+use Rattle.std.proofs.Common.{◌≡◌, ◌≢◌, ℕ, ◌+◌, ◌-◌, ◌*◌, ◌/◌, ◌≤◌, arith, subst, sym, refl, rules, ◌∙◌}
 use Rattle.rs_field.specs.declared.rows.layers.Direction.{Direction}
 use Rattle.rs_field.specs.rows.View.{word}
 use Rattle.rs_field.specs.rows.Layers.{rows_of_part, layer_steps}
 use Rattle.rs_field.specs.rows.MarkedRows.{is_used, HasMarks}
 use Rattle.rs_field.specs.words.StepBounds.{CountsUpTo, transform_steps}
-use Rattle.rs_field.proofs.of_words.Counting.{counts_none, counts_rows}
+use Rattle.rs_field.proofs.of_words.Counting.{counts_rows}
 use Rattle.rs_field.proofs.of_rows.Recursion.{fits_kept}
 use Rattle.rs_field.proofs.of_rows.RowOffsets.{extent_then}
 use Rattle.rs_field.proofs.of_rows.Directions.{layers_of_few}
 use Rattle.rs_field.proofs.of_rows.Parts.{block_power, part_begins, part_found, part_within, parts_number}
-use Rattle.rs_field.proofs.of_rows.PartLoops.{ArePartsTransformed, IsBegun, parts_begun, parts_next, all_parts}
+use Rattle.rs_field.proofs.of_rows.PartLoops.{ArePartsTransformed, IsBegun, parts_next, all_parts}
 use Rattle.rs_field.proofs.of_rows.PartLoops.{forward_whole, backward_whole, none_used, zeros_of_part}
 use Rattle.rs_field.proofs.of_rows.PartLoops.{one_used, counts_next, counts_of_layers, counts_of_parts, counts_of_whole}
 use Rattle.rs_field.proofs.rows.transform.+transform.Given.{Over}
