@@ -22,6 +22,7 @@ pub use Rattle.rs_field.specs.code.Given
 pub use Rattle.rs_field.specs.code.Encoder
 pub use Rattle.rs_field.specs.code.Decoder
 pub use Rattle.rs_engines.specs.Kind
+pub use Rattle.rs_rate.specs.values.ChunkCounts
 pub use Rattle.rs_rate.specs.rows.ShardRows
 pub use Rattle.rs_rate.specs.rows.EncoderView
 pub use Rattle.rs_rate.specs.rows.DecoderRoom

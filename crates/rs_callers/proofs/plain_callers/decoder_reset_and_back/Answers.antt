@@ -6,7 +6,7 @@ use Rattle.reed_solomon_simd.specs.DecoderRoom.{HasRoom}
 use Rattle.reed_solomon_simd.specs.Decoder.{fresh_decoder}
 use Rattle.reed_solomon_simd.specs.OneCall.{default_of}
 use Rattle.reed_solomon_simd.specs.Frame.{decoder_rows}
-use Rattle.reed_solomon_simd.specs.ShardRows.{chunk_count}
+use Rattle.reed_solomon_simd.specs.ChunkCounts.{chunk_count}
 use Rattle.reed_solomon_simd.proofs.ObjectLaws.{valid-decoder, own_room-decoder}
 use Rattle.reed_solomon_simd.proofs.ShardRowsLemmas.{chunk_count-size}
 use Rattle.reed_solomon_simd.proofs.StateLemmas.{start_outcome-roomy}

@@ -5,7 +5,7 @@ use Rattle.reed_solomon_simd.specs.EncoderObject.{state_of}
 use Rattle.reed_solomon_simd.specs.Encoder.{fresh_encoder}
 use Rattle.reed_solomon_simd.specs.OneCall.{default_of}
 use Rattle.reed_solomon_simd.specs.Frame.{encoder_rows}
-use Rattle.reed_solomon_simd.specs.ShardRows.{chunk_count}
+use Rattle.reed_solomon_simd.specs.ChunkCounts.{chunk_count}
 use Rattle.reed_solomon_simd.proofs.ObjectLaws.{valid-encoder, own_room-encoder}
 use Rattle.reed_solomon_simd.proofs.ShardRowsLemmas.{chunk_count-size}
 use Rattle.reed_solomon_simd.proofs.StateLemmas.{start_outcome-roomy}
