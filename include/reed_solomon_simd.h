@@ -133,7 +133,8 @@ uint32_t rs_supports(size_t original_count, size_t recovery_count);
  * nothing but *fault. The comment of each call lists its faults in the order in which the call checks for them. This order is proved,
  * except for the place of RS_OUT_OF_MEMORY: the contracts allow it at any place after the checks of the counts, of the lengths of
  * buffers and of the size of the first shard that the call looks at. There is one more place: if an entry of an array has NULL as its
- * pointer, the call copies this array before it checks anything, and fails with RS_OUT_OF_MEMORY if it cannot allocate the copy.
+ * pointer, the call copies this array before it checks anything, even the tables, and fails with RS_OUT_OF_MEMORY if it cannot allocate
+ * the copy.
  *
  * Before all checks that these comments list, each call checks the tables. It fails with RS_TABLES_NOT_MADE if rs_tables_make has not
  * filled them: for example, if they hold only zeros, or if a version with another layout, such as 1.1, filled them. The stamp is no

@@ -1,5 +1,5 @@
-//! Every public path that the library shares with the Rust crate, each used with its type and with its meaning. If a name were
-//! exported for another item, this file would not compile, or the prover would refuse it.
+//! Every public path that the library shares with the Rust crate, and some others, each used with its type and with its
+//! meaning. If a name were exported for another item, this file would not compile, or the prover would refuse it.
 ghost use Rattle.std.specs.Iterator.{IsFinite};
 ghost use Rattle.std.specs.Option.{option_copied, option_map};
 ghost use Rattle.std.specs.Prelude.{◌≡◌, ℕ, ◌^◌, ◌<◌, ◌≤◌, true, List, [], ◌∷◌, length, map};

@@ -13,8 +13,8 @@ use reed_solomon_simd::{Error, decode, encode};
 use std::alloc::Global;
 use std::collections::BTreeMap;
 
-/// The lines that a command prints, and the kind of the engine that computed them. Only this module can make such a
-/// value.
+/// The lines that a command prints, and the kind of the engine that was passed to [`Lines::new`]. Only this module can
+/// make such a value.
 #[derive(Drop)]
 pub struct Lines {
     // The texts whose concatenation is the output.

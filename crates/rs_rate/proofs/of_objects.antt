@@ -1,4 +1,4 @@
--- Lemmas of encoders and decoders over which an iterator is run.
+-- Lemmas about adding the items of an iterator to an encoder or a decoder, one after another.
 pub mod Giving
 pub mod Noting
 pub mod OneCall

@@ -1,4 +1,4 @@
--- Configurations, and the numbers of rows and chunks that follow from them.
+-- Configurations, the numbers of rows and chunks that follow from them, and when direct sums cost less than transforms.
 pub mod ChunkCounts
 pub mod Configured
 pub mod SetUp

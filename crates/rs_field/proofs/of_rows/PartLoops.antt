@@ -1,7 +1,7 @@
 -- Loops over the parts of a block. Each pass transforms one part. The lemmas state the effect on the rows and on the
 -- counts.
-use Rattle.std.proofs.Common.{◌≡◌, ℕ, ◌+◌, ◌-◌, ◌*◌, ◌/◌, ◌%◌, ◌^◌, ◌<◌, ◌≤◌, ◌⊎◌, Bool, false, replicate, refl, sym}
-use Rattle.std.proofs.Common.{ap, ◌∙◌, inl, inr, arith, subst, mod-lt}
+use Rattle.std.proofs.Common.{◌≡◌, ℕ, ◌+◌, ◌*◌, ◌/◌, ◌%◌, ◌^◌, ◌<◌, ◌≤◌, ◌⊎◌, Bool, false, replicate, refl, sym, ap}
+use Rattle.std.proofs.Common.{◌∙◌, inl, inr, arith, subst, mod-lt}
 use Rattle.std.proofs.Math.Nat.{mul-le-mul_right}
 use Rattle.std.proofs.lemmas.Bool.{cases_eq, cases_lt}
 use Rattle.std.proofs.lemmas.Nat.{div-add-mod'}
@@ -11,7 +11,7 @@ use Rattle.rs_field.specs.words.StepBounds.{CountsRows, CountsUpTo, TransformCou
 use Rattle.rs_field.specs.rows.Layers.{ArePartsOf, is_halved, rows_of_part, layer_steps}
 use Rattle.rs_field.specs.rows.View.{cell, word, SameExtent, SameRowsOutside}
 use Rattle.rs_field.specs.rows.MarkedRows.{is_used}
-use Rattle.rs_field.specs.rows.Directions.{AreTransformed, UnusedAreZeroBackward}
+use Rattle.rs_field.specs.rows.Directions.{AreTransformed, UnusedAreZeroBackward, PartCounts}
 use Rattle.rs_field.specs.declared.rows.layers.Direction.{Direction}
 use Rattle.rs_field.specs.declared.rows.block.Block.{Block}
 use Rattle.rs_field.specs.declared.rows.marked_rows.UsedRows.{UsedRows}
@@ -20,7 +20,7 @@ use Rattle.rs_field.specs.declared.words.steps.Steps.{Steps}
 use Rattle.rs_field.proofs.of_words.Combination.{forward-one, forward-same}
 use Rattle.rs_field.proofs.of_words.Counting.{counts_rows, counts_then, counts_within}
 use Rattle.rs_field.proofs.of_words.Halves.{quarter_power}
-use Rattle.rs_field.proofs.of_rows.Parts.{IsPart, part_found, part_within, parts_whole}
+use Rattle.rs_field.proofs.of_rows.Parts.{IsPart, part_found, part_within}
 use Rattle.rs_field.proofs.of_rows.Recursion.{one_row, word_same, zero_rows}
 use Rattle.rs_field.proofs.of_rows.RowOffsets.{outside_both, outside_cell, extent_then}
 
@@ -45,6 +45,10 @@ pub record PartsDone (direction : Direction) (used : ℕ → Bool) (size n shift
       → AreTransformed direction (λ i. used (m * n + i)) n (shift + m * n) (λ q. word old k s (pos + (m * n + q)))
       (λ q. word new k s (pos + (m * n + q)))
   pub rest : (k i : ℕ) → k < old.shard_len_64 → j * n ≤ i → i < size → cell new k (pos + i) ≡ cell old k (pos + i)
+
+pub parts_begun : (direction : Direction) (used : ℕ → Bool) (size n shift pos : ℕ) (rows : ShardsRefMut)
+    → PartsDone direction used size n shift pos 0 rows rows
+parts_begun direction used size n shift pos rows = grind (arith, common_steps)
 
 pub parts_next : (direction : Direction) (used used' : ℕ → Bool) (size n shift pos j : ℕ) (old mid new : ShardsRefMut)
     → IsPart size n → j * n < size
@@ -120,38 +124,7 @@ zeros_of_part Direction.Backward used part old mid pos size start n inside len k
 pub part_before : (size n m j : ℕ) → j * n ≡ size → m * n < size → m < j
 part_before size n m j all within = grind (arith, common_steps, cases_lt, mul-le-mul_right)
 
--- In each part of a block, the new words are the transform of the old words.
-abbrev pub ArePartsTransformed : Direction → (ℕ → Bool) → Block → ShardsRefMut → ShardsRefMut → Type 0
-ArePartsTransformed direction used block old new =
-    let n = rows_of_part block.size in (k s m : ℕ) → k < old.shard_len_64 → s < 32 → m * n < block.size
-    → AreTransformed direction (λ i. used (m * n + i)) n (block.skew_delta + m * n)
-    (λ q. word old k s (block.pos + (m * n + q))) (λ q. word new k s (block.pos + (m * n + q)))
-
--- After the loop, all parts are transformed.
-pub all_parts : (direction : Direction) (used : ℕ → Bool) (block : Block) (n j : ℕ) (old new : ShardsRefMut)
-    → n ≡ rows_of_part block.size → 1 < block.size → j ≡ block.size / n
-    → PartsDone direction used block.size n block.skew_delta block.pos j old new
-    → ArePartsTransformed direction used block old new
-all_parts direction used block n j old new is large last done = λ k s m hk hs hm.
-    let part = part_found block n is large in
-    let all = parts_whole block.size n j part last in
-    let within : m * n < block.size = subst (λ (v : ℕ). m * v < block.size) (sym is) hm in
-    subst (λ (v : ℕ). AreTransformed direction (λ i. used (m * v + i)) v (block.skew_delta + m * v)
-    (λ q. word old k s (block.pos + (m * v + q))) (λ q. word new k s (block.pos + (m * v + q)))) is
-    (done.values k s m hk hs (part_before block.size n m j all within))
-
--- ---- the layers before and after the parts
-
--- When the loop begins, the layers of a forward transform are done. A backward transform has not begun.
-pub record IsBegun (direction : Direction) (used : UsedRows) (block : Block) (old new : ShardsRefMut)
-    (from to : Steps) : Type 0 where
-  pub extent : SameExtent old new
-  pub zeros : UnusedAreZeroBackward direction used block.pos block.size new
-  pub layers : direction ≡ Direction.Forward → (k s : ℕ) → k < old.shard_len_64 → s < 32
-      → ArePartsOf block.size (rows_of_part block.size) block.skew_delta (λ q. word old k s (block.pos + q))
-      (λ q. word new k s (block.pos + q))
-  pub counts : direction ≡ Direction.Forward → CountsUpTo (layer_steps block.size) 0 0 from to
-  pub unchanged : direction ≡ Direction.Backward → (new ≡ old) × (to ≡ from)
+-- ---- the parts that the layers leave
 
 -- If the layers leave parts of the whole, transforms of the parts are the transform of the whole.
 joined : (size n shift i : ℕ) (values parts whole : ℕ → ℕ) → IsPart size n → ArePartsOf size n shift whole parts
@@ -250,7 +223,7 @@ counts_next t j from mid to p q =
 -- The row steps of some parts are within the bound of all parts.
 pub counts_of_parts : (size n j : ℕ) (from to : Steps) (p : IsPart size n) → j ≤ p.count
     → CountsUpTo (j * transform_steps n) 0 0 from to
-    → CountsUpTo (transform_steps size - layer_steps size) 0 0 from to
+    → PartCounts size from to
 counts_of_parts size n j from to p few c = grind (arith, common_steps, mul-le-mul_right, counts_within)
 
 -- The row steps of the layers and of the parts together are within the bound of the whole transform.

@@ -1,15 +1,17 @@
 -- Butterflies and layers of butterflies in each direction of a transform.
-use Rattle.std.specs.Prelude.{◌≡◌, ℕ, ◌+◌, ◌<◌, ◌≤◌, Bool, true}
+use Rattle.std.specs.Prelude.{◌≡◌, ℕ, ◌+◌, ◌-◌, ◌*◌, ◌<◌, ◌≤◌, Bool, true}
 use Rattle.rs_field.specs.declared.rows.layers.Direction.{Direction}
 use Rattle.rs_field.specs.declared.rows.marked_rows.UsedRows.{UsedRows}
 use Rattle.rs_field.specs.declared.rows.shards.ShardsRefMut.{ShardsRefMut}
 use Rattle.rs_field.specs.words.Transform.{forward, IsBackward}
+use Rattle.rs_field.specs.words.StepBounds.{CountsUpTo, transform_steps}
 use Rattle.rs_field.specs.rows.MarkedRows.{UnusedAreZero}
-use Rattle.rs_field.specs.rows.Layers.{ArePartsOf}
+use Rattle.rs_field.specs.rows.Layers.{ArePartsOf, rows_of_part, layer_steps}
 use Rattle.rs_field.specs.rows.View.{word}
 use Rattle.rs_field.specs.rows.Pairs.{OnTwoChunks, IsForwardButterfly, IsBackwardButterfly}
 use Rattle.rs_field.specs.rows.TwoLayers.{OnFourChunks, IsForwardTwoLayers, IsBackwardTwoLayers}
 use Rattle.rs_field.specs.declared.rows.block.Block.{Block}
+use Rattle.rs_field.specs.declared.words.steps.Steps.{Steps}
 
 -- a butterfly on each symbol of two chunks, by the factor of a logarithm
 abbrev pub IsButterfly : Direction → ℕ → OnTwoChunks
@@ -43,3 +45,14 @@ abbrev pub AreRowsTransformed : Direction → (ℕ → Bool) → Block → Shard
 AreRowsTransformed direction used block old new = (k s : ℕ) → k < old.shard_len_64 → s < 32
     → AreTransformed direction used block.size block.skew_delta
     (λ q. word old k s (block.pos + q)) (λ q. word new k s (block.pos + q))
+
+-- in each part of a block after its first layers, the new words are the transform of the old words
+abbrev pub ArePartsTransformed : Direction → (ℕ → Bool) → Block → ShardsRefMut → ShardsRefMut → Type 0
+ArePartsTransformed direction used block old new =
+    let n = rows_of_part block.size in (k s m : ℕ) → k < old.shard_len_64 → s < 32 → m * n < block.size
+    → AreTransformed direction (λ i. used (m * n + i)) n (block.skew_delta + m * n)
+    (λ q. word old k s (block.pos + (m * n + q))) (λ q. word new k s (block.pos + (m * n + q)))
+
+-- the transforms of the parts count at most the steps of the whole transform without those of the first layers
+abbrev pub PartCounts : ℕ → Steps → Steps → Type 0
+PartCounts size old new = CountsUpTo (transform_steps size - layer_steps size) 0 0 old new

@@ -4,7 +4,8 @@
 //! the quarters of its rows and a transform of each quarter. For 2, 8 and 32 rows, it is one layer between the halves
 //! and a transform of each half. So the recursion goes depth first, and a block that fits the cache stays in the cache.
 ghost use Rattle.std.specs.Prelude.{◌+◌, ◌<◌, ◌≤◌};
-ghost use Rattle.rs_field.specs.rows.Directions.{AreRowsTransformed, UnusedAreZeroBackward};
+ghost use Rattle.rs_field.specs.rows.Directions.{AreRowsTransformed, ArePartsTransformed};
+ghost use Rattle.rs_field.specs.rows.Directions.{UnusedAreZeroBackward, PartCounts};
 ghost use Rattle.rs_field.specs.rows.View.{Fits, SameExtent, SameRowsOutside};
 ghost use Rattle.rs_field.specs.rows.MarkedRows.{is_used, HasMarks};
 ghost use Rattle.rs_field.specs.words.StepBounds.{TransformCounts};
@@ -49,7 +50,7 @@ pub(crate) fn transform<K: Kernel>(
         return;
     }
     if block.size > 4 {
-        transform_parts(direction, kernel, steps, data, block, used);
+        transform_many(direction, kernel, steps, data, block, used);
         return;
     }
     row_symbols_are_words(data);
@@ -59,10 +60,10 @@ pub(crate) fn transform<K: Kernel>(
     }
 }
 
-// Transforms the rows of a block of more than one row: forward, by layers and then by a transform of each part that the
-// layers leave; backward, in the reverse order.
+// Transforms the rows of a block of more than four rows. The loop over the parts stands in each arm of the match, by
+// inlining, so that it is compiled for one direction.
 #[cycle(transform)]
-fn transform_parts<K: Kernel>(
+fn transform_many<K: Kernel>(
     direction: Direction,
     kernel: &K,
     steps: &mut Steps,
@@ -80,9 +81,40 @@ fn transform_parts<K: Kernel>(
     ensures values { AreRowsTransformed direction (is_used used.entry) block «data».old «data».new }
     ensures counts { TransformCounts block.size steps.old steps.new }
 {
-    if let Direction::Forward = direction {
-        layers(direction, kernel, steps, data, block);
+    match direction {
+        Direction::Forward => {
+            layers(direction, kernel, steps, data, block);
+            transform_parts(direction, kernel, steps, data, block, used);
+        }
+        Direction::Backward => {
+            transform_parts(direction, kernel, steps, data, block, used);
+            layers(direction, kernel, steps, data, block);
+        }
     }
+}
+
+// Transforms each part that the layers of a block leave. This function is inlined, because a transform of short rows
+// takes little longer than a call.
+#[inline(always)]
+#[cycle(transform)]
+fn transform_parts<K: Kernel>(
+    direction: Direction,
+    kernel: &K,
+    steps: &mut Steps,
+    data: &mut ShardsRefMut<'_>,
+    block: Block,
+    used: UsedRows<'_>,
+)
+    requires fits { Fits «data».old }
+    requires large { 1 < block.size }
+    requires marks { HasMarks used block.size }
+    requires within { block.pos + block.size ≤ «data».old.shard_count }
+    requires zeros { UnusedAreZeroBackward direction used block.pos block.size «data».old }
+    ensures extent { SameExtent «data».old «data».new }
+    ensures others { SameRowsOutside block.pos (block.pos + block.size) «data».old «data».new }
+    ensures parts { ArePartsTransformed direction (is_used used.entry) block «data».old «data».new }
+    ensures counts { PartCounts block.size steps.old steps.new }
+{
     let part = block.part_rows();
     for j in 0..block.size / part {
         transform(
@@ -93,9 +125,6 @@ fn transform_parts<K: Kernel>(
             block.part(j, part),
             used.part(j * part, part),
         );
-    }
-    if let Direction::Backward = direction {
-        layers(direction, kernel, steps, data, block);
     }
 }
 

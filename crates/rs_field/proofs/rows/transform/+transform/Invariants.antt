@@ -5,14 +5,16 @@ use Rattle.rs_field.proofs.of_rows.PartLoops.{PartsDone}
 use Rattle.rs_field.proofs.rows.transform.+transform.Given as goal
 
 abbrev pub decreases-transform : goal.decreases-transform
-decreases-transform g l = 2 * l.block.size + 1
+decreases-transform g l = 3 * l.block.size + 2
+
+abbrev pub decreases-transform_many : goal.decreases-transform_many
+decreases-transform_many g l = 3 * l.block.size + 1
 
 abbrev pub decreases-transform_parts : goal.decreases-transform_parts
-decreases-transform_parts g l = 2 * l.block.size
+decreases-transform_parts g l = 3 * l.block.size
 
 abbrev pub invariant-transform_parts-loop-j : goal.invariant-transform_parts-loop-j
 invariant-transform_parts-loop-j g l = record {
-  done : PartsDone l.direction (is_used l.used) l.block.size l.part l.block.skew_delta l.block.pos l.j l.initial.data
-      l.data;
-  counts : CountsUpTo (l.j * transform_steps l.part) 0 0 l.initial.steps l.steps;
+  done : PartsDone l.direction (is_used l.used) l.block.size l.part l.block.skew_delta l.block.pos l.j l.fn.data l.data;
+  counts : CountsUpTo (l.j * transform_steps l.part) 0 0 l.fn.steps l.steps;
 }
