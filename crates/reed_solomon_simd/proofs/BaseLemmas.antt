@@ -4,15 +4,13 @@ use Rattle.std.proofs.Common.{refl, sym, ap, ap₂, ◌∙◌, subst, inl, inr, 
 use Rattle.std.specs.Prelude.{Option, Some, None, is_some, nat_le, nat_lt, ◌&&◌, slice_index}
 use Rattle.std.specs.List.{between}
 use Rattle.std.specs.Option.{option_map}
-use Rattle.std.proofs.lemmas.Bool.{cases_lt, cases_Bool}
-use Rattle.std.proofs.lemmas.Grind.{common_steps}
-use Rattle.std.proofs.lemmas.Option.{none-some}
+use Rattle.std.proofs.lemmas.Bool.{cases_Bool}
 use mathlib.Core.Path.{fun_ext}
 use Rattle.rs_field.specs.code.Column.{Shard, column}
 use Rattle.rs_field.specs.code.Counts.{default_rate}
 use Rattle.rs_field.specs.code.Decoder.{DecoderState, IsDecoder, originals_given, recovery_given}
 use Rattle.rs_field.specs.code.DirectLaws.{entry_in, given_at, word_of, word_at, locator_at, summed_word}
-use Rattle.rs_field.specs.code.Frame.{frame_of, row_count, original_row, recovery_row}
+use Rattle.rs_field.specs.code.Frame.{frame_of, row_count}
 use Rattle.rs_field.specs.declared.code.frame.Frame.{Frame}
 use Rattle.rs_field.specs.code.Given.{Shards, count_below}
 use Rattle.rs_field.specs.code.PieceStates.{pieces_of, state_of_pieces}
@@ -22,6 +20,7 @@ use Rattle.rs_field.specs.words.Field.{product, power}
 use Rattle.rs_field.specs.words.Transform.{sum_below}
 use Rattle.rs_field.proofs.of_code.Entries.{count_most}
 use Rattle.rs_field.proofs.of_code.Frame.{HasDistinctRows}
+use Rattle.rs_field.proofs.of_code.GivenRows.{index_or_outside, entry_in-at, entry_in-other}
 use Rattle.rs_field.proofs.of_code.PieceStates.{is_some-map}
 use Rattle.rs_field.proofs.of_code.RateFrames.{distinct_rows}
 use Rattle.rs_field.proofs.of_code.RestoredBelow.{count-pieces}
@@ -69,25 +68,7 @@ at_counts P frame other k l r t same own coded holds =
     subst (λ (p : Frame). P p l t) same
     (subst (λ (n : ℕ). P frame n t) own (subst (λ (n : ℕ). P frame k n) coded holds))
 
--- A row among those of a map has the entry of the map.
-pub entry-inside : (from n x : ℕ) (given : Shards) (other : Option Shard) → from ≤ x → x < from + n
-    → entry_in from n given other x ≡ given (x - from)
-unfolding entry_in
-entry-inside from n x given other above below = grind (arith, common_steps)
-
-pub entry-outside : (from n x : ℕ) (given : Shards) (other : Option Shard) → (x < from) ⊎ (from + n ≤ x)
-    → entry_in from n given other x ≡ other
-unfolding entry_in
-entry-outside from n x given other outside = grind (arith, common_steps)
-
--- A row is among those of a map, or it is not.
-pub inside-or : (from n x : ℕ) → ((from ≤ x) × (x < from + n)) ⊎ ((x < from) ⊎ (from + n ≤ x))
-inside-or from n x = elim (cases_lt x from) [
-  | inl before ↦ inr (inl before)
-  | inr above ↦ elim (cases_lt x (from + n)) [ inl below ↦ inl (above, below) | inr past ↦ inr (inr past) ]
-]
-
--- The same for equal numbers.
+-- A row that is not among those of a map is not among those of a map at an equal place.
 pub outside-same : (x a b n m : ℕ) → a ≡ b → n ≡ m → (x < a) ⊎ (a + n ≤ x) → (x < b) ⊎ (b + m ≤ x)
 outside-same x a b n m from same (inl before) = inl (omega arith)
 outside-same x a b n m from same (inr past) = inr (omega arith)
@@ -98,46 +79,6 @@ in_row-is : (s : DecoderState) (x : ℕ)
     (entry_in (frame_in s).recovery_from s.configuration.recovery_count s.recovery None x) x
 unfolding given_at
 in_row-is s x = refl
-
--- A row that is neither that of an original nor that of a recovery shard has no shard.
-pub in_row-none : (s : DecoderState) (x : ℕ)
-    → (x < (frame_in s).originals_from) ⊎ (original_row (frame_in s) s.configuration.original_count ≤ x)
-    → (x < (frame_in s).recovery_from) ⊎ (recovery_row (frame_in s) s.configuration.recovery_count ≤ x)
-    → shard_in_row s x ≡ None
-in_row-none s x not_own not_coded =
-    let p = frame_in s in
-    in_row-is s x
-    ∙ entry-outside p.originals_from s.configuration.original_count x s.originals _ not_own
-    ∙ entry-outside p.recovery_from s.configuration.recovery_count x s.recovery None not_coded
-
--- A shard in a row is an original or a recovery shard.
-pub in_row-cases : (s : DecoderState) (x : ℕ) (shard : Shard) → shard_in_row s x ≡ Some shard
-    → ((i : ℕ) × (i < s.configuration.original_count) × (x ≡ original_row (frame_in s) i)
-    × (s.originals i ≡ Some shard))
-    ⊎ ((i : ℕ) × (i < s.configuration.recovery_count) × (x ≡ recovery_row (frame_in s) i)
-    × (s.recovery i ≡ Some shard))
-in_row-cases s x shard is =
-    let p = frame_in s in let k = s.configuration.original_count in let r = s.configuration.recovery_count in
-    elim (inside-or (frame_in s).originals_from k x) [
-      | inl own ↦ inl (
-        x - p.originals_from,
-        omega (arith, own.0, own.1),
-        omega (arith, own.0),
-        (sym (entry-inside p.originals_from k x s.originals _ own.0 own.1) ∙ sym (in_row-is s x) ∙ is),
-      )
-      | inr not_own ↦
-          let rest = sym (entry-outside p.originals_from k x s.originals _ not_own) ∙ sym (in_row-is s x) ∙ is in
-          elim (inside-or (frame_in s).recovery_from r x) [
-            | inl coded ↦ inr (
-              x - p.recovery_from,
-              omega (arith, coded.0, coded.1),
-              omega (arith, coded.0),
-              (sym (entry-inside p.recovery_from r x s.recovery None coded.0 coded.1) ∙ rest),
-            )
-            | inr not_coded ↦
-                absurd (none-some shard (sym (entry-outside p.recovery_from r x s.recovery None not_coded) ∙ rest))
-          ]
-    ]
 
 -- The piece in a row is a piece of the shard in the row.
 pub in_row-pieces : (start end : ℕ) (s : DecoderState) (x : ℕ)
@@ -173,15 +114,16 @@ marked_part-at marks from i given b is = ap (λ (c : Bool). cond c (given i) Non
 entry-marked : (marks : List Bool) (from n x : ℕ) (given : Shards) (other part : Option Shard) (b : Bool)
     → is_marked marks x ≡ b → part ≡ cond b other None
     → entry_in from n (marked_part marks from given) part x ≡ cond b (entry_in from n given other x) None
-entry-marked marks from n x given other part b is rest = elim (inside-or from n x) [
-  | inl inside ↦
-      let back : from + (x - from) ≡ x = omega (arith, inside.0) in
-      entry-inside from n x (marked_part marks from given) part inside.0 inside.1
-      ∙ marked_part-at marks from (x - from) given b (ap (is_marked marks) back ∙ is)
-      ∙ ap (λ (o : Option Shard). cond b o None) (sym (entry-inside from n x given other inside.0 inside.1))
+entry-marked marks from n x given other part b is rest = elim (index_or_outside from n x) [
+  | inl (i, below, at) ↦
+      ap (entry_in from n (marked_part marks from given) part) at
+      ∙ entry_in-at from n i (marked_part marks from given) part below
+      ∙ marked_part-at marks from i given b (sym (ap (is_marked marks) at) ∙ is)
+      ∙ ap (λ (o : Option Shard). cond b o None)
+      (sym (ap (entry_in from n given other) at ∙ entry_in-at from n i given other below))
   | inr outside ↦
-      entry-outside from n x (marked_part marks from given) part outside ∙ rest
-      ∙ ap (λ (o : Option Shard). cond b o None) (sym (entry-outside from n x given other outside))
+      entry_in-other from n x (marked_part marks from given) part outside ∙ rest
+      ∙ ap (λ (o : Option Shard). cond b o None) (sym (entry_in-other from n x given other outside))
 ]
 
 -- The base has the shards of the marked rows in these rows.

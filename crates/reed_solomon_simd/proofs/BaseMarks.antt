@@ -11,40 +11,40 @@ use Rattle.rs_field.specs.code.Counts.{default_rate}
 use Rattle.rs_field.specs.code.Decoder.{DecoderState, IsDecoder, originals_given, recovery_given}
 use Rattle.rs_field.specs.code.Frame.{row_count, original_row, recovery_row}
 use Rattle.rs_field.specs.rows.MarkedRows.{is_marked}
-use Rattle.rs_field.proofs.of_code.AnyShards.{given_at-own, given_at-coded}
+use Rattle.rs_field.proofs.of_code.Frame.{HasDistinctRows}
+use Rattle.rs_field.proofs.of_code.GivenRows.{given_at-own, given_at-coded, given_at-other}
 use Rattle.rs_rate.specs.rows.Marks.{how_many}
 use Rattle.rs_rate.proofs.of_rows.HowMany.{how_many-suc, how_many-same, count_below-many, many_in_frame}
 use Rattle.reed_solomon_simd.specs.Base.{frame_in, shard_in_row, marked_state}
-use Rattle.reed_solomon_simd.proofs.BaseLemmas.{decoder_frame, in_row-none, in_row-marked}
+use Rattle.reed_solomon_simd.proofs.BaseLemmas.{decoder_frame, in_row-marked}
 
 -- A reference is lent exactly if there is a shard.
 pub some-copied : (o : Option (Bor Shard)) → is_some (option_copied o) ≡ is_some o
 some-copied o = search rules
 
--- The marked rows that hold shards are as many as these shards.
-module _ (s : DecoderState) (is : IsDecoder default_rate s) where
-  -- The rows with a shard are as many as the received shards.
-  pub rows-count : how_many (row_count (frame_in s)) (λ x. is_some (shard_in_row s x))
-      ≡ originals_given s + recovery_given s
-  rows-count =
-      let k = s.configuration.original_count in let r = s.configuration.recovery_count in
-      let f = decoder_frame s is in
-      many_in_frame (frame_in s) k r f (λ x. is_some (shard_in_row s x))
-      (λ p not_own not_coded. ap is_some (in_row-none s p not_own not_coded))
-      ∙ ap₂ (λ (a b : ℕ). a + b)
-      (how_many-same k (λ i. is_some (shard_in_row s (original_row (frame_in s) i))) (λ i. is_some (s.originals i))
-      (λ i inside. ap is_some (given_at-own (frame_in s) k r i s.originals s.recovery inside))
-      ∙ count_below-many k s.originals)
-      (how_many-same r (λ i. is_some (shard_in_row s (recovery_row (frame_in s) i))) (λ i. is_some (s.recovery i))
-      (λ i inside. ap is_some (given_at-coded (frame_in s) k r i s.originals s.recovery f inside))
-      ∙ count_below-many r s.recovery)
+-- The rows with a shard are as many as the received shards.
+pub rows-count : (s : DecoderState)
+    → HasDistinctRows (frame_in s) s.configuration.original_count s.configuration.recovery_count
+    → how_many (row_count (frame_in s)) (λ x. is_some (shard_in_row s x)) ≡ originals_given s + recovery_given s
+rows-count s f =
+    let k = s.configuration.original_count in let r = s.configuration.recovery_count in
+    many_in_frame (frame_in s) k r f (λ x. is_some (shard_in_row s x))
+    (λ p not_own not_coded. ap is_some (given_at-other (frame_in s) k r s.originals s.recovery p not_own not_coded))
+    ∙ ap₂ (λ (a b : ℕ). a + b)
+    (how_many-same k (λ i. is_some (shard_in_row s (original_row (frame_in s) i))) (λ i. is_some (s.originals i))
+    (λ i inside. ap is_some (given_at-own (frame_in s) k r s.originals s.recovery i inside))
+    ∙ count_below-many k s.originals)
+    (how_many-same r (λ i. is_some (shard_in_row s (recovery_row (frame_in s) i))) (λ i. is_some (s.recovery i))
+    (λ i inside. ap is_some (given_at-coded (frame_in s) k r s.originals s.recovery i f inside))
+    ∙ count_below-many r s.recovery)
 
+module _ (s : DecoderState) (is : IsDecoder default_rate s) where
   -- If the shards in all rows were counted, all received shards were counted.
   pub all-found : (found row rows : ℕ) → found ≡ how_many row (λ x. is_some (shard_in_row s x)) → row ≤ rows
       → rows ≤ row → rows ≡ row_count (frame_in s) → found ≡ originals_given s + recovery_given s
   all-found found row rows counted below above all =
       counted ∙ ap (λ n. how_many n (λ x. is_some (shard_in_row s x)))
-      (let ends : row ≡ row_count (frame_in s) = omega arith in ends) ∙ rows-count
+      (let ends : row ≡ row_count (frame_in s) = omega arith in ends) ∙ rows-count s (decoder_frame s is)
 
   -- The shards of a base are as many as the marked rows, if each of them has a shard.
   pub base-count : (marks : List Bool)
@@ -53,17 +53,7 @@ module _ (s : DecoderState) (is : IsDecoder default_rate s) where
       ≡ how_many (row_count (frame_in s)) (is_marked marks)
   base-count marks received =
       let b = marked_state marks s in
-      let k = s.configuration.original_count in let r = s.configuration.recovery_count in
-      let f = decoder_frame s is in
-      sym (many_in_frame (frame_in s) k r f (λ x. is_some (shard_in_row b x))
-      (λ p not_own not_coded. ap is_some (in_row-none b p not_own not_coded))
-      ∙ ap₂ (λ (a b : ℕ). a + b)
-      (how_many-same k (λ i. is_some (shard_in_row b (original_row (frame_in s) i))) (λ i. is_some (b.originals i))
-      (λ i inside. ap is_some (given_at-own (frame_in s) k r i b.originals b.recovery inside))
-      ∙ count_below-many k b.originals)
-      (how_many-same r (λ i. is_some (shard_in_row b (recovery_row (frame_in s) i))) (λ i. is_some (b.recovery i))
-      (λ i inside. ap is_some (given_at-coded (frame_in s) k r i b.originals b.recovery f inside))
-      ∙ count_below-many r b.recovery))
+      sym (rows-count (marked_state marks s) (decoder_frame s is))
       ∙ how_many-same (row_count (frame_in s)) (λ x. is_some (shard_in_row b x)) (is_marked marks)
       (λ x inside. elim (cases_Bool (is_marked marks x)) [
         | inl there ↦ ap is_some (in_row-marked marks s x true there) ∙ received x there ∙ sym there

@@ -11,17 +11,20 @@ use Rattle.std.proofs.lemmas.List.Elements.{All-take, All-drop}
 use Rattle.std.proofs.lemmas.Option.{none-some}
 use Rattle.rs_field.specs.code.Column.{Shard, IsShard, column, shard_at}
 use Rattle.rs_field.specs.code.Counts.{default_rate, supports}
-use Rattle.rs_field.specs.code.Decoder.{DecoderState, IsDecoder, IsAgreeing, IsConsistent}
-use Rattle.rs_field.specs.code.DirectLaws.{IsPartOf, AreSummed}
+use Rattle.rs_field.specs.code.Decoder.{DecoderState, IsDecoder, IsAgreeing, IsConsistent, originals_given}
+use Rattle.rs_field.specs.code.Decoder.{recovery_given}
+use Rattle.rs_field.specs.code.DirectLaws.{IsPartOf, summed_word}
 use Rattle.rs_field.specs.code.Frame.{row_count, original_row, recovery_row}
 use Rattle.rs_field.specs.code.Given.{Shards, AreWithin}
 use Rattle.rs_field.specs.code.Pieces.{IsStrip}
 use Rattle.rs_field.specs.code.PieceStates.{pieces_of, state_of_pieces}
 use Rattle.rs_field.specs.rows.MarkedRows.{is_marked}
 use Rattle.rs_field.proofs.of_code.Agreement.{one_message}
-use Rattle.rs_field.proofs.of_code.AgreeingMessages.{sized-within}
-use Rattle.rs_field.proofs.of_code.AnyShards.{given_at-own, given_at-coded}
-use Rattle.rs_field.proofs.of_code.BaseShards.{agrees_with_part, summed_directly, consistent_by_base}
+use Rattle.rs_field.proofs.of_code.DirectColumn.{direct_original, direct_recovery}
+use Rattle.rs_field.proofs.of_code.GivenRows.{AreGiven, given_within, given-either, given-below}
+use Rattle.rs_field.proofs.of_code.GivenRows.{given_at-own, given_at-coded}
+use Rattle.rs_field.proofs.of_code.BaseShards.{AreSums, locator_in, all_located, base_given, agrees_with_part}
+use Rattle.rs_field.proofs.of_code.BaseShards.{consistent_by_sums}
 use Rattle.rs_field.proofs.of_code.Columns.{shard_from_columns, shard_in}
 use Rattle.rs_rate.proofs.of_rows.StateLemmas.{valid-supported}
 use Rattle.reed_solomon_simd.specs.declared.shard_index.ShardIndex.{ShardIndex}
@@ -30,7 +33,7 @@ use Rattle.reed_solomon_simd.specs.Base.{frame_in, row_of, shard_in_row, marked_
 use Rattle.reed_solomon_simd.specs.Base.{base_sum, IsBaseSum, AgreesInRow}
 use Rattle.reed_solomon_simd.specs.Reconstructed.{CanBeRebuilt}
 use Rattle.reed_solomon_simd.specs.ShardNames.{shard_named}
-use Rattle.reed_solomon_simd.proofs.BaseLemmas.{decoder_frame, in_row-cases, marked_part-at, base-pieces}
+use Rattle.reed_solomon_simd.proofs.BaseLemmas.{decoder_frame, marked_part-at, base_marks, base-pieces}
 use Rattle.reed_solomon_simd.proofs.ConsistentStrips.{even-strip}
 use Rattle.reed_solomon_simd.proofs.RebuiltStrips.{named_shards}
 
@@ -73,22 +76,6 @@ part-of marks from given =
       ];
     }
 
--- A given shard that is not in the marked part has a row that is not marked.
-part-none : (marks : List Bool) (from i : ℕ) (given : Shards) (shard : Shard) → given i ≡ Some shard
-    → is_some (marked_part marks from given i) ≡ false → is_marked marks (from + i) ≡ false
-part-none marks from i given shard e none = elim (cases_Bool (is_marked marks (from + i))) [
-  | inl is ↦
-      let there : is_some (marked_part marks from given i) ≡ true =
-      ap is_some (marked_part-at marks from i given true is ∙ e) in
-      absurd (let no : ⊥ = cc in no)
-  | inr not ↦ not
-]
-
--- A shard whose row is not marked is not in the marked part.
-part-unmarked : (marks : List Bool) (from i : ℕ) (given : Shards) → is_marked marks (from + i) ≡ false
-    → is_some (marked_part marks from given i) ≡ false
-part-unmarked marks from i given not = ap is_some (marked_part-at marks from i given false not)
-
 -- A shard that is not given is not in the marked part.
 part-missing : (marks : List Bool) (from i : ℕ) (given : Shards) → given i ≡ None
     → is_some (marked_part marks from given i) ≡ false
@@ -98,21 +85,6 @@ part-missing marks from i given none =
     ∙ either (is_marked marks (from + i))
   where
     either : (b : Bool) → is_some (let o : Option Shard = cond b None None in o) ≡ false
-    either true = refl
-    either false = refl
-
--- The shards of the marked part are within the bounds of the given ones.
-within-part : (marks : List Bool) (from n size : ℕ) (given : Shards) → AreWithin n size given
-    → AreWithin n size (marked_part marks from given)
-within-part marks from n size given within = record {
-  none_past = λ i past.
-      marked_part-at marks from i given (is_marked marks (from + i)) refl
-      ∙ ap (λ (o : Option Shard). cond (is_marked marks (from + i)) o None) (within.none_past i past)
-      ∙ either (is_marked marks (from + i));
-  sized = λ i shard e. let part = part-of marks from given in within.sized i shard (part.entries i shard e);
-}
-  where
-    either : (b : Bool) → ◌≡◌ {A = Option Shard} (cond b None None) None
     either true = refl
     either false = refl
 
@@ -131,99 +103,95 @@ module _ (s : DecoderState) (is : IsDecoder default_rate s) (start end : ℕ)
       within-pieces start end s.configuration.recovery_count s.configuration.shard_bytes s.recovery strip
       is.recovery_within
 
+  given : AreGiven (state_of_pieces start end s)
+  given =
+      let t = state_of_pieces start end s in
+      given_within t.configuration t.originals t.recovery supported own_within coded_within
+
   -- A piece in a row has the size of a piece.
   pub in_row-sized : (x : ℕ) (piece : Shard) → shard_in_row (state_of_pieces start end s) x ≡ Some piece
       → IsShard (end - start) piece
-  in_row-sized x piece there = elim (in_row-cases (state_of_pieces start end s) x piece there) [
+  in_row-sized x piece there = elim (given-either (state_of_pieces start end s) given x piece there) [
     | inl own ↦ own_within.sized own.0 piece own.3
     | inr coded ↦ coded_within.sized coded.0 piece coded.3
   ]
 
   module _ (marks : List Bool) (base : MarkBase s marks) where
+    -- The pieces of the base.
+    abbrev chosen : DecoderState
+    chosen = marked_state marks (state_of_pieces start end s)
+
+    chosen_enough : originals_given chosen + recovery_given chosen ≡ s.configuration.original_count
+    chosen_enough = (base-pieces start end marks s base).enough
+
+    own_part : IsPartOf chosen.originals (state_of_pieces start end s).originals
+    own_part = part-of marks (frame_in s).originals_from (state_of_pieces start end s).originals
+
+    coded_part : IsPartOf chosen.recovery (state_of_pieces start end s).recovery
+    coded_part = part-of marks (frame_in s).recovery_from (state_of_pieces start end s).recovery
+
+    -- Some message agrees with the strip exactly if the pieces outside of the base are the direct sums.
     decided : IsConsistent (state_of_pieces start end s)
-        ↔ AreSummed (state_of_pieces start end s).configuration (state_of_pieces start end s).originals
-        (state_of_pieces start end s).recovery (marked_state marks (state_of_pieces start end s)).originals
-        (marked_state marks (state_of_pieces start end s)).recovery
+        ↔ AreSums (state_of_pieces start end s) (λ x. is_some (shard_in_row chosen x))
+        (base_sum marks (state_of_pieces start end s))
+    unfolding summed_word
     decided =
-        let t = state_of_pieces start end s in
-        let here = base-pieces start end marks s base in
-        consistent_by_base t.configuration t.originals t.recovery (marked_state marks t).originals
-        (marked_state marks t).recovery supported (even-strip s is start end strip) own_within coded_within
-        (part-of marks (frame_in s).originals_from t.originals) (part-of marks (frame_in s).recovery_from t.recovery)
-        here.enough
+        consistent_by_sums (state_of_pieces start end s) given chosen.originals chosen.recovery own_part coded_part
+        (λ x. is_some (shard_in_row chosen x)) (locator_in chosen) (all_located chosen) (even-strip s is start end strip)
+        chosen_enough
+
+    -- A row with a piece is marked exactly if the piece is in the base.
+    marked-chosen : (x : ℕ) (piece : Shard) → shard_in_row (state_of_pieces start end s) x ≡ Some piece
+        → is_marked marks x ≡ is_some (shard_in_row chosen x)
+    marked-chosen x piece there =
+        base_marks marks (state_of_pieces start end s) (base-pieces start end marks s base) x
+        (given-below (state_of_pieces start end s) given x piece there)
 
     -- If some message agrees with the strip, the pieces outside of the base are the direct sums.
     pub consistent-agrees : IsConsistent (state_of_pieces start end s) → (x : ℕ)
         → AgreesInRow marks (state_of_pieces start end s) x
-    consistent-agrees consistent x piece there not =
-        let t = state_of_pieces start end s in
-        let summed = decided.0 consistent in
-        record {
-          is_shard = in_row-sized x piece there;
-          words = λ j inside. elim (in_row-cases (state_of_pieces start end s) x piece there) [
-            | inl own ↦
-                sym (summed.own own.0 piece j own.3
-                (part-unmarked marks (frame_in s).originals_from own.0 t.originals
-                (sym (ap (is_marked marks) own.2) ∙ not)) inside)
-                ∙ ap (base_sum marks t j) (sym own.2)
-            | inr coded ↦
-                sym (summed.coded coded.0 piece j coded.3
-                (part-unmarked marks (frame_in s).recovery_from coded.0 t.recovery
-                (sym (ap (is_marked marks) coded.2) ∙ not)) inside)
-                ∙ ap (base_sum marks t j) (sym coded.2)
-          ];
-        }
+    consistent-agrees consistent x piece there not = record {
+      is_shard = in_row-sized x piece there;
+      words = λ j inside.
+          sym (decided.0 consistent x j piece there (sym (marked-chosen x piece there) ∙ not) inside);
+    }
 
     -- If all pieces outside of the base are the direct sums, some message agrees with the strip.
     pub agrees-consistent : ((x : ℕ) → x < row_count (frame_in s) → AgreesInRow marks (state_of_pieces start end s) x)
         → IsConsistent (state_of_pieces start end s)
-    agrees-consistent each =
+    agrees-consistent each = decided.1 (λ x j piece there none inside.
+        let below = given-below (state_of_pieces start end s) given x piece there in
+        let sum = each x below piece there (marked-chosen x piece there ∙ none) in
+        sym (sum.words j inside))
+
+    -- A message that agrees with the strip agrees with the base.
+    agrees_with_base : (message : List Shard) (agrees : IsAgreeing (state_of_pieces start end s) message)
+        → (part : IsAgreeing chosen message) × (part.coded.0 ≡ agrees.coded.0)
+    agrees_with_base message agrees =
         let t = state_of_pieces start end s in
-        let k = s.configuration.original_count in let r = s.configuration.recovery_count in
-        let f = decoder_frame s is in
-        let own_sized = sized-within k (end - start) t.originals own_within in
-        let coded_sized = sized-within r (end - start) t.recovery coded_within in
-        decided.1 (record {
-          own = λ i piece j e none inside.
-              let below = (own_sized.each i piece e).0 in
-              let sum = each (original_row (frame_in s) i) (omega (arith, f.originals, below)) piece
-              (given_at-own (frame_in s) k r i t.originals t.recovery below ∙ e)
-              (part-none marks (frame_in s).originals_from i t.originals piece e none) in
-              sym (sum.words j inside);
-          coded = λ i piece j e none inside.
-              let below = (coded_sized.each i piece e).0 in
-              let sum = each (recovery_row (frame_in s) i) (omega (arith, f.recovery, below)) piece
-              (given_at-coded (frame_in s) k r i t.originals t.recovery f below ∙ e)
-              (part-none marks (frame_in s).recovery_from i t.recovery piece e none) in
-              sym (sum.words j inside);
-        })
+        agrees_with_part t.configuration t.originals t.recovery chosen.originals chosen.recovery message own_part
+        coded_part agrees
 
     -- Each missing word of a message that agrees with the strip is the direct sum.
     summed-words : (message : List Shard) (agrees : IsAgreeing (state_of_pieces start end s) message) (i j : ℕ)
         → j < (end - start) / 2
-        → (i < s.configuration.original_count
-        → is_some ((marked_state marks (state_of_pieces start end s)).originals i) ≡ false
+        → (i < s.configuration.original_count → is_some (chosen.originals i) ≡ false
         → base_sum marks (state_of_pieces start end s) j (original_row (frame_in s) i)
         ≡ column j (shard_at message i))
-        × (i < s.configuration.recovery_count
-        → is_some ((marked_state marks (state_of_pieces start end s)).recovery i) ≡ false
+        × (i < s.configuration.recovery_count → is_some (chosen.recovery i) ≡ false
         → base_sum marks (state_of_pieces start end s) j (recovery_row (frame_in s) i)
         ≡ column j (shard_at agrees.coded.0 i))
+    unfolding summed_word
     summed-words message agrees i j inside =
         let t = state_of_pieces start end s in
-        let b = marked_state marks t in
-        let here = base-pieces start end marks s base in
-        let part = agrees_with_part t.configuration t.originals t.recovery b.originals b.recovery message
-        (part-of marks (frame_in s).originals_from t.originals) (part-of marks (frame_in s).recovery_from t.recovery)
-        agrees in
-        let sums = summed_directly t.configuration b.originals b.recovery message i j supported
-        (within-part marks (frame_in s).originals_from s.configuration.original_count (end - start) t.originals
-        own_within)
-        (within-part marks (frame_in s).recovery_from s.configuration.recovery_count (end - start) t.recovery
-        coded_within)
-        (omega (arith, here.enough)) part.0 inside in (
-          sums.0,
-          λ below none. sums.1 below none ∙ ap (λ (all : List Shard). column j (shard_at all i)) part.1,
+        let part = agrees_with_base message agrees in
+        let g = base_given t chosen.originals chosen.recovery given own_part coded_part in
+        let enough = chosen_enough in (
+          direct_original chosen g (λ x. is_some (shard_in_row chosen x)) (locator_in chosen) (all_located chosen)
+              (omega (arith, enough)) message part.0 i j inside,
+          λ below none. direct_recovery chosen g (λ x. is_some (shard_in_row chosen x)) (locator_in chosen)
+              (all_located chosen) (omega (arith, enough)) message part.0 i j inside below none
+              ∙ ap (λ (all : List Shard). column j (shard_at all i)) part.1,
         )
 
     -- No piece was received in the row of a shard that can be rebuilt.
@@ -231,12 +199,12 @@ module _ (s : DecoderState) (is : IsDecoder default_rate s) (start end : ℕ)
         → shard_in_row (state_of_pieces start end s) (row_of (frame_in s) w) ≡ None
     wanted-missing (Original i) can =
         let t = state_of_pieces start end s in
-        given_at-own (frame_in s) s.configuration.original_count s.configuration.recovery_count i t.originals t.recovery
+        given_at-own (frame_in s) s.configuration.original_count s.configuration.recovery_count t.originals t.recovery i
         can.0 ∙ ap (option_map (λ x. between start end x)) can.1
     wanted-missing (Recovery i) can =
         let t = state_of_pieces start end s in
-        given_at-coded (frame_in s) s.configuration.original_count s.configuration.recovery_count i t.originals
-        t.recovery (decoder_frame s is) can.0 ∙ ap (option_map (λ x. between start end x)) can.1
+        given_at-coded (frame_in s) s.configuration.original_count s.configuration.recovery_count t.originals
+        t.recovery i (decoder_frame s is) can.0 ∙ ap (option_map (λ x. between start end x)) can.1
 
     -- The direct sum is the piece of a wanted shard.
     pub wanted-piece : (message : List Shard) (agrees : IsAgreeing (state_of_pieces start end s) message)
@@ -282,17 +250,10 @@ module _ (s : DecoderState) (is : IsDecoder default_rate s) (start end : ℕ)
     pub only-message : (one other : List Shard) → IsAgreeing (state_of_pieces start end s) one
         → IsAgreeing (state_of_pieces start end s) other → other ≡ one
     only-message one other agrees also =
-        let t = state_of_pieces start end s in
-        let b = marked_state marks t in
-        let here = base-pieces start end marks s base in
-        let own_part = part-of marks (frame_in s).originals_from t.originals in
-        let coded_part = part-of marks (frame_in s).recovery_from t.recovery in
-        let first = agrees_with_part t.configuration t.originals t.recovery b.originals b.recovery one own_part
-        coded_part agrees in
-        let second = agrees_with_part t.configuration t.originals t.recovery b.originals b.recovery other own_part
-        coded_part also in
-        one_message t.configuration b.originals b.recovery other one supported (even-strip s is start end strip)
-        (omega (arith, here.enough)) second.0 first.0
+        let enough = chosen_enough in
+        one_message chosen.configuration chosen.originals chosen.recovery other one supported
+        (even-strip s is start end strip) (omega (arith, enough)) (agrees_with_base other also).0
+        (agrees_with_base one agrees).0
 
     -- The same for a wanted shard in a list.
     pub wanted-at : (message : List Shard) (agrees : IsAgreeing (state_of_pieces start end s) message)

@@ -14,7 +14,7 @@ use Rattle.rs_field.specs.code.Given.{Shards, Agrees, AreAmong, nothing, items_a
 use Rattle.rs_field.specs.code.OneCall.{Items}
 use Rattle.rs_field.specs.code.Pieces.{pieces, IsStrip}
 use Rattle.rs_field.specs.code.PieceStates.{pieces_of, state_of_pieces, shards_listed}
-use Rattle.rs_field.proofs.of_code.AgreeingMessages.{sized-within}
+use Rattle.rs_field.proofs.of_code.GivenRows.{sized-within}
 use Rattle.rs_field.proofs.of_code.Agreement.{one_message}
 use Rattle.rs_field.proofs.of_code.Entries.{all_some}
 use Rattle.rs_field.proofs.of_code.Given.{some_of, nothing_among}

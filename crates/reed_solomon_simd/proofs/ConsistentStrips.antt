@@ -5,27 +5,20 @@ use Rattle.rs_field.specs.code.Counts.{default_rate, supports}
 use Rattle.rs_field.specs.code.Decoder.{DecoderState, IsDecoder, originals_given, recovery_given, IsConsistent}
 use Rattle.rs_field.specs.code.Pieces.{pieces, IsStrip}
 use Rattle.rs_field.specs.code.PieceStates.{state_of_pieces}
-use Rattle.rs_field.proofs.of_code.AgreeingMessages.{AreSized, sized-within}
+use Rattle.rs_field.proofs.of_code.GivenRows.{AreGiven, given_within}
 use Rattle.rs_field.proofs.of_code.AnyShards.{any_consistent}
-use Rattle.rs_field.proofs.of_code.PieceStates.{AreConsistentBelow, agrees-cut}
-use Rattle.rs_field.proofs.of_code.RestoredBelow.{all-consistent}
+use Rattle.rs_field.proofs.of_code.PieceStates.{AreConsistentBelow, consistent-whole, agrees-cut}
 use Rattle.rs_field.proofs.of_code.SupportedCounts.{default_fits}
 use Rattle.rs_rate.proofs.of_rows.StateLemmas.{valid-supported}
 use Rattle.reed_solomon_simd.proofs.SetUp.{valid-even}
 
--- Each column of the first bytes is in a strip whose pieces are consistent.
-abbrev pub AreCheckedBelow : DecoderState → ℕ → Type 0
-AreCheckedBelow s bound =
-    AreConsistentBelow s.configuration.rate s.configuration.original_count s.configuration.recovery_count
-    s.configuration.shard_bytes s.originals s.recovery bound
-
 -- Before the first strip, no column needs a strip.
-pub checked-none : (s : DecoderState) → AreCheckedBelow s 0
+pub checked-none : (s : DecoderState) → AreConsistentBelow s 0
 checked-none s j inside = absurd (let no : ⊥ = omega (arith, inside) in no)
 
 -- After one more strip with consistent pieces, the columns up to its end are in such strips.
 pub checked-further : (s : DecoderState) (start end : ℕ) → IsStrip start end s.configuration.shard_bytes
-    → IsConsistent (state_of_pieces start end s) → AreCheckedBelow s start → AreCheckedBelow s end
+    → IsConsistent (state_of_pieces start end s) → AreConsistentBelow s start → AreConsistentBelow s end
 checked-further s start end strip consistent before j inside = elim (cases_lt j (start / 2)) [
   | inl low ↦ before j low
   | inr high ↦ (start, end, strip, high, inside, consistent)
@@ -55,19 +48,16 @@ module _ (s : DecoderState) (is : IsDecoder default_rate s) where
       supported) in
       omega (arith, fits.2)
 
-  own_sized : AreSized s.configuration.original_count s.configuration.shard_bytes s.originals
-  own_sized = sized-within s.configuration.original_count s.configuration.shard_bytes s.originals is.originals_within
-
-  coded_sized : AreSized s.configuration.recovery_count s.configuration.shard_bytes s.recovery
-  coded_sized = sized-within s.configuration.recovery_count s.configuration.shard_bytes s.recovery is.recovery_within
+  given : AreGiven s
+  given = given_within s.configuration s.originals s.recovery supported is.originals_within is.recovery_within
 
   -- If the pieces of all strips are consistent, the shards are consistent.
-  pub checked-all : AreCheckedBelow s s.configuration.shard_bytes → IsConsistent s
-  checked-all each = all-consistent s supported even own_sized coded_sized each
+  pub checked-all : AreConsistentBelow s s.configuration.shard_bytes → IsConsistent s
+  checked-all = consistent-whole s given even
 
   -- As many shards as originals are consistent.
   pub exact-consistent : originals_given s + recovery_given s ≡ s.configuration.original_count → IsConsistent s
-  exact-consistent = any_consistent s.configuration s.originals s.recovery supported even own_sized coded_sized
+  exact-consistent = any_consistent s given even
 
 -- If shards are consistent, their pieces in a strip are consistent.
 pub consistent-cut : (s : DecoderState) (start end : ℕ) → IsStrip start end s.configuration.shard_bytes

@@ -28,7 +28,8 @@ use Rattle.reed_solomon_simd.specs.declared.shard_index.ShardIndex.{ShardIndex}
 use Rattle.reed_solomon_simd.specs.declared.shard_index.ShardIndex.TheVariants.{Original, Recovery}
 use Rattle.reed_solomon_simd.specs.Reconstructed.{AreReconstructed, CanBeRebuilt, lent_at}
 use Rattle.reed_solomon_simd.specs.ShardNames.{shard_named, is_recovery}
-use Rattle.reed_solomon_simd.proofs.ConsistentStrips.{AreCheckedBelow, checked-none, checked-further, checked-all}
+use Rattle.rs_field.proofs.of_code.PieceStates.{AreConsistentBelow}
+use Rattle.reed_solomon_simd.proofs.ConsistentStrips.{checked-none, checked-further, checked-all}
 use Rattle.reed_solomon_simd.proofs.ConsistentStrips.{even-strip, few-originals}
 use Rattle.reed_solomon_simd.proofs.SetUp.{valid-even}
 
@@ -68,7 +69,7 @@ named-sized s message agrees wanted can =
 -- shard of each message that agrees.
 pub record IsRebuiltBelow (s : DecoderState) (wanted : List ShardIndex) (grows : Bool) (bound : ℕ) (rooms : List Shard)
     : Type 0 where
-  pub checked : AreCheckedBelow s bound
+  pub checked : AreConsistentBelow s bound
   pub number : length rooms ≡ length wanted
   pub fit : All (λ room. length room ≡ room_length grows bound s.configuration.shard_bytes) rooms
   pub held : (message : List Shard) (agrees : IsAgreeing s message) (i : ℕ) → i < length rooms

@@ -11,6 +11,7 @@ pub mod SupportedCounts
 pub mod SupportedRanges
 pub mod RateFrames
 pub mod ErasedCount
+pub mod GivenRows
 pub mod DecodedColumn
 pub mod Places
 pub mod Linearity

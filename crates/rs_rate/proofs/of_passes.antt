@@ -5,6 +5,7 @@ pub mod EncodeCounting
 pub mod Coded
 pub mod RestoringRows
 pub mod RestoredRows
+pub mod Erased
 pub mod DecodedColumns
 pub mod BaseAnswer
 pub mod DecodeAnswer

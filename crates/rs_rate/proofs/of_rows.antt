@@ -4,6 +4,5 @@ pub mod ShardRowsLemmas
 pub mod RowMaps
 pub mod HowMany
 pub mod AddedShards
-pub mod Erased
 pub mod DecoderRows
 pub mod ResultLemmas

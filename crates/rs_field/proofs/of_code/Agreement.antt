@@ -7,61 +7,52 @@ use Rattle.rs_field.specs.words.Locator.{log_sum}
 use Rattle.rs_field.specs.words.Derivative.{IsDerivativeAdded}
 use Rattle.rs_field.specs.code.Counts.{supports}
 use Rattle.rs_field.specs.code.Column.{Shard, shard_at, column, columns}
-use Rattle.rs_field.specs.code.Frame.{row_count, original_row}
+use Rattle.rs_field.specs.code.Frame.{original_row}
 use Rattle.rs_field.specs.code.Configuration.{Configuration}
-use Rattle.rs_field.specs.code.Given.{Shards, count_below, Agrees, Consistent}
+use Rattle.rs_field.specs.code.Decoder.{DecoderState, IsAgreeing, IsConsistent, originals_given, recovery_given}
+use Rattle.rs_field.specs.code.Given.{Shards, count_below, Agrees}
 use Rattle.rs_field.proofs.of_code.Columns.{columns-at}
 use Rattle.rs_field.proofs.of_code.Given.{some_of}
 use Rattle.rs_field.proofs.of_code.Places.{fixed_by_places, places_given, by_place, count-by_place, codeword_given}
 use Rattle.rs_field.proofs.of_code.DecodedColumn.{IsColumnOf, surplus_rows, some_message, restored_word}
-use Rattle.rs_field.proofs.of_code.AgreeingMessages.{AreSized, HasWords, frame_at, column_taken, consistent}
+use Rattle.rs_field.proofs.of_code.GivenRows.{AreGiven, frame_at, erased_in, rows_of, distinct}
+use Rattle.rs_field.proofs.of_code.AgreeingMessages.{column_taken, consistent}
 
--- The columns of a decode: given shards of one even size, their words at their places in each column, and the rows.
-pub record AreColumns (c : Configuration) (originals recovery : Shards) (marks : ℕ → ℕ)
-    (words located rows : ℕ → ℕ → ℕ) : Type 0 where
-  pub even : c.shard_bytes % 2 ≡ 0
-  pub own_sized : AreSized c.original_count c.shard_bytes originals
-  pub coded_sized : AreSized c.recovery_count c.shard_bytes recovery
-  pub has : (j : ℕ) → j < c.shard_bytes / 2 → HasWords (frame_at c) originals recovery j (words j)
-  pub each : (j : ℕ) → j < c.shard_bytes / 2
-      → IsColumnOf (frame_at c) c.original_count c.recovery_count originals recovery marks (words j) (located j)
-      (rows j)
+-- The columns of a decode: in each column, the located words of the given shards, and the coefficients of the
+-- polynomial whose values they are.
+abbrev pub AreColumns : DecoderState → (ℕ → ℕ → ℕ) → (ℕ → ℕ → ℕ) → Type 0
+AreColumns s located coefficients =
+    (j : ℕ) → j < s.configuration.shard_bytes / 2 → IsColumnOf s j (located j) (coefficients j)
 
-module _ (c : Configuration) (originals recovery : Shards) (marks : ℕ → ℕ) (words located rows : ℕ → ℕ → ℕ)
-    (h : AreColumns c originals recovery marks words located rows) where
+module _ (s : DecoderState) (g : AreGiven s) (located rows : ℕ → ℕ → ℕ) (h : AreColumns s located rows) where
   -- If k + t shards are given, some message agrees if and only if the last t rows are zero in every column.
-  pub consistent_exactly : (t : ℕ)
-      → count_below c.original_count originals + count_below c.recovery_count recovery ≡ c.original_count + t
-      → Consistent c originals recovery
-      ↔ ((j i : ℕ) → j < c.shard_bytes / 2 → row_count (frame_at c) ≤ i + t → i < row_count (frame_at c)
-      → rows j i ≡ 0)
-  consistent_exactly t count = (
-    λ m j i hj.
-        let (p, codes, takes) = column_taken c originals recovery m.0 j (words j) hj m.1 (h.has j hj) in
-        surplus_rows c.rate c.original_count c.recovery_count originals recovery marks (words j) (located j) (rows j)
-        (h.each j hj) (columns j m.0) p codes takes t count i,
-    λ none. consistent c originals recovery words h.even h.own_sized h.coded_sized h.has (λ j hj.
-        let (message, p, _, codes, takes) = some_message c.rate c.original_count c.recovery_count originals recovery
-        marks (words j) (located j) (rows j) (h.each j hj) t count (λ i. none j i hj) in
-        (p, (message, codes, takes))),
+  pub consistent_exactly : (t : ℕ) → s.configuration.shard_bytes % 2 ≡ 0
+      → originals_given s + recovery_given s ≡ s.configuration.original_count + t
+      → IsConsistent s
+      ↔ ((j i : ℕ) → j < s.configuration.shard_bytes / 2 → rows_of s ≤ i + t → i < rows_of s → rows j i ≡ 0)
+  consistent_exactly t even count = (
+    λ some j i hj.
+        let (p, codes, takes) = column_taken s some.0 j hj some.1 in
+        surplus_rows s g j (located j) (rows j) (h j hj) p (columns j some.0, codes, takes) t count i,
+    λ none. consistent s g even (λ j hj. some_message s g j (located j) (rows j) (h j hj) t count (λ i. none j i hj)),
   )
 
   -- After the derivative step, the word in the row of a missing original, times the power for 65535 minus a residue of
   -- the locator, is the word of the message.
   pub restored_column : (message : List Shard) (added : ℕ → ℕ) (i j l : ℕ)
-      → c.original_count ≤ count_below c.original_count originals + count_below c.recovery_count recovery
-      → Agrees c originals recovery message → i < c.original_count → j < c.shard_bytes / 2
-      → IsDerivativeAdded (row_count (frame_at c)) (rows j) added
-      → marks (original_row (frame_at c) i) ≡ 1
-      → l ≤ 65535 → power l ≡ power (log_sum (row_count (frame_at c)) marks (original_row (frame_at c) i))
-      → product (forward (row_count (frame_at c)) 0 added (original_row (frame_at c) i)) (power (65535 - l))
+      → s.configuration.original_count ≤ originals_given s + recovery_given s
+      → IsAgreeing s message → i < s.configuration.original_count → j < s.configuration.shard_bytes / 2
+      → IsDerivativeAdded (rows_of s) (rows j) added
+      → erased_in s (original_row (frame_at s.configuration) i) ≡ 1
+      → l ≤ 65535
+      → power l ≡ power (log_sum (rows_of s) (erased_in s) (original_row (frame_at s.configuration) i))
+      → product (forward (rows_of s) 0 added (original_row (frame_at s.configuration) i)) (power (65535 - l))
       ≡ column j (shard_at message i)
   restored_column message added i j l enough agrees hi hj step one hl same =
-      let (p, codes, takes) = column_taken c originals recovery message j (words j) hj agrees (h.has j hj) in
-      let below = (h.each j hj).distinct.originals in
-      restored_word c.rate c.original_count c.recovery_count originals recovery marks (words j) (located j) (rows j)
-      (h.each j hj) (columns j message) p codes takes added (original_row (frame_at c) i) l enough step
-      (omega arith) one hl same
+      let (p, codes, takes) = column_taken s message j hj agrees in
+      restored_word s g j (located j) (rows j) (h j hj) p (columns j message, codes, takes) added
+      (original_row (frame_at s.configuration) i) l enough step
+      (omega (arith, (distinct s g).originals, hi)) one hl same
       ∙ codes.originals i hi ∙ columns-at j message i
 
 -- If at least k shards are given, at most one message agrees.

@@ -1,27 +1,24 @@
 -- Any k of the given shards, the base, decide whether some message agrees with all given shards.
-use Rattle.std.proofs.Common.{◌≡◌, ℕ, ◌+◌, ◌/◌, ◌%◌, ◌<◌, ◌⊎◌, Bool, true, false, List, refl, sym, ap, ◌∙◌}
-use Rattle.std.proofs.Common.{subst}
-use Rattle.std.proofs.Common.{◌≤◌, arith, inl, inr}
+use Rattle.std.proofs.Common.{◌≡◌, ℕ, ◌+◌, ◌/◌, ◌%◌, ◌<◌, Bool, false, List, refl, sym, ap, ◌∙◌}
+use Rattle.std.proofs.Common.{subst, arith, inl, inr}
 use Rattle.std.proofs.Math.Nat.{mod-eq_of_lt, mod-lt}
-use Rattle.std.specs.Prelude.{None, ◌↔◌}
-use Rattle.std.proofs.lemmas.Grind.{common_steps}
-use Rattle.std.specs.Prelude.{Option, Some, is_some}
+use Rattle.std.specs.Prelude.{Option, Some, is_some, ◌↔◌}
 use Rattle.std.proofs.lemmas.Bool.{cases_Bool}
 use Rattle.rs_field.specs.words.Locator.{log_sum}
 use Rattle.rs_field.specs.words.DirectSum.{direct_sum}
-use Rattle.rs_field.specs.code.Counts.{supports}
 use Rattle.rs_field.specs.code.Column.{Shard, shard_at, column}
-use Rattle.rs_field.specs.code.Frame.{row_count, original_row, recovery_row}
 use Rattle.rs_field.specs.code.Configuration.{Configuration}
-use Rattle.rs_field.specs.code.Given.{Shards, count_below, AreAmong, Agrees, Consistent}
+use Rattle.rs_field.specs.code.Decoder.{DecoderState, IsAgreeing, IsConsistent, originals_given, recovery_given}
+use Rattle.rs_field.specs.code.DirectLaws.{locator_at, summed_word, IsPartOf, IsSummedDirectly, IsDecidedByBase}
+use Rattle.rs_field.specs.code.Frame.{original_row, recovery_row}
+use Rattle.rs_field.specs.code.Given.{Shards, AreAmong, Agrees}
 use Rattle.rs_field.proofs.of_code.Given.{some_of}
 use Rattle.rs_field.proofs.of_code.Columns.{shard_from_columns, shard_in}
-use Rattle.rs_field.proofs.of_code.AgreeingMessages.{AreSized, frame_at, sized-within}
-use Rattle.rs_field.proofs.of_code.RateFrames.{distinct_rows}
-use Rattle.rs_field.proofs.of_code.DirectColumn.{AreDirectColumns, direct_original, direct_recovery}
-use Rattle.rs_field.proofs.of_code.AnyShards.{any_consistent, words_given, are_erasures, word_at-zero}
-use Rattle.rs_field.specs.code.DirectLaws.{given_at, word_of, word_at, mark_at, locator_at, summed_word}
-use Rattle.rs_field.specs.code.DirectLaws.{IsPartOf, IsSummedDirectly, IsDecidedByBase}
+use Rattle.rs_field.proofs.of_code.GivenRows.{AreGiven, frame_at, state_with, given_within, given_in, erased_in}
+use Rattle.rs_field.proofs.of_code.GivenRows.{words_in, rows_of, distinct, given_at-own, given_at-coded, given-own}
+use Rattle.rs_field.proofs.of_code.GivenRows.{given-coded, given-either}
+use Rattle.rs_field.proofs.of_code.DirectColumn.{IsLocated, direct_original, direct_recovery}
+use Rattle.rs_field.proofs.of_code.AnyShards.{any_consistent}
 
 -- A message that agrees with given shards agrees with some of them.
 pub agrees_with_part : (c : Configuration) (originals recovery some_originals some_recovery : Shards)
@@ -41,183 +38,184 @@ agrees_with_part c originals recovery some_originals some_recovery message own c
 one_shard : (entry : Option Shard) (one other : Shard) → entry ≡ Some one → entry ≡ Some other → one ≡ other
 one_shard entry one other e f = cc
 
--- ---- the sums over given shards
+-- The locator of all given shards.
+abbrev pub locator_in : DecoderState → ℕ → ℕ
+locator_in s = locator_at (frame_at s.configuration) s.configuration.original_count s.configuration.recovery_count
+    s.originals s.recovery
 
--- The columns from which the missing words of given shards are summed.
-direct_columns : (c : Configuration) (originals recovery : Shards)
-    → supports c.rate c.original_count c.recovery_count ≡ true
-    → AreSized c.original_count c.shard_bytes originals → AreSized c.recovery_count c.shard_bytes recovery
-    → AreDirectColumns c originals recovery
-    (mark_at (frame_at c) c.original_count c.recovery_count originals recovery)
-    (locator_at (frame_at c) c.original_count c.recovery_count originals recovery)
-    (λ x. is_some (given_at (frame_at c) c.original_count c.recovery_count originals recovery x))
-    (word_at (frame_at c) c.original_count c.recovery_count originals recovery)
-unfolding locator_at mark_at word_at word_of
-direct_columns c originals recovery is own coded =
-    let k = c.original_count in let r = c.recovery_count in let p = frame_at c in
-    let f = distinct_rows c.rate k r is in
-    record {
-      has = λ j hj. words_given p k r c.shard_bytes originals recovery j f own coded;
-      each = λ j hj. record {
-        distinct = f;
-        erasures = are_erasures p k r originals recovery f;
-        known = λ x above below. word_at-zero p k r originals recovery j x f above below;
-        are_received = record {
-          added = λ x hx none. word_or_none j (given_at p k r originals recovery x);
-          erased = λ x hx one. grind (arith, common_steps);
-        };
-        logarithms = λ x hx.
-            mod-eq_of_lt (mod-lt (log_sum (row_count p) (mark_at p k r originals recovery) x) (omega arith));
-        most = λ x hx. omega arith;
-      };
-    }
-  where
-    word_or_none : (j : ℕ) (o : Option Shard) → (is_some o ≡ true) ⊎ (word_of j o ≡ 0)
-    word_or_none j None = inr refl
-    word_or_none j (Some shard) = inl refl
+-- The rows of all given shards, and their locator.
+pub all_located : (s : DecoderState) → IsLocated s (λ x. is_some (given_in s x)) (locator_in s)
+unfolding locator_at
+all_located s = record {
+  rows = λ x hx. refl;
+  logarithms = λ x hx. mod-eq_of_lt (mod-lt (log_sum (rows_of s) (erased_in s) x) (omega arith));
+  most = λ x hx. omega arith;
+}
 
 -- Each missing word is the direct sum over the given shards.
-summed : (c : Configuration) (originals recovery : Shards) (message : List Shard) (i j : ℕ)
-    → supports c.rate c.original_count c.recovery_count ≡ true
-    → AreSized c.original_count c.shard_bytes originals → AreSized c.recovery_count c.shard_bytes recovery
-    → c.original_count ≤ count_below c.original_count originals + count_below c.recovery_count recovery
-    → (agrees : Agrees c originals recovery message) → j < c.shard_bytes / 2
-    → (i < c.original_count → is_some (originals i) ≡ false
-    → summed_word c originals recovery j (original_row (frame_at c) i) ≡ column j (shard_at message i))
-    × (i < c.recovery_count → is_some (recovery i) ≡ false
-    → summed_word c originals recovery j (recovery_row (frame_at c) i) ≡ column j (shard_at agrees.coded.0 i))
-unfolding summed_word
-summed c originals recovery message i j is own coded enough agrees hj =
-    let k = c.original_count in let r = c.recovery_count in let p = frame_at c in
-    let marks : ℕ → ℕ = mark_at p k r originals recovery in
-    let locator : ℕ → ℕ = locator_at p k r originals recovery in
-    let received : ℕ → Bool = λ x. is_some (given_at p k r originals recovery x) in
-    let words : ℕ → ℕ → ℕ = word_at p k r originals recovery in
-    let d = direct_columns c originals recovery is own coded in (
-      direct_original c originals recovery marks locator received words message i j d enough agrees hj,
-      direct_recovery c originals recovery marks locator received words message i j d enough agrees hj,
-    )
-
 pub summed_directly : IsSummedDirectly
+unfolding summed_word
 summed_directly c originals recovery message i j is own coded enough agrees hj =
-    summed c originals recovery message i j is (sized-within c.original_count c.shard_bytes originals own)
-    (sized-within c.recovery_count c.shard_bytes recovery coded) enough agrees hj
+    let s : DecoderState = state_with c originals recovery in
+    let g = given_within c originals recovery is own coded in (
+      direct_original s g (λ x. is_some (given_in s x)) (locator_in s) (all_located s) enough message agrees i j hj,
+      direct_recovery s g (λ x. is_some (given_in s x)) (locator_in s) (all_located s) enough message agrees i j hj,
+    )
 
 -- ---- the base
 
--- These sums are the words of each given shard outside the base.
-pub record AreSums (c : Configuration) (originals recovery base_originals base_recovery : Shards)
-    (sum : ℕ → ℕ → ℕ) : Type 0 where
-  pub own : (i : ℕ) (shard : Shard) (j : ℕ) → originals i ≡ Some shard → is_some (base_originals i) ≡ false
-      → j < c.shard_bytes / 2 → sum j (original_row (frame_at c) i) ≡ column j shard
-  pub coded : (i : ℕ) (shard : Shard) (j : ℕ) → recovery i ≡ Some shard → is_some (base_recovery i) ≡ false
-      → j < c.shard_bytes / 2 → sum j (recovery_row (frame_at c) i) ≡ column j shard
+-- These sums are the words of each given shard whose row is not received.
+abbrev pub AreSums : DecoderState → (ℕ → Bool) → (ℕ → ℕ → ℕ) → Type 0
+AreSums s received sum =
+    (x j : ℕ) (shard : Shard) → given_in s x ≡ Some shard → received x ≡ false → j < s.configuration.shard_bytes / 2
+    → sum j x ≡ column j shard
 
-module _ (c : Configuration) (originals recovery base_originals base_recovery : Shards) (marks locator : ℕ → ℕ)
-    (received : ℕ → Bool) (words : ℕ → ℕ → ℕ) (is : supports c.rate c.original_count c.recovery_count ≡ true)
-    (even : c.shard_bytes % 2 ≡ 0) (own_sized : AreSized c.original_count c.shard_bytes originals)
-    (coded_sized : AreSized c.recovery_count c.shard_bytes recovery) (own_part : IsPartOf base_originals originals)
-    (coded_part : IsPartOf base_recovery recovery)
-    (count : count_below c.original_count base_originals + count_below c.recovery_count base_recovery
-    ≡ c.original_count)
-    (d : AreDirectColumns c base_originals base_recovery marks locator received words) where
+-- The shards of a base are given shards.
+pub base_given : (s : DecoderState) (originals recovery : Shards) → AreGiven s → IsPartOf originals s.originals
+    → IsPartOf recovery s.recovery → AreGiven (state_with s.configuration originals recovery)
+base_given s originals recovery g own coded = record {
+  supported = g.supported;
+  own_sized = record { each = λ i shard e. g.own_sized.each i shard (own.entries i shard e) };
+  coded_sized = record { each = λ i shard e. g.coded_sized.each i shard (coded.entries i shard e) };
+}
+
+module _ (s : DecoderState) (g : AreGiven s) (base_originals base_recovery : Shards)
+    (own_part : IsPartOf base_originals s.originals) (coded_part : IsPartOf base_recovery s.recovery)
+    (received : ℕ → Bool) (locator : ℕ → ℕ)
+    (l : IsLocated (state_with s.configuration base_originals base_recovery) received locator) where
+  abbrev base : DecoderState
+  base = state_with s.configuration base_originals base_recovery
+
   -- The sum over the base at a point.
   abbrev base_sum : ℕ → ℕ → ℕ
-  base_sum j = direct_sum (row_count (frame_at c)) received locator (words j)
+  base_sum j = direct_sum (rows_of s) received locator (words_in (state_with s.configuration base_originals base_recovery) j)
 
-  own_base : AreSized c.original_count c.shard_bytes base_originals
-  own_base = record { each = λ i shard e. own_sized.each i shard (own_part.entries i shard e) }
+  -- The row of an original or of a recovery shard is received exactly if the base has this shard.
+  pub own-received : (i : ℕ) → i < s.configuration.original_count
+      → received (original_row (frame_at s.configuration) i) ≡ is_some (base_originals i)
+  own-received i hi =
+      l.rows (original_row (frame_at s.configuration) i) (omega (arith, (distinct s g).originals, hi))
+      ∙ ap is_some (given_at-own (frame_at s.configuration) s.configuration.original_count
+      s.configuration.recovery_count base_originals base_recovery i hi)
 
-  coded_base : AreSized c.recovery_count c.shard_bytes base_recovery
-  coded_base = record { each = λ i shard e. coded_sized.each i shard (coded_part.entries i shard e) }
+  pub coded-received : (i : ℕ) → i < s.configuration.recovery_count
+      → received (recovery_row (frame_at s.configuration) i) ≡ is_some (base_recovery i)
+  coded-received i hi =
+      l.rows (recovery_row (frame_at s.configuration) i) (omega (arith, (distinct s g).recovery, hi))
+      ∙ ap is_some (given_at-coded (frame_at s.configuration) s.configuration.original_count
+      s.configuration.recovery_count base_originals base_recovery i (distinct s g) hi)
 
-  sums : (message : List Shard) (a : Agrees c base_originals base_recovery message) → AreAmong originals message
-      → AreAmong recovery a.coded.0
-      → AreSums c originals recovery base_originals base_recovery base_sum
-  sums message a own coded = record {
-    own = λ i shard j given missing hj.
-        direct_original c base_originals base_recovery marks locator received words message i j d (omega (arith, count))
-        a hj (own_sized.each i shard given).0 missing
-        ∙ ap (column j) (own i shard given);
-    coded = λ i shard j given missing hj.
-        direct_recovery c base_originals base_recovery marks locator received words message i j d (omega (arith, count))
-        a hj (coded_sized.each i shard given).0 missing
-        ∙ ap (column j) (coded i shard given);
-  }
+  module _ (even : s.configuration.shard_bytes % 2 ≡ 0)
+      (count : originals_given base + recovery_given base ≡ s.configuration.original_count) where
+    module _ (message : List Shard) (a : IsAgreeing base message) where
+      -- The sum at the point of an original or of a recovery shard outside the base is its word.
+      own_sum : (i j : ℕ) → j < s.configuration.shard_bytes / 2 → i < s.configuration.original_count
+          → received (original_row (frame_at s.configuration) i) ≡ false
+          → base_sum j (original_row (frame_at s.configuration) i) ≡ column j (shard_at message i)
+      own_sum i j hj hi none = direct_original base (base_given s base_originals base_recovery g own_part coded_part)
+          received locator l (omega (arith, count)) message a i j hj hi (sym (own-received i hi) ∙ none)
 
-  own_shard : (message : List Shard) (a : Agrees c base_originals base_recovery message)
-      → AreSums c originals recovery base_originals base_recovery base_sum
-      → (i : ℕ) (shard : Shard) → originals i ≡ Some shard
-      → (is_some (base_originals i) ≡ true) ⊎ (is_some (base_originals i) ≡ false) → shard_at message i ≡ shard
-  own_shard message a s i shard given (inl some) =
-      let (same, e) = some_of (base_originals i) some in
-      a.own i same e ∙ one_shard (originals i) same shard (own_part.entries i same e) given
-  own_shard message a s i shard given (inr missing) =
-      let sized = own_sized.each i shard given in
-      shard_from_columns c.shard_bytes (shard_at message i) shard
-      (shard_in c.original_count c.shard_bytes message a.shards i sized.0) sized.1 even
-      (λ j hj.
-      sym (direct_original c base_originals base_recovery marks locator received words message i j d
-      (omega (arith, count)) a hj sized.0 missing)
-      ∙ s.own i shard j given missing hj)
+      coded_sum : (i j : ℕ) → j < s.configuration.shard_bytes / 2 → i < s.configuration.recovery_count
+          → received (recovery_row (frame_at s.configuration) i) ≡ false
+          → base_sum j (recovery_row (frame_at s.configuration) i) ≡ column j (shard_at a.coded.0 i)
+      coded_sum i j hj hi none = direct_recovery base (base_given s base_originals base_recovery g own_part coded_part)
+          received locator l (omega (arith, count)) message a i j hj hi (sym (coded-received i hi) ∙ none)
 
-  coded_shard : (message : List Shard) (a : Agrees c base_originals base_recovery message)
-      → AreSums c originals recovery base_originals base_recovery base_sum
-      → (i : ℕ) (shard : Shard) → recovery i ≡ Some shard
-      → (is_some (base_recovery i) ≡ true) ⊎ (is_some (base_recovery i) ≡ false) → shard_at a.coded.0 i ≡ shard
-  coded_shard message a s i shard given (inl some) =
-      let (same, e) = some_of (base_recovery i) some in
-      a.coded.2 i same e ∙ one_shard (recovery i) same shard (coded_part.entries i same e) given
-  coded_shard message a s i shard given (inr missing) =
-      let sized = coded_sized.each i shard given in
-      shard_from_columns c.shard_bytes (shard_at a.coded.0 i) shard
-      (shard_in c.recovery_count c.shard_bytes a.coded.0 a.coded.1.shards i sized.0) sized.1 even
-      (λ j hj.
-      sym (direct_recovery c base_originals base_recovery marks locator received words message i j d
-      (omega (arith, count)) a hj sized.0 missing)
-      ∙ s.coded i shard j given missing hj)
+      sums : AreAmong s.originals message → AreAmong s.recovery a.coded.0 → AreSums s received base_sum
+      sums own coded x j shard is none hj = elim (given-either s g x shard is) [
+        | inl here ↦
+            ap (base_sum j) here.2 ∙ own_sum here.0 j hj here.1 (sym (ap received here.2) ∙ none)
+            ∙ ap (column j) (own here.0 shard here.3)
+        | inr there ↦
+            ap (base_sum j) there.2 ∙ coded_sum there.0 j hj there.1 (sym (ap received there.2) ∙ none)
+            ∙ ap (column j) (coded there.0 shard there.3)
+      ]
 
-  -- Some message agrees with all given shards if and only if the direct sums over k of them are the words of the
-  -- others.
-  pub consistent_by_sums : Consistent c originals recovery
-      ↔ AreSums c originals recovery base_originals base_recovery base_sum
-  consistent_by_sums = (
-    λ m.
-        let (a, same) =
-        agrees_with_part c originals recovery base_originals base_recovery m.0 own_part coded_part m.1 in
-        sums m.0 a m.1.own (subst (AreAmong recovery) (sym same) m.1.coded.2),
-    λ s.
-        let (message, agrees) =
-        any_consistent c base_originals base_recovery is even
-        own_base coded_base count in (
-          message,
-          record {
-            shards = agrees.shards;
-            own = λ i shard e. own_shard message agrees s i shard e (cases_Bool (is_some (base_originals i)));
-            coded = (
-              agrees.coded.0,
-              agrees.coded.1,
-              λ i shard e. coded_shard message agrees s i shard e (cases_Bool (is_some (base_recovery i))),
-            );
-          },
-        ),
-  )
+      own_shard : AreSums s received base_sum → AreAmong s.originals message
+      own_shard equal i shard given =
+          let (hi, sized) = g.own_sized.each i shard given in
+          elim (cases_Bool (is_some (base_originals i))) [
+            | inl some ↦
+                let (same, e) = some_of (base_originals i) some in
+                a.own i same e ∙ one_shard (s.originals i) same shard (own_part.entries i same e) given
+            | inr missing ↦
+                shard_from_columns s.configuration.shard_bytes (shard_at message i) shard
+                (shard_in s.configuration.original_count s.configuration.shard_bytes message a.shards i hi) sized even
+                (λ j hj.
+                sym (own_sum i j hj hi (own-received i hi ∙ missing))
+                ∙ equal (original_row (frame_at s.configuration) i) j shard (given-own s g i shard hi given)
+                (own-received i hi ∙ missing) hj)
+          ]
+
+      coded_shard : AreSums s received base_sum → AreAmong s.recovery a.coded.0
+      coded_shard equal i shard given =
+          let (hi, sized) = g.coded_sized.each i shard given in
+          elim (cases_Bool (is_some (base_recovery i))) [
+            | inl some ↦
+                let (same, e) = some_of (base_recovery i) some in
+                a.coded.2 i same e ∙ one_shard (s.recovery i) same shard (coded_part.entries i same e) given
+            | inr missing ↦
+                shard_from_columns s.configuration.shard_bytes (shard_at a.coded.0 i) shard
+                (shard_in s.configuration.recovery_count s.configuration.shard_bytes a.coded.0 a.coded.1.shards i hi)
+                sized even
+                (λ j hj.
+                sym (coded_sum i j hj hi (coded-received i hi ∙ missing))
+                ∙ equal (recovery_row (frame_at s.configuration) i) j shard (given-coded s g i shard hi given)
+                (coded-received i hi ∙ missing) hj)
+          ]
+
+    -- Some message agrees with all given shards if and only if the direct sums over k of them are the words of the
+    -- others.
+    pub consistent_by_sums : IsConsistent s ↔ AreSums s received base_sum
+    consistent_by_sums = (
+      λ m.
+          let (a, same) = agrees_with_part s.configuration s.originals s.recovery base_originals base_recovery m.0
+          own_part coded_part m.1 in
+          sums m.0 a m.1.own (subst (AreAmong s.recovery) (sym same) m.1.coded.2),
+      λ equal.
+          let (message, agrees) =
+          any_consistent base (base_given s base_originals base_recovery g own_part coded_part) even count in (
+            message,
+            record {
+              shards = agrees.shards;
+              own = own_shard message agrees equal;
+              coded = (agrees.coded.0, agrees.coded.1, coded_shard message agrees equal);
+            },
+          ),
+    )
 
 -- The same for the sums that the law names.
 pub consistent_by_base : IsDecidedByBase
 unfolding summed_word
-consistent_by_base c originals recovery base_originals base_recovery is
-    even own_within coded_within own_part coded_part count =
-    let k = c.original_count in let r = c.recovery_count in let p = frame_at c in
-    let own = sized-within c.original_count c.shard_bytes originals own_within in
-    let coded = sized-within c.recovery_count c.shard_bytes recovery coded_within in
-    let both = consistent_by_sums c originals recovery base_originals base_recovery
-    (mark_at p k r base_originals base_recovery) (locator_at p k r base_originals base_recovery)
-    (λ x. is_some (given_at p k r base_originals base_recovery x)) (word_at p k r base_originals base_recovery)
-    is even own coded own_part coded_part count
-    (direct_columns c base_originals base_recovery is
-    (record { each = λ i shard e. own.each i shard (own_part.entries i shard e) })
-    (record { each = λ i shard e. coded.each i shard (coded_part.entries i shard e) })) in (
-      λ m. record { own = (both.0 m).own; coded = (both.0 m).coded },
-      λ s. both.1 (record { own = s.own; coded = s.coded }),
+consistent_by_base c originals recovery base_originals base_recovery is even own coded own_part coded_part count =
+    let s : DecoderState = state_with c originals recovery in
+    let base : DecoderState = state_with c base_originals base_recovery in
+    let g = given_within c originals recovery is own coded in
+    let frame = frame_at c in
+    let sum : ℕ → ℕ → ℕ = summed_word c base_originals base_recovery in
+    let own_is = own-received s g base_originals base_recovery own_part coded_part (λ x. is_some (given_in base x))
+    (locator_in base) (all_located base) in
+    let coded_is = coded-received s g base_originals base_recovery own_part coded_part (λ x. is_some (given_in base x))
+    (locator_in base) (all_located base) in
+    let both = consistent_by_sums s g base_originals base_recovery own_part coded_part
+    (λ x. is_some (given_in base x)) (locator_in base) (all_located base) even count in (
+      λ m.
+          let equal = both.0 m in
+          record {
+            own = λ i shard j given missing hj.
+                let hi = (g.own_sized.each i shard given).0 in
+                equal (original_row (frame_at c) i) j shard (given-own s g i shard hi given) (own_is i hi ∙ missing) hj;
+            coded = λ i shard j given missing hj.
+                let hi = (g.coded_sized.each i shard given).0 in
+                equal (recovery_row (frame_at c) i) j shard (given-coded s g i shard hi given) (coded_is i hi ∙ missing)
+                hj;
+          },
+      λ summed. both.1 (λ x j shard given none hj. elim (given-either s g x shard given) [
+        | inl here ↦
+            ap (sum j) here.2 ∙ summed.own here.0 shard j here.3
+            (sym (own_is here.0 here.1) ∙ ap (λ y. is_some (given_in base y)) (sym here.2) ∙ none) hj
+        | inr there ↦
+            ap (sum j) there.2 ∙ summed.coded there.0 shard j there.3
+            (sym (coded_is there.0 there.1) ∙ ap (λ y. is_some (given_in base y)) (sym there.2) ∙ none) hj
+      ]),
     )

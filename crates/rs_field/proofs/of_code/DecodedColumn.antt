@@ -1,202 +1,197 @@
--- One column of a decode at either rate: whether the words given at some places of a code are values of a polynomial
--- that codes.
-use Rattle.std.proofs.Common.{rules, ◌≡◌, ℕ, ◌+◌, ◌-◌, ◌^◌, ◌<◌, ◌≤◌, ◌⊎◌, Bool, true, cond, List, length, sym, ap, ◌∙◌}
-use Rattle.std.proofs.Common.{arith, inl, inr, pow_mono}
-use Rattle.std.specs.Prelude.{is_some}
-use Rattle.std.proofs.lemmas.Bool.{cases_lt}
-use Rattle.std.proofs.lemmas.Grind.{common_steps}
+-- One column of a decode at either rate: whether the words of the given shards are values of a polynomial that codes.
+use Rattle.std.proofs.Common.{◌≡◌, ℕ, ◌+◌, ◌-◌, ◌^◌, ◌<◌, ◌≤◌, List, length, sym, ap, ◌∙◌, arith, inl, inr, pow_mono}
+use Rattle.std.specs.Prelude.{Some, None}
 use Rattle.rs_field.specs.words.Polynomial.{value}
 use Rattle.rs_field.specs.words.Field.{product, power}
 use Rattle.rs_field.specs.words.Transform.{forward}
 use Rattle.rs_field.specs.words.Locator.{log_sum}
 use Rattle.rs_field.specs.words.Derivative.{IsDerivativeAdded}
-use Rattle.rs_field.specs.code.Counts.{Rate}
-use Rattle.rs_field.specs.declared.code.frame.Frame.{Frame}
-use Rattle.rs_field.specs.code.Frame.{frame_of, row_count, original_row, recovery_row}
-use Rattle.rs_field.specs.code.Given.{Shards, count_below}
+use Rattle.rs_field.specs.code.Column.{Shard, column}
 use Rattle.rs_field.specs.code.Code.{Codes}
-use Rattle.rs_field.proofs.of_words.Roots.{value_lt, words_from}
-use Rattle.rs_field.proofs.of_words.LocatorProduct.{marked, residue_undone}
-use Rattle.rs_field.proofs.of_words.Total.{product-comm}
-use Rattle.rs_field.proofs.of_words.Restored.{restored}
+use Rattle.rs_field.specs.code.Decoder.{DecoderState, originals_given, recovery_given}
+use Rattle.rs_field.specs.code.Frame.{original_row, recovery_row}
 use Rattle.rs_field.proofs.of_words.ExactCheck.{located_values, AreLocated, Takes, zero_rows, taken_from_zero_rows}
-use Rattle.rs_field.proofs.of_code.Frame.{HasDistinctRows, coefficient_count, zeros_end, CodesIn, framed, unframed}
-use Rattle.rs_field.proofs.of_code.ErasedCount.{AreErasures, erased_count}
-use Rattle.rs_field.proofs.of_code.CodedWords.{values_of, values_of-at, length-values_of}
+use Rattle.rs_field.proofs.of_words.LocatorProduct.{marked, residue_undone}
+use Rattle.rs_field.proofs.of_words.Product.{zero_product}
+use Rattle.rs_field.proofs.of_words.Restored.{restored}
+use Rattle.rs_field.proofs.of_words.Roots.{value_lt, words_from}
+use Rattle.rs_field.proofs.of_words.Total.{product-comm}
+use Rattle.rs_field.proofs.of_code.CodedWords.{values_of, values_of-at}
+use Rattle.rs_field.proofs.of_code.ErasedCount.{erased_count}
+use Rattle.rs_field.proofs.of_code.Frame.{coefficient_count, zeros_end, framed, unframed}
+use Rattle.rs_field.proofs.of_code.GivenRows.{AreGiven, frame_at, given_in, erased_in, words_in, rows_of, distinct}
+use Rattle.rs_field.proofs.of_code.GivenRows.{erasures, given-own, given-coded, given-either, given-zero, erased-given}
+use Rattle.rs_field.proofs.of_code.GivenRows.{erased-none, word-given, word-none, cases_given, word_lt}
 
--- A polynomial has the words of the given shards as values at their places.
-pub record TakesGiven (frame : Frame) (k r : ℕ) (originals recovery : Shards) (words : ℕ → ℕ)
-    (polynomial : List ℕ) : Type 0 where
-  pub own : (i : ℕ) → i < k → is_some (originals i) ≡ true
-      → value polynomial (original_row frame i) ≡ words (original_row frame i)
-  pub coded : (i : ℕ) → i < r → is_some (recovery i) ≡ true
-      → value polynomial (recovery_row frame i) ≡ words (recovery_row frame i)
+-- A polynomial has the words j of the given shards as values at their points.
+pub record TakesGiven (s : DecoderState) (j : ℕ) (polynomial : List ℕ) : Type 0 where
+  pub own : (i : ℕ) (shard : Shard) → i < s.configuration.original_count → s.originals i ≡ Some shard
+      → value polynomial (original_row (frame_at s.configuration) i) ≡ column j shard
+  pub coded : (i : ℕ) (shard : Shard) → i < s.configuration.recovery_count → s.recovery i ≡ Some shard
+      → value polynomial (recovery_row (frame_at s.configuration) i) ≡ column j shard
 
--- The rows of a column: the erased rows, the given words, the located words, and the coefficients whose forward
--- transform the located words are.
-pub record IsColumnOf (frame : Frame) (k r : ℕ) (originals recovery : Shards)
-    (marks words located rows : ℕ → ℕ) : Type 0 where
-  pub distinct : HasDistinctRows frame k r
-  pub erasures : AreErasures frame k r originals recovery marks
-  pub are_words : (x : ℕ) → x < row_count frame → words x < 2 ^ 16
-  pub known : (x : ℕ) → frame.zeros_from ≤ x → x < zeros_end frame → words x ≡ 0
-  pub are_located : AreLocated (row_count frame) marks words located
-  pub row_words : (x : ℕ) → x < row_count frame → rows x < 2 ^ 16
-  pub back : (x : ℕ) → x < row_count frame → forward (row_count frame) 0 rows x ≡ located x
+-- A polynomial codes some words, and has the words j of the given shards as values.
+abbrev pub IsTaken : DecoderState → ℕ → List ℕ → Type 0
+IsTaken s j p =
+    (message : List ℕ)
+    × Codes s.configuration.rate s.configuration.original_count s.configuration.recovery_count message p
+    × TakesGiven s j p
 
-between : (a b x : ℕ) → ((a ≤ x) × (x < b)) ⊎ ((x < a) ⊎ (b ≤ x))
-between a b x = elim (cases_lt x a) [
-  | inl below ↦ inr (inl below)
-  | inr above ↦ elim (cases_lt x b) [ inl within ↦ inl (above, within) | inr past ↦ inr (inr past) ]
-]
+-- The rows of a column in a decode: the located words, and the coefficients of the polynomial whose values they are. At
+-- a given shard the located word is the word times the power of the locator; without a given shard it is 0.
+pub record IsColumnOf (s : DecoderState) (j : ℕ) (located coefficients : ℕ → ℕ) : Type 0 where
+  pub given : (x : ℕ) (shard : Shard) → x < rows_of s → given_in s x ≡ Some shard
+      → located x ≡ product (column j shard) (power (log_sum (rows_of s) (erased_in s) x))
+  pub none : (x : ℕ) → x < rows_of s → given_in s x ≡ None → located x ≡ 0
+  pub are_words : (x : ℕ) → x < rows_of s → coefficients x < 2 ^ 16
+  pub back : (x : ℕ) → x < rows_of s → forward (rows_of s) 0 coefficients x ≡ located x
 
--- If the entry of a row is zero, the test from which the entry was made is true.
-unmarked_by : (b : Bool) (m : ℕ) → m ≡ cond b 0 1 → m ≡ 0 → b ≡ true
-unmarked_by b m h1 h2 = search rules
+module _ (s : DecoderState) (g : AreGiven s) (j : ℕ) where
+  -- If a polynomial of the frame has the given words as values, it has them at all rows that are not erased.
+  taken_in_frame : (q : List ℕ) → TakesGiven s j q
+      → ((x : ℕ) → (frame_at s.configuration).zeros_from ≤ x → x < zeros_end (frame_at s.configuration)
+      → value q x ≡ 0)
+      → (x : ℕ) → x < rows_of s → erased_in s x ≡ 0 → value q x ≡ words_in s j x
+  taken_in_frame q takes zeros x hx is = elim (cases_given s j x) [
+    | inl some ↦
+        elim (given-either s g x some.0 some.1) [
+          | inl own ↦ ap (value q) own.2 ∙ takes.own own.0 some.0 own.1 own.3
+          | inr coded ↦ ap (value q) coded.2 ∙ takes.coded coded.0 some.0 coded.1 coded.3
+        ] ∙ sym (word-given s j x some.0 some.1)
+    | inr none ↦
+        let zero = erased-none s g x hx none is in zeros x zero.0 zero.1 ∙ sym (word-none s j x none)
+  ]
 
--- The words of given shards are equal at each row of theirs.
-at_given : (from n x : ℕ) (given : Shards) (marks words : ℕ → ℕ) (q : List ℕ)
-    → ((i : ℕ) → i < n → marks (from + i) ≡ cond (is_some (given i)) 0 1)
-    → ((i : ℕ) → i < n → is_some (given i) ≡ true → value q (from + i) ≡ words (from + i))
-    → from ≤ x → x < from + n → marks x ≡ 0 → value q x ≡ words x
-at_given from n x given marks words q is takes above below none =
-    let back : from + (x - from) ≡ x = omega arith in
-    let hi : x - from < n = omega arith in
-    sym (ap (value q) back)
-    ∙ takes (x - from) hi (unmarked_by (is_some (given (x - from))) (marks (from + (x - from))) (is (x - from) hi)
-    (ap marks back ∙ none))
-    ∙ ap words back
-
-module _ (frame : Frame) (k r : ℕ) (originals recovery : Shards) (marks words : ℕ → ℕ)
-    (h : AreErasures frame k r originals recovery marks) where
-  -- A polynomial that takes the given words takes the words at all rows that are not erased.
-  at_unmarked : (q : List ℕ) → TakesGiven frame k r originals recovery words q
-      → ((x : ℕ) → frame.zeros_from ≤ x → x < zeros_end frame → value q x ≡ words x)
-      → (x : ℕ) → x < row_count frame → marks x ≡ 0 → value q x ≡ words x
-  at_unmarked q t known x hx none =
-      elim (between frame.originals_from (original_row frame k) x) [
-        | inl own ↦ at_given frame.originals_from k x originals marks words q h.own t.own own.0 own.1 none
-        | inr not_own ↦ elim (between frame.recovery_from (recovery_row frame r) x) [
-          | inl coded ↦ at_given frame.recovery_from r x recovery marks words q h.coded t.coded coded.0 coded.1 none
-          | inr not_coded ↦ elim (between frame.zeros_from (zeros_end frame) x) [
-            | inl known_zero ↦ known x known_zero.0 known_zero.1
-            | inr other ↦ (let one : marks x ≡ 1 = h.other x hx not_own not_coded other in absurd (omega arith))
-          ]
-        ]
-      ]
-
-  -- A polynomial that takes the words at all rows that are not erased takes the given words.
-  takes_same : (q o : List ℕ) → HasDistinctRows frame k r
-      → Takes (row_count frame) (coefficient_count frame) marks words q
-      → ((x : ℕ) → x < row_count frame → value o x ≡ value q x) → TakesGiven frame k r originals recovery words o
-  takes_same q o f takes same = grind (arith, common_steps)
-
-  -- Such a polynomial codes its values at the originals' points.
-  own_message : (q : List ℕ) → HasDistinctRows frame k r
-      → ((x : ℕ) → frame.zeros_from ≤ x → x < zeros_end frame → words x ≡ 0)
-      → Takes (row_count frame) (coefficient_count frame) marks words q
-      → CodesIn frame k (values_of k (λ j. value q (original_row frame j))) q
-  own_message q f known takes =
-      record {
-        degree = takes.degree;
-        coefficients = takes.coefficients;
-        originals = λ j hj. sym (values_of-at k (λ i. value q (original_row frame i)) j hj);
-        zeros = λ x above below. let zeros = f.zeros in
-            takes.given x (omega arith) (h.known x above below) ∙ known x above below;
-      }
-
--- A polynomial that codes and takes the given words is, at the rows, a polynomial of the frame that takes them.
-pub taken_from : (rate : Rate) (k r : ℕ) (originals recovery : Shards) (marks words : ℕ → ℕ)
-    → HasDistinctRows (frame_of rate k r) k r → AreErasures (frame_of rate k r) k r originals recovery marks
-    → ((x : ℕ) → (frame_of rate k r).zeros_from ≤ x → x < zeros_end (frame_of rate k r) → words x ≡ 0)
-    → (message p : List ℕ) → Codes rate k r message p
-    → TakesGiven (frame_of rate k r) k r originals recovery words p
-    → (q : List ℕ) × Takes (row_count (frame_of rate k r)) (coefficient_count (frame_of rate k r)) marks words q
-    × ((x : ℕ) → x < row_count (frame_of rate k r) → value q x ≡ value p x)
-taken_from rate k r originals recovery marks words f erasures known message p codes takes =
-    let frame = frame_of rate k r in
-    let (q, in_frame, same) = framed rate k r f message p codes in
-    let takes_q : TakesGiven (frame_of rate k r) k r originals recovery words q = record {
-      own = λ i hi some. same (original_row frame i) (omega (arith, f.originals, hi)) ∙ takes.own i hi some;
-      coded = λ i hi some. same (recovery_row frame i) (omega (arith, f.recovery, hi)) ∙ takes.coded i hi some;
-    } in (
-      q,
-      record {
-        degree = in_frame.degree;
-        coefficients = in_frame.coefficients;
-        given = at_unmarked frame k r originals recovery marks words erasures q takes_q
-            (λ x a b. in_frame.zeros x a b ∙ sym (known x a b));
-      },
-      same,
-    )
-
-module _ (rate : Rate) (k r : ℕ) (originals recovery : Shards) (marks words located rows : ℕ → ℕ)
-    (c : IsColumnOf (frame_of rate k r) k r originals recovery marks words located rows) where
-  -- The erased rows, the coefficients and the given shards are together as many as the rows and the originals.
-  counted : length (marked (row_count (frame_of rate k r)) marks) + coefficient_count (frame_of rate k r)
-      + (count_below k originals + count_below r recovery) ≡ row_count (frame_of rate k r) + k
-  counted = erased_count (frame_of rate k r) k r originals recovery marks c.distinct c.erasures
-
-  -- If the last rows are zero, as many as there are surplus shards, some polynomial that codes takes the given words.
-  pub some_message : (t : ℕ) → count_below k originals + count_below r recovery ≡ k + t
-      → ((i : ℕ) → row_count (frame_of rate k r) ≤ i + t → i < row_count (frame_of rate k r) → rows i ≡ 0)
-      → (message p : List ℕ) × (length message ≡ k) × Codes rate k r message p
-      × TakesGiven (frame_of rate k r) k r originals recovery words p
-  some_message t count none =
-      let frame = frame_of rate k r in
-      let total = counted in
-      let (q, takes) = taken_from_zero_rows (row_count frame) (coefficient_count frame) t marks words located rows
-      (pow_mono c.distinct.few) c.erasures.are_marks (omega arith) c.are_located
-      (λ x hx _. c.are_words x hx) c.back none in
-      let message = values_of k (λ j. value q (original_row frame j)) in
-      let (p, codes, same) = unframed rate k r c.distinct (values_of k (λ j. value q (original_row frame j))) q
-      (own_message frame k r originals recovery marks words c.erasures q c.distinct c.known takes) in (
-        values_of k (λ j. value q (original_row frame j)),
-        p,
-        length-values_of k (λ j. value q (original_row frame j)),
-        codes,
-        takes_same frame k r originals recovery marks words c.erasures q p c.distinct takes same,
+  -- If a polynomial codes and has the given words as values, a polynomial of the frame has the words at all rows that
+  -- are not erased, and the same values at all rows.
+  pub taken_from : (p : List ℕ) → IsTaken s j p
+      → (q : List ℕ)
+      × Takes (rows_of s) (coefficient_count (frame_at s.configuration)) (erased_in s) (words_in s j) q
+      × ((x : ℕ) → x < rows_of s → value q x ≡ value p x)
+  taken_from p (message, codes, takes) =
+      let c = s.configuration in
+      let f = distinct s g in
+      let (q, in_frame, same) = framed c.rate c.original_count c.recovery_count f message p codes in
+      let takes_q : TakesGiven s j q = record {
+        own = λ i shard hi is.
+            same (original_row (frame_at c) i) (omega (arith, f.originals, hi)) ∙ takes.own i shard hi is;
+        coded = λ i shard hi is.
+            same (recovery_row (frame_at c) i) (omega (arith, f.recovery, hi)) ∙ takes.coded i shard hi is;
+      } in (
+        q,
+        record {
+          degree = in_frame.degree;
+          coefficients = in_frame.coefficients;
+          given = taken_in_frame q takes_q in_frame.zeros;
+        },
+        same,
       )
 
-  module _ (message p : List ℕ) (codes : Codes rate k r message p)
-      (takes : TakesGiven (frame_of rate k r) k r originals recovery words p) where
-    taken_in : (q : List ℕ)
-        × Takes (row_count (frame_of rate k r)) (coefficient_count (frame_of rate k r)) marks words q
-        × ((x : ℕ) → x < row_count (frame_of rate k r) → value q x ≡ value p x)
-    taken_in = taken_from rate k r originals recovery marks words c.distinct c.erasures c.known message p codes takes
+  -- A polynomial of the frame that has the words at all rows that are not erased codes its values at the points of the
+  -- originals, and has the given words as values.
+  taken_by : (q : List ℕ)
+      → Takes (rows_of s) (coefficient_count (frame_at s.configuration)) (erased_in s) (words_in s j) q
+      → (p : List ℕ) × IsTaken s j p
+  taken_by q takes =
+      let c = s.configuration in
+      let f = distinct s g in
+      let message = values_of c.original_count (λ i. value q (original_row (frame_at c) i)) in
+      let (p, codes, same) = unframed c.rate c.original_count c.recovery_count f
+      (values_of c.original_count (λ i. value q (original_row (frame_at c) i))) q (record {
+        degree = takes.degree;
+        coefficients = takes.coefficients;
+        originals = λ i hi.
+            sym (values_of-at c.original_count (λ n. value q (original_row (frame_at c) n)) i hi);
+        zeros = λ x above below.
+            takes.given x (omega (arith, f.zeros, below)) ((erasures s g).known x above below)
+            ∙ word-none s j x (given-zero s g x above below);
+      }) in (
+        p,
+        (
+          message,
+          codes,
+          record {
+            own = λ i shard hi is.
+                at_given p same (original_row (frame_at c) i) shard (omega (arith, f.originals, hi))
+                (given-own s g i shard hi is);
+            coded = λ i shard hi is.
+                at_given p same (recovery_row (frame_at c) i) shard (omega (arith, f.recovery, hi))
+                (given-coded s g i shard hi is);
+          },
+        ),
+      )
+    where
+      at_given : (p : List ℕ) → ((x : ℕ) → x < rows_of s → value p x ≡ value q x) → (x : ℕ) (shard : Shard)
+          → x < rows_of s → given_in s x ≡ Some shard → value p x ≡ column j shard
+      at_given p same x shard hx is =
+          same x hx ∙ takes.given x hx (erased-given s g x shard is) ∙ word-given s j x shard is
 
-    -- The last rows are zero, as many as there are surplus shards.
-    pub surplus_rows : (t : ℕ) → count_below k originals + count_below r recovery ≡ k + t
-        → (i : ℕ) → row_count (frame_of rate k r) ≤ i + t → i < row_count (frame_of rate k r) → rows i ≡ 0
-    surplus_rows t count =
-        let total = counted in
-        let (q, takes_q, same) = taken_in in
-        zero_rows (row_count (frame_of rate k r)) (coefficient_count (frame_of rate k r)) t marks words located rows
-        (pow_mono c.distinct.few) c.erasures.are_marks (omega arith) c.are_located c.row_words c.back (q, takes_q)
+  -- The erased rows, the coefficients and the given shards are together as many as the rows and the originals.
+  pub counted : length (marked (rows_of s) (erased_in s)) + coefficient_count (frame_at s.configuration)
+      + (originals_given s + recovery_given s) ≡ rows_of s + s.configuration.original_count
+  counted =
+      erased_count (frame_at s.configuration) s.configuration.original_count s.configuration.recovery_count s.originals
+      s.recovery (erased_in s) (distinct s g) (erasures s g)
 
-    module _ (added : ℕ → ℕ) (x l : ℕ) (enough : k ≤ count_below k originals + count_below r recovery)
-        (step : IsDerivativeAdded (row_count (frame_of rate k r)) rows added)
-        (hx : x < row_count (frame_of rate k r)) (one : marks x ≡ 1) where
-      -- After the derivative step the value at an erased row is the wanted word times the locator's power.
-      restored_product : forward (row_count (frame_of rate k r)) 0 added x
-          ≡ product (power (log_sum (row_count (frame_of rate k r)) marks x)) (value p x)
-      restored_product =
-          let frame = frame_of rate k r in
-          let total = counted in
-          let (q, takes_q, same) = taken_in in
-          restored frame.exponent rows added marks q c.distinct.few takes_q.coefficients c.erasures.are_marks
-          (let less = takes_q.degree in omega arith)
-          (λ i hi. c.back i hi
-          ∙ located_values (row_count frame) (coefficient_count frame) marks words located q
-          (pow_mono c.distinct.few) c.erasures.are_marks c.are_located takes_q i hi) step x hx one
-          ∙ ap (product (power (log_sum (row_count frame) marks x))) (same x hx)
+  module _ (located rows : ℕ → ℕ) (h : IsColumnOf s j located rows) where
+    are_located : AreLocated (rows_of s) (erased_in s) (words_in s j) located
+    are_located = record {
+      erased = λ x hx one. elim (cases_given s j x) [
+        | inl some ↦ let none = erased-given s g x some.0 some.1 in absurd (omega (arith, one, none))
+        | inr none ↦ h.none x hx none
+      ];
+      given = λ x hx none. elim (cases_given s j x) [
+        | inl some ↦ h.given x some.0 hx some.1
+            ∙ ap (λ w. product w (power (log_sum (rows_of s) (erased_in s) x))) (sym (word-given s j x some.0 some.1))
+        | inr empty ↦ h.none x hx empty
+            ∙ sym (ap (λ w. product w (power (log_sum (rows_of s) (erased_in s) x))) (word-none s j x empty)
+            ∙ zero_product (power (log_sum (rows_of s) (erased_in s) x)))
+      ];
+    }
 
-      -- A power for 65535 minus any residue of the locator, times this value, is the wanted word.
-      pub restored_word : l ≤ 65535 → power l ≡ power (log_sum (row_count (frame_of rate k r)) marks x)
-          → product (forward (row_count (frame_of rate k r)) 0 added x) (power (65535 - l)) ≡ value p x
-      restored_word hl same =
-          ap (λ w. product w (power (65535 - l)))
-          (restored_product
-          ∙ product-comm (power (log_sum (row_count (frame_of rate k r)) marks x)) (value p x)
-          ∙ ap (product (value p x)) (sym same))
-          ∙ residue_undone l (value p x) hl (value_lt p x (words_from p codes.coefficients))
+    -- If the last rows are zero, as many as there are surplus shards, some polynomial that codes has the given words as
+    -- values.
+    pub some_message : (t : ℕ) → originals_given s + recovery_given s ≡ s.configuration.original_count + t
+        → ((i : ℕ) → rows_of s ≤ i + t → i < rows_of s → rows i ≡ 0)
+        → (p : List ℕ) × IsTaken s j p
+    some_message t count none =
+        let (q, takes) = taken_from_zero_rows (rows_of s) (coefficient_count (frame_at s.configuration)) t (erased_in s)
+        (words_in s j) located rows (pow_mono (distinct s g).few) (erasures s g).are_marks
+        (omega (arith, counted, count)) are_located (λ x hx _. word_lt s g j x) h.back none in
+        taken_by q takes
+
+    module _ (p : List ℕ) (taken : IsTaken s j p) where
+      -- The last rows are zero, as many as there are surplus shards.
+      pub surplus_rows : (t : ℕ) → originals_given s + recovery_given s ≡ s.configuration.original_count + t
+          → (i : ℕ) → rows_of s ≤ i + t → i < rows_of s → rows i ≡ 0
+      surplus_rows t count =
+          let (q, takes, same) = taken_from p taken in
+          zero_rows (rows_of s) (coefficient_count (frame_at s.configuration)) t (erased_in s) (words_in s j) located
+          rows (pow_mono (distinct s g).few) (erasures s g).are_marks (omega (arith, counted, count)) are_located
+          h.are_words h.back (q, takes)
+
+      module _ (added : ℕ → ℕ) (x l : ℕ)
+          (enough : s.configuration.original_count ≤ originals_given s + recovery_given s)
+          (step : IsDerivativeAdded (rows_of s) rows added) (hx : x < rows_of s) (one : erased_in s x ≡ 1) where
+        -- After the derivative step the value at an erased row is the wanted word times the locator's power.
+        restored_product : forward (rows_of s) 0 added x
+            ≡ product (power (log_sum (rows_of s) (erased_in s) x)) (value p x)
+        restored_product =
+            let (q, takes, same) = taken_from p taken in
+            let few = pow_mono (distinct s g).few in
+            restored (frame_at s.configuration).exponent rows added (erased_in s) q (distinct s g).few
+            takes.coefficients (erasures s g).are_marks (omega (arith, takes.degree, counted, enough))
+            (λ i hi. h.back i hi
+            ∙ located_values (rows_of s) (coefficient_count (frame_at s.configuration)) (erased_in s) (words_in s j)
+            located q few (erasures s g).are_marks are_located takes i hi) step x hx one
+            ∙ ap (product (power (log_sum (rows_of s) (erased_in s) x))) (same x hx)
+
+        -- A power for 65535 minus any residue of the locator, times this value, is the wanted word.
+        pub restored_word : l ≤ 65535 → power l ≡ power (log_sum (rows_of s) (erased_in s) x)
+            → product (forward (rows_of s) 0 added x) (power (65535 - l)) ≡ value p x
+        restored_word hl same =
+            ap (λ w. product w (power (65535 - l)))
+            (restored_product
+            ∙ product-comm (power (log_sum (rows_of s) (erased_in s) x)) (value p x)
+            ∙ ap (product (value p x)) (sym same))
+            ∙ residue_undone l (value p x) hl (value_lt p x (words_from p taken.1.coefficients))

@@ -12,10 +12,11 @@ use Rattle.rs_field.specs.code.Column.{Shard, IsShard, AreShards, shard_at, colu
 use Rattle.rs_field.specs.code.Configuration.{configuration}
 use Rattle.rs_field.specs.code.Counts.{Rate}
 use Rattle.rs_field.specs.code.Code.{AreRecovery, AreRecoveryWords}
-use Rattle.rs_field.specs.code.Decoder.{DecoderState, missing_of, Restored}
-use Rattle.rs_field.specs.code.Given.{Shards, Agrees, Consistent}
-use Rattle.rs_field.specs.code.Frame.{frame_of}
-use Rattle.rs_field.proofs.of_code.AgreeingMessages.{AreSized, HasWords, IsTaken, column_taken, consistent}
+use Rattle.rs_field.specs.code.Decoder.{DecoderState, IsConsistent, missing_of, Restored}
+use Rattle.rs_field.specs.code.Given.{Shards, Agrees}
+use Rattle.rs_field.proofs.of_code.AgreeingMessages.{column_taken, consistent}
+use Rattle.rs_field.proofs.of_code.DecodedColumn.{IsTaken}
+use Rattle.rs_field.proofs.of_code.GivenRows.{AreGiven}
 use Rattle.rs_field.specs.code.Pieces.{pieces, IsStrip}
 use Rattle.rs_field.specs.code.PieceStates.{pieces_of, state_of_pieces}
 use Rattle.rs_field.proofs.of_code.Pieces.{column-piece, columns-pieces}
@@ -129,69 +130,46 @@ module _ (start end : ℕ) where
       restored.missing i ∙ ap (λ (m : List Shard). missing_of (state_of_pieces start end s) m i)
       (sym (restored.only (pieces start end message) cut)) ∙ missing-cut s message i
 
-  -- If the pieces of a strip are consistent, each of their columns is a column of a message, as the column of the
-  -- shards is.
-  has-cut : (rate : Rate) (k r size j : ℕ) (originals recovery : Shards) (words : ℕ → ℕ) → IsStrip start end size
-      → j < (end - start) / 2
-      → AreSized k size originals → AreSized r size recovery
-      → HasWords (frame_of rate k r) originals recovery (start / 2 + j) words
-      → HasWords (frame_of rate k r) (pieces_of start end originals) (pieces_of start end recovery) j words
-  has-cut rate k r size j originals recovery words strip inside own_sized coded_sized has =
-      record {
-        own = λ i p is.
-            let s = whole_of (originals i) p is in
-            has.own i s.0 s.1 ∙ sym
-            (column-piece start end j s.0
-            (subst (λ (n : ℕ). IsStrip start end n) (sym (own_sized.each i s.0 s.1).1.length_is) strip) inside)
-            ∙ ap (column j) s.2;
-        coded = λ i p is.
-            let s = whole_of (recovery i) p is in
-            has.coded i s.0 s.1 ∙ sym
-            (column-piece start end j s.0
-            (subst (λ (n : ℕ). IsStrip start end n) (sym (coded_sized.each i s.0 s.1).1.length_is) strip) inside)
-            ∙ ap (column j) s.2;
-      }
-
-  pub taken-whole : (rate : Rate) (k r size j : ℕ) (originals recovery : Shards) (words : ℕ → ℕ → ℕ)
-      → IsStrip start end size → j < (end - start) / 2
-      → AreSized k size originals → AreSized r size recovery
-      → HasWords (frame_of rate k r) originals recovery (start / 2 + j) (words (start / 2 + j))
-      → Consistent (configuration rate k r (end - start)) (pieces_of start end originals) (pieces_of start end recovery)
-      → (p : List ℕ) × IsTaken (configuration rate k r size) originals recovery words (start / 2 + j) p
-  taken-whole rate k r size j originals recovery words strip inside own_sized coded_sized has (message, agrees) =
-      let (p, codes, takes) =
-      column_taken (configuration rate k r (end - start)) (pieces_of start end originals)
-      (pieces_of start end recovery) message j (words (start / 2 + j)) inside agrees
-      (has-cut rate k r size j originals recovery (words (start / 2 + j)) strip inside own_sized coded_sized has) in (
+  -- If the pieces of a strip are consistent, a polynomial has the words of the given shards in each column of the
+  -- strip.
+  pub taken-whole : (s : DecoderState) (g : AreGiven s) (j : ℕ) → IsStrip start end s.configuration.shard_bytes
+      → j < (end - start) / 2 → IsConsistent (state_of_pieces start end s)
+      → (p : List ℕ) × IsTaken s (start / 2 + j) p
+  taken-whole s g j strip inside (message, agrees) =
+      let (p, codes, takes) = column_taken (state_of_pieces start end s) message j inside agrees in (
         p,
         (
           columns j message,
           codes,
           record {
-            own = λ i below some. takes.own i below (is_some-map (originals i) ∙ some);
-            coded = λ i below some. takes.coded i below (is_some-map (recovery i) ∙ some);
+            own = λ i shard hi is.
+                takes.own i (between start end shard) hi (ap (option_map (λ s. between start end s)) is)
+                ∙ at_piece shard (g.own_sized.each i shard is).1;
+            coded = λ i shard hi is.
+                takes.coded i (between start end shard) hi (ap (option_map (λ s. between start end s)) is)
+                ∙ at_piece shard (g.coded_sized.each i shard is).1;
           },
         ),
       )
+    where
+      at_piece : (shard : Shard) → IsShard s.configuration.shard_bytes shard
+          → column j (between start end shard) ≡ column (start / 2 + j) shard
+      at_piece shard is =
+          column-piece start end j shard (subst (λ (n : ℕ). IsStrip start end n) (sym is.length_is) strip) inside
 
--- Each column is in a strip whose pieces are consistent.
-abbrev pub AreConsistentBelow : (rate : Rate) (k r size : ℕ) (originals recovery : Shards) → ℕ → Type 0
-AreConsistentBelow rate k r size originals recovery bound =
-    (j : ℕ) → j < bound / 2 → (start end : ℕ) × IsStrip start end size × (start / 2 ≤ j) × (j < end / 2)
-    × Consistent (configuration rate k r (end - start)) (pieces_of start end originals) (pieces_of start end recovery)
+-- Each of the first columns is in a strip whose pieces are consistent.
+abbrev pub AreConsistentBelow : DecoderState → ℕ → Type 0
+AreConsistentBelow s bound =
+    (j : ℕ) → j < bound / 2 → (start end : ℕ) × IsStrip start end s.configuration.shard_bytes × (start / 2 ≤ j)
+    × (j < end / 2) × IsConsistent (state_of_pieces start end s)
 
 -- If each column is in a strip whose pieces are consistent, the shards are consistent.
-pub consistent-whole : (rate : Rate) (k r size : ℕ) (originals recovery : Shards) (words : ℕ → ℕ → ℕ) → size % 2 ≡ 0
-    → AreSized k size originals → AreSized r size recovery
-    → ((j : ℕ) → j < size / 2 → HasWords (frame_of rate k r) originals recovery j (words j))
-    → AreConsistentBelow rate k r size originals recovery size
-    → Consistent (configuration rate k r size) originals recovery
-consistent-whole rate k r size originals recovery words even own_sized coded_sized has each =
-    consistent (configuration rate k r size) originals recovery words even own_sized coded_sized has (λ j inside.
+pub consistent-whole : (s : DecoderState) → AreGiven s → s.configuration.shard_bytes % 2 ≡ 0
+    → AreConsistentBelow s s.configuration.shard_bytes → IsConsistent s
+consistent-whole s g even each =
+    consistent s g even (λ j inside.
     let (start, end, strip, from, to, pieces_agree) = each j inside in
     let place : start / 2 + (j - start / 2) ≡ j = omega (arith, from) in
     let here : j - start / 2 < (end - start) / 2 = omega (arith, from, to, strip.begins, strip.order) in
-    subst (λ (i : ℕ). (p : List ℕ) × IsTaken (configuration rate k r size) originals recovery words i p) place
-    (taken-whole start end rate k r size (j - start / 2) originals recovery words strip here own_sized coded_sized
-    (subst (λ (i : ℕ). HasWords (frame_of rate k r) originals recovery i (words i)) (sym place) (has j inside))
-    pieces_agree))
+    subst (λ (i : ℕ). (p : List ℕ) × IsTaken s i p) place
+    (taken-whole start end s g (j - start / 2) strip here pieces_agree))

@@ -1,6 +1,6 @@
 -- Pieces of shards. Their columns are columns of the shards, so coding each piece codes the shards.
 use Rattle.std.proofs.Common.{◌≡◌, ◌⊎◌, ℕ, suc, ◌+◌, ◌-◌, ◌*◌, ◌/◌, ◌%◌, ◌<◌, ◌≤◌, List, [], ◌∷◌, ◌++◌, length, take}
-use Rattle.std.proofs.Common.{drop, map, get_or, min, Bool, true, false, refl, sym, ap, ap₂, ◌∙◌, subst, inl, inr}
+use Rattle.std.proofs.Common.{drop, get_or, min, Bool, true, false, refl, sym, ap, ap₂, ◌∙◌, subst, inl, inr}
 use Rattle.std.proofs.Common.{arith, All}
 use Rattle.std.specs.List.{between}
 use Rattle.std.proofs.Math.Nat.{min-eq_left, min-eq_right}

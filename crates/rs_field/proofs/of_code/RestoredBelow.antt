@@ -15,23 +15,18 @@ use Rattle.rs_field.specs.code.Column.{Shard}
 use Rattle.rs_field.specs.code.Counts.{supports}
 use Rattle.rs_field.specs.code.Decoder.{DecoderState, IsAgreeing, originals_given, recovery_given, enough_given}
 use Rattle.rs_field.specs.code.Decoder.{missing_of, Restored, NoneAgrees}
-use Rattle.rs_field.specs.code.Given.{Shards, AreWithin, Consistent, Lists, items_below, count_below}
+use Rattle.rs_field.specs.code.Given.{Shards, AreWithin, Lists, items_below, count_below}
 use Rattle.rs_field.specs.code.OneCall.{Items}
 use Rattle.rs_field.specs.code.Pieces.{pieces, IsStrip, ArePut, room_length}
 use Rattle.rs_field.specs.code.PieceStates.{pieces_of, state_of_pieces, shards_listed, HoldRestored}
-use Rattle.rs_field.specs.code.Frame.{frame_of}
 use Rattle.rs_field.proofs.of_code.Agreement.{one_message}
-use Rattle.rs_field.proofs.of_code.AgreeingMessages.{AreSized}
 use Rattle.rs_field.proofs.of_code.Given.{count_below-zero, count_below-suc}
-use Rattle.rs_field.proofs.of_code.AgreeingMessages.{sized-within}
-use Rattle.rs_field.proofs.of_code.AnyShards.{words_given}
-use Rattle.rs_field.specs.code.DirectLaws.{word_at}
+use Rattle.rs_field.proofs.of_code.GivenRows.{given_within}
 use Rattle.rs_field.proofs.of_code.Listed.{length-listed}
 use Rattle.rs_field.proofs.of_code.ListedMaps.{lists-same, listed-changed, listed-all}
 use Rattle.rs_field.proofs.of_code.Pieces.{put-length, room-from, room-further, room-whole}
 use Rattle.rs_field.proofs.of_code.PieceStates.{is_some-map, agrees-cut, restored-cut, consistent-whole}
 use Rattle.rs_field.proofs.of_code.PieceStates.{AreConsistentBelow}
-use Rattle.rs_field.proofs.of_code.RateFrames.{distinct_rows}
 
 -- ---- numbers of pieces
 
@@ -71,24 +66,6 @@ module _ (start end : ℕ) where
               strip some.1,
         );
       }
-
--- If the pieces in all strips are consistent, the shards are consistent.
-pub all-consistent : (s : DecoderState)
-    → supports s.configuration.rate s.configuration.original_count s.configuration.recovery_count ≡ true
-    → s.configuration.shard_bytes % 2 ≡ 0
-    → AreSized s.configuration.original_count s.configuration.shard_bytes s.originals
-    → AreSized s.configuration.recovery_count s.configuration.shard_bytes s.recovery
-    → AreConsistentBelow s.configuration.rate s.configuration.original_count s.configuration.recovery_count
-    s.configuration.shard_bytes s.originals s.recovery s.configuration.shard_bytes
-    → Consistent s.configuration s.originals s.recovery
-all-consistent s supported even own_sized coded_sized each =
-    let c = s.configuration in
-    let p = frame_of c.rate c.original_count c.recovery_count in
-    let h = distinct_rows c.rate c.original_count c.recovery_count supported in
-    consistent-whole c.rate c.original_count c.recovery_count c.shard_bytes s.originals s.recovery
-    (word_at p c.original_count c.recovery_count s.originals s.recovery) even own_sized coded_sized
-    (λ j inside. words_given p c.original_count c.recovery_count c.shard_bytes s.originals s.recovery j h own_sized
-    coded_sized) each
 
 -- ---- rooms
 
@@ -174,8 +151,7 @@ missing-sized s message agrees =
 -- The strips below a byte are restored: their pieces are consistent, and each room holds the first bytes of the missing
 -- shard of each message that agrees.
 pub record IsRestoredBelow (s : DecoderState) (grows : Bool) (bound : ℕ) (rooms : List Shard) : Type 0 where
-  pub consistent : AreConsistentBelow s.configuration.rate s.configuration.original_count s.configuration.recovery_count
-      s.configuration.shard_bytes s.originals s.recovery bound
+  pub consistent : AreConsistentBelow s bound
   pub number : length rooms + originals_given s ≡ s.configuration.original_count
   pub fit : All (λ room. length room ≡ room_length grows bound s.configuration.shard_bytes) rooms
   pub held : (message : List Shard) → IsAgreeing s message → (i : ℕ) → i < length rooms
@@ -285,8 +261,7 @@ pub restored-all : (s : DecoderState) (grows : Bool) (rooms : List Shard)
 restored-all s grows rooms supported even own_within coded_within enough done =
     let c = s.configuration in
     let (message, agrees) =
-    all-consistent s supported even (sized-within c.original_count c.shard_bytes s.originals own_within)
-    (sized-within c.recovery_count c.shard_bytes s.recovery coded_within) done.consistent in
+    consistent-whole s (given_within c s.originals s.recovery supported own_within coded_within) even done.consistent in
     let number = missing-number s message in
     let sized = missing-sized s message agrees in
     record {

@@ -18,8 +18,8 @@ use Rattle.std.proofs.Common.{
   inr,
   zero-add,
 }
-use Rattle.std.proofs.Common.{◌⊎◌, Bool, true, false, List, [], length, subst}
-use Rattle.std.specs.Prelude.{slice_index, Some, Result, Ok, Err, IfOk}
+use Rattle.std.proofs.Common.{◌⊎◌, Bool, true, false, List, length, subst}
+use Rattle.std.specs.Prelude.{slice_index, Result, Ok, Err, IfOk}
 use Rattle.std.specs.Int.Bits.{xor_zero_r}
 use Rattle.std.proofs.lemmas.Bool.{cases_eq}
 use Rattle.std.proofs.Math.Nat.{mod-eq_of_lt, mod-lt}
@@ -29,59 +29,24 @@ use Rattle.rs_field.specs.code.Column.{column, shard_at}
 use Rattle.rs_field.specs.code.Configuration.{configuration}
 use Rattle.rs_field.specs.code.Counts.{supports, default_rate}
 use Rattle.rs_field.specs.code.Frame.{frame_of, original_row, recovery_row}
-use Rattle.rs_field.specs.code.Given.{nothing}
 use Rattle.rs_field.specs.code.OneChange.{AreChangeFactors}
 use Rattle.rs_field.specs.rows.MarkedRows.{is_marked}
 use Rattle.rs_field.specs.words.DirectSum.{direct_factor}
 use Rattle.rs_field.specs.words.Field.{product, power, log}
 use Rattle.rs_field.proofs.of_code.Frame.{HasDistinctRows}
-use Rattle.rs_field.proofs.of_code.OneChange.{AreMessageRows, word_changed}
+use Rattle.rs_field.proofs.of_code.OneChange.{with_message, marked-originals, word_changed}
 use Rattle.rs_field.proofs.of_code.RateFrames.{distinct_rows}
 use Rattle.rs_rate.specs.passes.Decoding.{IsLocatorOf}
-use Rattle.rs_rate.specs.rows.Marks.{erasure}
-use Rattle.rs_rate.proofs.of_rows.Erased.{are_erased}
+use Rattle.rs_rate.proofs.of_passes.Erased.{is_located}
 use Rattle.rs_field.specs.words.Locator.{log_sum}
 use Rattle.rs_field.proofs.of_words.LocatorLemmas.{log_sum-zero, log_sum-itself, log_sum-marked, log_sum-unmarked}
 use Rattle.rs_field.proofs.of_words.Power.{log_lt}
-
--- The row of a recovery shard is not that of an original.
-pub rows_apart : (frame : Frame) (k r i : ℕ) → HasDistinctRows frame k r → i < r
-    → (recovery_row frame i < frame.originals_from) ⊎ (original_row frame k ≤ recovery_row frame i)
-rows_apart frame k r i f inside =
-    let zeros = f.zeros in
-    let follow = f.follow in
-    elim f.order [
-      | inl low ↦ inr (omega (arith, low.1))
-      | inr high ↦ inl (omega (arith, high.0, high.1))
-    ]
 
 -- The frame of supported counts.
 pub distinct_rows_of : (frame : Frame) (k r : ℕ) → frame ≡ frame_of default_rate k r → supports default_rate k r ≡ true
     → HasDistinctRows frame k r
 distinct_rows_of frame k r framed supported =
     subst (λ (p : Frame). HasDistinctRows p k r) (sym framed) (distinct_rows default_rate k r supported)
-
--- The rows of a message, if exactly the rows of the originals are marked as given.
-message_rows : (frame : Frame) (k r : ℕ) (given : List Bool) (locator : List ℕ) → HasDistinctRows frame k r
-    → ((i : ℕ) → i < k → is_marked given (original_row frame i) ≡ true)
-    → ((p : ℕ) → (p < frame.originals_from) ⊎ (original_row frame k ≤ p) → is_marked given p ≡ false)
-    → IsLocatorOf frame given locator
-    → AreMessageRows frame k r (erasure frame given) (λ x. slice_index locator x) (is_marked given)
-message_rows frame k r given locator f own others is =
-    let e = are_erased frame given k r f (λ i. Some []) nothing (λ p not_own not_coded. others p not_own)
-    (λ i hi. sym (own i hi)) (λ i hi. sym (others (recovery_row frame i) (rows_apart frame k r i f hi))) in
-    record {
-      distinct = f;
-      are_marks = e.are_marks;
-      own = e.own;
-      coded = e.coded;
-      known = e.known;
-      other = e.other;
-      received_own = own;
-      received_other = others;
-      logarithms = is.values;
-      most = λ x hx. omega (arith, is.are_words x);
-    }
 
 -- The logarithms of the factors of an original's row in the rows of the recovery shards are those of its change.
 pub factors_of_change : (frame : Frame) (k r index : ℕ) (given : List Bool) (locator factors : List ℕ)
@@ -113,10 +78,10 @@ factors_of_change frame k r index given locator factors framed supported inside 
       small = λ i hi. subst (λ (n : ℕ). n < 65535) (sym (made_at i hi)) (mod-lt _ (omega arith));
       change = λ size i j message changed recovery changed_recovery shards changed_shards only coded changed_coded hi
           hj.
-          word_changed (configuration default_rate k r size) (erasure (frame_of default_rate k r) given)
-          (λ x. slice_index locator x) (is_marked given)
-          (message_rows (frame_of default_rate k r) k r given locator (distinct_rows default_rate k r supported) own_at
-          others_at is_at)
+          word_changed (configuration default_rate k r size) supported (is_marked given) (λ x. slice_index locator x)
+          (λ all. is_located (with_message (configuration default_rate k r size) all) given
+          (λ x hx. marked-originals (configuration default_rate k r size) supported (is_marked given) own_at others_at
+          all x) locator is_at)
           index i j message changed recovery changed_recovery inside shards changed_shards only coded changed_coded hi
           hj
           ∙ ap (λ l. bit_xor (column j (shard_at recovery i))

@@ -1,13 +1,13 @@
 -- Direct sums over a base: the list of its rows, the factors, and the words of a sum.
 use Rattle.std.proofs.Common.{◌≡◌, ℕ, ◌+◌, ◌-◌, ◌*◌, ◌/◌, ◌%◌, ◌<◌, ◌≤◌, Bool, true, false, cond, List, [], ◌∷◌, ◌++◌}
 use Rattle.std.proofs.Common.{take, drop, replicate}
-use Rattle.std.proofs.Common.{length, bit_xor, refl, sym, ap, ap₂, ◌∙◌, arith, inl, inr, add-one, ne_eqb, get_or}
-use Rattle.std.specs.Prelude.{slice_index, is_some, nat_le, nat_lt, ◌&&◌, ◌||◌}
+use Rattle.std.proofs.Common.{length, bit_xor, sym, ap, ap₂, ◌∙◌, arith, inl, inr, add-one, ne_eqb, get_or}
+use Rattle.std.specs.Prelude.{slice_index}
 use Rattle.std.specs.Int.Bits.{xor_zero_r}
 use Rattle.std.proofs.Math.Seq.{get_or-append_seam, take-append_seam}
 use Rattle.std.proofs.lemmas.Bool.{cases_lt}
 use Rattle.std.proofs.lemmas.List.{get_or_append_left, get_or-append_right, length-append, get_or-replicate}
-use Rattle.rs_field.specs.code.DirectLaws.{given_at, mark_at, locator_at}
+use Rattle.rs_field.specs.code.DirectLaws.{locator_at}
 use Rattle.rs_field.specs.code.Frame.{row_count}
 use Rattle.rs_field.specs.code.Given.{Shards}
 use Rattle.rs_field.specs.declared.code.frame.Frame.{Frame}
@@ -20,9 +20,8 @@ use Rattle.rs_field.specs.words.Field.{product, power, log}
 use Rattle.rs_field.specs.words.Tables.{times_factor}
 use Rattle.rs_field.specs.words.Transform.{sum_below}
 use Rattle.rs_field.proofs.of_words.Combination.{sum_below-suc, sum_below-same, sum_below-zero}
-use Rattle.rs_field.proofs.of_words.LocatorLemmas.{log_sum-same}
 use Rattle.rs_rate.specs.passes.Decoding.{IsLocatorOf}
-use Rattle.rs_rate.specs.rows.Marks.{erasure}
+use Rattle.rs_rate.proofs.of_passes.Erased.{locator-given}
 use Rattle.rs_rate.specs.values.ChunkCounts.{chunk_count}
 use Rattle.rs_rate.specs.rows.ShardRows.{shard_laid_out}
 use Rattle.rs_rate.specs.passes.Sums.{AreMarksOf, ListsMarked, sum_word}
@@ -137,38 +136,14 @@ factor-mod : (a b c m n : ℕ) → a < 65536 → b < 65536 → a % 65535 ≡ m �
     → (a + c + (65535 - b)) % 65535 ≡ (m + c + (65535 - n)) % 65535
 factor-mod a b c m n ha hb ma nb = omega arith
 
-module _ (frame : Frame) (k r : ℕ) (originals recovery : Shards) (marks : List Bool)
-    (same : AreMarksOf frame k r originals recovery marks) (locator : List ℕ) (is : IsLocatorOf frame marks locator)
-  where
-    -- If the rows of given shards are marked, the same rows are erased.
-    erasure-mark : (y : ℕ) → y < row_count frame → erasure frame marks y ≡ mark_at frame k r originals recovery y
-    unfolding mark_at
-    erasure-mark y hy =
-        ap (λ (b : Bool). cond ((nat_le frame.zeros_from y && nat_lt y frame.zeros_to) || b) 0 1) (same y hy)
-        ∙ either (nat_le frame.zeros_from y && nat_lt y frame.zeros_to)
-        (is_some (given_at frame k r originals recovery y))
-      where
-        either : (a b : Bool) → ◌≡◌ {A = ℕ} (cond (a || b) 0 1) (cond (b || a) 0 1)
-        either true true = refl
-        either true false = refl
-        either false true = refl
-        either false false = refl
-
-    -- The locator that was made is that of the given shards, modulo 65535.
-    located_at : (z : ℕ) → z < row_count frame
-        → slice_index locator z % 65535 ≡ locator_at frame k r originals recovery z
-    unfolding locator_at
-    located_at z hz =
-        is.values z hz
-        ∙ ap (λ s. s % 65535)
-        (log_sum-same (row_count frame) (erasure frame marks) (mark_at frame k r originals recovery) z
-        (λ y hy. erasure-mark y hy))
-
-    -- The factors are those of the given shards.
-    pub factor_at : (x y : ℕ) → x < row_count frame → y < row_count frame
-        → direct_factor (λ z. slice_index locator z) x y
-        ≡ direct_factor (locator_at frame k r originals recovery) x y
-    factor_at x y hx hy =
-        factor-mod (slice_index locator x) (slice_index locator y) (65535 - log (bit_xor x y))
-        (locator_at frame k r originals recovery x) (locator_at frame k r originals recovery y)
-        (is.are_words x) (is.are_words y) (located_at x hx) (located_at y hy)
+-- The factors are those of the given shards.
+pub factor_at : (frame : Frame) (k r : ℕ) (originals recovery : Shards) (marks : List Bool)
+    → AreMarksOf frame k r originals recovery marks → (locator : List ℕ) → IsLocatorOf frame marks locator
+    → (x y : ℕ) → x < row_count frame → y < row_count frame
+    → direct_factor (λ z. slice_index locator z) x y ≡ direct_factor (locator_at frame k r originals recovery) x y
+unfolding locator_at
+factor_at frame k r originals recovery marks same locator is x y hx hy =
+    let located = locator-given frame k r originals recovery marks same locator is in
+    factor-mod (slice_index locator x) (slice_index locator y) (65535 - log (bit_xor x y))
+    (locator_at frame k r originals recovery x) (locator_at frame k r originals recovery y)
+    (is.are_words x) (is.are_words y) (located x hx) (located y hy)

@@ -6,7 +6,8 @@ use Rattle.rs_field.specs.code.Pieces.{IsStrip}
 use Rattle.rs_field.specs.declared.code.error.Error.TheVariants.{InconsistentShards}
 use Rattle.rs_field.proofs.of_code.Pieces.{is_strip}
 use Rattle.rs_rate.specs.rows.EncoderView.{encoder_state}
-use Rattle.reed_solomon_simd.proofs.ConsistentStrips.{AreCheckedBelow, checked-none, checked-further, checked-all}
+use Rattle.rs_field.proofs.of_code.PieceStates.{AreConsistentBelow}
+use Rattle.reed_solomon_simd.proofs.ConsistentStrips.{checked-none, checked-further, checked-all}
 use Rattle.reed_solomon_simd.proofs.ConsistentStrips.{consistent-cut}
 use Rattle.reed_solomon_simd.proofs.strip_comparer.check_by_encoding.Goals.{
   then-left-width+in_ok-reset,
@@ -82,5 +83,5 @@ returns g c =
     let ends : c.loop-start.start ≡ c.shard_bytes-shard_bytes.result =
     omega (arith, held.inside, c.loop-start-test.false) in
     checked-all x c.requires.set_up
-    (subst (λ (n : ℕ). AreCheckedBelow (g.P.Pieces.received c.args.received.now) n)
+    (subst (λ (n : ℕ). AreConsistentBelow (g.P.Pieces.received c.args.received.now) n)
     (ends ∙ c.shard_bytes-shard_bytes.ensures) held.checked)

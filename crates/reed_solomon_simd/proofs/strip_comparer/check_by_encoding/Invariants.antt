@@ -3,7 +3,7 @@ use Rattle.rs_field.specs.code.Counts.{default_rate}
 use Rattle.rs_field.specs.code.Encoder.{fresh_encoder}
 use Rattle.rs_field.specs.code.OneCall.{default_of}
 use Rattle.rs_rate.specs.rows.EncoderView.{encoder_state}
-use Rattle.reed_solomon_simd.proofs.ConsistentStrips.{AreCheckedBelow}
+use Rattle.rs_field.proofs.of_code.PieceStates.{AreConsistentBelow}
 use Rattle.reed_solomon_simd.proofs.strip_comparer.check_by_encoding.Given as goal
 
 -- All strips before `start` are consistent. A chunk begins at `start`, or the shards end there. If bytes are left, the
@@ -16,7 +16,7 @@ invariant-loop-start g l =
       fresh : l.start < l.shard_bytes
           → encoder_state default_rate l.encoder.rows
           ≡ fresh_encoder (default_of l.counts.original_count l.counts.recovery_count l.width);
-      checked : AreCheckedBelow (g.P.Pieces.received l.received) l.start;
+      checked : AreConsistentBelow (g.P.Pieces.received l.received) l.start;
     }
 
 abbrev pub decreases-loop-start : goal.decreases-loop-start

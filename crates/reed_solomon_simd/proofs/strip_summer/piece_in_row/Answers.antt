@@ -2,9 +2,9 @@ use Rattle.std.proofs.Common.{◌≡◌, sym, ap, ◌∙◌, arith}
 use Rattle.rs_field.specs.code.Decoder.{DecoderState}
 use Rattle.rs_field.specs.code.Frame.{recovery_row, original_row}
 use Rattle.rs_field.specs.code.PieceStates.{state_of_pieces}
-use Rattle.rs_field.proofs.of_code.AnyShards.{given_at-own, given_at-coded}
+use Rattle.rs_field.proofs.of_code.GivenRows.{given_at-own, given_at-coded, given_at-other}
 use Rattle.reed_solomon_simd.specs.Base.{frame_in, shard_in_row}
-use Rattle.reed_solomon_simd.proofs.BaseLemmas.{decoder_frame, frame_same, outside-same, in_row-none}
+use Rattle.reed_solomon_simd.proofs.BaseLemmas.{decoder_frame, frame_same, outside-same}
 use Rattle.reed_solomon_simd.proofs.strip_summer.piece_in_row.Goals as goal
 
 pub returns-in-Some : goal.returns-in-Some
@@ -19,8 +19,8 @@ returns-in-Some g c =
     there.1 ∙ ap (λ p. original_row p c.in-Some.index) same in
     c.original_piece.ensures
     ∙ sym (ap (shard_in_row t) at
-    ∙ given_at-own (frame_in s) s.configuration.original_count s.configuration.recovery_count c.in-Some.index
-    t.originals t.recovery (omega (arith, there.0, c.counts-counts.ensures.originals)))
+    ∙ given_at-own (frame_in s) s.configuration.original_count s.configuration.recovery_count t.originals
+    t.recovery c.in-Some.index (omega (arith, there.0, c.counts-counts.ensures.originals)))
 
 pub returns-in-Some-index_of : goal.returns-in-Some-index_of
 returns-in-Some-index_of g c =
@@ -35,7 +35,7 @@ returns-in-Some-index_of g c =
     c.recovery_piece.ensures
     ∙ sym (ap (shard_in_row t) at
     ∙ given_at-coded (frame_in s) s.configuration.original_count s.configuration.recovery_count
-    c.in-Some-index_of.index t.originals t.recovery (decoder_frame s c.requires.set_up)
+    t.originals t.recovery c.in-Some-index_of.index (decoder_frame s c.requires.set_up)
     (omega (arith, there.0, c.counts-counts.ensures.recovery)))
 
 pub returns : goal.returns
@@ -45,7 +45,8 @@ returns g c =
     let counts = c.counts-counts.result in
     let same = frame_same counts.frame counts.original_count counts.recovery_count s c.requires.set_up counts.framed
     c.counts-counts.ensures.originals c.counts-counts.ensures.recovery in
-    sym (in_row-none t c.args.row
+    sym (given_at-other (frame_in s) s.configuration.original_count s.configuration.recovery_count t.originals t.recovery
+    c.args.row
     (outside-same c.args.row _ (frame_in s).originals_from _ s.configuration.original_count
     (ap (λ p. p.originals_from) same) c.counts-counts.ensures.originals c.in_default.ensures)
     (outside-same c.args.row _ (frame_in s).recovery_from _ s.configuration.recovery_count

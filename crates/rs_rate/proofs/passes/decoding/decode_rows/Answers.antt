@@ -8,8 +8,9 @@ use Rattle.rs_rate.specs.rows.DecoderRoom.{DecoderRoom, HasRoom}
 use Rattle.rs_rate.specs.passes.Decoding.{RestoresShards}
 use Rattle.rs_rate.specs.rows.Entering.{given_rows}
 use Rattle.rs_rate.proofs.of_passes.SumLemmas.{written-back}
-use Rattle.rs_rate.specs.rows.Marks.{given_marks, restored_marks, shards_by_row, HoldGiven, WantsMissing}
+use Rattle.rs_rate.specs.rows.Marks.{given_marks, restored_marks, WantsMissing}
 use Rattle.rs_rate.specs.rows.ShardRows.{shard_laid_out}
+use Rattle.rs_rate.proofs.of_passes.DecodedColumns.{GivenRows}
 use Rattle.rs_rate.proofs.of_passes.DecodeAnswer.{AnswersOver, decode_answers, complete_answers, told_answer}
 use Rattle.rs_rate.proofs.of_rows.ResultLemmas.{length-restored}
 use Rattle.rs_rate.proofs.of_rows.RowMaps.{hold_nothing, none-marked, none_told, nothing-given}
@@ -66,55 +67,51 @@ pub returns-clause-answer : goal.returns-clause-answer
 returns-clause-answer g c = λ rate is.
     let old = c.args.rows.now in
     let own = old.configuration in
-    let size = own.shard_bytes in
     let before = old.memory.chunks.items in
-    let given = given_marks old.memory.marks in
     let marks = restored_marks c.restore-agrees.new.marks in
     let new = c.restore-agrees.new in
     let now = written old.memory new.chunks new.marks new.entries in
     let after = now.chunks.items in
+    let rows : GivenRows c.args.rows.now.configuration = record {
+      configured = old.configured;
+      marks = given_marks old.memory.marks;
+      chunks = before;
+      originals = old.originals_given;
+      recovery = old.recovery_given;
+      given = old.given;
+    } in
     let long : length c.args.rows.now.memory.chunks.items ≡ c.args.rows.now.memory.chunks.len = search rules in
     let many : length c.restore-agrees.new.chunks ≡ c.args.rows.now.memory.chunks.len = search rules in
     let same : now.chunks.items ≡ c.restore-agrees.new.chunks =
     written-back new.chunks old.memory.chunks.items old.memory.chunks.len many long in
     let tally = c.tally-tally.ensures in
-    let rows = rw tally.configuration at c.row_count.ensures in
+    let count = rw tally.configuration at c.row_count.ensures in
     let missing : WantsMissing c.args.rows.now.configuration c.args.rows.now.memory.marks
     c.restore-agrees.new.marks = rw tally.configuration at c.restore-agrees.ensures.marks in
-    let over : AnswersOver rate c.args.rows.now.configuration (given_marks c.args.rows.now.memory.marks)
-    (restored_marks c.restore-agrees.new.marks) c.args.rows.now.memory.chunks.items now.chunks.items
-    c.restore-agrees.result =
+    let over : AnswersOver rate own rows marks after c.restore-agrees.result =
     elim (cases_eq (c.tally-tally.result.missing + c.tally-tally.result.surplus) 0) [
       | inl none ↦
-          subst (λ b. AnswersOver rate own given marks before after b)
+          subst (λ b. AnswersOver rate own rows marks after b)
           (sym (c.restore-agrees.ensures.nothing (omega arith) (omega arith)))
-          (complete_answers rate own given marks before after is
-          (subst (λ (n : ℕ). HoldGiven own n 0 (shards_by_row given before size))
-          (omega (arith, none, tally.missing))
-          (subst (λ (n : ℕ). HoldGiven own old.originals_given n (shards_by_row given before size))
-          (omega (arith, none, tally.missing, tally.surplus)) old.given)) missing.missing)
+          (complete_answers rate own is rows marks after
+          (omega (arith, none, tally.missing), omega (arith, none, tally.missing, tally.surplus)) missing.missing)
       | inr some ↦
           let made = subst
-          (λ l. RestoresShards own given c.tally-tally.result.surplus before l c.restore-agrees.result) (sym same)
+          (λ l. RestoresShards own (given_marks old.memory.marks) c.tally-tally.result.surplus before l
+          c.restore-agrees.result) (sym same)
           (rw (tally.configuration, c.as_mut_slice-chunks.ensures.value) at
           (c.restore-agrees.ensures.restored (omega arith))) in
-          decode_answers rate own given marks c.tally-tally.result.surplus before after c.restore-agrees.result
-          is
+          decode_answers rate own is rows marks c.tally-tally.result.surplus after c.restore-agrees.result
           (record {
-            configured = old.configured;
-            originals = old.originals_given;
-            recovery = old.recovery_given;
-            given = old.given;
             counted = tally.surplus;
             restores = made;
             marked = missing.missing;
             sized = λ i inside.
                 rw (tally.configuration, c.as_slice.ensures.value) at (c.rows_are_bytes.ensures.in_order
-                (original_row own.frame i) (omega (arith, inside, rows, old.configured.own_rows)));
+                (original_row own.frame i) (omega (arith, inside, count, old.configured.own_rows)));
           })
     ] in
-    told_answer rate own given marks before after old.originals_given old.recovery_given c.restore-agrees.result
-    c.if-agrees.answer old.given over
+    told_answer rate own rows marks after c.restore-agrees.result c.if-agrees.answer over
     (λ yes. elim c.if-agrees.branch [
       | then-agrees w ↦ (c.tally-tally.result.missing, w.answer-is)
       | else-agrees w ↦ absurd (true≢false (sym yes ∙ w.if-agrees.false))

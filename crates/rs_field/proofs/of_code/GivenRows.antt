@@ -1,0 +1,334 @@
+-- The shards that were given to a decoder, by their rows, and the words of a column in these rows.
+use Rattle.std.proofs.Common.{◌≡◌, ℕ, ◌+◌, ◌-◌, ◌^◌, ◌<◌, ◌≤◌, ◌⊎◌, true, cond, refl, sym, ap, ◌∙◌}
+use Rattle.std.proofs.Common.{subst, arith, inl, inr, pow_mono}
+use Rattle.std.specs.Prelude.{Option, Some, None, is_some}
+use Rattle.std.proofs.lemmas.Bool.{cases_lt}
+use Rattle.std.proofs.lemmas.Option.{none-some}
+use Rattle.std.proofs.lemmas.Grind.{common_steps}
+use Rattle.rs_field.specs.code.Column.{Shard, IsShard, column}
+use Rattle.rs_field.specs.code.Configuration.{Configuration}
+use Rattle.rs_field.specs.code.Counts.{supports}
+use Rattle.rs_field.specs.code.Decoder.{DecoderState}
+use Rattle.rs_field.specs.code.DirectLaws.{entry_in, given_at, word_of, word_at, mark_at}
+use Rattle.rs_field.specs.code.Frame.{frame_of, row_count, original_row, recovery_row}
+use Rattle.rs_field.specs.code.Given.{Shards, AreWithin}
+use Rattle.rs_field.specs.declared.code.frame.Frame.{Frame}
+use Rattle.rs_field.proofs.of_code.Columns.{column_lt}
+use Rattle.rs_field.proofs.of_code.ErasedCount.{AreErasures}
+use Rattle.rs_field.proofs.of_code.Frame.{HasDistinctRows, zeros_end}
+use Rattle.rs_field.proofs.of_code.RateFrames.{distinct_rows}
+
+-- The given shards have indexes below a count, and all have one size.
+pub record AreSized (count size : ℕ) (given : Shards) : Type 0 where
+  pub each : (i : ℕ) (shard : Shard) → given i ≡ Some shard → (i < count) × IsShard size shard
+
+-- Given shards that are within bounds have indexes below the count.
+pub sized-within : (count size : ℕ) (given : Shards) → AreWithin count size given → AreSized count size given
+sized-within count size given within =
+    record {
+      each = λ i shard is. (
+        elim (cases_lt i count)
+            [ inl inside ↦ inside | inr past ↦ absurd (none-some shard (sym (within.none_past i past) ∙ is)) ],
+        within.sized i shard is,
+      );
+    }
+
+-- The frame of a configuration.
+abbrev pub frame_at : Configuration → Frame
+frame_at c = frame_of c.rate c.original_count c.recovery_count
+
+-- The shards of a decoder for supported counts: all have the size, and their indexes are below the counts.
+pub record AreGiven (s : DecoderState) : Type 0 where
+  pub supported : supports s.configuration.rate s.configuration.original_count s.configuration.recovery_count ≡ true
+  pub own_sized : AreSized s.configuration.original_count s.configuration.shard_bytes s.originals
+  pub coded_sized : AreSized s.configuration.recovery_count s.configuration.shard_bytes s.recovery
+
+-- The state of a decoder with these shards.
+abbrev pub state_with : Configuration → Shards → Shards → DecoderState
+state_with c originals recovery = record { configuration = c; originals = originals; recovery = recovery }
+
+-- Given shards that are within bounds are shards of a decoder.
+pub given_within : (c : Configuration) (originals recovery : Shards)
+    → supports c.rate c.original_count c.recovery_count ≡ true
+    → AreWithin c.original_count c.shard_bytes originals → AreWithin c.recovery_count c.shard_bytes recovery
+    → AreGiven (state_with c originals recovery)
+given_within c originals recovery supported own coded = record {
+  supported = supported;
+  own_sized = sized-within c.original_count c.shard_bytes originals own;
+  coded_sized = sized-within c.recovery_count c.shard_bytes recovery coded;
+}
+
+-- ---- the rows of a frame
+
+-- A number is the sum of `from` and an index below n, or it is outside.
+pub index_or_outside : (from n x : ℕ) → ((i : ℕ) × (i < n) × (x ≡ from + i)) ⊎ ((x < from) ⊎ (from + n ≤ x))
+index_or_outside from n x = elim (cases_lt x from) [
+  | inl below ↦ inr (inl below)
+  | inr above ↦ elim (cases_lt x (from + n)) [
+    | inl within ↦ inl (x - from, omega (arith, above, within), omega (arith, above))
+    | inr past ↦ inr (inr past)
+  ]
+]
+
+-- A row is that of an original, or that of a recovery shard, or neither.
+pub kind_of_row : (frame : Frame) (k r x : ℕ)
+    → ((i : ℕ) × (i < k) × (x ≡ original_row frame i))
+    ⊎ (((i : ℕ) × (i < r) × (x ≡ recovery_row frame i))
+    ⊎ (((x < frame.originals_from) ⊎ (original_row frame k ≤ x))
+    × ((x < frame.recovery_from) ⊎ (recovery_row frame r ≤ x))))
+kind_of_row frame k r x =
+    elim (index_or_outside frame.originals_from k x) [
+      | inl own ↦ inl own
+      | inr not_own ↦ elim (index_or_outside frame.recovery_from r x) [
+        | inl coded ↦ inr (inl coded)
+        | inr not_coded ↦ inr (inr (not_own, not_coded))
+      ]
+    ]
+
+-- The row of a recovery shard is not that of an original.
+pub rows_apart : (frame : Frame) (k r i : ℕ) → HasDistinctRows frame k r → i < r
+    → (recovery_row frame i < frame.originals_from) ⊎ (original_row frame k ≤ recovery_row frame i)
+rows_apart frame k r i f inside =
+    let zeros = f.zeros in
+    let follow = f.follow in
+    elim f.order [
+      | inl low ↦ inr (omega (arith, low.1))
+      | inr high ↦ inl (omega (arith, high.0, high.1))
+    ]
+
+pub entry_in-at : (from n i : ℕ) (given : Shards) (other : Option Shard) → i < n
+    → entry_in from n given other (from + i) ≡ given i
+unfolding entry_in
+entry_in-at from n i given other hi = grind (arith, common_steps)
+
+pub entry_in-other : (from n x : ℕ) (given : Shards) (other : Option Shard) → (x < from) ⊎ (from + n ≤ x)
+    → entry_in from n given other x ≡ other
+unfolding entry_in
+entry_in-other from n x given other outside = grind (arith, common_steps)
+
+module _ (frame : Frame) (k r : ℕ) (originals recovery : Shards) where
+  pub given_at-own : (i : ℕ) → i < k → given_at frame k r originals recovery (original_row frame i) ≡ originals i
+  unfolding given_at
+  given_at-own i hi = entry_in-at frame.originals_from k i originals _ hi
+
+  pub given_at-coded : (i : ℕ) → HasDistinctRows frame k r → i < r
+      → given_at frame k r originals recovery (recovery_row frame i) ≡ recovery i
+  unfolding given_at
+  given_at-coded i f hi =
+      entry_in-other frame.originals_from k (recovery_row frame i) originals _ (rows_apart frame k r i f hi)
+      ∙ entry_in-at frame.recovery_from r i recovery None hi
+
+  pub given_at-other : (x : ℕ) → (x < frame.originals_from) ⊎ (original_row frame k ≤ x)
+      → (x < frame.recovery_from) ⊎ (recovery_row frame r ≤ x)
+      → given_at frame k r originals recovery x ≡ None
+  unfolding given_at
+  given_at-other x not_own not_coded =
+      entry_in-other frame.originals_from k x originals _ not_own
+      ∙ entry_in-other frame.recovery_from r x recovery None not_coded
+
+  -- ---- the erased rows
+
+  mark_at-most : (x : ℕ) → mark_at frame k r originals recovery x ≤ 1
+  unfolding mark_at
+  mark_at-most x = grind (arith, common_steps)
+
+  mark_at-known : (x : ℕ) → frame.zeros_from ≤ x → x < frame.zeros_to → mark_at frame k r originals recovery x ≡ 0
+  unfolding mark_at
+  mark_at-known x above below = grind (arith, common_steps)
+
+  mark_at-row : (x : ℕ) (o : Option Shard) → (x < frame.zeros_from) ⊎ (frame.zeros_to ≤ x)
+      → given_at frame k r originals recovery x ≡ o
+      → mark_at frame k r originals recovery x ≡ cond (is_some o) 0 1
+  unfolding mark_at
+  mark_at-row x o outside is = grind (arith, common_steps)
+
+  mark_at-given : (x : ℕ) (shard : Shard) → given_at frame k r originals recovery x ≡ Some shard
+      → mark_at frame k r originals recovery x ≡ 0
+  unfolding mark_at
+  mark_at-given x shard is = grind (arith, common_steps)
+
+  -- Below the last row, the zero points among the rows are all zero points.
+  zeros_among : (x : ℕ) → HasDistinctRows frame k r
+      → (x < zeros_end frame → x < frame.zeros_to) × (x < row_count frame → zeros_end frame ≤ x → frame.zeros_to ≤ x)
+  zeros_among x f =
+      let room : row_count frame ≤ 2 ^ 16 = pow_mono f.few in
+      let end = f.zeros in
+      elim f.whole [
+        | inl same ↦ (λ below. omega (arith, same.1), λ row past. omega (arith, same.1))
+        | inr all ↦ (λ below. omega (arith, all.1), λ row past. omega (arith, all.1, all.2))
+      ]
+
+  -- These entries mark the erased rows of a frame.
+  pub are_erasures : HasDistinctRows frame k r
+      → AreErasures frame k r originals recovery (mark_at frame k r originals recovery)
+  are_erasures f =
+      let follow = f.follow in
+      record {
+        are_marks = record { mark = λ y hy. mark_at-most y };
+        own = λ i hi.
+            mark_at-row (original_row frame i) (originals i) (inl (omega (arith, follow, hi))) (given_at-own i hi);
+        coded = λ i hi.
+            mark_at-row (recovery_row frame i) (recovery i)
+            (let below = f.recovery in
+            elim f.order [
+              | inl low ↦ inr ((zeros_among (recovery_row frame i) f).1 (omega (arith, below, hi))
+                  (omega (arith, low.1)))
+              | inr high ↦ inl (omega (arith, high.0, high.1, follow, hi))
+            ])
+            (given_at-coded i f hi);
+        known = λ x above below. mark_at-known x above ((zeros_among x f).0 below);
+        other = λ x hx not_own not_coded not_zero.
+            mark_at-row x None
+            (elim not_zero [ inl before ↦ inl before | inr past ↦ inr ((zeros_among x f).1 hx past) ])
+            (given_at-other x not_own not_coded);
+      }
+
+-- ---- the rows of a decoder
+
+-- The given shard in a row, if there is one.
+abbrev pub given_in : DecoderState → ℕ → Option Shard
+given_in s x = given_at (frame_at s.configuration) s.configuration.original_count s.configuration.recovery_count
+    s.originals s.recovery x
+
+-- 1 if a row is erased, else 0.
+abbrev pub erased_in : DecoderState → ℕ → ℕ
+erased_in s x = mark_at (frame_at s.configuration) s.configuration.original_count s.configuration.recovery_count
+    s.originals s.recovery x
+
+-- Word j of the given shard in a row, or 0 if there is none.
+abbrev pub words_in : DecoderState → ℕ → ℕ → ℕ
+words_in s j x = word_at (frame_at s.configuration) s.configuration.original_count s.configuration.recovery_count
+    s.originals s.recovery j x
+
+-- The number of rows of a decoder.
+abbrev pub rows_of : DecoderState → ℕ
+rows_of s = row_count (frame_at s.configuration)
+
+module _ (s : DecoderState) (j x : ℕ) where
+  pub word-given : (shard : Shard) → given_in s x ≡ Some shard → words_in s j x ≡ column j shard
+  unfolding word_at word_of
+  word-given shard is = ap (word_of j) is
+
+  pub word-none : given_in s x ≡ None → words_in s j x ≡ 0
+  unfolding word_at word_of
+  word-none is = ap (word_of j) is
+
+  -- There is a shard in a row, or none.
+  pub cases_given : ((shard : Shard) × (given_in s x ≡ Some shard)) ⊎ (given_in s x ≡ None)
+  cases_given = by_entry (given_in s x) refl
+    where
+      by_entry : (o : Option Shard) → given_in s x ≡ o
+          → ((shard : Shard) × (given_in s x ≡ Some shard)) ⊎ (given_in s x ≡ None)
+      by_entry None is = inr is
+      by_entry (Some shard) is = inl (shard, is)
+
+module _ (s : DecoderState) (g : AreGiven s) where
+  pub distinct : HasDistinctRows (frame_at s.configuration) s.configuration.original_count
+      s.configuration.recovery_count
+  distinct = distinct_rows s.configuration.rate s.configuration.original_count s.configuration.recovery_count
+      g.supported
+
+  pub erasures : AreErasures (frame_at s.configuration) s.configuration.original_count s.configuration.recovery_count
+      s.originals s.recovery (erased_in s)
+  erasures = are_erasures (frame_at s.configuration) s.configuration.original_count s.configuration.recovery_count
+      s.originals s.recovery distinct
+
+  -- A given original is in its row, and so is a given recovery shard.
+  pub given-own : (i : ℕ) (shard : Shard) → i < s.configuration.original_count → s.originals i ≡ Some shard
+      → given_in s (original_row (frame_at s.configuration) i) ≡ Some shard
+  given-own i shard hi is =
+      given_at-own (frame_at s.configuration) s.configuration.original_count s.configuration.recovery_count s.originals
+      s.recovery i hi ∙ is
+
+  pub given-coded : (i : ℕ) (shard : Shard) → i < s.configuration.recovery_count → s.recovery i ≡ Some shard
+      → given_in s (recovery_row (frame_at s.configuration) i) ≡ Some shard
+  given-coded i shard hi is =
+      given_at-coded (frame_at s.configuration) s.configuration.original_count s.configuration.recovery_count
+      s.originals s.recovery i distinct hi ∙ is
+
+  -- A shard in a row is a given original or a given recovery shard.
+  pub given-either : (x : ℕ) (shard : Shard) → given_in s x ≡ Some shard
+      → ((i : ℕ) × (i < s.configuration.original_count) × (x ≡ original_row (frame_at s.configuration) i)
+      × (s.originals i ≡ Some shard))
+      ⊎ ((i : ℕ) × (i < s.configuration.recovery_count) × (x ≡ recovery_row (frame_at s.configuration) i)
+      × (s.recovery i ≡ Some shard))
+  given-either x shard is =
+      let f = frame_at s.configuration in
+      let k = s.configuration.original_count in
+      let r = s.configuration.recovery_count in
+      elim (kind_of_row f k r x) [
+        | inl own ↦ inl (
+          own.0,
+          own.1,
+          own.2,
+          sym (ap (given_in s) own.2 ∙ given_at-own f k r s.originals s.recovery own.0 own.1) ∙ is,
+        )
+        | inr rest ↦ elim rest [
+          | inl coded ↦ inr (
+            coded.0,
+            coded.1,
+            coded.2,
+            sym (ap (given_in s) coded.2 ∙ given_at-coded f k r s.originals s.recovery coded.0 distinct coded.1) ∙ is,
+          )
+          | inr neither ↦
+              absurd (none-some shard (sym (given_at-other f k r s.originals s.recovery x neither.0 neither.1) ∙ is))
+        ]
+      ]
+
+  -- A shard is given in one of the rows of the frame.
+  pub given-below : (x : ℕ) (shard : Shard) → given_in s x ≡ Some shard → x < rows_of s
+  given-below x shard is =
+      let f = distinct in
+      elim (given-either x shard is) [
+        | inl own ↦ omega (arith, f.originals, own.1, own.2)
+        | inr coded ↦ omega (arith, f.recovery, coded.1, coded.2)
+      ]
+
+  -- No shard is given in the row of a zero point.
+  pub given-zero : (x : ℕ) → (frame_at s.configuration).zeros_from ≤ x → x < zeros_end (frame_at s.configuration)
+      → given_in s x ≡ None
+  given-zero x above below =
+      let follow = distinct.follow in
+      given_at-other (frame_at s.configuration) s.configuration.original_count s.configuration.recovery_count
+      s.originals s.recovery x (inr (omega (arith, follow, above)))
+      (elim distinct.order
+      [ inl low ↦ inl (omega (arith, low.1, below)) | inr high ↦ inr (omega (arith, high.0, high.1, follow, above)) ])
+
+  -- A row with a given shard is not erased.
+  pub erased-given : (x : ℕ) (shard : Shard) → given_in s x ≡ Some shard → erased_in s x ≡ 0
+  erased-given x shard is =
+      mark_at-given (frame_at s.configuration) s.configuration.original_count s.configuration.recovery_count s.originals
+      s.recovery x shard is
+
+  -- A row without a given shard is erased, or is the row of a zero point.
+  pub erased-none : (x : ℕ) → x < rows_of s → given_in s x ≡ None → erased_in s x ≡ 0
+      → ((frame_at s.configuration).zeros_from ≤ x) × (x < zeros_end (frame_at s.configuration))
+  erased-none x hx none is =
+      let f = frame_at s.configuration in
+      elim (cases_lt x f.zeros_from) [
+        | inl before ↦ absurd (not_erased (inl before))
+        | inr above ↦ elim (cases_lt x (zeros_end f)) [
+          | inl below ↦ (above, below)
+          | inr past ↦ absurd (not_erased (inr ((zeros_among f s.configuration.original_count
+              s.configuration.recovery_count s.originals s.recovery x distinct).1 hx past)))
+        ]
+      ]
+    where
+      not_erased : (x < (frame_at s.configuration).zeros_from) ⊎ ((frame_at s.configuration).zeros_to ≤ x) → ⊥
+      not_erased outside =
+          let one = mark_at-row (frame_at s.configuration) s.configuration.original_count
+          s.configuration.recovery_count s.originals s.recovery x None outside none in
+          omega (arith, one, is)
+
+  -- Each word is below 65536.
+  pub word_lt : (j x : ℕ) → words_in s j x < 65536
+  word_lt j x = elim (cases_given s j x) [
+    | inl some ↦
+        subst (λ (w : ℕ). w < 65536) (sym (word-given s j x some.0 some.1))
+        (column_lt s.configuration.shard_bytes some.0 j
+        (elim (given-either x some.0 some.1) [
+          | inl own ↦ (g.own_sized.each own.0 some.0 own.3).1
+          | inr coded ↦ (g.coded_sized.each coded.0 some.0 coded.3).1
+        ]))
+    | inr none ↦ subst (λ (w : ℕ). w < 65536) (sym (word-none s j x none)) (omega arith)
+  ]
