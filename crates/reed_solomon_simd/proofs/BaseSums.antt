@@ -111,7 +111,7 @@ module _ (s : DecoderState) (is : IsDecoder default_rate s) (start end : ℕ)
   -- A piece in a row has the size of a piece.
   pub in_row-sized : (x : ℕ) (piece : Shard) → shard_in_row (state_of_pieces start end s) x ≡ Some piece
       → IsShard (end - start) piece
-  in_row-sized x piece there = elim (given-either (state_of_pieces start end s) given x piece there) [
+  in_row-sized x piece there = elim (given-either given x piece there) [
     | inl own ↦ own_within.sized own.0 piece own.3
     | inr coded ↦ coded_within.sized coded.0 piece coded.3
   ]
@@ -136,8 +136,7 @@ module _ (s : DecoderState) (is : IsDecoder default_rate s) (start end : ℕ)
         (base_sum marks (state_of_pieces start end s))
     unfolding summed_word
     decided =
-        consistent_by_sums (state_of_pieces start end s) given chosen.originals chosen.recovery own_part coded_part
-        (λ x. is_some (shard_in_row chosen x)) (locator_in chosen) (all_located chosen) (even-strip s is start end strip)
+        consistent_by_sums given own_part coded_part (all_located chosen) (even-strip s is start end strip)
         chosen_enough
 
     -- A row with a piece is marked exactly if the piece is in the base.
@@ -145,7 +144,7 @@ module _ (s : DecoderState) (is : IsDecoder default_rate s) (start end : ℕ)
         → is_marked marks x ≡ is_some (shard_in_row chosen x)
     marked-chosen x piece there =
         base_marks marks (state_of_pieces start end s) (base-pieces start end marks s base) x
-        (given-below (state_of_pieces start end s) given x piece there)
+        (given-below given x piece there)
 
     -- If some message agrees with the strip, the pieces outside of the base are the direct sums.
     pub consistent-agrees : IsConsistent (state_of_pieces start end s) → (x : ℕ)
@@ -160,7 +159,7 @@ module _ (s : DecoderState) (is : IsDecoder default_rate s) (start end : ℕ)
     pub agrees-consistent : ((x : ℕ) → x < row_count (frame_in s) → AgreesInRow marks (state_of_pieces start end s) x)
         → IsConsistent (state_of_pieces start end s)
     agrees-consistent each = decided.1 (λ x j piece there none inside.
-        let below = given-below (state_of_pieces start end s) given x piece there in
+        let below = given-below given x piece there in
         let sum = each x below piece there (marked-chosen x piece there ∙ none) in
         sym (sum.words j inside))
 
@@ -168,9 +167,7 @@ module _ (s : DecoderState) (is : IsDecoder default_rate s) (start end : ℕ)
     agrees_with_base : (message : List Shard) (agrees : IsAgreeing (state_of_pieces start end s) message)
         → (part : IsAgreeing chosen message) × (part.coded.0 ≡ agrees.coded.0)
     agrees_with_base message agrees =
-        let t = state_of_pieces start end s in
-        agrees_with_part t.configuration t.originals t.recovery chosen.originals chosen.recovery message own_part
-        coded_part agrees
+        agrees_with_part own_part coded_part agrees
 
     -- Each missing word of a message that agrees with the strip is the direct sum.
     summed-words : (message : List Shard) (agrees : IsAgreeing (state_of_pieces start end s) message) (i j : ℕ)
@@ -183,14 +180,11 @@ module _ (s : DecoderState) (is : IsDecoder default_rate s) (start end : ℕ)
         ≡ column j (shard_at agrees.coded.0 i))
     unfolding summed_word
     summed-words message agrees i j inside =
-        let t = state_of_pieces start end s in
         let part = agrees_with_base message agrees in
-        let g = base_given t chosen.originals chosen.recovery given own_part coded_part in
+        let g = base_given given own_part coded_part in
         let enough = chosen_enough in (
-          direct_original chosen g (λ x. is_some (shard_in_row chosen x)) (locator_in chosen) (all_located chosen)
-              (omega (arith, enough)) message part.0 i j inside,
-          λ below none. direct_recovery chosen g (λ x. is_some (shard_in_row chosen x)) (locator_in chosen)
-              (all_located chosen) (omega (arith, enough)) message part.0 i j inside below none
+          direct_original g (all_located chosen) (omega (arith, enough)) part.0 i j inside,
+          λ below none. direct_recovery g (all_located chosen) (omega (arith, enough)) part.0 i j inside below none
               ∙ ap (λ (all : List Shard). column j (shard_at all i)) part.1,
         )
 
@@ -251,8 +245,7 @@ module _ (s : DecoderState) (is : IsDecoder default_rate s) (start end : ℕ)
         → IsAgreeing (state_of_pieces start end s) other → other ≡ one
     only-message one other agrees also =
         let enough = chosen_enough in
-        one_message chosen.configuration chosen.originals chosen.recovery other one supported
-        (even-strip s is start end strip) (omega (arith, enough)) (agrees_with_base other also).0
+        one_message supported (even-strip s is start end strip) (omega (arith, enough)) (agrees_with_base other also).0
         (agrees_with_base one agrees).0
 
     -- The same for a wanted shard in a list.
@@ -262,7 +255,6 @@ module _ (s : DecoderState) (is : IsDecoder default_rate s) (start end : ℕ)
         → IsBaseSum marks (state_of_pieces start end s) x piece
         → (piece ≡ get_or (named_shards message agrees.coded.0 wanted) n []) × (length piece ≡ end - start)
     wanted-at message agrees wanted n x d piece can inside at sum =
-        let t = state_of_pieces start end s in
         let is_named = wanted-piece message agrees (get_or wanted n d) piece (can n d inside)
         (subst (λ (y : ℕ). IsBaseSum marks (state_of_pieces start end s) y piece) at sum)
         ∙ sym (get_or-map (shard_named message agrees.coded.0) wanted n d [] inside) in

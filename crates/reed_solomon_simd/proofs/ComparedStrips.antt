@@ -72,8 +72,7 @@ module _ (s : DecoderState) (is : IsDecoder default_rate s)
 
   own-at : (i : ℕ) (shard : Shard) → s.originals i ≡ Some shard → shard_at own_message i ≡ shard
   own-at i shard found =
-      let sized = sized-within s.configuration.original_count s.configuration.shard_bytes s.originals
-      is.originals_within in
+      let sized = sized-within is.originals_within in
       listed-at s.configuration.original_count 0 i s.originals shard
       (λ j low high. all_some s.configuration.original_count s.originals (omega (arith, all)) j (omega (arith, high)))
       (sized.each i shard found).0 (ap s.originals (let e : 0 + i ≡ i = omega arith in e) ∙ found)
@@ -133,7 +132,7 @@ module _ (s : DecoderState) (is : IsDecoder default_rate s)
             let other : Agrees (state_of_pieces start end s).configuration (pieces_of start end s.originals) nothing
             listed_pieces =
             record { shards = listed-are; own = listed-among; coded = (made, coded, nothing_among made) } in
-            let same = one_message c (pieces_of start end s.originals) nothing message listed_pieces
+            let same = one_message
             (valid-supported s.configuration is.valid) (even-strip s is start end strip) (omega (arith, n, all)) one
             other in
             let recovered : AreRecovery (state_of_pieces start end s).configuration listed_pieces agrees.coded.0 =

@@ -57,7 +57,7 @@ module _ (s : DecoderState) (is : IsDecoder default_rate s) where
 
   -- As many shards as originals are consistent.
   pub exact-consistent : originals_given s + recovery_given s ≡ s.configuration.original_count → IsConsistent s
-  exact-consistent = any_consistent s given even
+  exact-consistent = any_consistent given even
 
 -- If shards are consistent, their pieces in a strip are consistent.
 pub consistent-cut : (s : DecoderState) (start end : ℕ) → IsStrip start end s.configuration.shard_bytes

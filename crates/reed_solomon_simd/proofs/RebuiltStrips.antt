@@ -186,7 +186,7 @@ rebuilt-all s wanted grows rooms is enough can done =
     record {
       message = message;
       agrees = agrees;
-      only = λ other also. one_message c s.originals s.recovery other message (valid-supported c is.valid)
+      only = λ other also. one_message (valid-supported c is.valid)
           (valid-even c is.valid) (enough-least s (sym enough)) also agrees;
       named = ext_get_or [] rooms (named_shards message agrees.coded.0 wanted) (omega (arith, long, done.number))
           (λ i h.

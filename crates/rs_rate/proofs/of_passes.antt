@@ -1,4 +1,5 @@
 -- Lemmas of the passes over rows: encoding, decoding, direct sums and changes.
+pub mod ZeroPadded
 pub mod LowCoding
 pub mod HighCoding
 pub mod EncodeCounting

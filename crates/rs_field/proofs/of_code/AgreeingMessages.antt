@@ -53,7 +53,7 @@ chosen (suc n) P h =
 small : (v : ℕ) → v % 65536 < 65536
 small v = omega arith
 
-module _ (s : DecoderState) (g : AreGiven s) (even : s.configuration.shard_bytes % 2 ≡ 0) where
+module _ {s : DecoderState} (g : AreGiven s) (even : s.configuration.shard_bytes % 2 ≡ 0) where
   module _ (f : ℕ → List ℕ) (at : (j : ℕ) → j < s.configuration.shard_bytes / 2 → IsTaken s j (f j)) where
     same_word : (j x : ℕ) → j < s.configuration.shard_bytes / 2 → value (f j) x % 65536 ≡ value (f j) x
     same_word j x hj = mod-eq_of_lt (value_lt (f j) x (words_from (f j) (at j hj).1.coefficients))

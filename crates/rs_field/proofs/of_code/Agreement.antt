@@ -24,7 +24,7 @@ abbrev pub AreColumns : DecoderState → (ℕ → ℕ → ℕ) → (ℕ → ℕ 
 AreColumns s located coefficients =
     (j : ℕ) → j < s.configuration.shard_bytes / 2 → IsColumnOf s j (located j) (coefficients j)
 
-module _ (s : DecoderState) (g : AreGiven s) (located rows : ℕ → ℕ → ℕ) (h : AreColumns s located rows) where
+module _ {s : DecoderState} (g : AreGiven s) {located rows : ℕ → ℕ → ℕ} (h : AreColumns s located rows) where
   -- If k + t shards are given, some message agrees if and only if the last t rows are zero in every column.
   pub consistent_exactly : (t : ℕ) → s.configuration.shard_bytes % 2 ≡ 0
       → originals_given s + recovery_given s ≡ s.configuration.original_count + t
@@ -33,8 +33,8 @@ module _ (s : DecoderState) (g : AreGiven s) (located rows : ℕ → ℕ → ℕ
   consistent_exactly t even count = (
     λ some j i hj.
         let (p, codes, takes) = column_taken s some.0 j hj some.1 in
-        surplus_rows s g j (located j) (rows j) (h j hj) p (columns j some.0, codes, takes) t count i,
-    λ none. consistent s g even (λ j hj. some_message s g j (located j) (rows j) (h j hj) t count (λ i. none j i hj)),
+        surplus_rows g (h j hj) p (columns j some.0, codes, takes) t count i,
+    λ none. consistent g even (λ j hj. some_message g (h j hj) t count (λ i. none j i hj)),
   )
 
   -- After the derivative step, the word in the row of a missing original, times the power for 65535 minus a residue of
@@ -50,17 +50,17 @@ module _ (s : DecoderState) (g : AreGiven s) (located rows : ℕ → ℕ → ℕ
       ≡ column j (shard_at message i)
   restored_column message added i j l enough agrees hi hj step one hl same =
       let (p, codes, takes) = column_taken s message j hj agrees in
-      restored_word s g j (located j) (rows j) (h j hj) p (columns j message, codes, takes) added
+      restored_word g (h j hj) p (columns j message, codes, takes) added
       (original_row (frame_at s.configuration) i) l enough step
-      (omega (arith, (distinct s g).originals, hi)) one hl same
+      (omega (arith, (distinct g).originals, hi)) one hl same
       ∙ codes.originals i hi ∙ columns-at j message i
 
 -- If at least k shards are given, at most one message agrees.
-pub one_message : (c : Configuration) (originals recovery : Shards) (one other : List Shard)
+pub one_message : {c : Configuration} {originals recovery : Shards} {one other : List Shard}
     → supports c.rate c.original_count c.recovery_count ≡ true → c.shard_bytes % 2 ≡ 0
     → c.original_count ≤ count_below c.original_count originals + count_below c.recovery_count recovery
     → Agrees c originals recovery one → Agrees c originals recovery other → one ≡ other
-one_message c originals recovery one other is even enough a b =
+one_message {c} {originals} {recovery} {one} {other} is even enough a b =
     let (place, are, some) =
     places_given (c.original_count + c.recovery_count) (by_place c.original_count originals recovery) in
     let count = count-by_place c.original_count c.recovery_count originals recovery in

@@ -9,7 +9,7 @@ use Rattle.rs_field.specs.code.DirectLaws.{HasOneMessage}
 use Rattle.rs_field.proofs.of_words.Product.{product_lt}
 use Rattle.rs_field.proofs.of_words.PointValues.{coefficients_of}
 use Rattle.rs_field.proofs.of_code.DecodedColumn.{IsColumnOf, some_message}
-use Rattle.rs_field.proofs.of_code.GivenRows.{AreGiven, frame_at, state_with, given_within, given_in}
+use Rattle.rs_field.proofs.of_code.GivenRows.{AreGiven, frame_at, given_within, given_in}
 use Rattle.rs_field.proofs.of_code.GivenRows.{erased_in, words_in, rows_of, distinct, word-given}
 use Rattle.rs_field.proofs.of_code.AgreeingMessages.{consistent}
 use Rattle.rs_field.proofs.of_code.Agreement.{one_message}
@@ -28,7 +28,7 @@ is_column : (s : DecoderState) → AreGiven s → (j : ℕ)
     → (coefficients : ℕ → ℕ) × IsColumnOf s j (located_at s j) coefficients
 unfolding located_at
 is_column s g j =
-    let (coefficients, are) = coefficients_of (frame_at s.configuration).exponent (located_at s j) (distinct s g).few
+    let (coefficients, are) = coefficients_of (frame_at s.configuration).exponent (located_at s j) (distinct g).few
     (located_at_lt s j) in (
       coefficients,
       record {
@@ -45,17 +45,16 @@ is_column s g j =
 -- ---- codewords
 
 -- Some message agrees with any k shards of one size.
-pub any_consistent : (s : DecoderState) → AreGiven s → s.configuration.shard_bytes % 2 ≡ 0
+pub any_consistent : {s : DecoderState} → AreGiven s → s.configuration.shard_bytes % 2 ≡ 0
     → originals_given s + recovery_given s ≡ s.configuration.original_count → IsConsistent s
-any_consistent s g even count =
-    consistent s g even (λ j hj.
+any_consistent {s} g even count =
+    consistent g even (λ j hj.
     let (coefficients, is) = is_column s g j in
-    some_message s g j (located_at s j) coefficients is 0 (count ∙ sym (add-zero s.configuration.original_count))
+    some_message g is 0 (count ∙ sym (add-zero s.configuration.original_count))
     (λ i above below. absurd (let no : ⊥ = omega arith in no)))
 
 -- Any k shards of one size agree with exactly one message.
 pub one_codeword : HasOneMessage
 one_codeword c originals recovery is even own coded count =
-    let (message, agrees) = any_consistent (state_with c originals recovery)
-    (given_within c originals recovery is own coded) even count in
-    (message, agrees, λ other a. one_message c originals recovery other message is even (omega arith) a agrees)
+    let (message, agrees) = any_consistent (given_within c originals recovery is own coded) even count in
+    (message, agrees, λ other a. one_message is even (omega arith) a agrees)

@@ -21,11 +21,11 @@ use Rattle.rs_field.proofs.of_code.DirectColumn.{IsLocated, direct_original, dir
 use Rattle.rs_field.proofs.of_code.AnyShards.{any_consistent}
 
 -- A message that agrees with given shards agrees with some of them.
-pub agrees_with_part : (c : Configuration) (originals recovery some_originals some_recovery : Shards)
-    (message : List Shard) → IsPartOf some_originals originals → IsPartOf some_recovery recovery
+pub agrees_with_part : {c : Configuration} {originals recovery some_originals some_recovery : Shards}
+    {message : List Shard} → IsPartOf some_originals originals → IsPartOf some_recovery recovery
     → (a : Agrees c originals recovery message)
     → (part : Agrees c some_originals some_recovery message) × (part.coded.0 ≡ a.coded.0)
-agrees_with_part c originals recovery some_originals some_recovery message own coded a = (
+agrees_with_part own coded a = (
   record {
     shards = a.shards;
     own = λ i shard e. a.own i shard (own.entries i shard e);
@@ -58,8 +58,8 @@ unfolding summed_word
 summed_directly c originals recovery message i j is own coded enough agrees hj =
     let s : DecoderState = state_with c originals recovery in
     let g = given_within c originals recovery is own coded in (
-      direct_original s g (λ x. is_some (given_in s x)) (locator_in s) (all_located s) enough message agrees i j hj,
-      direct_recovery s g (λ x. is_some (given_in s x)) (locator_in s) (all_located s) enough message agrees i j hj,
+      direct_original g (all_located s) enough agrees i j hj,
+      direct_recovery g (all_located s) enough agrees i j hj,
     )
 
 -- ---- the base
@@ -71,39 +71,40 @@ AreSums s received sum =
     → sum j x ≡ column j shard
 
 -- The shards of a base are given shards.
-pub base_given : (s : DecoderState) (originals recovery : Shards) → AreGiven s → IsPartOf originals s.originals
+pub base_given : {s : DecoderState} {originals recovery : Shards} → AreGiven s → IsPartOf originals s.originals
     → IsPartOf recovery s.recovery → AreGiven (state_with s.configuration originals recovery)
-base_given s originals recovery g own coded = record {
+base_given g own coded = record {
   supported = g.supported;
   own_sized = record { each = λ i shard e. g.own_sized.each i shard (own.entries i shard e) };
   coded_sized = record { each = λ i shard e. g.coded_sized.each i shard (coded.entries i shard e) };
 }
 
-module _ (s : DecoderState) (g : AreGiven s) (base_originals base_recovery : Shards)
+module _ {s : DecoderState} (g : AreGiven s) {base_originals base_recovery : Shards}
     (own_part : IsPartOf base_originals s.originals) (coded_part : IsPartOf base_recovery s.recovery)
-    (received : ℕ → Bool) (locator : ℕ → ℕ)
+    {received : ℕ → Bool} {locator : ℕ → ℕ}
     (l : IsLocated (state_with s.configuration base_originals base_recovery) received locator) where
   abbrev base : DecoderState
   base = state_with s.configuration base_originals base_recovery
 
   -- The sum over the base at a point.
   abbrev base_sum : ℕ → ℕ → ℕ
-  base_sum j = direct_sum (rows_of s) received locator (words_in (state_with s.configuration base_originals base_recovery) j)
+  base_sum j = direct_sum (rows_of s) received locator
+      (words_in (state_with s.configuration base_originals base_recovery) j)
 
   -- The row of an original or of a recovery shard is received exactly if the base has this shard.
   pub own-received : (i : ℕ) → i < s.configuration.original_count
       → received (original_row (frame_at s.configuration) i) ≡ is_some (base_originals i)
   own-received i hi =
-      l.rows (original_row (frame_at s.configuration) i) (omega (arith, (distinct s g).originals, hi))
+      l.rows (original_row (frame_at s.configuration) i) (omega (arith, (distinct g).originals, hi))
       ∙ ap is_some (given_at-own (frame_at s.configuration) s.configuration.original_count
       s.configuration.recovery_count base_originals base_recovery i hi)
 
   pub coded-received : (i : ℕ) → i < s.configuration.recovery_count
       → received (recovery_row (frame_at s.configuration) i) ≡ is_some (base_recovery i)
   coded-received i hi =
-      l.rows (recovery_row (frame_at s.configuration) i) (omega (arith, (distinct s g).recovery, hi))
+      l.rows (recovery_row (frame_at s.configuration) i) (omega (arith, (distinct g).recovery, hi))
       ∙ ap is_some (given_at-coded (frame_at s.configuration) s.configuration.original_count
-      s.configuration.recovery_count base_originals base_recovery i (distinct s g) hi)
+      s.configuration.recovery_count base_originals base_recovery i (distinct g) hi)
 
   module _ (even : s.configuration.shard_bytes % 2 ≡ 0)
       (count : originals_given base + recovery_given base ≡ s.configuration.original_count) where
@@ -112,17 +113,17 @@ module _ (s : DecoderState) (g : AreGiven s) (base_originals base_recovery : Sha
       own_sum : (i j : ℕ) → j < s.configuration.shard_bytes / 2 → i < s.configuration.original_count
           → received (original_row (frame_at s.configuration) i) ≡ false
           → base_sum j (original_row (frame_at s.configuration) i) ≡ column j (shard_at message i)
-      own_sum i j hj hi none = direct_original base (base_given s base_originals base_recovery g own_part coded_part)
-          received locator l (omega (arith, count)) message a i j hj hi (sym (own-received i hi) ∙ none)
+      own_sum i j hj hi none = direct_original (base_given g own_part coded_part) l (omega (arith, count)) a i j hj hi
+          (sym (own-received i hi) ∙ none)
 
       coded_sum : (i j : ℕ) → j < s.configuration.shard_bytes / 2 → i < s.configuration.recovery_count
           → received (recovery_row (frame_at s.configuration) i) ≡ false
           → base_sum j (recovery_row (frame_at s.configuration) i) ≡ column j (shard_at a.coded.0 i)
-      coded_sum i j hj hi none = direct_recovery base (base_given s base_originals base_recovery g own_part coded_part)
-          received locator l (omega (arith, count)) message a i j hj hi (sym (coded-received i hi) ∙ none)
+      coded_sum i j hj hi none = direct_recovery (base_given g own_part coded_part) l (omega (arith, count)) a i j hj hi
+          (sym (coded-received i hi) ∙ none)
 
       sums : AreAmong s.originals message → AreAmong s.recovery a.coded.0 → AreSums s received base_sum
-      sums own coded x j shard is none hj = elim (given-either s g x shard is) [
+      sums own coded x j shard is none hj = elim (given-either g x shard is) [
         | inl here ↦
             ap (base_sum j) here.2 ∙ own_sum here.0 j hj here.1 (sym (ap received here.2) ∙ none)
             ∙ ap (column j) (own here.0 shard here.3)
@@ -143,7 +144,7 @@ module _ (s : DecoderState) (g : AreGiven s) (base_originals base_recovery : Sha
                 (shard_in s.configuration.original_count s.configuration.shard_bytes message a.shards i hi) sized even
                 (λ j hj.
                 sym (own_sum i j hj hi (own-received i hi ∙ missing))
-                ∙ equal (original_row (frame_at s.configuration) i) j shard (given-own s g i shard hi given)
+                ∙ equal (original_row (frame_at s.configuration) i) j shard (given-own g i shard hi given)
                 (own-received i hi ∙ missing) hj)
           ]
 
@@ -160,7 +161,7 @@ module _ (s : DecoderState) (g : AreGiven s) (base_originals base_recovery : Sha
                 sized even
                 (λ j hj.
                 sym (coded_sum i j hj hi (coded-received i hi ∙ missing))
-                ∙ equal (recovery_row (frame_at s.configuration) i) j shard (given-coded s g i shard hi given)
+                ∙ equal (recovery_row (frame_at s.configuration) i) j shard (given-coded g i shard hi given)
                 (coded-received i hi ∙ missing) hj)
           ]
 
@@ -169,12 +170,11 @@ module _ (s : DecoderState) (g : AreGiven s) (base_originals base_recovery : Sha
     pub consistent_by_sums : IsConsistent s ↔ AreSums s received base_sum
     consistent_by_sums = (
       λ m.
-          let (a, same) = agrees_with_part s.configuration s.originals s.recovery base_originals base_recovery m.0
-          own_part coded_part m.1 in
+          let (a, same) = agrees_with_part own_part coded_part m.1 in
           sums m.0 a m.1.own (subst (AreAmong s.recovery) (sym same) m.1.coded.2),
       λ equal.
           let (message, agrees) =
-          any_consistent base (base_given s base_originals base_recovery g own_part coded_part) even count in (
+          any_consistent (base_given g own_part coded_part) even count in (
             message,
             record {
               shards = agrees.shards;
@@ -188,29 +188,24 @@ module _ (s : DecoderState) (g : AreGiven s) (base_originals base_recovery : Sha
 pub consistent_by_base : IsDecidedByBase
 unfolding summed_word
 consistent_by_base c originals recovery base_originals base_recovery is even own coded own_part coded_part count =
-    let s : DecoderState = state_with c originals recovery in
     let base : DecoderState = state_with c base_originals base_recovery in
     let g = given_within c originals recovery is own coded in
-    let frame = frame_at c in
     let sum : ℕ → ℕ → ℕ = summed_word c base_originals base_recovery in
-    let own_is = own-received s g base_originals base_recovery own_part coded_part (λ x. is_some (given_in base x))
-    (locator_in base) (all_located base) in
-    let coded_is = coded-received s g base_originals base_recovery own_part coded_part (λ x. is_some (given_in base x))
-    (locator_in base) (all_located base) in
-    let both = consistent_by_sums s g base_originals base_recovery own_part coded_part
-    (λ x. is_some (given_in base x)) (locator_in base) (all_located base) even count in (
+    let own_is = own-received g own_part coded_part (all_located base) in
+    let coded_is = coded-received g own_part coded_part (all_located base) in
+    let both = consistent_by_sums g own_part coded_part (all_located base) even count in (
       λ m.
           let equal = both.0 m in
           record {
             own = λ i shard j given missing hj.
                 let hi = (g.own_sized.each i shard given).0 in
-                equal (original_row (frame_at c) i) j shard (given-own s g i shard hi given) (own_is i hi ∙ missing) hj;
+                equal (original_row (frame_at c) i) j shard (given-own g i shard hi given) (own_is i hi ∙ missing) hj;
             coded = λ i shard j given missing hj.
                 let hi = (g.coded_sized.each i shard given).0 in
-                equal (recovery_row (frame_at c) i) j shard (given-coded s g i shard hi given) (coded_is i hi ∙ missing)
+                equal (recovery_row (frame_at c) i) j shard (given-coded g i shard hi given) (coded_is i hi ∙ missing)
                 hj;
           },
-      λ summed. both.1 (λ x j shard given none hj. elim (given-either s g x shard given) [
+      λ summed. both.1 (λ x j shard given none hj. elim (given-either g x shard given) [
         | inl here ↦
             ap (sum j) here.2 ∙ summed.own here.0 shard j here.3
             (sym (own_is here.0 here.1) ∙ ap (λ y. is_some (given_in base y)) (sym here.2) ∙ none) hj

@@ -66,7 +66,7 @@ changes_noticed c message all originals recovery is even are own some few (other
       coded = (a.coded.0, a.coded.1, λ i s e. a.coded.2 i s (kept_given recovery all i s e).0);
     } in
     let same : message ≡ other =
-    one_message c (kept originals message) (kept recovery all) message other is even (omega arith) here there in
+    one_message is even (omega arith) here there in
     let same_recovery : all ≡ a.coded.0 =
     recovery_unique c message all a.coded.0 (few_originals c.rate c.original_count c.recovery_count is) even own
     (subst (λ (m : List Shard). AreRecovery c m a.coded.0) (sym same) a.coded.1) in

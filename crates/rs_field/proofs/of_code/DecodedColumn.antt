@@ -46,7 +46,15 @@ pub record IsColumnOf (s : DecoderState) (j : ℕ) (located coefficients : ℕ �
   pub are_words : (x : ℕ) → x < rows_of s → coefficients x < 2 ^ 16
   pub back : (x : ℕ) → x < rows_of s → forward (rows_of s) 0 coefficients x ≡ located x
 
-module _ (s : DecoderState) (g : AreGiven s) (j : ℕ) where
+module _ {s : DecoderState} (g : AreGiven s) where
+  -- The erased rows, the coefficients and the given shards are together as many as the rows and the originals.
+  pub counted : length (marked (rows_of s) (erased_in s)) + coefficient_count (frame_at s.configuration)
+      + (originals_given s + recovery_given s) ≡ rows_of s + s.configuration.original_count
+  counted =
+      erased_count (frame_at s.configuration) s.configuration.original_count s.configuration.recovery_count s.originals
+      s.recovery (erased_in s) (distinct g) (erasures g)
+
+module _ {s : DecoderState} (g : AreGiven s) {j : ℕ} where
   -- If a polynomial of the frame has the given words as values, it has them at all rows that are not erased.
   taken_in_frame : (q : List ℕ) → TakesGiven s j q
       → ((x : ℕ) → (frame_at s.configuration).zeros_from ≤ x → x < zeros_end (frame_at s.configuration)
@@ -54,12 +62,12 @@ module _ (s : DecoderState) (g : AreGiven s) (j : ℕ) where
       → (x : ℕ) → x < rows_of s → erased_in s x ≡ 0 → value q x ≡ words_in s j x
   taken_in_frame q takes zeros x hx is = elim (cases_given s j x) [
     | inl some ↦
-        elim (given-either s g x some.0 some.1) [
+        elim (given-either g x some.0 some.1) [
           | inl own ↦ ap (value q) own.2 ∙ takes.own own.0 some.0 own.1 own.3
           | inr coded ↦ ap (value q) coded.2 ∙ takes.coded coded.0 some.0 coded.1 coded.3
         ] ∙ sym (word-given s j x some.0 some.1)
     | inr none ↦
-        let zero = erased-none s g x hx none is in zeros x zero.0 zero.1 ∙ sym (word-none s j x none)
+        let zero = erased-none g x hx none is in zeros x zero.0 zero.1 ∙ sym (word-none s j x none)
   ]
 
   -- If a polynomial codes and has the given words as values, a polynomial of the frame has the words at all rows that
@@ -70,7 +78,7 @@ module _ (s : DecoderState) (g : AreGiven s) (j : ℕ) where
       × ((x : ℕ) → x < rows_of s → value q x ≡ value p x)
   taken_from p (message, codes, takes) =
       let c = s.configuration in
-      let f = distinct s g in
+      let f = distinct g in
       let (q, in_frame, same) = framed c.rate c.original_count c.recovery_count f message p codes in
       let takes_q : TakesGiven s j q = record {
         own = λ i shard hi is.
@@ -94,7 +102,7 @@ module _ (s : DecoderState) (g : AreGiven s) (j : ℕ) where
       → (p : List ℕ) × IsTaken s j p
   taken_by q takes =
       let c = s.configuration in
-      let f = distinct s g in
+      let f = distinct g in
       let message = values_of c.original_count (λ i. value q (original_row (frame_at c) i)) in
       let (p, codes, same) = unframed c.rate c.original_count c.recovery_count f
       (values_of c.original_count (λ i. value q (original_row (frame_at c) i))) q (record {
@@ -103,8 +111,8 @@ module _ (s : DecoderState) (g : AreGiven s) (j : ℕ) where
         originals = λ i hi.
             sym (values_of-at c.original_count (λ n. value q (original_row (frame_at c) n)) i hi);
         zeros = λ x above below.
-            takes.given x (omega (arith, f.zeros, below)) ((erasures s g).known x above below)
-            ∙ word-none s j x (given-zero s g x above below);
+            takes.given x (omega (arith, f.zeros, below)) ((erasures g).known x above below)
+            ∙ word-none s j x (given-zero g x above below);
       }) in (
         p,
         (
@@ -113,10 +121,10 @@ module _ (s : DecoderState) (g : AreGiven s) (j : ℕ) where
           record {
             own = λ i shard hi is.
                 at_given p same (original_row (frame_at c) i) shard (omega (arith, f.originals, hi))
-                (given-own s g i shard hi is);
+                (given-own g i shard hi is);
             coded = λ i shard hi is.
                 at_given p same (recovery_row (frame_at c) i) shard (omega (arith, f.recovery, hi))
-                (given-coded s g i shard hi is);
+                (given-coded g i shard hi is);
           },
         ),
       )
@@ -124,20 +132,13 @@ module _ (s : DecoderState) (g : AreGiven s) (j : ℕ) where
       at_given : (p : List ℕ) → ((x : ℕ) → x < rows_of s → value p x ≡ value q x) → (x : ℕ) (shard : Shard)
           → x < rows_of s → given_in s x ≡ Some shard → value p x ≡ column j shard
       at_given p same x shard hx is =
-          same x hx ∙ takes.given x hx (erased-given s g x shard is) ∙ word-given s j x shard is
+          same x hx ∙ takes.given x hx (erased-given g x shard is) ∙ word-given s j x shard is
 
-  -- The erased rows, the coefficients and the given shards are together as many as the rows and the originals.
-  pub counted : length (marked (rows_of s) (erased_in s)) + coefficient_count (frame_at s.configuration)
-      + (originals_given s + recovery_given s) ≡ rows_of s + s.configuration.original_count
-  counted =
-      erased_count (frame_at s.configuration) s.configuration.original_count s.configuration.recovery_count s.originals
-      s.recovery (erased_in s) (distinct s g) (erasures s g)
-
-  module _ (located rows : ℕ → ℕ) (h : IsColumnOf s j located rows) where
+  module _ {located rows : ℕ → ℕ} (h : IsColumnOf s j located rows) where
     are_located : AreLocated (rows_of s) (erased_in s) (words_in s j) located
     are_located = record {
       erased = λ x hx one. elim (cases_given s j x) [
-        | inl some ↦ let none = erased-given s g x some.0 some.1 in absurd (omega (arith, one, none))
+        | inl some ↦ let none = erased-given g x some.0 some.1 in absurd (omega (arith, one, none))
         | inr none ↦ h.none x hx none
       ];
       given = λ x hx none. elim (cases_given s j x) [
@@ -156,8 +157,8 @@ module _ (s : DecoderState) (g : AreGiven s) (j : ℕ) where
         → (p : List ℕ) × IsTaken s j p
     some_message t count none =
         let (q, takes) = taken_from_zero_rows (rows_of s) (coefficient_count (frame_at s.configuration)) t (erased_in s)
-        (words_in s j) located rows (pow_mono (distinct s g).few) (erasures s g).are_marks
-        (omega (arith, counted, count)) are_located (λ x hx _. word_lt s g j x) h.back none in
+        (words_in s j) located rows (pow_mono (distinct g).few) (erasures g).are_marks
+        (omega (arith, counted g, count)) are_located (λ x hx _. word_lt g j x) h.back none in
         taken_by q takes
 
     module _ (p : List ℕ) (taken : IsTaken s j p) where
@@ -167,7 +168,7 @@ module _ (s : DecoderState) (g : AreGiven s) (j : ℕ) where
       surplus_rows t count =
           let (q, takes, same) = taken_from p taken in
           zero_rows (rows_of s) (coefficient_count (frame_at s.configuration)) t (erased_in s) (words_in s j) located
-          rows (pow_mono (distinct s g).few) (erasures s g).are_marks (omega (arith, counted, count)) are_located
+          rows (pow_mono (distinct g).few) (erasures g).are_marks (omega (arith, counted g, count)) are_located
           h.are_words h.back (q, takes)
 
       module _ (added : ℕ → ℕ) (x l : ℕ)
@@ -178,12 +179,12 @@ module _ (s : DecoderState) (g : AreGiven s) (j : ℕ) where
             ≡ product (power (log_sum (rows_of s) (erased_in s) x)) (value p x)
         restored_product =
             let (q, takes, same) = taken_from p taken in
-            let few = pow_mono (distinct s g).few in
-            restored (frame_at s.configuration).exponent rows added (erased_in s) q (distinct s g).few
-            takes.coefficients (erasures s g).are_marks (omega (arith, takes.degree, counted, enough))
+            let few = pow_mono (distinct g).few in
+            restored (frame_at s.configuration).exponent rows added (erased_in s) q (distinct g).few
+            takes.coefficients (erasures g).are_marks (omega (arith, takes.degree, counted g, enough))
             (λ i hi. h.back i hi
             ∙ located_values (rows_of s) (coefficient_count (frame_at s.configuration)) (erased_in s) (words_in s j)
-            located q few (erasures s g).are_marks are_located takes i hi) step x hx one
+            located q few (erasures g).are_marks are_located takes i hi) step x hx one
             ∙ ap (product (power (log_sum (rows_of s) (erased_in s) x))) (same x hx)
 
         -- A power for 65535 minus any residue of the locator, times this value, is the wanted word.

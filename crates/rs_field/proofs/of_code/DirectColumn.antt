@@ -23,24 +23,24 @@ pub record IsLocated (s : DecoderState) (received : ℕ → Bool) (locator : ℕ
   pub logarithms : IsLocatorBelow (rows_of s) (erased_in s) locator
   pub most : (x : ℕ) → x < rows_of s → locator x ≤ 65535
 
-module _ (s : DecoderState) (g : AreGiven s) (received : ℕ → Bool) (locator : ℕ → ℕ)
+module _ {s : DecoderState} (g : AreGiven s) {received : ℕ → Bool} {locator : ℕ → ℕ}
     (l : IsLocated s received locator)
-    (enough : s.configuration.original_count ≤ originals_given s + recovery_given s) (message : List Shard)
+    (enough : s.configuration.original_count ≤ originals_given s + recovery_given s) {message : List Shard}
     (agrees : IsAgreeing s message) (i j : ℕ) (hj : j < s.configuration.shard_bytes / 2) where
   -- The direct sum at an erased point is the value of the polynomial of the column.
   direct_word : (p : List ℕ) → IsTaken s j p → (x : ℕ) → x < rows_of s → erased_in s x ≡ 1
       → direct_sum (rows_of s) received locator (words_in s j) x ≡ value p x
   direct_word p taken x hx one =
-      let (q, takes, same) = taken_from s g j p taken in
+      let (q, takes, same) = taken_from g p taken in
       direct_value (frame_at s.configuration).exponent (coefficient_count (frame_at s.configuration)) x (erased_in s)
-      (words_in s j) locator received q (distinct s g).few (erasures s g).are_marks
-      (omega (arith, counted s g j, enough)) takes (record {
+      (words_in s j) locator received q (distinct g).few (erasures g).are_marks
+      (omega (arith, counted g, enough)) takes (record {
         added = λ z hz none. elim (cases_given s j z) [
           | inl some ↦ inl (l.rows z hz ∙ ap is_some some.1)
           | inr empty ↦ inr (word-none s j z empty)
         ];
         erased = λ z hz marked. elim (cases_given s j z) [
-          | inl some ↦ let none = erased-given s g z some.0 some.1 in absurd (omega (arith, marked, none))
+          | inl some ↦ let none = erased-given g z some.0 some.1 in absurd (omega (arith, marked, none))
           | inr empty ↦ l.rows z hz ∙ ap is_some empty
         ];
       }) l.logarithms (l.most x hx) hx one
@@ -53,8 +53,8 @@ module _ (s : DecoderState) (g : AreGiven s) (received : ℕ → Bool) (locator 
   direct_original hi missing =
       let (p, codes, takes) = column_taken s message j hj agrees in
       direct_word p (columns j message, codes, takes) (original_row (frame_at s.configuration) i)
-      (omega (arith, (distinct s g).originals, hi))
-      ((erasures s g).own i hi ∙ ap (λ (b : Bool). cond b 0 1) missing)
+      (omega (arith, (distinct g).originals, hi))
+      ((erasures g).own i hi ∙ ap (λ (b : Bool). cond b 0 1) missing)
       ∙ codes.originals i hi ∙ columns-at j message i
 
   -- The direct sum at the point of a recovery shard that is not given is the word of this recovery shard.
@@ -65,11 +65,11 @@ module _ (s : DecoderState) (g : AreGiven s) (received : ℕ → Bool) (locator 
       let c = s.configuration in
       let (p, codes, takes) = column_taken s message j hj agrees in
       let (o, codes_o, at) = agrees.coded.1.words j hj in
-      let f = distinct s g in
+      let f = distinct g in
       let room : rows_of s ≤ 2 ^ 16 = pow_mono f.few in
       direct_word p (columns j message, codes, takes) (recovery_row (frame_at s.configuration) i)
       (omega (arith, f.recovery, hi))
-      ((erasures s g).coded i hi ∙ ap (λ (b : Bool). cond b 0 1) missing)
+      ((erasures g).coded i hi ∙ ap (λ (b : Bool). cond b 0 1) missing)
       ∙ ap (λ (q : List ℕ). value q (recovery_row (frame_at s.configuration) i))
       (codes_unique c.rate c.original_count c.recovery_count (columns j message) p o
       (omega (arith, f.originals, room)) codes codes_o)

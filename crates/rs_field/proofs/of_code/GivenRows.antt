@@ -23,8 +23,8 @@ pub record AreSized (count size : ℕ) (given : Shards) : Type 0 where
   pub each : (i : ℕ) (shard : Shard) → given i ≡ Some shard → (i < count) × IsShard size shard
 
 -- Given shards that are within bounds have indexes below the count.
-pub sized-within : (count size : ℕ) (given : Shards) → AreWithin count size given → AreSized count size given
-sized-within count size given within =
+pub sized-within : {count size : ℕ} {given : Shards} → AreWithin count size given → AreSized count size given
+sized-within {count} within =
     record {
       each = λ i shard is. (
         elim (cases_lt i count)
@@ -54,8 +54,8 @@ pub given_within : (c : Configuration) (originals recovery : Shards)
     → AreGiven (state_with c originals recovery)
 given_within c originals recovery supported own coded = record {
   supported = supported;
-  own_sized = sized-within c.original_count c.shard_bytes originals own;
-  coded_sized = sized-within c.recovery_count c.shard_bytes recovery coded;
+  own_sized = sized-within own;
+  coded_sized = sized-within coded;
 }
 
 -- ---- the rows of a frame
@@ -222,7 +222,7 @@ module _ (s : DecoderState) (j x : ℕ) where
       by_entry None is = inr is
       by_entry (Some shard) is = inl (shard, is)
 
-module _ (s : DecoderState) (g : AreGiven s) where
+module _ {s : DecoderState} (g : AreGiven s) where
   pub distinct : HasDistinctRows (frame_at s.configuration) s.configuration.original_count
       s.configuration.recovery_count
   distinct = distinct_rows s.configuration.rate s.configuration.original_count s.configuration.recovery_count

@@ -123,7 +123,7 @@ module _ (c : Configuration) (supported : supports c.rate c.original_count c.rec
           own = λ m shard is. (all_of-some c.original_count m message shard is).1;
           coded = (recovery, coded, nothing_among recovery);
         } in
-        direct_recovery (with_message c message) (record {
+        direct_recovery (record {
           supported = supported;
           own_sized = record {
             each = λ m shard is.
@@ -131,7 +131,7 @@ module _ (c : Configuration) (supported : supports c.rate c.original_count c.rec
                 (s.0, subst (IsShard c.shard_bytes) s.1 (shard_in c.original_count c.shard_bytes message shards m s.0));
           };
           coded_sized = record { each = λ m shard is. absurd (none-some shard is) };
-        }) received locator (located message) (omega (arith, all)) message agrees i j hj hi refl
+        }) (located message) (omega (arith, all)) agrees i j hj hi refl
 
     -- A change of one original changes each recovery word by the change of the word times a factor.
     pub word_changed : (index i j : ℕ) (message changed recovery changed_recovery : List Shard)

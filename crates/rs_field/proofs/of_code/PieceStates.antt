@@ -167,7 +167,7 @@ AreConsistentBelow s bound =
 pub consistent-whole : (s : DecoderState) → AreGiven s → s.configuration.shard_bytes % 2 ≡ 0
     → AreConsistentBelow s s.configuration.shard_bytes → IsConsistent s
 consistent-whole s g even each =
-    consistent s g even (λ j inside.
+    consistent g even (λ j inside.
     let (start, end, strip, from, to, pieces_agree) = each j inside in
     let place : start / 2 + (j - start / 2) ≡ j = omega (arith, from) in
     let here : j - start / 2 < (end - start) / 2 = omega (arith, from, to, strip.begins, strip.order) in

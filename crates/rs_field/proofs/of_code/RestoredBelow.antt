@@ -269,7 +269,7 @@ restored-all s grows rooms supported even own_within coded_within enough done =
       restored = record {
         message = message;
         agrees = agrees;
-        only = λ other also. one_message c s.originals s.recovery other message supported even enough also agrees;
+        only = λ other also. one_message supported even enough also agrees;
         missing = λ i. refl;
       };
       items = items_below c.original_count (missing_of s message);

@@ -60,7 +60,7 @@ pub parts_next : (direction : Direction) (used used' : ℕ → Bool) (size n shi
     (λ q. word new k s (pos + j * n + q)))
     → PartsDone direction used size n shift pos (j + 1) old new
 parts_next direction used used' size n shift pos j old mid new p begins done extent others same step = record {
-  extent = extent_then old mid new done.extent extent;
+  extent = extent_then done.extent extent;
   others =
       outside_both pos (pos + size) (pos + j * n) (pos + j * n + n) pos
       (pos + size) old mid new done.extent done.others others
@@ -104,7 +104,7 @@ parts_next direction used used' size n shift pos j old mid new p begins done ext
 
     unchanged : (r k : ℕ) → k < old.shard_len_64 → (r < pos + j * n) ⊎ (pos + j * n + n ≤ r)
         → cell new k r ≡ cell mid k r
-    unchanged r k hk h = outside_cell (pos + j * n) (pos + j * n + n) mid new extent others r k (omega (arith, len)) h
+    unchanged r k hk h = outside_cell extent others r k (omega (arith, len)) h
 
 -- If the rows of a part were not changed yet, its unused rows are zero.
 pub zeros_of_part : (direction : Direction) (used part : UsedRows) (old mid : ShardsRefMut) (pos size start n : ℕ)
@@ -211,14 +211,13 @@ pub counts_of_layers : (block : Block) (from to : Steps) → 1 < block.size → 
 counts_of_layers block from to large c =
     let size = block.size in
     let p = part_found block (rows_of_part size) refl large in
-    counts_within (layer_steps size) (transform_steps size) from to (let whole = p.steps in omega arith)
-    (counts_rows (layer_steps size) from to c)
+    counts_within (let whole = p.steps in omega arith) (counts_rows c)
 
 -- Transforming one more part adds the bound of one part.
 pub counts_next : (t j : ℕ) (from mid to : Steps) → CountsUpTo (j * t) 0 0 from mid → CountsUpTo t 0 0 mid to
     → CountsUpTo ((j + 1) * t) 0 0 from to
 counts_next t j from mid to p q =
-    counts_within (j * t + t) ((j + 1) * t) from to (omega arith) (counts_then (j * t) t from mid to p q)
+    counts_within (omega arith) (counts_then p q)
 
 -- The row steps of some parts are within the bound of all parts.
 pub counts_of_parts : (size n j : ℕ) (from to : Steps) (p : IsPart size n) → j ≤ p.count
@@ -231,4 +230,4 @@ pub counts_of_whole : (size a b : ℕ) (from mid to : Steps) → a + b ≤ trans
     → CountsUpTo b 0 0 mid to
     → TransformCounts size from to
 counts_of_whole size a b from mid to few p q =
-    counts_within (a + b) (transform_steps size) from to few (counts_then a b from mid to p q)
+    counts_within few (counts_then p q)

@@ -8,8 +8,8 @@ use Rattle.rs_field.proofs.of_rows.Symbols.{symbol-zero}
 use Rattle.rs_field.proofs.of_words.Combination.{forward-one, forward-zero}
 use Rattle.std.proofs.lemmas.Grind.{common_steps}
 
-pub fits_kept : (a b : ShardsRefMut) → SameExtent a b → Fits a → Fits b
-fits_kept a b p h = rw (p.count, p.len_64, p.length) h
+pub fits_kept : {a b : ShardsRefMut} → SameExtent a b → Fits a → Fits b
+fits_kept p h = rw (p.count, p.len_64, p.length) h
 
 pub word_same : (a b : ShardsRefMut) (k s i j : ℕ) → cell a k i ≡ cell b k j → word a k s i ≡ word b k s j
 word_same a b k s i j e = ap (λ (c : List ℕ). symbol c s) e

@@ -36,10 +36,10 @@ offset_apart a i k n q ne =
     ]
 
 -- The chunks of the rows outside the changed rows are unchanged.
-pub outside_cell : (a b : ℕ) (old new : ShardsRefMut) → SameExtent old new → SameRowsOutside a b old new
+pub outside_cell : {a b : ℕ} {old new : ShardsRefMut} → SameExtent old new → SameRowsOutside a b old new
     → (i k : ℕ) → k < old.shard_len_64 → (i < a) ⊎ (b ≤ i) → cell new k i ≡ cell old k i
 unfolding cell
-outside_cell a b old new extent others i k hk h =
+outside_cell {a} {b} {old} {new} extent others i k hk h =
     ap (λ n. chunk new.chunks.now (i * n + k)) extent.len_64
     ∙ others (i * old.shard_len_64 + k) (offset_outside a b i k old.shard_len_64 hk h)
 
@@ -58,8 +58,8 @@ outside_both a b c d e f old mid new extent first second ea bf ec df k h =
     then k (elim h [ inl before ↦ inl (omega arith) | inr after ↦ inr (omega arith) ])
     ∙ first k (elim h [ inl before ↦ inl (omega arith) | inr after ↦ inr (omega arith) ])
 
-pub extent_then : (old mid new : ShardsRefMut) → SameExtent old mid → SameExtent mid new → SameExtent old new
-extent_then old mid new p q =
+pub extent_then : {old mid new : ShardsRefMut} → SameExtent old mid → SameExtent mid new → SameExtent old new
+extent_then p q =
     record {
       name = q.name ∙ p.name;
       count = q.count ∙ p.count;

@@ -11,20 +11,21 @@ pub counted : (m n q : ℕ) (a b : Steps) → (a.row_steps ≤ b.row_steps) × (
 counted m n q a b x y z = grind (arith, common_steps)
 
 -- A call with exactly n row steps is within the bound n.
-pub counts_rows : (n : ℕ) (a b : Steps) → CountsRows n a b → CountsUpTo n 0 0 a b
-counts_rows n a b (x, y, z) =
+pub counts_rows : {n : ℕ} {a b : Steps} → CountsRows n a b → CountsUpTo n 0 0 a b
+counts_rows {n} {a} {b} (x, y, z) =
     counted n 0 0 a b (omega arith, omega arith) (omega arith, omega arith) (omega arith, omega arith)
 
 -- A call that counts nothing is within any bound.
-pub counts_none : (m n q : ℕ) (a : Steps) → CountsUpTo m n q a a
-counts_none m n q a = counted m n q a a (omega arith, omega arith) (omega arith, omega arith) (omega arith, omega arith)
+pub counts_none : {m n q : ℕ} {a : Steps} → CountsUpTo m n q a a
+counts_none {m} {n} {q} {a} =
+    counted m n q a a (omega arith, omega arith) (omega arith, omega arith) (omega arith, omega arith)
 
 -- The bounds of two calls add up.
-pub counts_then : (m n : ℕ) (a b c : Steps) → CountsUpTo m 0 0 a b → CountsUpTo n 0 0 b c → CountsUpTo (m + n) 0 0 a c
-counts_then m n a b c p q =
+pub counts_then : {m n : ℕ} {a b c : Steps} → CountsUpTo m 0 0 a b → CountsUpTo n 0 0 b c → CountsUpTo (m + n) 0 0 a c
+counts_then {m} {n} {a} {b} {c} p q =
     counted (m + n) 0 0 a c (omega arith, omega arith) (omega arith, omega arith) (omega arith, omega arith)
 
 -- Counts within a bound are within any larger bound.
-pub counts_within : (m n : ℕ) (a b : Steps) → m ≤ n → CountsUpTo m 0 0 a b → CountsUpTo n 0 0 a b
-counts_within m n a b le p =
+pub counts_within : {m n : ℕ} {a b : Steps} → m ≤ n → CountsUpTo m 0 0 a b → CountsUpTo n 0 0 a b
+counts_within {m} {n} {a} {b} le p =
     counted n 0 0 a b (omega arith, omega arith) (omega arith, omega arith) (omega arith, omega arith)

@@ -27,8 +27,8 @@ use Rattle.rs_rate.proofs.of_passes.DecodedColumns.{rows_located, given_some, gi
 use Rattle.rs_rate.proofs.of_rows.HowMany.{how_many-same, many_rows}
 use Rattle.rs_rate.proofs.of_rows.RowMaps.{marked-at, part-in, some-marked}
 
-module _ (rate : Rate) (k r size : ℕ) (supported : supports rate k r ≡ true)
-    (g : GivenRows (rate_configuration rate k r size)) (base : List Bool) (locator : List ℕ)
+module _ (rate : Rate) {k r size : ℕ} (supported : supports rate k r ≡ true)
+    (g : GivenRows (rate_configuration rate k r size)) {base : List Bool} {locator : List ℕ}
     (is_base : IsBaseOf (rate_configuration rate k r size) g.marks base)
     (is_locator : IsLocatorOf (frame_of rate k r) base locator) where
   abbrev state : DecoderState
@@ -83,9 +83,7 @@ module _ (rate : Rate) (k r size : ℕ) (supported : supports rate k r ≡ true)
 
   base_count : count_below k own + count_below r coded ≡ k
   base_count =
-      sym (many_rows (rate_configuration rate k r size)
-      (places-known (rate_configuration rate k r size) g.configured)
-      (count_below k own) (count_below r coded) base_rows given_base.given)
+      sym (many_rows (places-known g.configured) given_base.given)
       ∙ how_many-same (row_count (frame_of rate k r)) (λ p. is_some (base_rows p)) (is_marked base)
       (λ p hp. some-marked base (shard_laid_out g.chunks size) p)
       ∙ is_base.counted
@@ -102,35 +100,36 @@ module _ (rate : Rate) (k r size : ℕ) (supported : supports rate k r ≡ true)
 
   -- The sums over the words in the rows are the sums over the words of the given shards.
   sum_in_rows : (j p : ℕ) → j < size / 2
-      → direct_sum (row_count (frame_of rate k r)) (is_marked base) (λ x. slice_index locator x) (words_in base_state j) p
+      → direct_sum (row_count (frame_of rate k r)) (is_marked base) (λ x. slice_index locator x)
+      (words_in base_state j) p
       ≡ sum j p
   sum_in_rows j p hj =
       direct_sum-same (row_count (frame_of rate k r)) (is_marked base) (λ x. slice_index locator x)
       (words_in base_state j) (word_in g.chunks (row_len size) (j / 32) (j % 32)) p (λ x hx is.
-      let given = row-given rate k r size supported given_base x
+      let given = row-given rate supported given_base x
       ∙ marked-at base (shard_laid_out g.chunks size) x true is in
       word-given base_state j x (shard_laid_out g.chunks size x) given
-      ∙ sym (row_words rate k r size supported given_base j x (shard_laid_out g.chunks size x) hj given).1)
+      ∙ sym (row_words rate supported given_base j x (shard_laid_out g.chunks size x) hj given).1)
 
   -- Some message agrees with all given shards if and only if each given row outside the base is equal to its sums.
   pub consistent_by_rows : IsConsistent state
       ↔ AreEqualToSums (rate_configuration rate k r size) g.marks base locator (word_in g.chunks (row_len size))
   consistent_by_rows =
-      let given = are_given rate k r size supported g in
-      let both = consistent_by_sums state given own coded (part_of (frame_of rate k r).originals_from k)
-      (part_of (frame_of rate k r).recovery_from r) (is_marked base) (λ x. slice_index locator x)
-      (rows_located rate k r size supported given_base locator is_locator) g.configured.even base_count in (
+      let given = are_given rate supported g in
+      let both = consistent_by_sums given (part_of (frame_of rate k r).originals_from k)
+      (part_of (frame_of rate k r).recovery_from r)
+      (rows_located rate supported given_base is_locator) g.configured.even base_count in (
         λ consistent p j hp outside hj.
             let (mark, none) = only_first (is_marked g.marks p) (is_marked base p) outside in
             let shard : Shard = shard_laid_out g.chunks size p in
-            let here = row-given rate k r size supported g p
+            let here = row-given rate supported g p
             ∙ marked-at g.marks (shard_laid_out g.chunks size) p true mark in
-            (row_words rate k r size supported g j p shard hj here).1
+            (row_words rate supported g j p shard hj here).1
             ∙ sym (both.0 consistent p j shard here none hj) ∙ sum_in_rows j p hj,
         λ equal. both.1 (λ p j shard here none hj.
-            let (mark, word) = row_words rate k r size supported g j p shard hj here in
+            let (mark, word) = row_words rate supported g j p shard hj here in
             sum_in_rows j p hj
-            ∙ sym (equal p j (given-below state given p shard here) (ap₂ (λ a b. a && not b) mark none) hj) ∙ word),
+            ∙ sym (equal p j (given-below given p shard here) (ap₂ (λ a b. a && not b) mark none) hj) ∙ word),
       )
     where
       only_first : (a b : Bool) → (a && not b) ≡ true → (a ≡ true) × (b ≡ false)
@@ -143,11 +142,10 @@ module _ (rate : Rate) (k r size : ℕ) (supported : supports rate k r ≡ true)
       → is_marked g.marks (original_row (frame_of rate k r) i) ≡ false
       → sum j (original_row (frame_of rate k r) i) ≡ column j (shard_at message i)
   summed_original message i j a inside hj none =
-      let of_base = agrees_with_part state.configuration state.originals state.recovery own coded message
+      let of_base = agrees_with_part
       (part_of (frame_of rate k r).originals_from k) (part_of (frame_of rate k r).recovery_from r) a in
       sym (sum_in_rows j (original_row (frame_of rate k r) i) hj)
-      ∙ direct_original base_state (are_given rate k r size supported given_base) (is_marked base)
-      (λ x. slice_index locator x) (rows_located rate k r size supported given_base locator is_locator)
-      (omega (arith, base_count)) message of_base.0 i j hj inside
+      ∙ direct_original (are_given rate supported given_base) (rows_located rate supported given_base is_locator)
+      (omega (arith, base_count)) of_base.0 i j hj inside
       (given-marked base g.chunks size (frame_of rate k r).originals_from k i inside
       ∙ outside_base (original_row (frame_of rate k r) i) none)

@@ -43,9 +43,9 @@ use Rattle.rs_field.proofs.of_words.LocatorLemmas.{log_sum-zero, log_sum-itself,
 use Rattle.rs_field.proofs.of_words.Power.{log_lt}
 
 -- The frame of supported counts.
-pub distinct_rows_of : (frame : Frame) (k r : ℕ) → frame ≡ frame_of default_rate k r → supports default_rate k r ≡ true
+pub distinct_rows_of : {frame : Frame} {k r : ℕ} → frame ≡ frame_of default_rate k r → supports default_rate k r ≡ true
     → HasDistinctRows frame k r
-distinct_rows_of frame k r framed supported =
+distinct_rows_of {frame} {k} {r} framed supported =
     subst (λ (p : Frame). HasDistinctRows p k r) (sym framed) (distinct_rows default_rate k r supported)
 
 -- The logarithms of the factors of an original's row in the rows of the recovery shards are those of its change.
@@ -81,7 +81,7 @@ factors_of_change frame k r index given locator factors framed supported inside 
           word_changed (configuration default_rate k r size) supported (is_marked given) (λ x. slice_index locator x)
           (λ all. is_located (with_message (configuration default_rate k r size) all) given
           (λ x hx. marked-originals (configuration default_rate k r size) supported (is_marked given) own_at others_at
-          all x) locator is_at)
+          all x) is_at)
           index i j message changed recovery changed_recovery inside shards changed_shards only coded changed_coded hi
           hj
           ∙ ap (λ l. bit_xor (column j (shard_at recovery i))

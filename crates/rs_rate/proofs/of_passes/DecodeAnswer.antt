@@ -129,16 +129,15 @@ module _ (rate : Rate) (k r size : ℕ) (supported : supports rate k r ≡ true)
           record {
             message = message;
             agrees = agreeing;
-            only = λ other also. one_message state.configuration state.originals state.recovery other message
-                supported g.configured.even (omega (arith, count)) also agreeing;
+            only = λ other also. one_message supported g.configured.even (omega (arith, count)) also agreeing;
             missing = restores_missing rate (rate_configuration rate k r size) g new after message d.marked
                 (λ i inside none. restored_from is message i agreeing inside none
                 (λ j hj. words is message i j agreeing inside hj none));
           }
       by_answer false is =
           let some : 0 < surplus = elim (cases_eq surplus 0) [
-            | inl exact ↦ absurd (true≢false (sym (exactly.0 (any_consistent state
-                (are_given rate k r size supported g) g.configured.even (omega (arith, count, exact)))) ∙ is))
+            | inl exact ↦ absurd (true≢false (sym (exactly.0 (any_consistent
+                (are_given rate supported g) g.configured.even (omega (arith, count, exact)))) ∙ is))
             | inr some ↦ omega arith
           ] in
           record {
@@ -153,15 +152,13 @@ module _ (rate : Rate) (k r size : ℕ) (supported : supports rate k r ≡ true)
     are_columns_of : AreColumns state
         (λ j. located_word g.marks locator (word_in g.chunks (row_len size) (j / 32) (j % 32)))
         (λ j. restored.coefficients (j / 32) (j % 32))
-    are_columns_of = are_columns rate k r size supported g locator is_locator surplus d.restores.words agrees restored
+    are_columns_of = are_columns rate supported g is_locator restored
 
     -- Some message agrees exactly if the last rows are zero.
     agrees_exactly : IsConsistent state ↔ (agrees ≡ true)
     agrees_exactly =
         let checked = restored.found.checked in
-        let exact = consistent_exactly state (are_given rate k r size supported g)
-        (λ j. located_word g.marks locator (word_in g.chunks (row_len size) (j / 32) (j % 32)))
-        (λ j. restored.coefficients (j / 32) (j % 32)) are_columns_of surplus g.configured.even count in (
+        let exact = consistent_exactly (are_given rate supported g) are_columns_of surplus g.configured.even count in (
           λ some. checked.0 (λ i j past below inside. exact.0 some j i inside past below),
           λ yes. exact.1 (λ j i inside past below. checked.1 yes i j past below inside),
         )
@@ -172,20 +169,18 @@ module _ (rate : Rate) (k r size : ℕ) (supported : supports rate k r ≡ true)
         → d.restores.words (j / 32) (j % 32) (original_row (frame_of rate k r) i) ≡ column j (shard_at message i)
     restored_word agreed message i j a inside hj none =
         let p = original_row (frame_of rate k r) i in
-        let given = are_given rate k r size supported g in
+        let given = are_given rate supported g in
         let below : original_row (frame_of rate k r) i < rows_of state = omega (arith, g.configured.own_rows, inside) in
         let empty : is_some (originals_in (rate_configuration rate k r size) (shards_by_row g.marks g.chunks size) i)
         ≡ false = given-marked g.marks g.chunks size (frame_of rate k r).originals_from k i inside ∙ none in
         let (added, step, is) = restored.revealed agreed (j / 32) (j % 32) (omega (arith, hj)) (omega arith) i inside
         none in
-        is ∙ restored_column state given
-        (λ n. located_word g.marks locator (word_in g.chunks (row_len size) (n / 32) (n % 32)))
-        (λ n. restored.coefficients (n / 32) (n % 32)) are_columns_of message added i j (slice_index locator p)
+        is ∙ restored_column given are_columns_of message added i j (slice_index locator p)
         (omega (arith, count)) a inside hj step
-        ((erasures state given).own i inside ∙ ap (λ (b : Bool). cond b 0 1) empty)
+        ((erasures given).own i inside ∙ ap (λ (b : Bool). cond b 0 1) empty)
         (let word = is_locator.are_words (original_row (frame_of rate k r) i) in omega (arith, word))
         (same_residue (slice_index locator p) (log_sum (rows_of state) (erased_in state) p)
-        ((rows_located rate k r size supported g locator is_locator).logarithms p below))
+        ((rows_located rate supported g is_locator).logarithms p below))
 
   module _ (base : List Bool) (locator : List ℕ) (is_base : IsBaseOf (rate_configuration rate k r size) g.marks base)
       (is_locator : IsLocatorOf (frame_of rate k r) base locator)
@@ -194,7 +189,7 @@ module _ (rate : Rate) (k r size : ℕ) (supported : supports rate k r ≡ true)
     -- Some message agrees exactly if the given rows outside the base are equal to their sums.
     sums_exactly : IsConsistent state ↔ (agrees ≡ true)
     sums_exactly =
-        let both = consistent_by_rows rate k r size supported g base locator is_base is_locator in (
+        let both = consistent_by_rows rate supported g is_base is_locator in (
           λ some. sums.checked.0 (both.0 some),
           λ yes. both.1 (sums.checked.1 yes),
         )
@@ -205,7 +200,7 @@ module _ (rate : Rate) (k r size : ℕ) (supported : supports rate k r ≡ true)
         → d.restores.words (j / 32) (j % 32) (original_row (frame_of rate k r) i) ≡ column j (shard_at message i)
     summed_word agreed message i j a inside hj none =
         sums.summed agreed (j / 32) (j % 32) i (omega (arith, hj)) (omega arith) inside none
-        ∙ summed_original rate k r size supported g base locator is_base is_locator message i j a inside hj none
+        ∙ summed_original rate supported g is_base is_locator message i j a inside hj none
 
   -- The result of a decode, by the way in which the missing words were found.
   by_way : AnswersOver rate (rate_configuration rate k r size) g new after agrees
@@ -288,12 +283,10 @@ module _ (rate : Rate) (c : Configuration) (is : IsSetUp rate c) (g : GivenRows 
 
   pub complete_answers : Restored (state_before rate c g) (restored_after c new after)
   complete_answers =
-      let s = state_before rate c g in
       record {
         message = message;
         agrees = message_agrees;
-        only = λ other also. one_message (configuration_at rate c) s.originals s.recovery other message
-            (valid-supported (configuration_at rate c) is.valid) g.configured.even
+        only = λ other also. one_message (valid-supported (configuration_at rate c) is.valid) g.configured.even
             (omega (arith, whole.0, g.given.originals_counted)) also message_agrees;
         missing = restores_missing rate c g new after message marked
             (λ i inside not_given. absurd (true≢false (sym (all_marked i inside) ∙ not_given)));

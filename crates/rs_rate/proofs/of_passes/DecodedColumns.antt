@@ -85,7 +85,7 @@ module _ (marks : List Bool) (chunks : Chunks) (size : ℕ) where
       ap is_some (part-in (shards_by_row marks chunks size) from n i inside)
       ∙ some-marked marks (shard_laid_out chunks size) (from + i)
 
-module _ (rate : Rate) (k r size : ℕ) (supported : supports rate k r ≡ true)
+module _ (rate : Rate) {k r size : ℕ} (supported : supports rate k r ≡ true)
     (g : GivenRows (rate_configuration rate k r size)) where
   abbrev state : DecoderState
   state = state_before rate (rate_configuration rate k r size) g
@@ -118,7 +118,7 @@ module _ (rate : Rate) (k r size : ℕ) (supported : supports rate k r ≡ true)
           | inl there ↦
               ap (given_in state) there.2
               ∙ given_at-coded (frame_of rate k r) k r own coded there.0
-              (places-known (rate_configuration rate k r size) g.configured) there.1
+              (places-known g.configured) there.1
               ∙ part-in rows (frame_of rate k r).recovery_from r there.0 there.1 ∙ sym (ap rows there.2)
           | inr neither ↦
               given_at-other (frame_of rate k r) k r own coded x neither.0 neither.1
@@ -139,18 +139,18 @@ module _ (rate : Rate) (k r size : ℕ) (supported : supports rate k r ≡ true)
       let (mark, same) = row_some g.marks g.chunks size x shard (sym (row-given x) ∙ is) in
       (mark, sym (column-put g.chunks size x j g.configured.even hj) ∙ ap (column j) same)
 
-  module _ (locator : List ℕ) (is_locator : IsLocatorOf (frame_of rate k r) g.marks locator) where
+  module _ {locator : List ℕ} (is_locator : IsLocatorOf (frame_of rate k r) g.marks locator) where
     -- The locator is that of the given shards.
     pub rows_located : IsLocated state (is_marked g.marks) (λ x. slice_index locator x)
-    rows_located = is_located state g.marks are_marks locator is_locator
+    rows_located = is_located state g.marks are_marks is_locator
 
     -- The columns of the rows that were decoded, with the coefficients of the polynomial through the located words.
-    pub are_columns : (surplus : ℕ) (words : ℕ → ℕ → ℕ → ℕ) (agrees : Bool)
+    pub are_columns : {surplus : ℕ} {words : ℕ → ℕ → ℕ → ℕ} {agrees : Bool}
         (restored : RestoresWords (rate_configuration rate k r size) g.marks locator surplus
         (word_in g.chunks (row_len size)) words agrees)
         → AreColumns state (λ j. located_word g.marks locator (word_in g.chunks (row_len size) (j / 32) (j % 32)))
         (λ j. restored.coefficients (j / 32) (j % 32))
-    are_columns surplus words agrees restored j hj =
+    are_columns restored j hj =
         let found = restored.found in
         let column_words : ℕ → ℕ = word_in g.chunks (row_len size) (j / 32) (j % 32) in
         record {

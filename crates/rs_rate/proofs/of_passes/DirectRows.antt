@@ -52,7 +52,7 @@ module _ (received : ℕ → Bool) (locator : ℕ → ℕ) (y : ℕ) where
         sym (xor_zero_r (word rows k s y))
         ∙ ap (bit_xor (word rows k s y)) (sym (sum_below-zero 0 (λ x. direct_term received locator (word rows k s) y x)
         (λ i h. absurd (let no : ⊥ = omega arith in no))));
-    counts = counts_none (how_many 0 received) 0 0 steps;
+    counts = counts_none;
   }
 
   -- One more row was added.
@@ -60,8 +60,8 @@ module _ (received : ℕ → Bool) (locator : ℕ → ℕ) (y : ℕ) where
       → RowsAdded x old mid a b → RowAdded x mid new b c → RowsAdded (x + 1) old new a c
   one_more_added x old mid new a b c missing before step =
       subst (λ (n : ℕ). RowsAdded n old new a c) (sym (add-one x)) (record {
-        fits = fits_kept mid new step.extent before.fits;
-        extent = extent_then old mid new before.extent step.extent;
+        fits = fits_kept step.extent before.fits;
+        extent = extent_then before.extent step.extent;
         others = outside_both y (y + 1) y (y + 1) y (y + 1) old mid new before.extent before.others step.others
             (omega arith)
             (omega arith) (omega arith) (omega arith);
@@ -70,8 +70,7 @@ module _ (received : ℕ → Bool) (locator : ℕ → ℕ) (y : ℕ) where
             ∙ ap₂ bit_xor (before.added k s hk hs)
             (direct_term-same received locator (word mid k s) (word old k s) y x
             (λ is. ap (λ z. symbol z s)
-            (outside_cell y (y + 1) old mid before.extent before.others x k hk
-            (elim (cases_lt x y) [
+            (outside_cell before.extent before.others x k hk (elim (cases_lt x y) [
               | inl below ↦ inl below
               | inr past ↦ elim (cases_eq x y) [
                 | inl same ↦ absurd (true≢false (sym is ∙ ap received same ∙ missing))
@@ -83,7 +82,7 @@ module _ (received : ℕ → Bool) (locator : ℕ → ℕ) (y : ℕ) where
             ∙ ap (bit_xor (word old k s y))
             (sym (sum_below-suc x (λ z. direct_term received locator (word old k s) y z)));
         counts = subst (λ (n : ℕ). CountsUpTo n 0 0 a c) (sym (how_many-suc x received))
-            (counts_then (how_many x received) (cond (received x) 1 0) a b c before.counts step.counts);
+            (counts_then before.counts step.counts);
       })
 
 more_counted : (b : Bool) (many each : ℕ) → (many + cond b 1 0) * each ≡ many * each + cond b each 0
@@ -117,8 +116,8 @@ module _ (given base : ℕ → Bool) (locator : ℕ → ℕ) (w : ℕ) where
       → RowSummed (original_row frame n) mid new b c → RowsSummed frame (n + 1) old new a c
   one_more_summed frame n old mid new a b c part before step =
       subst (λ (m : ℕ). RowsSummed frame m old new a c) (sym (add-one n)) (record {
-        fits = fits_kept mid new step.extent before.fits;
-        extent = extent_then old mid new before.extent step.extent;
+        fits = fits_kept step.extent before.fits;
+        extent = extent_then before.extent step.extent;
         summed = λ k s i hk hs hi none. elim (cases_eq i n) [
           | inl last ↦
               subst (λ (j : ℕ). given (original_row frame j) ≡ false
@@ -146,14 +145,12 @@ module _ (given base : ℕ → Bool) (locator : ℕ → ℕ) (w : ℕ) where
             (sym (ap (λ m. m * (1 + how_many w base)) (how_many-suc n (λ i. not (given (original_row frame i))))
             ∙ more_counted (not (given (original_row frame n))) (how_many n (λ i. not (given (original_row frame i))))
             (1 + how_many w base)))
-            (counts_then (how_many n (λ i. not (given (original_row frame i))) * (1 + how_many w base))
-            (cond (not (given (original_row frame n))) (1 + how_many w base) 0) a b c before.counts step.counts);
+            (counts_then before.counts step.counts);
       })
     where
       kept : (k q : ℕ) → k < old.shard_len_64 → (q < original_row frame n) ⊎ (original_row frame n + 1 ≤ q)
           → cell new k q ≡ cell mid k q
-      kept k q hk outside = outside_cell (original_row frame n) (original_row frame n + 1) mid new step.extent
-          step.others q k (omega (arith, hk, before.extent.len_64)) outside
+      kept k q hk outside = outside_cell step.extent step.others q k (omega (arith, hk, before.extent.len_64)) outside
 
 module _ (given base : ℕ → Bool) (locator : ℕ → ℕ) (w size : ℕ) where
   -- In each column of shards of this size, row p is equal to its direct sum over the base.
@@ -175,7 +172,7 @@ module _ (given base : ℕ → Bool) (locator : ℕ → ℕ) (w size : ℕ) wher
     fits = fits;
     extent = record { name = refl; count = refl; len_64 = refl; length = refl };
     left = λ k q hk which. refl;
-    counts = counts_none (how_many 0 (λ p. given p && not (base p)) * (1 + how_many w base)) 0 0 steps;
+    counts = counts_none;
   }
 
   -- The given rows below n that are outside the base are equal to their sums.
@@ -216,10 +213,10 @@ module _ (given base : ℕ → Bool) (locator : ℕ → ℕ) (w size : ℕ) wher
         → SameRowsOutside n (n + 1) mid new → CountsUpTo (1 + how_many w base) 0 0 b c → RowsTested (n + 1) old new a c
     one_more_tested new c is outside extent others counts =
         subst (λ (m : ℕ). RowsTested m old new a c) (sym (add-one n)) (record {
-          fits = fits_kept mid new extent before.fits;
-          extent = extent_then old mid new before.extent extent;
+          fits = fits_kept extent before.fits;
+          extent = extent_then before.extent extent;
           left = λ k q hk which.
-              outside_cell n (n + 1) mid new extent others q k (omega (arith, hk, before.extent.len_64))
+              outside_cell extent others q k (omega (arith, hk, before.extent.len_64))
               (elim which [
                 | inl in_base ↦ elim (cases_lt q n) [
                   | inl below ↦ inl below
@@ -235,8 +232,7 @@ module _ (given base : ℕ → Bool) (locator : ℕ → ℕ) (w size : ℕ) wher
               (sym (ap (λ m. m * (1 + how_many w base))
               (how_many-one n (λ p. given p && not (base p)) (ap₂ (λ g o. g && not o) is outside))
               ∙ more_counted true (how_many n (λ p. given p && not (base p))) (1 + how_many w base)))
-              (counts_then (how_many n (λ p. given p && not (base p)) * (1 + how_many w base)) (1 + how_many w base)
-              a b c before.counts counts);
+              (counts_then before.counts counts);
         })
 
     -- One more row was passed over.
@@ -255,6 +251,5 @@ module _ (given base : ℕ → Bool) (locator : ℕ → ℕ) (w size : ℕ) wher
     pub counts_tested : n ≤ w
         → CountsUpTo (how_many w (λ p. given p && not (base p)) * (1 + how_many w base)) 0 0 a b
     counts_tested fit =
-        counts_within (how_many n (λ p. given p && not (base p)) * (1 + how_many w base))
-        (how_many w (λ p. given p && not (base p)) * (1 + how_many w base)) a b
+        counts_within
         (mul-le-mul_right (1 + how_many w base) (how_many-rises n w (λ p. given p && not (base p)) fit)) before.counts

@@ -16,9 +16,9 @@ use Rattle.rs_rate.specs.rows.RowsLaws.{encoder_rows_alike}
 use Rattle.rs_rate.proofs.of_values.RateLemmas.{chooses, chosen, block-is, block_alike}
 
 -- If the bounds of two calls add up to at most a bound, both calls together are within it.
-pub counts_both : (m n whole : ℕ) (a b c : Steps) → m + n ≤ whole → CountsUpTo m 0 0 a b → CountsUpTo n 0 0 b c
+pub counts_both : {m n whole : ℕ} {a b c : Steps} → m + n ≤ whole → CountsUpTo m 0 0 a b → CountsUpTo n 0 0 b c
     → CountsUpTo whole 0 0 a c
-counts_both m n whole a b c le p q = counts_within (m + n) whole a c le (counts_then m n a b c p q)
+counts_both le p q = counts_within le (counts_then p q)
 
 -- The blocks up to the next one have the steps of the blocks before and the steps of one block.
 pub further-next : (start m step : ℕ) → 0 < m → m ≤ start

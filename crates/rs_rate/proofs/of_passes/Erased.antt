@@ -1,5 +1,5 @@
--- If exactly the rows of given shards are marked, the marks show which rows are erased, and their locator is that of the
--- given shards.
+-- If exactly the rows of given shards are marked, the marks show which rows are erased, and their locator is that of
+-- the given shards.
 use Rattle.std.proofs.Common.{◌≡◌, ℕ, ◌%◌, ◌<◌, Bool, true, false, List, cond, refl, ap, ◌∙◌, arith}
 use Rattle.std.specs.Prelude.{slice_index, is_some, nat_le, nat_lt, ◌&&◌, ◌||◌}
 use Rattle.rs_field.specs.code.Decoder.{DecoderState}
@@ -42,9 +42,9 @@ module _ (frame : Frame) (k r : ℕ) (originals recovery : Shards) (marks : List
 pub is_located : (s : DecoderState) (marks : List Bool)
     → AreMarksOf (frame_at s.configuration) s.configuration.original_count s.configuration.recovery_count s.originals
     s.recovery marks
-    → (locator : List ℕ) → IsLocatorOf (frame_at s.configuration) marks locator
+    → {locator : List ℕ} → IsLocatorOf (frame_at s.configuration) marks locator
     → IsLocated s (is_marked marks) (λ x. slice_index locator x)
-is_located s marks same locator is = record {
+is_located s marks same {locator} is = record {
   rows = same;
   logarithms = locator-given (frame_at s.configuration) s.configuration.original_count s.configuration.recovery_count
       s.originals s.recovery marks same locator is;

@@ -16,7 +16,8 @@ use Rattle.rs_field.proofs.of_words.Combination.{sum_below-suc, sum_below-zero, 
 use Rattle.rs_field.proofs.of_words.Combination.{forward-same, forward-zero}
 use Rattle.rs_field.proofs.of_words.Coefficients.{forward-fewer, polynomial_of_terms}
 use Rattle.rs_field.proofs.of_words.TopBlock.{joined_blocks, values-joined, last-joined}
-use Rattle.rs_rate.specs.passes.Coding.{SumsBlocks, CodesWords}
+use Rattle.rs_rate.specs.passes.Coding.{SumsBlocks, CodesWords, zero_padded}
+use Rattle.rs_rate.proofs.of_passes.ZeroPadded.{zero_padded-in, zero_padded-past, zero_padded-same}
 use Rattle.rs_field.proofs.of_code.NextPower.{next_power-small}
 use Rattle.rs_rate.proofs.of_values.HighCounts.{high_small}
 
@@ -28,22 +29,16 @@ sum_one f =
     ∙ xor_zero_l (f 0)
 
 -- The sums of one block are the combination of the first block.
-pub sums-first : (m k : ℕ) (old sums : ℕ → ℕ) → ((i : ℕ) → i < m → i < k → forward m m sums i ≡ old i)
-    → ((i : ℕ) → i < m → k ≤ i → forward m m sums i ≡ 0)
+sums-first : (m k : ℕ) (old sums : ℕ → ℕ) → ((i : ℕ) → i < m → forward m m sums i ≡ zero_padded k old i)
     → SumsBlocks m 1 k old sums
-sums-first m k old sums values zeros = (
+sums-first m k old sums values = (
   (λ u. sums),
-  (λ u i hu hi given. (let none : u * m ≡ 0 = nothing u m hu in
-      at u i none ∙ values i hi (omega arith) ∙ ap old (let e : i ≡ u * m + i = omega arith in e))),
-  (λ u i hu hi past. (let none : u * m ≡ 0 = nothing u m hu in at u i none ∙ zeros i hi (omega arith))),
+  (λ u i hu hi.
+      let none : u * m ≡ 0 = (let e : u ≡ 0 = omega arith in ap (λ v. v * m) e ∙ omega arith) in
+      ap (λ s. forward m s sums i) (let s : u * m + m ≡ m = omega arith in s) ∙ values i hi
+      ∙ ap (zero_padded k old) (let e : i ≡ u * m + i = omega arith in e)),
   (λ q hq. sym (sum_one (λ u. sums q))),
 )
-  where
-    nothing : (u m : ℕ) → u < 1 → u * m ≡ 0
-    nothing u m h = let e : u ≡ 0 = omega arith in ap (λ v. v * m) e ∙ omega arith
-
-    at : (u i : ℕ) → u * m ≡ 0 → forward m (u * m + m) sums i ≡ forward m m sums i
-    at u i e = ap (λ s. forward m s sums i) (let s : u * m + m ≡ m = omega arith in s)
 
 -- A family of combinations, extended by one combination.
 extended : ℕ → (ℕ → ℕ → ℕ) → (ℕ → ℕ) → ℕ → ℕ → ℕ
@@ -59,21 +54,17 @@ unfolding extended
 extended-last n those one q = ap (λ (b : Bool). cond b (one q) (those n q)) (eq-eqb n n refl)
 
 -- Adding the combination of one more block to the sums gives the sums of one more block.
-pub sums-more : (m n k : ℕ) (old sums one more : ℕ → ℕ)
-    → ((i : ℕ) → i < m → n * m + i < k → forward m (n * m + m) one i ≡ old (n * m + i))
-    → ((i : ℕ) → i < m → k ≤ n * m + i → forward m (n * m + m) one i ≡ 0)
+sums-more : (m n k : ℕ) (old sums one more : ℕ → ℕ)
+    → ((i : ℕ) → i < m → forward m (n * m + m) one i ≡ zero_padded k old (n * m + i))
     → ((q : ℕ) → q < m → more q ≡ bit_xor (sums q) (one q)) → SumsBlocks m n k old sums
     → SumsBlocks m (suc n) k old more
-sums-more m n k old sums one more values zeros added (those, those_values, those_zeros, sum) = (
+sums-more m n k old sums one more values added (those, those_values, sum) = (
   extended n those one,
-  (λ u i hu hi given. elim (cases_lt u n) [
-    | inl before ↦ earlier u i before ∙ those_values u i before hi given
-    | inr here ↦ let e : u ≡ n = omega arith in latest u i e ∙ values i hi (subst (λ (v : ℕ). v * m + i < k) e given)
-        ∙ ap (λ v. old (v * m + i)) (sym e)
-  ]),
-  (λ u i hu hi past. elim (cases_lt u n) [
-    | inl before ↦ earlier u i before ∙ those_zeros u i before hi past
-    | inr here ↦ let e : u ≡ n = omega arith in latest u i e ∙ zeros i hi (subst (λ (v : ℕ). k ≤ v * m + i) e past)
+  (λ u i hu hi. elim (cases_lt u n) [
+    | inl before ↦ earlier u i before ∙ those_values u i before hi
+    | inr here ↦
+        let e : u ≡ n = omega arith in
+        latest u i e ∙ values i hi ∙ ap (λ v. zero_padded k old (v * m + i)) (sym e)
   ]),
   (λ q hq.
       added q hq
@@ -93,36 +84,32 @@ sums-more m n k old sums one more values zeros added (those, those_values, those
 
 -- The backward transform of the first block gives the sums of one block.
 pub sums-start : (m k : ℕ) (old passed : ℕ → ℕ) → 0 < m
-    → ((i : ℕ) → i < m → 0 + i < k → forward m (0 + m) (λ q. passed (0 + q)) i ≡ old (0 + i))
-    → ((i : ℕ) → i < m → k ≤ 0 + i → forward m (0 + m) (λ q. passed (0 + q)) i ≡ 0)
+    → ((i : ℕ) → i < m → forward m (0 + m) (λ q. passed (0 + q)) i ≡ zero_padded k old (0 + i))
     → SumsBlocks m (m / m) k old passed
-sums-start m k old passed some values zeros =
+sums-start m k old passed some values =
     subst (λ (n : ℕ). SumsBlocks m n k old passed) (sym (div_self some))
-    (sums-first m k old passed (λ i hi given. at i ∙ values i hi (omega arith) ∙ ap old (zero-add i))
-    (λ i hi past. at i ∙ zeros i hi (omega arith)))
-  where
-    at : (i : ℕ) → forward m m passed i ≡ forward m (0 + m) (λ q. passed (0 + q)) i
-    at i = ap (λ s. forward m s passed i) (sym (zero-add m))
-        ∙ forward-same m (0 + m) passed (λ q. passed (0 + q)) i (λ q hq. ap passed (sym (zero-add q)))
+    (sums-first m k old passed (λ i hi.
+    ap (λ s. forward m s passed i) (sym (zero-add m))
+    ∙ forward-same m (0 + m) passed (λ q. passed (0 + q)) i (λ q hq. ap passed (sym (zero-add q)))
+    ∙ values i hi ∙ ap (zero_padded k old) (zero-add i)))
 
 -- The backward transform of the next block, added to the first block, gives the sums of one more block.
 pub sums-next : (m start k : ℕ) (old now passed new : ℕ → ℕ) → 0 < m → start % m ≡ 0
     → ((i : ℕ) → start ≤ i → now i ≡ old i)
-    → ((i : ℕ) → i < m → start + i < k → forward m (start + m) (λ q. passed (start + q)) i ≡ now (start + i))
-    → ((i : ℕ) → i < m → k ≤ start + i → forward m (start + m) (λ q. passed (start + q)) i ≡ 0)
+    → ((i : ℕ) → i < m → forward m (start + m) (λ q. passed (start + q)) i ≡ zero_padded k now (start + i))
     → ((q : ℕ) → q < m → passed q ≡ now q)
     → ((q : ℕ) → q < m → new (0 + q) ≡ bit_xor (passed (0 + q)) (passed (start + q)))
     → SumsBlocks m (start / m) k old now → SumsBlocks m ((start + m) / m) k old new
-sums-next m start k old now passed new some multiple left values zeros kept added sums =
+sums-next m start k old now passed new some multiple left values kept added sums =
     let parts : start / m * m + start % m ≡ start = div-add-mod' start m in
     let whole : start / m * m ≡ start = omega arith in
     let next : (start + m) / m ≡ suc (start / m) = add-div_right start some ∙ add-one (start / m) in
     subst (λ (n : ℕ). SumsBlocks m n k old new) (sym next)
     (sums-more m (start / m) k old now (λ q. passed (start + q)) new
-    (λ i hi given.
-    ap (λ t. forward m (t + m) (λ q. passed (start + q)) i) whole ∙ values i hi (omega arith)
-    ∙ left (start + i) (omega arith) ∙ ap (λ t. old (t + i)) (sym whole))
-    (λ i hi past. ap (λ t. forward m (t + m) (λ q. passed (start + q)) i) whole ∙ zeros i hi (omega arith))
+    (λ i hi.
+    ap (λ t. forward m (t + m) (λ q. passed (start + q)) i) whole ∙ values i hi
+    ∙ zero_padded-same k now (start + i) old (left (start + i) (omega arith))
+    ∙ ap (λ t. zero_padded k old (t + i)) (sym whole))
     (λ q hq. ap new (sym (zero-add q)) ∙ added q hq
     ∙ ap (λ v. bit_xor v (passed (start + q))) (ap passed (zero-add q) ∙ kept q hq)) sums)
 
@@ -219,68 +206,13 @@ high_polynomial d t n sums those few room sum =
       },
     )
 
--- The values of the polynomial at the points of the code are the original and the recovery words.
-record CodesHigh (k m all : ℕ) (old sums : ℕ → ℕ) (p : List ℕ) : Type 0 where
-  size : length p ≡ all - m
-  words : All (λ w. w < 65536) p
-  recovery : (i : ℕ) → i < m → value p i ≡ forward m 0 sums i
-  originals : (j : ℕ) → j < k → value p (m + j) ≡ old j
-  zeros : (x : ℕ) → m + k ≤ x → x < all → value p x ≡ 0
-
-sums_code : (k m all n : ℕ) (old sums : ℕ → ℕ) (those : ℕ → ℕ → ℕ) (p : List ℕ) → 0 < m → k ≤ n * m → n * m + m ≤ all
-    → ((u i : ℕ) → u < n → i < m → u * m + i < k → forward m (u * m + m) (those u) i ≡ old (u * m + i))
-    → ((u i : ℕ) → u < n → i < m → k ≤ u * m + i → forward m (u * m + m) (those u) i ≡ 0)
-    → IsHigh m all n sums those p → CodesHigh k m all old sums p
-sums_code k m all n old sums those p some enough room values zeros h =
-    record {
-      size = h.size;
-      words = h.words;
-      recovery = λ i hi.
-          let start : 0 * m ≡ 0 = omega arith in
-          h.blocks 0 i i (let e : i ≡ 0 * m + i = omega arith in e) (omega arith) hi
-          ∙ ap (λ s. forward m s (family sums n those 0) i) start
-          ∙ forward-same m 0 (family sums n those 0) sums i (λ q hq. family-first sums n those q);
-      originals = λ j hj.
-          let u : ℕ = j / m in
-          let i : ℕ = j % m in
-          let parts : j / m * m + j % m ≡ j = div-add-mod' j m in
-          let hi : j % m < m = omega arith in
-          let hu : j / m < n = quotient_below (j / m) n m (j % m) j (sym parts) (omega arith) in
-          further u i (m + j) (let e : m + j ≡ j / m * m + m + j % m = omega arith in e) (omega arith) hi
-          ∙ forward-same m (u * m + m) (family sums n those (suc u)) (those u) i
-          (λ q hq. family-later sums n those u q hu)
-          ∙ values u i hu hi (omega arith) ∙ ap old parts;
-      zeros = λ x low high.
-          let j : ℕ = x - m in
-          let u : ℕ = j / m in
-          let i : ℕ = j % m in
-          let parts : (x - m) / m * m + (x - m) % m ≡ x - m = div-add-mod' (x - m) m in
-          let hi : (x - m) % m < m = omega arith in
-          further u i x (let e : x ≡ (x - m) / m * m + m + (x - m) % m = omega arith in e) high hi
-          ∙ elim (cases_lt u n) [
-            | inl hu ↦
-                forward-same m (u * m + m) (family sums n those (suc u)) (those u) i
-                (λ q hq. family-later sums n those u q hu)
-                ∙ zeros u i hu hi (omega arith)
-            | inr past ↦ forward-zero m (u * m + m) (family sums n those (suc u)) i
-                (λ q hq. family-past sums n those u q past)
-          ];
-    }
-  where
-    further : (u i x : ℕ) → x ≡ u * m + m + i → x < all → i < m
-        → value p x ≡ forward m (u * m + m) (family sums n those (suc u)) i
-    further u i x is within hi =
-        let next : suc u * m ≡ u * m + m = omega arith in
-        h.blocks (suc u) i x (let e : x ≡ suc u * m + i = omega arith in e) within hi
-        ∙ ap (λ s. forward m s (family sums n those (suc u)) i) next
-
 -- If the new words are the first values of the sums, they are the recovery words.
 pub high_coded : (k r n : ℕ) (old sums new : ℕ → ℕ) → supports high_rate k r ≡ true → k ≤ n * next_power r
     → n * next_power r + next_power r ≤ 65536
     → SumsBlocks (next_power r) n k old sums → ((i : ℕ) → i < r → new i ≡ forward (next_power r) 0 sums i)
     → CodesWords high_rate k r old new
 unfolding frame_of high_frame is_low
-high_coded k r n old sums new is enough room (those, values, zeros, sum) first =
+high_coded k r n old sums new is enough room (those, values, sum) first =
     let known = next_power-small r (high_small k r is) in
     let m : ℕ = next_power r in
     let d : ℕ = known.0 in
@@ -288,23 +220,43 @@ high_coded k r n old sums new is enough room (those, values, zeros, sum) first =
     let most : r ≤ next_power r = known.3 in
     let few : d ≤ 16 = known.1 in
     let positive : 0 < next_power r = (let h = pow_pos d in omega arith) in
-    let parts : d + (16 - d) ≡ 16 = omega arith in
-    let all : 2 ^ (d + (16 - d)) ≡ 65536 = ap (λ e. 2 ^ e) parts in
-    let made = high_polynomial d (16 - d) n sums those (omega arith) (blocks d (16 - d) n (next_power r) power all room)
-    (λ q h. sum q (omega arith)) in
-    let shape : IsHigh (next_power r) 65536 n sums those made.0
-    = subst (λ (c : ℕ). IsHigh c 65536 n sums those made.0) (sym power)
-    (subst (λ (c : ℕ). IsHigh (2 ^ d) c n sums those made.0) all made.1) in
-    let codes = sums_code k m 65536 n old sums those made.0 positive enough room values zeros shape in (
-      made.0,
+    let all : 2 ^ (d + (16 - d)) ≡ 65536 = ap (λ e. 2 ^ e) (let parts : d + (16 - d) ≡ 16 = omega arith in parts) in
+    let (p, made) = high_polynomial d (16 - d) n sums those (omega arith)
+    (blocks d (16 - d) n (next_power r) power all room) (λ q h. sum q (omega arith)) in
+    let shape : IsHigh (next_power r) 65536 n sums those p
+    = subst (λ (c : ℕ). IsHigh c 65536 n sums those p) (sym power)
+    (subst (λ (c : ℕ). IsHigh (2 ^ d) c n sums those p) all made) in (
+      p,
       record {
-        degree = codes.size;
-        coefficients = codes.words;
-        originals = λ j h. codes.originals j h ∙ sym (get-up_to k old j 0 h);
-        zeros = codes.zeros;
+        degree = shape.size;
+        coefficients = shape.words;
+        originals = λ j hj.
+            let parts : j / m * m + j % m ≡ j = div-add-mod' j m in
+            let hi : j % m < next_power r = omega arith in
+            let hu : j / m < n = quotient_below (j / m) n m (j % m) j (sym parts) (omega arith) in
+            further p shape (j / m) (j % m) (next_power r + j)
+            (let e : next_power r + j ≡ j / m * m + m + j % m = omega arith in e) (omega arith) hi
+            ∙ later (j / m) (j % m) hu ∙ values (j / m) (j % m) hu hi ∙ ap (zero_padded k old) parts
+            ∙ zero_padded-in k old j hj ∙ sym (get-up_to k old j 0 hj);
+        zeros = λ x low high.
+            let u : ℕ = (x - m) / m in
+            let i : ℕ = (x - m) % m in
+            let parts : (x - m) / m * m + (x - m) % m ≡ x - m = div-add-mod' (x - m) m in
+            let hi : (x - m) % m < next_power r = omega arith in
+            further p shape u i x (let e : x ≡ (x - m) / m * m + m + (x - m) % m = omega arith in e) high hi
+            ∙ elim (cases_lt u n) [
+              | inl hu ↦ later u i hu ∙ values u i hu hi ∙ zero_padded-past k old (u * m + i) (omega arith)
+              | inr past ↦ forward-zero m (u * m + m) (family sums n those (suc u)) i
+                  (λ q hq. family-past sums n those u q past)
+            ];
       },
-      (λ i h. get-up_to r new i 0 h ∙ first i h
-          ∙ sym (ap (value made.0) (zero-add i) ∙ codes.recovery i (omega arith))),
+      (λ i hi.
+          let start : 0 * m ≡ 0 = omega arith in
+          get-up_to r new i 0 hi ∙ first i hi
+          ∙ sym (ap (value p) (zero-add i)
+          ∙ shape.blocks 0 i i (let e : i ≡ 0 * m + i = omega arith in e) (omega arith) (omega arith)
+          ∙ ap (λ s. forward m s (family sums n those 0) i) start
+          ∙ forward-same m 0 (family sums n those 0) sums i (λ q hq. family-first sums n those q))),
     )
   where
     blocks : (d t n m : ℕ) → m ≡ 2 ^ d → 2 ^ (d + t) ≡ 65536 → n * m + m ≤ 65536 → suc n ≤ 2 ^ t
@@ -318,3 +270,20 @@ high_coded k r n old sums new is enough room (those, values, zeros, sum) first =
               let swap : 2 ^ t * m ≡ 2 ^ d * 2 ^ t = ap (λ v. 2 ^ t * v) power ∙ omega arith in
               absurd (let no : ⊥ = omega arith in no)
         ]
+
+    -- At a later block the polynomial has the values of the combination of this block.
+    further : (p : List ℕ) → IsHigh (next_power r) 65536 n sums those p → (u i x : ℕ)
+        → x ≡ u * next_power r + next_power r + i → x < 65536 → i < next_power r
+        → value p x ≡ forward (next_power r) (u * next_power r + next_power r) (family sums n those (suc u)) i
+    further p h u i x is within hi =
+        let m : ℕ = next_power r in
+        let next : suc u * m ≡ u * m + m = omega arith in
+        h.blocks (suc u) i x (let e : x ≡ suc u * m + i = omega arith in e) within hi
+        ∙ ap (λ s. forward m s (family sums n those (suc u)) i) next
+
+    later : (u i : ℕ) → u < n
+        → forward (next_power r) (u * next_power r + next_power r) (family sums n those (suc u)) i
+        ≡ forward (next_power r) (u * next_power r + next_power r) (those u) i
+    later u i hu =
+        forward-same (next_power r) (u * next_power r + next_power r) (family sums n those (suc u)) (those u) i
+        (λ q hq. family-later sums n those u q hu)

@@ -1,5 +1,5 @@
 -- Adding an original or a recovery shard to a decoder: the outcome of the tests, and the state after the addition.
-use Rattle.std.proofs.Common.{◌≡◌, ℕ, ◌<◌, Bool, true, false, cond, length, refl, sym, ap, ◌∙◌}
+use Rattle.std.proofs.Common.{◌≡◌, ℕ, ◌<◌, Bool, true, false, cond, length, refl, sym, ap}
 use Rattle.std.specs.Prelude.{Option, Some, None, Result, Ok, Err, is_some, not, ◌==◌}
 use Rattle.std.specs.Result.{result_map_both}
 use Rattle.std.proofs.lemmas.Bool.{lt-leb, eq-eqb}
@@ -37,26 +37,29 @@ pub none_of : (o : Option Shard) → is_some o ≡ false → o ≡ None
 none_of None is = refl
 none_of (Some shard) is = cc
 
--- The answer and the next state of an outcome for rows are those for the state over the rows.
-over-answer : (rate : Rate) (c : Configuration) (outcome : Result Shards Error)
-    → answer_of (over rate c outcome) ≡ answer_of outcome
-over-answer rate c (Ok rows) = refl
-over-answer rate c (Err e) = refl
+-- Adding a shard to a decoder has the answer and the next state of entering it in the rows.
+pub record IsEntered (rate : Rate) (c : Configuration) (rows : Shards) (entered : Result Shards Error)
+    (added : Result DecoderState Error) : Type 0 where
+  pub answer : answer_of entered ≡ answer_of added
+  pub state : state_over rate c (state_after rows entered) ≡ state_after (state_over rate c rows) added
 
-over-state : (rate : Rate) (c : Configuration) (old : Shards) (outcome : Result Shards Error)
-    → state_after (state_over rate c old) (over rate c outcome) ≡ state_over rate c (state_after old outcome)
-over-state rate c old (Ok rows) = refl
-over-state rate c old (Err e) = refl
+-- The outcome of adding a shard is that of entering it.
+is_entered : (rate : Rate) (c : Configuration) (rows : Shards) (entered : Result Shards Error)
+    (added : Result DecoderState Error) → added ≡ over rate c entered → IsEntered rate c rows entered added
+is_entered rate c rows (Ok new) added is =
+    record { answer = sym (ap answer_of is); state = sym (ap (state_after (state_over rate c rows)) is) }
+is_entered rate c rows (Err e) added is =
+    record { answer = sym (ap answer_of is); state = sym (ap (state_after (state_over rate c rows)) is) }
 
 module _ (rate : Rate) (c : Configuration) (is : HasDistinctRows c.frame c.original_count c.recovery_count)
     (rows : Shards) (index : ℕ) (shard : Shard) where
   -- The outcome of adding an original is that of entering it in its row.
-  original-added : index < c.original_count
-      → with_original (state_over rate c rows) index shard
-      ≡ over rate c (entry_outcome rows (original_row c.frame index) c.shard_bytes
-      (DuplicateOriginalShardIndex index) shard)
-  original-added inside =
-      rw (
+  pub original-added : (row : ℕ) → row ≡ original_row c.frame index → index < c.original_count
+      → IsEntered rate c rows (entry_outcome rows row c.shard_bytes (DuplicateOriginalShardIndex index) shard)
+      (with_original (state_over rate c rows) index shard)
+  original-added row at inside = is_entered rate c rows _ _
+      (rw (
+        at,
         lt-leb c.original_count index inside,
         part-in rows c.frame.originals_from c.original_count index inside,
       )
@@ -64,27 +67,15 @@ module _ (rate : Rate) (c : Configuration) (is : HasDistinctRows c.frame c.origi
       (record (state_over rate c rows) { originals = with_entry (originals_in c rows) index shard })
       (DuplicateOriginalShardIndex index) (DifferentShardSize c.shard_bytes (length shard))
       (original-entered rate c is rows index shard inside) (is_some (rows (original_row c.frame index)))
-      (not (length shard == c.shard_bytes)))
-
-  pub original-answer : index < c.original_count
-      → answer_of (with_original (state_over rate c rows) index shard)
-      ≡ answer_of (entry_outcome rows (original_row c.frame index) c.shard_bytes
-      (DuplicateOriginalShardIndex index) shard)
-  original-answer inside = ap answer_of (original-added inside) ∙ over-answer rate c _
-
-  pub original-state : index < c.original_count
-      → state_after (state_over rate c rows) (with_original (state_over rate c rows) index shard)
-      ≡ state_over rate c (state_after rows (entry_outcome rows (original_row c.frame index) c.shard_bytes
-      (DuplicateOriginalShardIndex index) shard))
-  original-state inside = ap (state_after (state_over rate c rows)) (original-added inside) ∙ over-state rate c rows _
+      (not (length shard == c.shard_bytes))))
 
   -- The outcome of adding a recovery shard is that of entering it in its row.
-  recovery-added : index < c.recovery_count
-      → with_recovery (state_over rate c rows) index shard
-      ≡ over rate c (entry_outcome rows (recovery_row c.frame index) c.shard_bytes
-      (DuplicateRecoveryShardIndex index) shard)
-  recovery-added inside =
-      rw (
+  pub recovery-added : (row : ℕ) → row ≡ recovery_row c.frame index → index < c.recovery_count
+      → IsEntered rate c rows (entry_outcome rows row c.shard_bytes (DuplicateRecoveryShardIndex index) shard)
+      (with_recovery (state_over rate c rows) index shard)
+  recovery-added row at inside = is_entered rate c rows _ _
+      (rw (
+        at,
         lt-leb c.recovery_count index inside,
         part-in rows c.frame.recovery_from c.recovery_count index inside,
       )
@@ -92,19 +83,7 @@ module _ (rate : Rate) (c : Configuration) (is : HasDistinctRows c.frame c.origi
       (record (state_over rate c rows) { recovery = with_entry (recovery_in c rows) index shard })
       (DuplicateRecoveryShardIndex index) (DifferentShardSize c.shard_bytes (length shard))
       (recovery-entered rate c is rows index shard inside) (is_some (rows (recovery_row c.frame index)))
-      (not (length shard == c.shard_bytes)))
-
-  pub recovery-answer : index < c.recovery_count
-      → answer_of (with_recovery (state_over rate c rows) index shard)
-      ≡ answer_of (entry_outcome rows (recovery_row c.frame index) c.shard_bytes
-      (DuplicateRecoveryShardIndex index) shard)
-  recovery-answer inside = ap answer_of (recovery-added inside) ∙ over-answer rate c _
-
-  pub recovery-state : index < c.recovery_count
-      → state_after (state_over rate c rows) (with_recovery (state_over rate c rows) index shard)
-      ≡ state_over rate c (state_after rows (entry_outcome rows (recovery_row c.frame index) c.shard_bytes
-      (DuplicateRecoveryShardIndex index) shard))
-  recovery-state inside = ap (state_after (state_over rate c rows)) (recovery-added inside) ∙ over-state rate c rows _
+      (not (length shard == c.shard_bytes))))
 
 -- The outcome of an entry, from its two tests.
 abbrev tested : Bool → Bool → Error → Error → Shards → Result Shards Error

@@ -148,8 +148,8 @@ many_in_frame frame k r f has none =
           omega (arith, start, own, gap, coded, rest)
     ]
 
-module _ (c : Configuration) (f : HasDistinctRows c.frame c.original_count c.recovery_count) (originals recovery : ℕ)
-    (rows : Shards) (given : HoldGiven c originals recovery rows) where
+module _ {c : Configuration} (f : HasDistinctRows c.frame c.original_count c.recovery_count) {originals recovery : ℕ}
+    {rows : Shards} (given : HoldGiven c originals recovery rows) where
   -- The number of given originals.
   pub many_originals : how_many c.original_count (λ i. is_some (rows (original_row c.frame i))) ≡ originals
   many_originals =

@@ -135,9 +135,9 @@ nothing-given rate c rows empty =
     (part-nothing rows c.frame.recovery_from c.recovery_count empty)
 
 -- There are at most as many given shards as a message has.
-pub hold-most : (c : Configuration) (originals recovery : ℕ) (rows : Shards) → HoldGiven c originals recovery rows
+pub hold-most : {c : Configuration} {originals recovery : ℕ} {rows : Shards} → HoldGiven c originals recovery rows
     → (originals ≤ c.original_count) × (recovery ≤ c.recovery_count)
-hold-most c originals recovery rows given = (
+hold-most {c} {originals} {recovery} {rows} given = (
   omega (arith, given.originals_counted, count_most c.original_count (originals_in c rows)),
   omega (arith, given.recovery_counted, count_most c.recovery_count (recovery_in c rows)),
 )
@@ -173,8 +173,8 @@ apart c i j is own coded same =
       | inr high ↦ omega (arith, high.0, high.1)
     ]
 
-module _ (c : Configuration) (is : HasDistinctRows c.frame c.original_count c.recovery_count) (originals recovery : ℕ)
-    (rows : Shards) (given : HoldGiven c originals recovery rows) (index : ℕ) (shard : Shard)
+module _ {c : Configuration} (is : HasDistinctRows c.frame c.original_count c.recovery_count) {originals recovery : ℕ}
+    {rows : Shards} (given : HoldGiven c originals recovery rows) (index : ℕ) (shard : Shard)
     (sized : IsShard c.shard_bytes shard) where
   entered-sized : (row p : ℕ) (other : Shard) → with_entry rows row shard p ≡ Some other → IsShard c.shard_bytes other
   entered-sized row p other found =
@@ -187,7 +187,6 @@ module _ (c : Configuration) (is : HasDistinctRows c.frame c.original_count c.re
   pub hold-original : index < c.original_count → rows (original_row c.frame index) ≡ None
       → HoldGiven c (originals + 1) recovery (with_entry rows (original_row c.frame index) shard)
   hold-original inside free =
-      let from = c.frame.originals_from in
       record {
         originals_counted = ap (λ n. n + 1) given.originals_counted
             ∙ sym (ap (count_below c.original_count)

@@ -50,16 +50,16 @@ rate_configuration-is rate k r size is some even =
     }
 
 -- The frame of a valid configuration has the facts of a frame.
-pub places-known : (c : Configuration) → IsConfigured c → HasDistinctRows c.frame c.original_count c.recovery_count
-places-known c is = subst (λ (f : Frame). HasDistinctRows f c.original_count c.recovery_count) (sym is.framed)
+pub places-known : {c : Configuration} → IsConfigured c → HasDistinctRows c.frame c.original_count c.recovery_count
+places-known {c} is = subst (λ (f : Frame). HasDistinctRows f c.original_count c.recovery_count) (sym is.framed)
     (distinct_rows (rate_of c) c.original_count c.recovery_count is.supported)
 
 -- The low rate or the high rate supports the counts of a configuration, and a block has the next power of two of the
 -- originals or the recovery shards.
-pub configuration-by : (c : Configuration) (low : Bool) → IsConfigured c → c.frame.is_low ≡ low
+pub configuration-by : {c : Configuration} {low : Bool} → IsConfigured c → c.frame.is_low ≡ low
     → (supports (low_or_high low) c.original_count c.recovery_count ≡ true)
     × (block_of c ≡ next_power (cond low c.original_count c.recovery_count))
-configuration-by c low is choice = (
+configuration-by {c} {low} is choice = (
   rw choice at is.supported,
   ap (λ (f : Frame). if f.is_low then f.recovery_from else f.originals_from)
       (is.framed ∙ ap (λ (b : Bool). frame_of (low_or_high b) c.original_count c.recovery_count) choice)
@@ -72,10 +72,10 @@ pub record HasBlocks (c : Configuration) (coded : ℕ) : Type 0 where
   pub few : block_of c + coded ≤ 65536
   pub rows : next_multiple coded (block_of c) ≡ rows_to_encode c
 
-pub blocks-known : (c : Configuration) → IsConfigured c → (low : Bool) → c.frame.is_low ≡ low
+pub blocks-known : {c : Configuration} {low : Bool} → IsConfigured c → c.frame.is_low ≡ low
     → HasBlocks c (cond low c.recovery_count c.original_count)
-blocks-known c is low choice =
-    let known = configuration-by c low is choice in
+blocks-known {c} {low} is choice =
+    let known = configuration-by is choice in
     let fit = rows-fit low c.original_count c.recovery_count known.0 in
     record {
       power = (fit.power.0, known.1 ∙ fit.power.1);

@@ -1,5 +1,5 @@
 -- The relation of the words of one column to its recovery words, and a bound on the row steps of the coding.
-use Rattle.std.specs.Prelude.{◌≡◌, ℕ, ◌+◌, ◌-◌, ◌*◌, ◌/◌, ◌<◌, ◌≤◌}
+use Rattle.std.specs.Prelude.{◌≡◌, ℕ, ◌+◌, ◌-◌, ◌*◌, ◌/◌, ◌<◌, nat_lt, if◌then◌else◌}
 use Rattle.rs_field.specs.code.Counts.{Rate}
 use Rattle.rs_field.specs.words.UpTo.{up_to}
 use Rattle.rs_field.specs.code.Code.{AreRecoveryWords}
@@ -8,22 +8,16 @@ use Rattle.rs_field.specs.words.StepBounds.{CountsUpTo}
 use Rattle.rs_field.specs.code.Bounds.{encode_steps_at}
 use Rattle.rs_field.specs.declared.words.steps.Steps.{Steps}
 
--- a combination of m basis polynomials has the k old words as its values at the points from 0 on and is zero at the
--- points from k to m - 1, and the r new words are its values at the points from m on
-abbrev pub CodesLow : ℕ → ℕ → ℕ → (ℕ → ℕ) → (ℕ → ℕ) → Type 0
-CodesLow k r m old new =
-    (combination : ℕ → ℕ)
-    × ((j : ℕ) → j < k → forward m 0 combination j ≡ old j)
-    × ((j : ℕ) → k ≤ j → j < m → forward m 0 combination j ≡ 0)
-    × ((i : ℕ) → i < r → new i ≡ forward m 0 combination (m + i))
+-- the first k words, and 0 at each later index
+unfoldable pub zero_padded : ℕ → (ℕ → ℕ) → ℕ → ℕ
+zero_padded k words i = if nat_lt i k then words i else 0
 
 -- the first m words are the sum of n combinations of m basis polynomials; the values of combination u at the m points
 -- from (u + 1) * m on are the old words from u * m on, and zero after the last of the k old words
 abbrev pub SumsBlocks : ℕ → ℕ → ℕ → (ℕ → ℕ) → (ℕ → ℕ) → Type 0
 SumsBlocks m n k old sums =
     (combinations : ℕ → ℕ → ℕ)
-    × ((u i : ℕ) → u < n → i < m → u * m + i < k → forward m (u * m + m) (combinations u) i ≡ old (u * m + i))
-    × ((u i : ℕ) → u < n → i < m → k ≤ u * m + i → forward m (u * m + m) (combinations u) i ≡ 0)
+    × ((u i : ℕ) → u < n → i < m → forward m (u * m + m) (combinations u) i ≡ zero_padded k old (u * m + i))
     × ((q : ℕ) → q < m → sums q ≡ sum_below n (λ u. combinations u q))
 
 -- in one column, the r new words are the recovery words of the k old words

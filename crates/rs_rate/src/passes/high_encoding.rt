@@ -6,7 +6,8 @@ ghost use Rattle.rs_field.specs.code.Counts.{next_power, supports, high_rate};
 ghost use Rattle.rs_field.specs.code.Frame.{encoder_rows};
 ghost use Rattle.rs_field.specs.words.Transform.{forward};
 ghost use Rattle.rs_field.specs.rows.View.{word, Fits, SameExtent, SameRowsOutside};
-ghost use Rattle.rs_rate.specs.passes.Coding.{SumsBlocks, CodesWords, CodingCounts, further_blocks};
+ghost use Rattle.rs_rate.specs.passes.Coding.{SumsBlocks, CodesWords, CodingCounts};
+ghost use Rattle.rs_rate.specs.passes.Coding.{further_blocks, zero_padded};
 
 use rs_field::engine::rows::clear_rows;
 use rs_field::engine::utils::xor_within;
@@ -86,12 +87,8 @@ fn pass_block<E: Engine>(
     ensures extent { SameExtent rows.old rows.new }
     ensures others { SameRowsOutside start (start + block) rows.old rows.new }
     ensures values { (k s i : ℕ) → k < rows.old.shard_len_64 → s < 32 → i < block
-        → start + i < original_count
         → forward block (start + block) (λ q. word rows.new k s (start + q)) i
-        ≡ word rows.old k s (start + i) }
-    ensures zeros { (k s i : ℕ) → k < rows.old.shard_len_64 → s < 32 → i < block
-        → original_count ≤ start + i
-        → forward block (start + block) (λ q. word rows.new k s (start + q)) i ≡ 0 }
+        ≡ zero_padded original_count (word rows.old k s) (start + i) }
     ensures counts { CountsUpTo (block + transform_steps block) 0 0 steps.old steps.new }
 {
     let count = block.min(original_count - start);

@@ -203,9 +203,7 @@ impl DecoderMemory {
             ≡ state_after (given_rows self.old shard_bytes)
             (entry_outcome (given_rows self.old shard_bytes) row shard_bytes repeated shard.now) }
         ensures shard { OnOk result (IsShard shard_bytes shard.now) }
-        ensures chunks { vec_len self.new.chunks ≡ vec_len self.old.chunks }
-        ensures marks { mark_count self.new.marks ≡ mark_count self.old.marks }
-        ensures entries { vec_len self.new.entries ≡ vec_len self.old.entries }
+        ensures laid { (c : Configuration) → IsLaidOut c self.old → IsLaidOut c self.new }
         ensures grown { memory_room self.new ≡ memory_room self.old }
     {
         if self.marks.is_given(row) {

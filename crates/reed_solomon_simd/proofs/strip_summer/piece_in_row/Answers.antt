@@ -45,8 +45,8 @@ returns g c =
     let counts = c.counts-counts.result in
     let same = frame_same counts.frame counts.original_count counts.recovery_count s c.requires.set_up counts.framed
     c.counts-counts.ensures.originals c.counts-counts.ensures.recovery in
-    sym (given_at-other (frame_in s) s.configuration.original_count s.configuration.recovery_count t.originals t.recovery
-    c.args.row
+    sym (given_at-other (frame_in s) s.configuration.original_count s.configuration.recovery_count t.originals
+    t.recovery c.args.row
     (outside-same c.args.row _ (frame_in s).originals_from _ s.configuration.original_count
     (ap (λ p. p.originals_from) same) c.counts-counts.ensures.originals c.in_default.ensures)
     (outside-same c.args.row _ (frame_in s).recovery_from _ s.configuration.recovery_count

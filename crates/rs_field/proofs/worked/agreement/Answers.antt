@@ -65,8 +65,7 @@ agrees = record {
 -- No other message of two originals agrees with these two recovery shards.
 only : (m : List Shard) → IsAgreeing state_of_two m → m ≡ message
 unfolding supports next_power exponent_of first_below with_entry count_below
-only m a = one_message state_of_two.configuration state_of_two.originals state_of_two.recovery m message refl refl
-    (lit≤ tt) a agrees
+only m a = one_message refl refl (lit≤ tt) a agrees
 
 -- The originals that are restored.
 abbrev out : Shards
@@ -149,7 +148,7 @@ only_original : (m : List Shard) → IsAgreeing (state_of_surplus (7 ∷ 9 ∷ [
 unfolding supports next_power exponent_of first_below with_entry count_below
 only_original m a =
     let given = state_of_surplus (7 ∷ 9 ∷ []) in
-    one_message given.configuration given.originals given.recovery m original refl refl (lit≤ tt) a original_agrees
+    one_message refl refl (lit≤ tt) a original_agrees
 
 -- No original is missing if the only original is given.
 none_missing : (i : ℕ) → nothing i ≡ missing_of (state_of_surplus (7 ∷ 9 ∷ [])) original i

@@ -18,8 +18,7 @@ derivative_within-requires-then-size-gt1 t c =
     let even = two_halves c.args.size c.if-size-gt1.true c.requires.power in
     let extent_low = c.derivative_within.ensures.extent in
     let extent_mid = c.xor_within.ensures.extent in
-    let fits = fits_kept c.derivative_within.new.data c.xor_within.new.data extent_mid
-    (fits_kept c.args.data.now c.derivative_within.new.data extent_low c.requires.fits) in
+    let fits = fits_kept extent_mid (fits_kept extent_low c.requires.fits) in
     (omega arith, (fits, ((p.0, p.2), (omega arith, omega arith))))
 
 pub returns-then-size-gt1-clause-derivative : goal.returns-then-size-gt1-clause-derivative
@@ -27,14 +26,9 @@ returns-then-size-gt1-clause-derivative t c k s hk hs =
     let even = two_halves c.args.size c.if-size-gt1.true c.requires.power in
     let extent_low = c.derivative_within.ensures.extent in
     let extent_mid = c.xor_within.ensures.extent in
-    let pos = c.args.pos in
-    let half = c.args.size / 2 in
-    let kept_low = outside_cell pos
-    (pos + half) c.args.data.now c.derivative_within.new.data extent_low c.derivative_within.ensures.others in
-    let kept_mid = outside_cell pos
-    (pos + half) c.derivative_within.new.data c.xor_within.new.data extent_mid c.xor_within.ensures.others in
-    let kept_high = outside_cell (pos + half)
-    (pos + half + half) c.xor_within.new.data c.derivative_within-then-size-gt1.new.data
+    let kept_low = outside_cell extent_low c.derivative_within.ensures.others in
+    let kept_mid = outside_cell extent_mid c.xor_within.ensures.others in
+    let kept_high = outside_cell
     c.derivative_within-then-size-gt1.ensures.extent c.derivative_within-then-size-gt1.ensures.others in
     derivative_rows c.args.data.now c.derivative_within.new.data c.xor_within.new.data
     c.derivative_within-then-size-gt1.new.data k s c.args.pos c.args.size

@@ -23,7 +23,7 @@ transform-returns-then-are_none-clause-values g t c k s hk hs =
 pub transform_many-transform_parts-requires : goal.transform_many-transform_parts-requires
 transform_many-transform_parts-requires g t c κs within =
     let extent = c.layers.ensures.extent in let count = extent.count in
-    let fits = fits_kept c.args.data.now c.layers.new.data extent c.requires.fits in
+    let fits = fits_kept extent c.requires.fits in
     let open_rows : 0 ≤ c.args.block.size = omega arith in
     (omega arith, (within, (fits, (omega arith, (c.requires.marks, (omega arith, rw c.in-Forward.is open_rows))))))
 
@@ -75,7 +75,7 @@ transform_many-returns-in-Forward-clause-counts g t c =
     counts_of_whole size (layer_steps size)
     (transform_steps size - layer_steps size) c.args.steps.now c.layers.new.steps c.transform_parts.new.steps
     (omega (arith, few))
-    (counts_rows (layer_steps block.size) c.args.steps.now c.layers.new.steps c.layers.ensures.counts)
+    (counts_rows c.layers.ensures.counts)
     c.transform_parts.ensures.counts
 
 pub transform_many-returns-in-Backward-clause-values : goal.transform_many-returns-in-Backward-clause-values
@@ -98,7 +98,7 @@ transform_many-returns-in-Backward-clause-counts g t c =
     counts_of_whole size (transform_steps size - layer_steps size)
     (layer_steps size) c.args.steps.now mid c.layers-in-Backward.new.steps (omega (arith, few))
     c.transform_parts-in-Backward.ensures.counts
-    (counts_rows (layer_steps block.size) mid c.layers-in-Backward.new.steps c.layers-in-Backward.ensures.counts)
+    (counts_rows c.layers-in-Backward.ensures.counts)
 
 pub transform_parts-nonzero_div-j-end : goal.transform_parts-nonzero_div-j-end
 transform_parts-nonzero_div-j-end g t c = let part =
@@ -110,7 +110,7 @@ transform_parts-loop-j-init g t c =
     record {
       done = parts_begun c.args.direction
           (is_used c.args.used) block.size c.part_rows-part.result block.skew_delta block.pos c.args.data.now;
-      counts = counts_none (0 * transform_steps c.part_rows-part.result) 0 0 c.args.steps.now;
+      counts = counts_none;
     }
 
 pub transform_parts-transform-requires : goal.transform_parts-transform-requires
@@ -133,7 +133,7 @@ transform_parts-transform-requires g t c κs within =
       (
         within,
         (
-          fits_kept c.args.data.now c.loop-j.data extent c.requires.fits,
+          fits_kept extent c.requires.fits,
           (marks, (omega arith, rw (rows, size) zeros)),
         ),
       ),

@@ -10,23 +10,20 @@ use Rattle.rs_rate.proofs.passes.changes.change_factors.Goals as goal
 
 pub original_row-row-requires : goal.original_row-row-requires
 original_row-row-requires g c =
-    let f = distinct_rows_of c.args.counts.frame c.args.counts.original_count c.args.counts.recovery_count
-    c.args.counts.framed c.args.counts.supported in
+    let f = distinct_rows_of c.args.counts.framed c.args.counts.supported in
     let rows : row_count c.args.counts.frame ≤ 2 ^ 16 = pow_mono f.few in
     omega (arith, rows, f.originals, c.requires)
 
 pub recovery_factors-requires-clause-from : goal.recovery_factors-requires-clause-from
 recovery_factors-requires-clause-from g c =
-    let f = distinct_rows_of c.args.counts.frame c.args.counts.original_count c.args.counts.recovery_count
-    c.args.counts.framed c.args.counts.supported in
+    let f = distinct_rows_of c.args.counts.framed c.args.counts.supported in
     let same : row_count c.in_ok-base.base.counts.frame ≡ row_count c.args.counts.frame =
     ap (λ m. row_count m.frame) c.in_ok-base.ensures.made.0 in
     omega (arith, same, f.originals, c.requires, c.original_row-row.ensures)
 
 pub recovery_factors-requires-clause-apart : goal.recovery_factors-requires-clause-apart
 recovery_factors-requires-clause-apart g c i inside same =
-    let f = distinct_rows_of c.args.counts.frame c.args.counts.original_count c.args.counts.recovery_count
-    c.args.counts.framed c.args.counts.supported in
+    let f = distinct_rows_of c.args.counts.framed c.args.counts.supported in
     let row = c.original_row-row.ensures in
     let there : i < c.args.counts.recovery_count =
     subst (λ (n : ℕ). i < n) (ap (λ m. m.recovery_count) c.in_ok-base.ensures.made.0) inside in

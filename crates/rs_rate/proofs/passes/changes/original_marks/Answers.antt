@@ -7,28 +7,22 @@ use Rattle.rs_rate.proofs.of_passes.ChangeLemmas.{distinct_rows_of}
 use Rattle.rs_rate.proofs.passes.changes.original_marks.Goals as goal
 
 pub row_count-requires : goal.row_count-requires
-row_count-requires c =
-    let f = distinct_rows_of c.args.counts.frame c.args.counts.original_count c.args.counts.recovery_count
-    c.args.counts.framed c.args.counts.supported in
-    f.few
+row_count-requires c = (distinct_rows_of c.args.counts.framed c.args.counts.supported).few
 
 pub original_row-requires : goal.original_row-requires
 original_row-requires c =
-    let f = distinct_rows_of c.args.counts.frame c.args.counts.original_count c.args.counts.recovery_count
-    c.args.counts.framed c.args.counts.supported in
+    let f = distinct_rows_of c.args.counts.framed c.args.counts.supported in
     let rows : row_count c.args.counts.frame ≤ 2 ^ 16 = pow_mono f.few in
     omega (arith, rows, f.originals, c.loop-i-test.true)
 
 pub index_mut-requires : goal.index_mut-requires
 index_mut-requires c =
-    let f = distinct_rows_of c.args.counts.frame c.args.counts.original_count c.args.counts.recovery_count
-    c.args.counts.framed c.args.counts.supported in
+    let f = distinct_rows_of c.args.counts.framed c.args.counts.supported in
     omega (arith, f.originals, c.loop-i-test.true)
 
 pub loop-i-preserved : goal.loop-i-preserved
 loop-i-preserved c =
-    let f = distinct_rows_of c.args.counts.frame c.args.counts.original_count c.args.counts.recovery_count
-    c.args.counts.framed c.args.counts.supported in
+    let f = distinct_rows_of c.args.counts.framed c.args.counts.supported in
     let marks = c.loop-i.marks.items in
     let row = c.original_row.ensures in
     let before = c.loop-i.invariant in

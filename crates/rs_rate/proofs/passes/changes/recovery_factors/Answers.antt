@@ -6,14 +6,14 @@ use Rattle.rs_rate.proofs.passes.changes.recovery_factors.Goals as goal
 pub recovery_row-requires : goal.recovery_row-requires
 recovery_row-requires c =
     let counts = c.args.base.now.counts in
-    let f = distinct_rows_of counts.frame counts.original_count counts.recovery_count counts.framed counts.supported in
+    let f = distinct_rows_of counts.framed counts.supported in
     let rows : row_count c.args.base.now.counts.frame ≤ 2 ^ 16 = pow_mono f.few in
     omega (arith, rows, f.recovery, c.loop-i-test.true)
 
 pub factor-requires-clause-second : goal.factor-requires-clause-second
 factor-requires-clause-second c =
     let counts = c.args.base.now.counts in
-    let f = distinct_rows_of counts.frame counts.original_count counts.recovery_count counts.framed counts.supported in
+    let f = distinct_rows_of counts.framed counts.supported in
     omega (arith, f.recovery, c.recovery_row.ensures, c.loop-i-test.true)
 
 pub factor-requires-clause-apart : goal.factor-requires-clause-apart

@@ -43,7 +43,7 @@ loop-i-preserved c =
             moved_here = λ _. w.move_tail.ensures.here;
             others = w.move_tail.ensures.others;
             counts =
-                counts_rows 1 c.loop-i.steps w.row_step.new.self w.row_step.ensures;
+                counts_rows w.row_step.ensures;
           }))
       | else-is_restored w ↦
           subst (λ (r : Chunks). TailMoved marks size p mid r c.loop-i.steps c.if-is_restored.steps) (sym w.chunks-is)
@@ -52,7 +52,7 @@ loop-i-preserved c =
             moved_here = λ marked.
                 absurd (true≢false (sym marked ∙ sym c.is_restored.ensures ∙ w.if-is_restored.false));
             others = λ i k apart inside. refl;
-            counts = counts_none 1 0 0 c.loop-i.steps;
+            counts = counts_none;
           }))
     ] in
     record {
@@ -70,6 +70,5 @@ loop-i-preserved c =
       ];
       left = λ q k above inside. step.others q k (let apart : q ≢ p = omega arith in apart) inside
           ∙ before.left q k (omega arith) inside;
-      counts = counts_then c.loop-i.i 1 c.args.steps.now c.loop-i.steps c.if-is_restored.steps before.counts
-          step.counts;
+      counts = counts_then before.counts step.counts;
     }

@@ -62,4 +62,4 @@ returns-else-agrees-clause-counts g c =
     counts_decode (rows_to_decode s) (restore_steps s c.args.tally.surplus) 0 c.args.steps.now
     c.find_words-agrees.new.steps c.find_words-agrees.new.steps
     (omega (arith, c.requires.facts.few_surplus, c.requires.facts.configured.own_rows))
-    c.find_words-agrees.ensures.counts (counts_none 0 0 0 c.find_words-agrees.new.steps)
+    c.find_words-agrees.ensures.counts (counts_none)

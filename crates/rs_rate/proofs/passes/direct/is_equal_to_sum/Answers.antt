@@ -23,7 +23,7 @@ returns-clause-equal g c =
     ≡ bit_xor (word c.args.rows.now (j / 32) (j % 32) c.args.y) (sum j) = λ j hj.
     ap (λ x. symbol (chunk x (j / 32)) (j % 32)) c.row.ensures
     ∙ ap (λ x. symbol x (j % 32))
-    (row-read new y (j / 32) (fits_kept old new extent c.requires.fits) (omega (arith, c.requires.within, extent.count))
+    (row-read new y (j / 32) (fits_kept extent c.requires.fits) (omega (arith, c.requires.within, extent.count))
     (omega (arith, c.requires.len, hj, extent.len_64)))
     ∙ c.add_base_rows.ensures.sums (j / 32) (j % 32) (omega (arith, c.requires.len, hj)) (omega arith) in (
       λ equal. c.is_zero_row.ensures.1 (λ j hj.

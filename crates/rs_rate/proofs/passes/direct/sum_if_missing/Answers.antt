@@ -1,4 +1,4 @@
-use Rattle.std.proofs.Common.{◌≡◌, ℕ, ◌+◌, ap, sym, ◌∙◌, arith, inl, inr, bit_xor, true≢false, false}
+use Rattle.std.proofs.Common.{◌≡◌, ℕ, ap, sym, ◌∙◌, arith, inl, inr, bit_xor, true≢false, false}
 use Rattle.std.specs.Prelude.{slice_index}
 use Rattle.std.specs.Int.Bits.{xor_zero_l}
 use Rattle.std.proofs.lemmas.Bool.{cases_lt, cases_eq, cases_Bool}
@@ -35,8 +35,7 @@ returns-then-not-given-y-clause-sums g c none k s hk hs =
     ∙ ap (λ n. direct_sum n base locator (word mid k s) y) count
     ∙ direct_sum-same old.shard_count base locator (word mid k s) (word old k s) y
     (λ x hx is. ap (λ z. symbol z s)
-    (outside_cell y (y + 1) old mid extent c.clear_rows.ensures.others x k hk
-    (elim (cases_lt x y) [
+    (outside_cell extent c.clear_rows.ensures.others x k hk (elim (cases_lt x y) [
       | inl below ↦ inl below
       | inr past ↦ elim (cases_eq x y) [
         | inl same ↦ absurd (true≢false (sym is ∙ ap base same ∙ outside))

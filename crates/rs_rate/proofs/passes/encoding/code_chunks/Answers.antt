@@ -1,4 +1,4 @@
-use Rattle.std.proofs.Common.{◌≡◌, ℕ, rules, Bool, true, false, sym, ◌∙◌, subst, arith}
+use Rattle.std.proofs.Common.{◌≡◌, ℕ, rules, Bool, sym, ◌∙◌, subst, arith}
 use Rattle.rs_field.specs.code.Counts.{low_rate, high_rate}
 use Rattle.rs_field.specs.rows.Layout.{row_len}
 use Rattle.rs_rate.specs.passes.Coding.{CodesWords}
@@ -11,7 +11,7 @@ use Rattle.rs_rate.proofs.passes.encoding.code_chunks.Goals as goal
 pub code_low-requires-clause-block : goal.code_low-requires-clause-block
 code_low-requires-clause-block g c =
     c.block_rows-block.ensures
-    ∙ (configuration-by c.args.configuration true c.requires.configured c.if-configuration.true).1
+    ∙ (configuration-by c.requires.configured c.if-configuration.true).1
 
 pub returns-then-configuration-clause-words : goal.returns-then-configuration-clause-words
 returns-then-configuration-clause-words g c = λ k s inside symbols.
@@ -29,7 +29,7 @@ returns-then-configuration-clause-words g c = λ k s inside symbols.
 pub code_high-requires-clause-block : goal.code_high-requires-clause-block
 code_high-requires-clause-block g c =
     c.block_rows-block.ensures
-    ∙ (configuration-by c.args.configuration false c.requires.configured c.if-configuration.false).1
+    ∙ (configuration-by c.requires.configured c.if-configuration.false).1
 
 pub returns-else-configuration-clause-words : goal.returns-else-configuration-clause-words
 returns-else-configuration-clause-words g c = λ k s inside symbols.

@@ -1,6 +1,5 @@
-use Rattle.std.proofs.Common.{ℕ, ◌-◌, ◌/◌, ◌%◌, ap, sym, subst, ◌∙◌, arith}
+use Rattle.std.proofs.Common.{ℕ, ◌/◌, ◌%◌, ap, sym, subst, ◌∙◌, arith}
 use Rattle.std.proofs.lemmas.List.{with_items_is}
-use Rattle.rs_field.specs.code.Bounds.{encode_steps_at}
 use Rattle.rs_field.specs.code.Code.{AreRecovery}
 use Rattle.rs_field.specs.code.Column.{IsShard, column}
 use Rattle.rs_field.specs.rows.Rows.{Chunks}
@@ -72,7 +71,6 @@ returns-clause-counts g c =
     let k = own.original_count in
     let r = own.recovery_count in
     let room = tails_within rate k r c.args.rows.now.configured.supported in
-    counts_both (encode_steps_at rate k r - r) r
-    (encode_steps_at rate k r) c.args.steps.now c.code_chunks.new.steps c.move_tails.new.steps (omega (arith, room))
+    counts_both (omega (arith, room))
     c.code_chunks.ensures.counts
-    (counts_rows r c.code_chunks.new.steps c.move_tails.new.steps c.move_tails.ensures.counts)
+    (counts_rows c.move_tails.ensures.counts)

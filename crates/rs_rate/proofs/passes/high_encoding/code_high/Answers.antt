@@ -1,14 +1,11 @@
-use Rattle.std.proofs.Common.{◌≡◌, ℕ, ◌+◌, ◌-◌, ◌*◌, ◌≤◌, false, sym, ap, ◌∙◌, subst, arith, zero-add}
+use Rattle.std.proofs.Common.{◌≡◌, ℕ, ◌+◌, ◌*◌, ◌≤◌, false, sym, ap, ◌∙◌, subst, arith, zero-add}
 use Rattle.std.proofs.Math.Nat.{zero-mod}
 use Rattle.rs_field.specs.rows.View.{word}
 use Rattle.rs_field.specs.words.Transform.{forward}
-use Rattle.rs_field.specs.words.StepBounds.{transform_steps}
-use Rattle.rs_field.specs.code.Bounds.{encode_steps_at}
-use Rattle.rs_field.specs.code.Counts.{high_rate}
 use Rattle.rs_field.proofs.of_words.Combination.{forward-same}
 use Rattle.rs_field.proofs.of_rows.Recursion.{fits_kept}
 use Rattle.rs_field.proofs.of_code.SupportedCounts.{high_fits}
-use Rattle.rs_rate.specs.passes.Coding.{SumsBlocks, further_blocks}
+use Rattle.rs_rate.specs.passes.Coding.{SumsBlocks}
 use Rattle.rs_rate.proofs.of_values.HighCounts.{rows-fit}
 use Rattle.rs_rate.proofs.of_passes.HighCoding.{high_coded}
 use Rattle.rs_rate.proofs.of_passes.EncodeCounting.{counts_both, high_total}
@@ -32,7 +29,7 @@ fft-requires g c =
     let rows = rows-fit false c.args.original_count c.args.recovery_count
     c.requires.supported in
     record {
-      fits = fits_kept c.args.rows.now c.sum_blocks.new.rows c.sum_blocks.ensures.extent c.requires.fits;
+      fits = fits_kept c.sum_blocks.ensures.extent c.requires.fits;
       power = (rows.power.0, c.requires.block ∙ rows.power.1);
       truncated = omega (arith, rows.block, c.requires.block);
       within = omega (arith, rows.some, c.requires.rows, c.requires.block, c.sum_blocks.ensures.extent.count);
@@ -61,13 +58,7 @@ returns-clause-words g c = λ k s inside symbols.
 
 pub returns-clause-counts : goal.returns-clause-counts
 returns-clause-counts g c =
-    let block : ℕ = c.args.block in
-    let t : ℕ = transform_steps c.args.block in
     let all = high_total c.args.original_count c.args.recovery_count
     c.args.block c.args.rows.now.shard_count c.requires.supported c.requires.block
     c.requires.rows in
-    counts_both (block + t + further_blocks block c.args.rows.now.shard_count * (2 * block + t)) t
-    (encode_steps_at high_rate c.args.original_count c.args.recovery_count -
-    c.args.recovery_count)
-    c.args.steps.now c.sum_blocks.new.steps c.fft.new.steps
-    (omega (arith, all)) c.sum_blocks.ensures.counts c.fft.ensures.counts
+    counts_both (omega (arith, all)) c.sum_blocks.ensures.counts c.fft.ensures.counts

@@ -7,7 +7,6 @@ use Rattle.rs_field.proofs.of_rows.RowOffsets.{outside_cell, extent_then}
 use Rattle.rs_field.specs.words.StepBounds.{transform_steps}
 use Rattle.rs_field.proofs.of_rows.Recursion.{fits_kept}
 use Rattle.rs_field.proofs.of_words.Counting.{counts_rows, counts_within}
-use Rattle.rs_rate.specs.passes.Coding.{further_blocks}
 use Rattle.rs_rate.proofs.of_values.PowerLemmas.{multiple_least, next_block}
 use Rattle.rs_rate.proofs.of_passes.HighCoding.{sums-start, sums-next}
 use Rattle.rs_rate.proofs.of_passes.EncodeCounting.{counts_both, further-next, further-within}
@@ -15,25 +14,19 @@ use Rattle.rs_rate.proofs.passes.high_encoding.sum_blocks.Goals as goal
 
 pub loop-start-init : goal.loop-start-init
 loop-start-init g c =
-    let block : ℕ = c.args.block in
-    let turn : ℕ = 2 * c.args.block + transform_steps c.args.block in
-    let first : ℕ = c.args.block + transform_steps c.args.block in
     let some : 0 < c.args.block = (let p = pow_pos c.requires.power.0 in omega (arith, c.requires.power.1)) in
     record {
       first = omega arith;
       whole = mod_self c.args.block;
       within = multiple_least c.args.rows.now.shard_count c.args.block (omega arith) c.requires.whole;
-      fits = fits_kept c.args.rows.now c.pass_block.new.rows c.pass_block.ensures.extent c.requires.fits;
+      fits = fits_kept c.pass_block.ensures.extent c.requires.fits;
       extent = c.pass_block.ensures.extent;
       left = λ i k inside from.
-          outside_cell _ _ c.args.rows.now c.pass_block.new.rows c.pass_block.ensures.extent c.pass_block.ensures.others
-          i k inside (inr (omega arith));
+          outside_cell c.pass_block.ensures.extent c.pass_block.ensures.others i k inside (inr (omega arith));
       sums = λ k s inside symbols.
           sums-start c.args.block c.args.original_count (word c.args.rows.now k s) (word c.pass_block.new.rows k s) some
-          (λ i few given. c.pass_block.ensures.values k s i inside symbols few given)
-          (λ i few past. c.pass_block.ensures.zeros k s i inside symbols few past);
-      counts = counts_within first (first + further_blocks block block * turn) c.args.steps.now c.pass_block.new.steps
-          (omega arith) c.pass_block.ensures.counts;
+          (λ i few. c.pass_block.ensures.values k s i inside symbols few);
+      counts = counts_within (omega arith) c.pass_block.ensures.counts;
     }
 
 pub pass_block-requires-in-loop-start-clause-within :
@@ -61,40 +54,32 @@ loop-start-preserved g c =
     let len : c.loop-start.rows.shard_len_64 ≡ c.args.rows.now.shard_len_64 = loop.extent.len_64 in
     let len_too : c.pass_block-in-loop-start.new.rows.shard_len_64 ≡ c.args.rows.now.shard_len_64 =
     pass.extent.len_64 ∙ len in
-    let block : ℕ = c.args.block in
     let turn : ℕ = 2 * c.args.block + transform_steps c.args.block in
-    let first : ℕ = c.args.block + transform_steps c.args.block in
     let next = further-next c.loop-start.start c.args.block
     (2 * c.args.block + transform_steps c.args.block) some loop.first in
-    let step = extent_then now passed c.xor_within.new.data pass.extent c.xor_within.ensures.extent in
+    let step = extent_then pass.extent c.xor_within.ensures.extent in
     record {
       first = omega arith;
       whole = add-mod_right c.loop-start.start c.args.block ∙ loop.whole;
       within = next_block c.loop-start.start c.args.rows.now.shard_count c.args.block
           (omega (arith, c.requires.enough)) loop.whole c.requires.whole;
-      fits = fits_kept now c.xor_within.new.data step loop.fits;
-      extent = extent_then c.args.rows.now now c.xor_within.new.data loop.extent step;
+      fits = fits_kept step loop.fits;
+      extent = extent_then loop.extent step;
       left = λ i k inside from.
-          outside_cell _ _ passed c.xor_within.new.data c.xor_within.ensures.extent c.xor_within.ensures.others i k
-          (omega arith) (inr (omega arith))
-          ∙ outside_cell _ _ now passed pass.extent pass.others i k (omega arith) (inr from)
+          outside_cell c.xor_within.ensures.extent c.xor_within.ensures.others i k (omega arith) (inr (omega arith))
+          ∙ outside_cell pass.extent pass.others i k (omega arith) (inr from)
           ∙ loop.left i k inside (omega arith);
       sums = λ k s inside symbols.
           sums-next c.args.block c.loop-start.start c.args.original_count (word c.args.rows.now k s) (word now k s)
           (word passed k s) (word c.xor_within.new.data k s) some loop.whole
           (λ i from. ap (λ x. symbol x s) (loop.left i k inside from))
-          (λ i few given. pass.values k s i (omega arith) symbols few given)
-          (λ i few past. pass.zeros k s i (omega arith) symbols few past)
+          (λ i few. pass.values k s i (omega arith) symbols few)
           (λ q few. ap (λ x. symbol x s)
-          (outside_cell _ _ now passed pass.extent pass.others q k (omega arith) (inl (omega arith))))
+          (outside_cell pass.extent pass.others q k (omega arith) (inl (omega arith))))
           (λ q few. c.xor_within.ensures.sums q k s few (omega arith) symbols)
           (loop.sums k s inside symbols);
-      counts = counts_both (first + further_blocks block c.loop-start.start * turn) turn
-          (first + further_blocks block (c.loop-start.start + block) * turn)
-          c.args.steps.now c.loop-start.steps c.xor_within.new.steps (omega (arith, next)) loop.counts
-          (counts_both first block turn c.loop-start.steps c.pass_block-in-loop-start.new.steps c.xor_within.new.steps
-          (omega arith) pass.counts
-          (counts_rows block c.pass_block-in-loop-start.new.steps c.xor_within.new.steps c.xor_within.ensures.counts));
+      counts = counts_both {n = turn} (omega (arith, next)) loop.counts
+          (counts_both (omega arith) pass.counts (counts_rows c.xor_within.ensures.counts));
     }
 
 pub returns-clause-sums : goal.returns-clause-sums
@@ -106,13 +91,8 @@ returns-clause-sums g c =
 
 pub returns-clause-counts : goal.returns-clause-counts
 returns-clause-counts g c =
-    let block : ℕ = c.args.block in
-    let rows : ℕ = c.args.rows.now.shard_count in
-    let turn : ℕ = 2 * c.args.block + transform_steps c.args.block in
-    let first : ℕ = c.args.block + transform_steps c.args.block in
     let loop = c.loop-start.invariant in
     let some : 0 < c.args.block = (let p = pow_pos c.requires.power.0 in omega (arith, c.requires.power.1)) in
     let less = further-within c.loop-start.start c.args.rows.now.shard_count c.args.block
     (2 * c.args.block + transform_steps c.args.block) some (omega (arith, loop.within)) in
-    counts_within (first + further_blocks block c.loop-start.start * turn) (first + further_blocks block rows * turn)
-    c.args.steps.now c.loop-start.steps (omega (arith, less)) loop.counts
+    counts_within (omega (arith, less)) loop.counts

@@ -1,4 +1,4 @@
-use Rattle.std.proofs.Common.{◌≡◌, ℕ, ◌+◌, ◌*◌, ◌<◌, arith, ap, ◌∙◌, inl, zero-add}
+use Rattle.std.proofs.Common.{◌≡◌, ℕ, ◌+◌, ◌<◌, arith, ap, ◌∙◌, inl, zero-add}
 use Rattle.std.proofs.Math.Nat.{add-mod_right}
 use Rattle.std.proofs.lemmas.Nat.{pow_pos}
 use Rattle.rs_field.specs.words.StepBounds.{transform_steps}
@@ -7,7 +7,6 @@ use Rattle.rs_field.specs.rows.View.{cell, word}
 use Rattle.rs_field.proofs.of_rows.RowOffsets.{outside_cell}
 use Rattle.rs_field.proofs.of_rows.Recursion.{fits_kept}
 use Rattle.rs_field.proofs.of_words.Counting.{counts_rows, counts_then, counts_within}
-use Rattle.rs_rate.specs.passes.Coding.{further_blocks}
 use Rattle.rs_rate.proofs.of_values.PowerLemmas.{next_block}
 use Rattle.rs_rate.proofs.of_passes.EncodeCounting.{counts_both, further-next, further-within}
 use Rattle.rs_rate.proofs.of_passes.LowCoding.{further-more}
@@ -51,19 +50,16 @@ loop-start-preserved g c =
     let kept_before : (i k : ℕ) → k < c.args.rows.now.shard_len_64 → i < c.loop-start.start
     → cell c.copy_rows.new.rows k i ≡ cell c.loop-start.rows k i
     = λ i k inside before.
-    outside_cell _ _ c.loop-start.rows c.copy_rows.new.rows c.copy_rows.ensures.extent c.copy_rows.ensures.others i
-    k (omega arith) (inl before) in
+    outside_cell c.copy_rows.ensures.extent c.copy_rows.ensures.others i k (omega arith) (inl before) in
     let kept_after : (i k : ℕ) → k < c.args.rows.now.shard_len_64 → i < c.loop-start.start
     → cell c.fft.new.data k i ≡ cell c.copy_rows.new.rows k i
     = λ i k inside before.
-    outside_cell _ _ c.copy_rows.new.rows c.fft.new.data c.fft.ensures.extent c.fft.ensures.others i k (omega arith)
-    (inl before) in
+    outside_cell c.fft.ensures.extent c.fft.ensures.others i k (omega arith) (inl before) in
     record {
       first = omega arith;
       whole = add-mod_right c.loop-start.start c.args.block ∙ loop.whole;
       within = omega (arith, next);
-      fits = fits_kept c.copy_rows.new.rows c.fft.new.data c.fft.ensures.extent
-          (fits_kept c.loop-start.rows c.copy_rows.new.rows c.copy_rows.ensures.extent loop.fits);
+      fits = fits_kept c.fft.ensures.extent (fits_kept c.copy_rows.ensures.extent loop.fits);
       extent = record {
         name = c.fft.ensures.extent.name ∙ c.copy_rows.ensures.extent.name ∙ loop.extent.name;
         count = c.fft.ensures.extent.count ∙ c.copy_rows.ensures.extent.count ∙ loop.extent.count;
@@ -86,12 +82,8 @@ loop-start-preserved g c =
           (λ j wanted. c.fft.ensures.values k s j (omega arith) symbols wanted)
           (λ j before. ap (λ x. symbol x s) (kept_after j k inside before))
           i low high few;
-      counts = counts_both (further_blocks block c.loop-start.start * step) step
-          (further_blocks block (c.loop-start.start + block) * step)
-          c.args.steps.now c.loop-start.steps c.fft.new.steps
-          (further-next c.loop-start.start block step some loop.first) loop.counts
-          (counts_then block (transform_steps block) c.loop-start.steps c.copy_rows.new.steps c.fft.new.steps
-          (counts_rows block c.loop-start.steps c.copy_rows.new.steps c.copy_rows.ensures.counts) c.fft.ensures.counts);
+      counts = counts_both (further-next c.loop-start.start block step some loop.first) loop.counts (counts_then
+          (counts_rows c.copy_rows.ensures.counts) c.fft.ensures.counts);
     }
 
 pub returns-clause-counts : goal.returns-clause-counts
@@ -101,6 +93,4 @@ returns-clause-counts g c =
     let step : ℕ = c.args.block + transform_steps c.args.block in
     let loop = c.loop-start.invariant in
     let some : 0 < c.args.block = (let p = pow_pos c.requires.power.0 in omega (arith, c.requires.power.1)) in
-    counts_within (further_blocks block c.loop-start.start * step)
-    (further_blocks block rows * step) c.args.steps.now c.loop-start.steps
-    (further-within c.loop-start.start rows block step some loop.within) loop.counts
+    counts_within (further-within c.loop-start.start rows block step some loop.within) loop.counts

@@ -1,18 +1,16 @@
-use Rattle.std.proofs.Common.{◌≡◌, ℕ, ◌+◌, ◌-◌, ◌*◌, ◌≤◌, ◌∙◌, true, ap, subst, arith, inl, inr}
+use Rattle.std.proofs.Common.{◌≡◌, ℕ, ◌≤◌, ◌∙◌, true, sym, ap, arith, inl, inr}
 use Rattle.std.proofs.Math.Nat.{zero-mod, mod_self}
 use Rattle.rs_field.specs.rows.Rows.{symbol}
 use Rattle.rs_field.specs.code.Counts.{next_power}
 use Rattle.rs_field.specs.rows.View.{word}
-use Rattle.rs_field.specs.words.StepBounds.{transform_steps}
-use Rattle.rs_field.specs.code.Bounds.{encode_steps_at}
-use Rattle.rs_field.specs.code.Counts.{low_rate}
 use Rattle.rs_field.proofs.of_words.Counting.{counts_rows, counts_then}
 use Rattle.rs_field.proofs.of_rows.Recursion.{fits_kept}
 use Rattle.rs_field.proofs.of_rows.RowOffsets.{outside_cell}
 use Rattle.rs_field.proofs.of_rows.Symbols.{symbol-zero}
-use Rattle.rs_rate.specs.passes.Coding.{CodesLow, further_blocks}
 use Rattle.rs_rate.proofs.of_values.HighCounts.{rows-fit}
-use Rattle.rs_rate.proofs.of_passes.LowCoding.{coded, codes_words}
+use Rattle.std.proofs.lemmas.Bool.{cases_lt}
+use Rattle.rs_rate.proofs.of_passes.LowCoding.{low_coded}
+use Rattle.rs_rate.proofs.of_passes.ZeroPadded.{zero_padded-in, zero_padded-past}
 use Rattle.rs_rate.proofs.of_passes.EncodeCounting.{counts_both, low_total}
 use Rattle.rs_rate.proofs.passes.low_encoding.code_low.Goals as goal
 
@@ -31,7 +29,7 @@ ifft-requires g c =
     let rows = rows-fit true c.args.original_count c.args.recovery_count
     c.requires.supported in
     record {
-      fits = fits_kept c.args.rows.now c.clear_rows.new.rows c.clear_rows.ensures.extent c.requires.fits;
+      fits = fits_kept c.clear_rows.ensures.extent c.requires.fits;
       power = (rows.power.0, c.requires.block ∙ rows.power.1);
       truncated = omega (arith, rows.block, c.requires.block);
       within = omega (arith, rows.some, c.requires.rows, c.requires.block, c.clear_rows.ensures.extent.count);
@@ -48,8 +46,7 @@ code_further-requires g c =
     let count : c.ifft.new.data.shard_count ≡ passed.shard_count =
     c.ifft.ensures.extent.count ∙ c.clear_rows.ensures.extent.count in
     record {
-      fits = fits_kept c.clear_rows.new.rows c.ifft.new.data c.ifft.ensures.extent
-          (fits_kept passed c.clear_rows.new.rows c.clear_rows.ensures.extent c.requires.fits);
+      fits = fits_kept c.ifft.ensures.extent (fits_kept c.clear_rows.ensures.extent c.requires.fits);
       power = (rows.power.0, c.requires.block ∙ rows.power.1);
       enough = omega (arith, rows.enough, c.requires.rows, count);
       whole = rw (count, c.requires.rows, c.requires.block) rows.whole;
@@ -61,9 +58,8 @@ fft-requires g c =
     let rows = rows-fit true c.args.original_count c.args.recovery_count
     c.requires.supported in
     record {
-      fits = fits_kept c.ifft.new.data c.code_further.new.rows c.code_further.ensures.extent
-          (fits_kept c.clear_rows.new.rows c.ifft.new.data c.ifft.ensures.extent
-          (fits_kept c.args.rows.now c.clear_rows.new.rows c.clear_rows.ensures.extent c.requires.fits));
+      fits = fits_kept c.code_further.ensures.extent (fits_kept c.ifft.ensures.extent
+          (fits_kept c.clear_rows.ensures.extent c.requires.fits));
       power = (rows.power.0, c.requires.block ∙ rows.power.1);
       truncated = omega arith;
       within = omega (
@@ -97,41 +93,30 @@ returns-clause-words g c = λ k s inside symbols.
     c.code_further.ensures.extent.len_64 ∙ len_2 in
     let old : ℕ → ℕ = word c.args.rows.now k s in
     let new : ℕ → ℕ = word c.fft.new.data k s in
-    let column : CodesLow c.args.original_count c.args.recovery_count
-    c.args.block old new =
-    coded c.args.original_count c.args.recovery_count c.args.block
-    old (word c.clear_rows.new.rows k s) (word c.ifft.new.data k s) (word c.code_further.new.rows k s) new
-    (λ j small. ap (λ x. symbol x s)
-    (outside_cell _ _ c.args.rows.now c.clear_rows.new.rows c.clear_rows.ensures.extent c.clear_rows.ensures.others
-    j k inside (inl small)))
-    (λ j low high. ap (λ x. symbol x s) (c.clear_rows.ensures.zeros j k (omega arith) low high) ∙ symbol-zero s symbols)
+    low_coded c.args.original_count c.args.recovery_count c.args.block old (word c.clear_rows.new.rows k s)
+    (word c.ifft.new.data k s) (word c.code_further.new.rows k s) new c.requires.supported block given
+    (λ j small. elim (cases_lt j c.args.original_count) [
+      | inl low ↦
+          ap (λ x. symbol x s)
+          (outside_cell c.clear_rows.ensures.extent c.clear_rows.ensures.others j k inside (inl low))
+          ∙ sym (zero_padded-in c.args.original_count old j low)
+      | inr past ↦
+          ap (λ x. symbol x s) (c.clear_rows.ensures.zeros j k (omega arith) past small) ∙ symbol-zero s symbols
+          ∙ sym (zero_padded-past c.args.original_count old j past)
+    ])
     (λ j small. c.ifft.ensures.values k s j (omega arith) symbols small)
     (λ q small. ap (λ x. symbol x s) (c.code_further.ensures.combination q k (omega arith) small))
     (λ i low few. c.code_further.ensures.values k s i (omega arith) symbols low few)
     (λ i wanted. c.fft.ensures.values k s i (omega arith) symbols (omega arith))
     (λ i low. ap (λ x. symbol x s)
-    (outside_cell _ _ c.code_further.new.rows c.fft.new.data c.fft.ensures.extent c.fft.ensures.others i k
-    (omega arith) (inr (omega arith))))
-    given in
-    codes_words c.args.original_count c.args.recovery_count old new c.requires.supported
-    (subst (λ (m : ℕ). CodesLow c.args.original_count c.args.recovery_count m old new) block
-    column)
+    (outside_cell c.fft.ensures.extent c.fft.ensures.others i k (omega arith) (inr (omega arith))))
 
 pub returns-clause-counts : goal.returns-clause-counts
 returns-clause-counts g c =
-    let t : ℕ = transform_steps c.args.block in
-    let cleared : ℕ = c.args.block - c.args.original_count in
-    let further : ℕ = further_blocks c.args.block c.ifft.new.data.shard_count *
-    (c.args.block + transform_steps c.args.block) in
     let all = low_total c.args.original_count c.args.recovery_count
     c.args.block c.ifft.new.data.shard_count c.requires.supported c.requires.block
     (c.ifft.ensures.extent.count ∙ c.clear_rows.ensures.extent.count ∙ c.requires.rows) in
-    counts_both (cleared + t + further) t
-    (encode_steps_at low_rate c.args.original_count c.args.recovery_count -
-    c.args.recovery_count)
-    c.args.steps.now c.code_further.new.steps c.fft.new.steps (omega (arith, all))
-    (counts_then (cleared + t) further c.args.steps.now c.ifft.new.steps c.code_further.new.steps
-    (counts_then cleared t c.args.steps.now c.clear_rows.new.steps c.ifft.new.steps
-    (counts_rows cleared c.args.steps.now c.clear_rows.new.steps c.clear_rows.ensures.counts) c.ifft.ensures.counts)
+    counts_both (omega (arith, all))
+    (counts_then (counts_then (counts_rows c.clear_rows.ensures.counts) c.ifft.ensures.counts)
     c.code_further.ensures.counts)
     c.fft.ensures.counts

@@ -57,16 +57,15 @@ loop-p-preserved g c =
                 ∙ symbol-zero s hs ∙ sym (located_word-at marks locator (word mid k s) p false none);
             cleared = λ k hk _. w.clear_rows.ensures.zeros p k (omega (arith, hk, cleared_len)) (omega arith)
                 (omega arith);
-            counts = counts_rows 1 c.loop-p.steps w.clear_rows.new.steps
-                (subst (λ (n : ℕ). CountsRows n c.loop-p.steps w.clear_rows.new.steps)
+            counts = counts_rows (subst (λ (n : ℕ). CountsRows n c.loop-p.steps w.clear_rows.new.steps)
                 (let one : c.loop-p.p + 1 - c.loop-p.p ≡ 1 = omega arith in one) w.clear_rows.ensures.counts);
           }))
     ] in
     let len : c.loop-p.rows.shard_len_64 ≡ c.args.rows.now.shard_len_64 = before.extent.len_64 in
-    let kept = outside_cell p (p + 1) mid new step.extent step.others in
+    let kept = outside_cell step.extent step.others in
     record {
-      fits = fits_kept mid new step.extent before.fits;
-      extent = extent_then old mid new before.extent step.extent;
+      fits = fits_kept step.extent before.fits;
+      extent = extent_then before.extent step.extent;
       located = λ k s q hk hs hq. elim (cases_lt q p) [
         | inl low ↦ ap (λ x. symbol x s) (kept q k (omega arith) (inl low)) ∙ before.located k s q hk hs low
         | inr high ↦
@@ -83,5 +82,5 @@ loop-p-preserved g c =
             ap (cell new k) here ∙ step.cleared k (omega arith) (sym (ap (λ i. is_marked marks i) here) ∙ none)
       ];
       left = λ k q hk hq. kept q k (omega arith) (inr hq) ∙ before.left k q hk (omega arith);
-      counts = counts_then p 1 c.args.steps.now c.loop-p.steps c.if-given-p.steps before.counts step.counts;
+      counts = counts_then before.counts step.counts;
     }

@@ -50,14 +50,14 @@ loop-i-preserved g c =
             others = λ k _. refl;
             revealed_here = λ k s hk hs marked.
                 absurd (true≢false (sym marked ∙ sym c.is_restored.ensures ∙ w.if-is_restored.false));
-            counts = counts_none 1 0 0 c.loop-i.steps;
+            counts = counts_none;
           }))
     ] in
     let len : c.loop-i.rows.shard_len_64 ≡ c.args.rows.now.shard_len_64 = before.extent.len_64 in
-    let kept = outside_cell p (p + 1) mid new step.extent step.others in
+    let kept = outside_cell step.extent step.others in
     record {
-      fits = fits_kept mid new step.extent before.fits;
-      extent = extent_then old mid new before.extent step.extent;
+      fits = fits_kept step.extent before.fits;
+      extent = extent_then before.extent step.extent;
       revealed = λ k s j hk hs hj marked. elim (cases_lt j c.loop-i.i) [
         | inl low ↦ ap (λ x. symbol x s) (kept (from + j) k (omega arith) (inl (omega arith)))
             ∙ before.revealed k s j hk hs low marked
@@ -69,6 +69,5 @@ loop-i-preserved g c =
             (before.left k p hk (omega arith)))
       ];
       left = λ k q hk hq. kept q k (omega arith) (inr (omega arith)) ∙ before.left k q hk (omega arith);
-      counts = counts_then c.loop-i.i 1 c.args.steps.now c.loop-i.steps c.if-is_restored.steps before.counts
-          step.counts;
+      counts = counts_then before.counts step.counts;
     }

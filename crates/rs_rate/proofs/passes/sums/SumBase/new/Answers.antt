@@ -8,32 +8,19 @@ use Rattle.rs_rate.proofs.of_passes.SumLemmas.{written-back}
 use Rattle.rs_rate.proofs.passes.sums.SumBase.new.Goals as goal
 
 pub row_count-requires : goal.row_count-requires
-row_count-requires g c =
-    let f = distinct_rows_of c.args.counts.frame c.args.counts.original_count c.args.counts.recovery_count
-    c.args.counts.framed c.args.counts.supported in
-    f.few
+row_count-requires g c = (distinct_rows_of c.args.counts.framed c.args.counts.supported).few
 
 pub row_count-requires-2 : goal.row_count-requires-2
-row_count-requires-2 g c =
-    let f = distinct_rows_of c.args.counts.frame c.args.counts.original_count c.args.counts.recovery_count
-    c.args.counts.framed c.args.counts.supported in
-    f.few
+row_count-requires-2 g c = (distinct_rows_of c.args.counts.framed c.args.counts.supported).few
 
 pub make_locator-requires-clause-few : goal.make_locator-requires-clause-few
-make_locator-requires-clause-few g c =
-    let f = distinct_rows_of c.args.counts.frame c.args.counts.original_count c.args.counts.recovery_count
-    c.args.counts.framed c.args.counts.supported in
-    f.few
+make_locator-requires-clause-few g c = (distinct_rows_of c.args.counts.framed c.args.counts.supported).few
 
 pub locate_zero-requires-clause-few : goal.locate_zero-requires-clause-few
-locate_zero-requires-clause-few g c =
-    let f = distinct_rows_of c.args.counts.frame c.args.counts.original_count c.args.counts.recovery_count
-    c.args.counts.framed c.args.counts.supported in
-    f.few
+locate_zero-requires-clause-few g c = (distinct_rows_of c.args.counts.framed c.args.counts.supported).few
 
 pub invariant_of-result : goal.invariant_of-result
 invariant_of-result g c =
-    let rows : ℕ = row_count c.args.counts.frame in
     let has : length c.in_ok-locator.locator.items ≡ row_count c.args.counts.frame = search rules in
     let has_logs : length c.in_ok-logs.logs.items ≡ row_count c.args.counts.frame = search rules in
     let len : c.in_ok-locator.locator.len ≡ row_count c.args.counts.frame = search rules in

@@ -1,4 +1,6 @@
-use Rattle.std.proofs.Common.{◌≡◌, length, sym, ap, ◌∙◌}
+use Rattle.std.proofs.Common.{◌≡◌, length, sym, ap, ◌∙◌, subst}
+use Rattle.rs_rate.specs.values.Configured.{rows_to_decode}
+use Rattle.rs_rate.specs.rows.DecoderRoom.{HasRoom}
 use Rattle.rs_field.specs.code.Outcome.{state_after}
 use Rattle.rs_rate.specs.rows.Entering.{given_rows}
 use Rattle.rs_rate.specs.rows.Marks.{given_marks}
@@ -20,3 +22,12 @@ returns-clause-rows c =
     (shard_laid_out c.put.new.self.chunks.items size) c.args.row c.args.shard.now c.put.ensures.mark
     c.put.ensures.other_marks (rw same at c.put.ensures.here) (rw same at c.put.ensures.others)
     ∙ sym (ap (state_after rows) (entry-free rows c.args.row size c.args.repeated c.args.shard.now free same))
+
+pub returns-clause-laid : goal.returns-clause-laid
+returns-clause-laid c = λ own laid. record {
+  whole = c.put.ensures.chunks ∙ laid.whole;
+  marked = c.put.ensures.marks ∙ laid.marked;
+  entries = c.put.ensures.entries ∙ laid.entries;
+  sized = laid.sized;
+  room = subst (λ r. HasRoom r (rows_to_decode own) own.shard_bytes) (sym c.put.ensures.grown) laid.room;
+}

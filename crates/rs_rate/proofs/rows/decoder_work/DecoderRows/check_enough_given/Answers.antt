@@ -1,6 +1,5 @@
 use Rattle.std.proofs.Common.{arith, sym}
 use Rattle.rs_rate.specs.rows.DecoderView.{decoder_state}
-use Rattle.rs_rate.specs.rows.Entering.{given_rows}
 use Rattle.rs_rate.proofs.of_rows.DecoderRows.{enough-few, enough-many}
 use Rattle.rs_rate.proofs.of_rows.RowMaps.{hold-most}
 use Rattle.rs_rate.proofs.rows.decoder_work.DecoderRows.check_enough_given.Goals as goal
@@ -8,8 +7,7 @@ use Rattle.rs_rate.proofs.rows.decoder_work.DecoderRows.check_enough_given.Goals
 pub overflow_add-self : goal.overflow_add-self
 overflow_add-self c =
     let w = c.args.self.now in
-    let most = hold-most w.configuration w.originals_given w.recovery_given
-    (given_rows w.memory w.configuration.shard_bytes) w.given in
+    let most = hold-most w.given in
     omega (arith, most.0, most.1)
 
 pub returns-then-self : goal.returns-then-self

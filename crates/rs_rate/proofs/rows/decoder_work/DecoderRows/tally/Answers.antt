@@ -19,21 +19,18 @@ use Rattle.rs_rate.proofs.rows.decoder_work.DecoderRows.tally.Goals as goal
 pub overflow_add-given : goal.overflow_add-given
 overflow_add-given c =
     let w = c.args.self.now in
-    let most = hold-most w.configuration w.originals_given w.recovery_given
-    (given_rows w.memory w.configuration.shard_bytes) w.given in
+    let most = hold-most w.given in
     omega (arith, most.0, most.1)
 
 pub overflow_sub-result : goal.overflow_sub-result
 overflow_sub-result c =
     let w = c.args.self.now in
-    (hold-most w.configuration w.originals_given w.recovery_given
-    (given_rows w.memory w.configuration.shard_bytes) w.given).0
+    (hold-most w.given).0
 
 pub returns-clause-missing : goal.returns-clause-missing
 returns-clause-missing c =
     let w = c.args.self.now in
-    let most = hold-most w.configuration w.originals_given w.recovery_given
-    (given_rows w.memory w.configuration.shard_bytes) w.given in
+    let most = hold-most w.given in
     omega (arith, most.0)
 
 pub returns-clause-facts : goal.returns-clause-facts
@@ -41,9 +38,9 @@ returns-clause-facts c =
     let w = c.args.self.now in
     let own = w.configuration in
     let rows = given_rows w.memory own.shard_bytes in
-    let most = hold-most own w.originals_given w.recovery_given rows w.given in
+    let most = hold-most w.given in
     let held : ℕ → Shard = shard_laid_out w.memory.chunks.items own.shard_bytes in
-    let frame = places-known own w.configured in
+    let frame = places-known w.configured in
     let some = (supported-in_field (rate_of own) own.original_count own.recovery_count w.configured.supported).0 in
     record {
       configured = w.configured;
@@ -52,12 +49,12 @@ returns-clause-facts c =
           (shard_laid_out w.memory.chunks.items own.shard_bytes) (omega (arith, some, c.requires)) w.given;
       given = how_many-same (rows_to_decode own) (is_marked (given_marks w.memory.marks)) (λ p. is_some (rows p))
           (λ p hp. sym (some-marked (given_marks w.memory.marks) held p))
-          ∙ many_rows own frame w.originals_given w.recovery_given rows w.given ∙ omega (arith, most.0, c.requires);
+          ∙ many_rows frame w.given ∙ omega (arith, most.0, c.requires);
       missing =
           let has : ℕ → Bool = λ i. is_marked (given_marks w.memory.marks) (original_row own.frame i) in
           let some = how_many-same own.original_count has (λ i. is_some (rows (original_row own.frame i)))
           (λ i hi. sym (some-marked (given_marks w.memory.marks) held (original_row own.frame i)))
-          ∙ many_originals own frame w.originals_given w.recovery_given rows w.given in
+          ∙ many_originals frame w.given in
           omega (arith, how_many-not own.original_count has, some);
       none_missing = λ none i inside.
           sym (given-marked (given_marks w.memory.marks) w.memory.chunks.items own.shard_bytes own.frame.originals_from

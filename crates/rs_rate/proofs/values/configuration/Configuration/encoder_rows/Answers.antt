@@ -1,4 +1,4 @@
-use Rattle.std.proofs.Common.{◌<◌, true, false, sym, ◌∙◌, subst, arith}
+use Rattle.std.proofs.Common.{◌<◌, sym, ◌∙◌, subst, arith}
 use Rattle.std.proofs.lemmas.Nat.{pow_pos}
 use Rattle.rs_rate.specs.values.Configured.{block_of}
 use Rattle.rs_rate.proofs.of_values.ConfiguredLemmas.{HasBlocks, blocks-known}
@@ -11,9 +11,9 @@ use Rattle.rs_rate.proofs.values.configuration.Configuration.encoder_rows.Goals.
 blocks : (c : After-block_rows) → HasBlocks c.args.self c.if-self.coded
 blocks c = elim c.if-self.branch [
   | then-self w ↦ subst (HasBlocks c.args.self) (sym w.coded-is)
-      (blocks-known c.args.self c.requires true w.if-self.true)
+      (blocks-known c.requires w.if-self.true)
   | else-self w ↦ subst (HasBlocks c.args.self) (sym w.coded-is)
-      (blocks-known c.args.self c.requires false w.if-self.false)
+      (blocks-known c.requires w.if-self.false)
 ]
 
 pub next_multiple_of_power-requires-clause-power : goal.next_multiple_of_power-requires-clause-power
