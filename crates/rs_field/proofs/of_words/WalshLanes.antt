@@ -95,52 +95,48 @@ layer_of d v new size fits test e k h =
 abbrev by_parity : ℕ → ℕ → ℕ → ℕ
 by_parity b even odd = (if b == 0 then even else odd) % 65535
 
--- A layer joins the transforms of two halves of n lanes.
-stage : (e n half a : ℕ) (f g new : List ℕ) → n ≡ 2 ^ suc e → half ≡ 2 ^ e → a + (half + half) ≤ 16
+-- The n lanes from lane a on are transformed.
+abbrev TransformedFrom : ℕ → ℕ → List ℕ → List ℕ → Type 0
+TransformedFrom a n f g = IsWalsh n (λ y. get_or f (a + y) 0) (λ w. get_or g (a + w) 0)
+
+-- A layer joins the transforms of two halves.
+stage : (half a : ℕ) (f g new : List ℕ) → (e : ℕ) × (half ≡ 2 ^ e) → a + (half + half) ≤ 16
     → ((i : ℕ) → i < half → (a + i) / half % 2 ≡ 0) → ((i : ℕ) → i < half → (a + (half + i)) / half % 2 ≡ 1)
-    → IsLayer half g new
-    → IsWalsh half (λ y. get_or f (a + y) 0) (λ w. get_or g (a + w) 0)
-    → IsWalsh half (λ y. get_or f (a + half + y) 0) (λ w. get_or g (a + half + w) 0)
-    → IsWalsh n (λ y. get_or f (a + y) 0) (λ w. get_or new (a + w) 0)
-stage e n half a f g new is h room first second layer low high =
-    walsh-halves e n half (λ y. get_or f (a + y) 0) (λ w. get_or g (a + w) 0) (λ w. get_or g (a + half + w) 0)
-    (λ w. get_or new (a + w) 0) is h low
-    (walsh-same half (λ y. get_or f (a + half + y) 0) (λ y. get_or f (a + (half + y)) 0)
-    (λ w. get_or g (a + half + w) 0) (λ y hy. ap (λ k. get_or f k 0) (omega arith)) high)
-    (record {
-      sums = λ i hi.
-          let there : a + i + half ≡ a + half + i = omega arith in
+    → IsLayer half g new → TransformedFrom a half f g → TransformedFrom (a + half) half f g
+    → TransformedFrom a (half + half) f new
+stage half a f g new power room first second layer low high =
+    walsh-halves _ _ _ power low (walsh-same _ (λ y hy. ap (λ k. get_or f k 0) (omega arith)) high) _ (λ i hi. (
+      let there : a + i + half ≡ a + half + i = omega arith in
           layer (a + i) (omega arith)
           ∙ ap (λ b. by_parity b (get_or g (a + i + half) 0 + get_or g (a + i) 0)
           (get_or g (a + i - half) 0 + 65534 * get_or g (a + i) 0)) (first i hi)
-          ∙ ap (λ k. (get_or g k 0 + get_or g (a + i) 0) % 65535) there ∙ ap (λ v. v % 65535) (omega arith);
-      differences = λ i hi.
-          layer (a + (half + i)) (omega arith)
+          ∙ ap (λ k. (get_or g k 0 + get_or g (a + i) 0) % 65535) there ∙ ap (λ v. v % 65535) (omega arith),
+      layer (a + (half + i)) (omega arith)
           ∙ ap (λ b. by_parity b (get_or g (a + (half + i) + half) 0 + get_or g (a + (half + i)) 0)
           (get_or g (a + (half + i) - half) 0 + 65534 * get_or g (a + (half + i)) 0)) (second i hi)
-          ∙ ap₂ (λ k m. (get_or g k 0 + 65534 * get_or g m 0) % 65535) (omega arith) (omega arith);
-    })
+          ∙ ap₂ (λ k m. (get_or g k 0 + 65534 * get_or g m 0) % 65535) (omega arith) (omega arith),
+    ))
 
 -- Four layers make the transform of 16 lanes.
 pub four_layers : (f g1 g2 g3 g4 : List ℕ) → IsLayer 1 f g1 → IsLayer 2 g1 g2 → IsLayer 4 g2 g3 → IsLayer 8 g3 g4
     → IsWalsh 16 (λ y. get_or f y 0) (λ w. get_or g4 w 0)
 four_layers f g1 g2 g3 g4 l1 l2 l4 l8 =
-    walsh-same 16 (λ y. get_or f (0 + y) 0) (λ y. get_or f y 0) (λ w. get_or g4 w 0)
+    walsh-same _
     (λ y hy. let z : 0 + y ≡ y = omega arith in ap (λ k. get_or f k 0) z)
     (λ w hw. let z : w ≡ 0 + w = omega arith in ap (λ k. get_or g4 k 0 % 65535) z ∙ whole w hw)
   where
-    two : (a : ℕ) → a + 2 ≤ 16 → a % 2 ≡ 0 → IsWalsh 2 (λ y. get_or f (a + y) 0) (λ w. get_or g1 (a + w) 0)
-    two a le even = stage 0 2 1 a f f g1 refl refl le (λ i h. omega arith) (λ i h. omega arith) l1
-        (walsh-one 1 (λ y. get_or f (a + y) 0) refl) (walsh-one 1 (λ y. get_or f (a + 1 + y) 0) refl)
+    two : (a : ℕ) → a + 2 ≤ 16 → a % 2 ≡ 0 → TransformedFrom a 2 f g1
+    two a le even = stage 1 a _ _ _ (0, refl) le (λ i h. omega arith) (λ i h. omega arith) l1
+        (walsh-one _ refl) (walsh-one _ refl)
 
-    four : (a : ℕ) → a + 4 ≤ 16 → a % 4 ≡ 0 → IsWalsh 4 (λ y. get_or f (a + y) 0) (λ w. get_or g2 (a + w) 0)
-    four a le even = stage 1 4 2 a f g1 g2 refl refl le (λ i h. omega arith) (λ i h. omega arith) l2
+    four : (a : ℕ) → a + 4 ≤ 16 → a % 4 ≡ 0 → TransformedFrom a 4 f g2
+    four a le even = stage 2 a _ _ _ (1, refl) le (λ i h. omega arith) (λ i h. omega arith) l2
         (two a (omega arith) (omega arith)) (two (a + 2) (omega arith) (omega arith))
 
-    eight : (a : ℕ) → a + 8 ≤ 16 → a % 8 ≡ 0 → IsWalsh 8 (λ y. get_or f (a + y) 0) (λ w. get_or g3 (a + w) 0)
-    eight a le even = stage 2 8 4 a f g2 g3 refl refl le (λ i h. omega arith) (λ i h. omega arith) l4
+    eight : (a : ℕ) → a + 8 ≤ 16 → a % 8 ≡ 0 → TransformedFrom a 8 f g3
+    eight a le even = stage 4 a _ _ _ (2, refl) le (λ i h. omega arith) (λ i h. omega arith) l4
         (four a (omega arith) (omega arith)) (four (a + 4) (omega arith) (omega arith))
 
-    whole : IsWalsh 16 (λ y. get_or f (0 + y) 0) (λ w. get_or g4 (0 + w) 0)
-    whole = stage 3 16 8 0 f g3 g4 refl refl (omega arith) (λ i h. omega arith) (λ i h. omega arith) l8
+    whole : TransformedFrom 0 16 f g4
+    whole = stage 8 0 _ _ _ (3, refl) (omega arith) (λ i h. omega arith) (λ i h. omega arith) l8
         (eight 0 (omega arith) (omega arith)) (eight (0 + 8) (omega arith) (omega arith))

@@ -17,13 +17,11 @@ returns-clause-values c =
     (λ w. get_or c.products.new.entries w 0)
     (λ x. get_or c.fwht-2.new.entries x 0) (λ w. get_or c.args.log_walsh.now w 0)
     (few_bits d (omega (arith, size, c.requires.few)))
-    (walsh-at (length c.args.erasures.now) (2 ^ d) (λ y. get_or c.args.erasures.now y 0)
-    (λ w. get_or c.fwht.new.entries w 0) size c.fwht.ensures.values)
+    (walsh-at _ _ size c.fwht.ensures.values)
     (subst (λ (n : ℕ). IsWalsh n (λ z. 65536 / n * log_or_zero z) (λ w. get_or c.args.log_walsh.now w 0)) size
     c.requires.table.below_entry)
     (λ w hw. c.products.ensures.products w (omega arith))
-    (walsh-at (length c.products.new.entries) (2 ^ d) (λ y. get_or c.products.new.entries y 0)
-    (λ w. get_or c.fwht-2.new.entries w 0) second c.fwht-2.ensures.values))
+    (walsh-at _ _ second c.fwht-2.ensures.values))
 
 pub returns-clause-counts : goal.returns-clause-counts
 returns-clause-counts c =

@@ -33,8 +33,6 @@ returns-clause-entries c = λ w hw.
     (drop (length (c.split_at_mut-last.result.0.now ++ c.fwht.new.entries)) c.push_logs.new.table.items)
     c.push_logs.new.table.len (vec_len c.args.table.now) w (c.split_at_mut-last.ensures.front_len ∙ c.len-from.ensures)
     (omega (arith, c.fwht.auto.entries)) (omega (arith, c.in_ok-push_logs.ensures.length)))
-    ∙ walsh-near c.args.points (λ y. get_or last y 0) (λ z. 65536 / c.args.points * log_or_zero z)
-    (λ w. get_or c.fwht.new.entries w 0)
+    ∙ walsh-near (λ y. get_or last y 0) (λ z. 65536 / c.args.points * log_or_zero z) _
     (λ y hy. ap (λ v. v % 65535) (read y) ∙ c.in_ok-push_logs.ensures.entries y hy)
-    (walsh-at (length last) c.args.points (λ y. get_or last y 0)
-    (λ w. get_or c.fwht.new.entries w 0) size c.fwht.ensures.values) w hw
+    (walsh-at _ _ size c.fwht.ensures.values) w hw
