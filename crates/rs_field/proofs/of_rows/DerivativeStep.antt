@@ -1,13 +1,12 @@
 -- The derivative step by halves, for one symbol of the rows. The polynomial has its coefficients in the subspace basis.
-use Rattle.std.proofs.Common.{rules, ◌≡◌, ℕ, suc, ◌+◌, ◌*◌, ◌/◌, ◌^◌, ◌<◌, ◌≤◌, List, [], ◌∷◌, length, bit_xor, refl}
-use Rattle.std.proofs.Common.{sym, ap, ap₂, ◌∙◌, subst, arith, add_assoc, zero-add, pow-suc, pow_mono}
+use Rattle.std.proofs.Common.{rules, ◌≡◌, ℕ, suc, ◌+◌, ◌/◌, ◌^◌, ◌<◌, ◌≤◌, ◌⊎◌, List, [], ◌∷◌, length, bit_xor}
+use Rattle.std.proofs.Common.{refl, sym, ap, ap₂, ◌∙◌, subst, arith, inl, inr, add_assoc, zero-add, pow-suc, pow_mono}
 use Rattle.std.specs.Int.Bits.{xor_comm, xor_zero_r}
 use Rattle.rs_field.specs.words.Field.{product}
 use Rattle.rs_field.specs.words.Polynomial.{value, derivative_value}
 use Rattle.rs_field.specs.words.Subspace.{subspace}
-use Rattle.rs_field.specs.words.Transform.{forward}
 use Rattle.rs_field.specs.words.Derivative.{IsInBasis, IsDerivativeAdded}
-use Rattle.rs_field.specs.rows.View.{cell, word}
+use Rattle.rs_field.specs.rows.View.{word, SameExtent, SameRowsOutside}
 use Rattle.rs_field.specs.declared.rows.shards.ShardsRefMut.{ShardsRefMut}
 use Rattle.rs_field.proofs.of_words.Product.{product_zero}
 use Rattle.rs_field.proofs.of_words.Total.{product-comm}
@@ -15,22 +14,22 @@ use Rattle.rs_field.proofs.of_words.Subspace.{subspace_from_zero}
 use Rattle.rs_field.proofs.of_words.Roots.{WordsOneByOne, words_from, value_lt, value-nil}
 use Rattle.rs_field.proofs.of_words.Values.{same_from_values}
 use Rattle.rs_field.proofs.of_words.Factors.{add, times, points, value_add, value-times, length-add, length-times}
-use Rattle.rs_field.proofs.of_words.Factors.{words_add, words_times}
+use Rattle.rs_field.proofs.of_words.Factors.{words_add, words_times, all_words}
 use Rattle.rs_field.proofs.of_words.Combination.{forward-same, forward-xor, forward-half}
-use Rattle.rs_field.proofs.of_words.Coefficients.{polynomial_of_terms}
+use Rattle.rs_field.proofs.of_words.Coefficients.{IsSum, sum_polynomial}
 use Rattle.rs_field.proofs.of_words.Derivative.{derivative_lt, derivative-nil, derivative-cons, derivative_add}
 use Rattle.rs_field.proofs.of_words.Derivative.{derivative-subspace}
-use Rattle.rs_field.proofs.of_words.Halves.{half_power, few_halves, subspace_lt}
+use Rattle.rs_field.proofs.of_words.Halves.{half_power, few_halves, subspace_lt, two_halves}
 use Rattle.rs_field.proofs.of_words.RingSolver.{plus, v, times as both, by_algebra}
 use Rattle.rs_field.proofs.of_rows.Recursion.{word_same}
+use Rattle.rs_field.proofs.of_rows.RowOffsets.{outside_cell}
 
 -- There is only one polynomial with given coefficients in the subspace basis.
-one_polynomial : (n : ℕ) (f : ℕ → ℕ) (p q : List ℕ) → n ≤ 65536 → length p ≡ n → length q ≡ n → WordsOneByOne p
-    → WordsOneByOne q
-    → IsInBasis n f p → ((x : ℕ) → value q x ≡ forward n 0 f x) → p ≡ q
-one_polynomial n f p q hn size_p size_q words_p words_q at_p at_q =
-    same_from_values n p q size_p size_q words_p words_q (λ i. i) (λ i hi. omega arith) (λ i j hi hj e. e)
-    (λ i hi. sym (at_p i (omega arith)) ∙ sym (at_q i))
+one_polynomial : (n : ℕ) (f : ℕ → ℕ) (p q : List ℕ) → n ≤ 65536 → length p ≡ n → WordsOneByOne p → IsInBasis n f p
+    → IsSum n f q → p ≡ q
+one_polynomial n f p q hn size words at s =
+    same_from_values n p q size s.size words s.words (λ i. i) (λ i hi. omega arith) (λ i j hi hj e. e)
+    (λ i hi. sym (at i (omega arith)) ∙ sym (s.at i))
 
 -- Here s is the value of the subspace polynomial, l and h are the values of the halves, and dl and dh those of their
 -- derivatives.
@@ -43,91 +42,77 @@ rule s l dl h dh hs hl hdl hh hdh =
     (plus (plus (v 1) (both (v 3) (v 0))) (plus (plus (both (v 0) (v 4)) (v 3)) (v 2)))
     (hs, (hl, (hdl, (hh, (hdh, tt))))) refl
 
--- The polynomial of a sum of 2 ^ (e + 1) terms, joined from the polynomials of its two halves.
-joined : ℕ → List ℕ → List ℕ → List ℕ
-joined e low high = add (times (points 0 (2 ^ e)) high) low
+module _ (e : ℕ) (f : ℕ → ℕ) (p q : List ℕ) (he : e < 16) (low : IsSum (2 ^ e) f p)
+    (high : IsSum (2 ^ e) (λ i. f (2 ^ e + i)) q) where
+  -- The polynomial of a sum of 2 ^ (e + 1) terms, joined from the polynomials of its two halves.
+  abbrev joined : List ℕ
+  joined = add (times (points 0 (2 ^ e)) q) p
 
-length-joined : (e : ℕ) (p q : List ℕ) → length p ≡ 2 ^ e → length q ≡ 2 ^ e → length (joined e p q) ≡ 2 ^ suc e
-unfolding joined
-length-joined e p q size_p size_q = search (rules, length-times, pow-suc, length-add)
+  is_joined : IsSum (2 ^ suc e) f joined
+  is_joined = record {
+    size = let s = low.size in let t = high.size in search (rules, length-times, pow-suc, length-add);
+    words = words_add (times (points 0 (2 ^ e)) q) p (words_times (points 0 (2 ^ e)) q high.words) low.words;
+    at = λ x.
+        cc (
+          value_add (times (points 0 (2 ^ e)) q) p x,
+          value-times 0 (2 ^ e) q high.words x,
+          subspace_from_zero e x,
+          zero-add x,
+          high.at x,
+          low.at x,
+          product-comm (subspace e x) (value q x),
+          xor_comm (product (value q x) (subspace e x)) (value p x),
+          forward-half e 0 f x he,
+        );
+  }
 
-words_joined : (e : ℕ) (p q : List ℕ) → WordsOneByOne p → WordsOneByOne q → WordsOneByOne (joined e p q)
-unfolding joined
-words_joined e p q words_p words_q =
-    words_add (times (points 0 (2 ^ e)) q) p (words_times (points 0 (2 ^ e)) q words_q) words_p
+  derivative-joined : (x : ℕ) → x < 2 ^ 16 → derivative_value joined x
+      ≡ bit_xor (bit_xor (product (subspace e x) (derivative_value q x)) (value q x)) (derivative_value p x)
+  derivative-joined x hx =
+      derivative_add (times (points 0 (2 ^ e)) q) p x
+      ∙ ap (λ k. bit_xor k (derivative_value p x)) (derivative-subspace e q he high.words x hx)
 
-value-joined : (e : ℕ) (f : ℕ → ℕ) (p q : List ℕ) → e < 16 → WordsOneByOne q
-    → ((x : ℕ) → value p x ≡ forward (2 ^ e) 0 f x) → ((x : ℕ) → value q x ≡ forward (2 ^ e) 0 (λ i. f (2 ^ e + i)) x)
-    → (x : ℕ) → value (joined e p q) x ≡ forward (2 ^ suc e) 0 f x
-unfolding joined
-value-joined e f p q he words_q at_p at_q x =
-    value_add (times (points 0 (2 ^ e)) q) p x
-    ∙ ap₂ bit_xor
-    (value-times 0 (2 ^ e) q words_q x
-    ∙ ap₂ product (subspace_from_zero e x ∙ ap (subspace e) (sym (zero-add x))) (at_q x)
-    ∙ product-comm (subspace e (0 + x)) (forward (2 ^ e) 0 (λ i. f (2 ^ e + i)) x))
-    (at_p x)
-    ∙ xor_comm (product (forward (2 ^ e) 0 (λ i. f (2 ^ e + i)) x) (subspace e (0 + x))) (forward (2 ^ e) 0 f x)
-    ∙ sym (forward-half e 0 f x he)
+module _ (f a b g : ℕ → ℕ) where
+  -- The step of n + n words is made by the steps of both halves, where the old words of the second half are added to
+  -- the first half.
+  abbrev IsStepOfHalves : ℕ → Type 0
+  IsStepOfHalves n =
+      IsDerivativeAdded n f a → IsDerivativeAdded n (λ q. f (n + q)) b
+      → ((q : ℕ) → q < n → g q ≡ bit_xor (a q) (f (n + q))) → ((q : ℕ) → q < n → g (n + q) ≡ b q)
+      → IsDerivativeAdded (n + n) f g
 
-derivative-joined : (e : ℕ) (p q : List ℕ) → e < 16 → WordsOneByOne q → (x : ℕ) → x < 2 ^ 16
-    → derivative_value (joined e p q) x ≡ bit_xor (bit_xor (product (subspace e x) (derivative_value q x)) (value q x))
-    (derivative_value p x)
-unfolding joined
-derivative-joined e p q he words_q x hx =
-    derivative_add (times (points 0 (2 ^ e)) q) p x
-    ∙ ap (λ k. bit_xor k (derivative_value p x)) (derivative-subspace e q he words_q x hx)
-
--- The rows of both halves after the step of each half, with the old rows of the second half added to the first half.
-pub derivative_halves : (e : ℕ) (f a b g : ℕ → ℕ) → e < 16
-    → IsDerivativeAdded (2 ^ e) f a → IsDerivativeAdded (2 ^ e) (λ q. f (2 ^ e + q)) b
-    → ((q : ℕ) → q < 2 ^ e → g q ≡ bit_xor (a q) (f (2 ^ e + q)))
-    → ((q : ℕ) → q < 2 ^ e → g (2 ^ e + q) ≡ b q)
-    → IsDerivativeAdded (2 ^ suc e) f g
-derivative_halves e f a b g he of_low of_high first second p size words at x hx =
-    let room : 2 ^ suc e ≤ 2 ^ 16 = pow_mono he in
-    let double : 2 ^ suc e ≡ 2 ^ e * 2 = pow-suc 2 e in
-    let low = polynomial_of_terms (2 ^ e) f (omega arith) in
-    let high = polynomial_of_terms (2 ^ e) (λ q. f (2 ^ e + q)) (omega arith) in
-    let words_low : WordsOneByOne low.0 = words_from low.0 low.2 in
-    let words_high : WordsOneByOne high.0 = words_from high.0 high.2 in
-    let is : p ≡ joined e low.0 high.0 =
-    one_polynomial (2 ^ suc e) f p (joined e low.0 high.0) room size (length-joined e low.0 high.0 low.1 high.1)
-    (words_from p words)
-    (words_joined e low.0 high.0 words_low words_high) at (value-joined e f low.0 high.0 he words_high low.3 high.3) in
-    of_parts low.0 high.0 words_low words_high low.3 high.3
-    (of_low low.0 low.1 low.2 (λ y hy. sym (low.3 y)) x hx)
-    (of_high high.0 high.1 high.2 (λ y hy. sym (high.3 y)) x hx)
-    ∙ ap₂ bit_xor
-    (sym (value-joined e f low.0 high.0 he words_high low.3 high.3 x ∙ forward-half e 0 f x he
-    ∙ ap₂ (λ k m. bit_xor k (product m (subspace e (0 + x)))) (sym (low.3 x)) (sym (high.3 x))))
-    (sym (derivative-joined e low.0 high.0 he words_high x hx))
-    ∙ sym (ap (λ (r : List ℕ). bit_xor (value r x) (derivative_value r x)) is)
-  where
-    of_parts : (l h : List ℕ) → WordsOneByOne l → WordsOneByOne h
-        → ((x : ℕ) → value l x ≡ forward (2 ^ e) 0 f x)
-        → ((x : ℕ) → value h x ≡ forward (2 ^ e) 0 (λ q. f (2 ^ e + q)) x)
-        → forward (2 ^ e) 0 a x ≡ bit_xor (value l x) (derivative_value l x)
-        → forward (2 ^ e) 0 b x ≡ bit_xor (value h x) (derivative_value h x)
-        → forward (2 ^ suc e) 0 g x ≡ bit_xor (bit_xor (value l x) (product (value h x) (subspace e (0 + x))))
-        (bit_xor (bit_xor (product (subspace e x) (derivative_value h x)) (value h x)) (derivative_value l x))
-    of_parts l h words_l words_h at_l at_h of_l of_h =
-        forward-half e 0 g x he
-        ∙ ap₂ (λ k m. bit_xor k (product m (subspace e (0 + x))))
-        (forward-same (2 ^ e) 0 g (λ q. bit_xor (a q) (f (2 ^ e + q))) x first
-        ∙ forward-xor (2 ^ e) 0 a (λ q. f (2 ^ e + q)) x
-        ∙ ap₂ bit_xor of_l (sym (at_h x)))
-        (forward-same (2 ^ e) 0 (λ q. g (2 ^ e + q)) b x second ∙ of_h)
-        ∙ rule (subspace e (0 + x)) (value l x) (derivative_value l x) (value h x) (derivative_value h x)
-        (subspace_lt e (0 + x)) (value_lt l x words_l) (derivative_lt l x words_l) (value_lt h x words_h)
-        (derivative_lt h x words_h)
-        ∙ ap (λ k. bit_xor (bit_xor (value l x) (product (value h x) (subspace e (0 + x))))
-        (bit_xor (bit_xor (product (subspace e k) (derivative_value h x)) (value h x)) (derivative_value l x)))
-        (zero-add x)
+  derivative_halves : (e : ℕ) → e < 16 → IsStepOfHalves (2 ^ e)
+  derivative_halves e he of_low of_high first second p size words at x hx =
+      let n : ℕ = 2 ^ e in
+      let room : 2 ^ suc e ≤ 2 ^ 16 = pow_mono he in
+      let double : n + n ≡ 2 ^ suc e = let t = pow-suc 2 e in omega arith in
+      let (l, low) = sum_polynomial n f (omega arith) in
+      let (h, high) = sum_polynomial n (λ q. f (n + q)) (omega arith) in
+      let whole = is_joined e f l h he low high in
+      cc (
+        double,
+        forward-half e 0 g x he,
+        forward-same n 0 g (λ q. bit_xor (a q) (f (n + q))) x first,
+        forward-xor n 0 a (λ q. f (n + q)) x,
+        of_low l low.size (all_words l low.words) (λ y hy. sym (low.at y)) x hx,
+        high.at x,
+        forward-same n 0 (λ q. g (n + q)) b x second,
+        of_high h high.size (all_words h high.words) (λ y hy. sym (high.at y)) x hx,
+        zero-add x,
+        rule (subspace e x) (value l x) (derivative_value l x) (value h x) (derivative_value h x) (subspace_lt e x)
+            (value_lt l x low.words) (derivative_lt l x low.words) (value_lt h x high.words)
+            (derivative_lt h x high.words),
+        low.at x,
+        forward-half e 0 f x he,
+        whole.at x,
+        derivative-joined e f l h he low high x hx,
+        one_polynomial (2 ^ suc e) f p (joined e f l h he low high) room (size ∙ double) (words_from p words)
+            (subst (λ m. IsInBasis m f p) double at) whole,
+      )
 
 -- A polynomial with one coefficient is a constant, and its derivative is zero.
-pub derivative_one : (size : ℕ) (f : ℕ → ℕ) → size ≤ 1 → (d : ℕ) × (size ≡ 2 ^ d) → IsDerivativeAdded size f f
-derivative_one size f small power p len words at x hx =
+pub derivative_one : {size : ℕ} (f : ℕ → ℕ) → size ≤ 1 → (d : ℕ) × (size ≡ 2 ^ d) → IsDerivativeAdded size f f
+derivative_one f small power p len words at x hx =
     at x hx ∙ sym (ap (bit_xor (value p x)) (constant p (omega arith)) ∙ xor_zero_r (value p x))
   where
     constant : (p : List ℕ) → length p ≤ 1 → derivative_value p x ≡ 0
@@ -137,54 +122,56 @@ derivative_one size f small power p len words at x hx =
     constant (c ∷ d ∷ cs) h = absurd (let no : ⊥ = omega arith in no)
 
 -- The derivative step depends only on the first n words.
-derivative_same : (n : ℕ) (f f' g g' : ℕ → ℕ) → ((q : ℕ) → q < n → f' q ≡ f q) → ((q : ℕ) → q < n → g q ≡ g' q)
+derivative_same : {n : ℕ} {f f' g g' : ℕ → ℕ} → ((q : ℕ) → q < n → f' q ≡ f q) → ((q : ℕ) → q < n → g q ≡ g' q)
     → IsDerivativeAdded n f' g' → IsDerivativeAdded n f g
-derivative_same n f f' g g' same_f same_g h p size words at x hx =
+derivative_same {n} {f} {f'} {g} {g'} same_f same_g h p size words at x hx =
     forward-same n 0 g g' x same_g ∙ h p size words (λ y hy. forward-same n 0 f' f y same_f ∙ at y hy) x hx
 
+-- The words outside of changed rows are the same.
+outside_word : (a b : ℕ) {old new : ShardsRefMut} → SameExtent old new → SameRowsOutside a b old new
+    → (k s r : ℕ) → k < old.shard_len_64 → (r < a) ⊎ (b ≤ r) → word new k s r ≡ word old k s r
+outside_word a b {old} {new} extent others k s r hk h =
+    word_same new old k s r r (outside_cell a b old new extent others r k hk h)
+
 -- The effect of the calls of the derivative step on the rows.
-pub derivative_rows : (old low mid new : ShardsRefMut) (k s pos size : ℕ) → 1 < size → (d : ℕ) × (size ≡ 2 ^ d)
-    → size ≤ 65536
+pub derivative_rows : {old low mid new : ShardsRefMut} (pos : ℕ) {size : ℕ} (k s : ℕ) → 1 < size
+    → (d : ℕ) × (size ≡ 2 ^ d) → size ≤ 65536 → k < old.shard_len_64
+    → SameExtent old low → SameRowsOutside pos (pos + size / 2) old low
+    → SameExtent low mid → SameRowsOutside pos (pos + size / 2) low mid
+    → SameExtent mid new → SameRowsOutside (pos + size / 2) (pos + size / 2 + size / 2) mid new
     → IsDerivativeAdded (size / 2) (λ q. word old k s (pos + q)) (λ q. word low k s (pos + q))
-    → ((q : ℕ) → q < size / 2 → cell low k (pos + size / 2 + q) ≡ cell old k (pos + size / 2 + q))
     → ((q : ℕ) → q < size / 2
     → word mid k s (pos + q) ≡ bit_xor (word low k s (pos + q)) (word low k s (pos + size / 2 + q)))
-    → ((q : ℕ) → q < size / 2 → cell mid k (pos + size / 2 + q) ≡ cell low k (pos + size / 2 + q))
     → IsDerivativeAdded (size / 2) (λ q. word mid k s (pos + size / 2 + q)) (λ q. word new k s (pos + size / 2 + q))
-    → ((q : ℕ) → q < size / 2 → cell new k (pos + q) ≡ cell mid k (pos + q))
     → IsDerivativeAdded size (λ q. word old k s (pos + q)) (λ q. word new k s (pos + q))
-derivative_rows old low mid new k s pos size large power few of_low low_kept sums mid_kept of_high new_kept =
+derivative_rows {old} {low} {mid} {new} pos {size} k s large power few hk to_low low_else to_mid mid_else to_new
+    new_else of_low sums of_high =
     let (e, is, h) = half_power size large power in
     let half : ℕ = size / 2 in
-    let P : ℕ → Type 0 = λ n. IsDerivativeAdded n (λ q. word old k s (pos + q)) (λ q. word new k s (pos + q)) in
-    let L : ℕ → Type 0 = λ n. IsDerivativeAdded n (λ q. word old k s (pos + q)) (λ q. word low k s (pos + q)) in
-    let H : ℕ → Type 0 = λ n.
-    IsDerivativeAdded n (λ q. word old k s (pos + (n + q))) (λ q. word new k s (pos + half + q)) in
     let there : (q : ℕ) → pos + half + q ≡ pos + (half + q) = λ q. add_assoc pos half q in
-    let old_high : (q : ℕ) → q < half → word low k s (pos + half + q) ≡ word old k s (pos + (half + q)) =
-    λ q hq. word_same low old k s (pos + half + q) (pos + half + q) (low_kept q hq) ∙ ap (word old k s) (there q) in
-    subst P (sym is)
-    (derivative_halves e (λ q. word old k s (pos + q)) (λ q. word low k s (pos + q))
-    (λ q. word new k s (pos + half + q)) (λ q. word new k s (pos + q))
-    (few_halves size e 0 is (omega arith))
-    (subst L h of_low)
-    (subst H h
-    (derivative_same half (λ q. word old k s (pos + (half + q))) (λ q. word mid k s (pos + half + q))
-    (λ q. word new k s (pos + half + q)) (λ q. word new k s (pos + half + q))
-    (λ q hq. word_same mid low k s (pos + half + q) (pos + half + q) (mid_kept q hq) ∙ old_high q hq)
-    (λ q hq. refl) of_high))
+    let low_high : (q : ℕ) → word low k s (pos + half + q) ≡ word old k s (pos + (half + q)) =
+    λ q. outside_word pos (pos + half) to_low low_else k s (pos + half + q) hk (inr (omega arith))
+    ∙ ap (word old k s) (there q) in
+    let mid_hk : k < mid.shard_len_64 = omega (arith, to_low.len_64, to_mid.len_64) in
+    subst (λ n. IsDerivativeAdded n (λ q. word old k s (pos + q)) (λ q. word new k s (pos + q)))
+    (sym (two_halves size large power))
+    (subst (IsStepOfHalves (λ q. word old k s (pos + q)) (λ q. word low k s (pos + q))
+    (λ q. word new k s (pos + half + q)) (λ q. word new k s (pos + q))) (sym h)
+    (derivative_halves _ _ _ _ e (few_halves size e 0 is (omega arith))) of_low
+    (derivative_same
     (λ q hq.
-    let below : q < half = subst (λ (n : ℕ). q < n) (sym h) hq in
-    word_same new mid k s (pos + q) (pos + q) (new_kept q below) ∙ sums q below
-    ∙ ap (bit_xor (word low k s (pos + q))) (old_high q below)
-    ∙ ap (λ n. bit_xor (word low k s (pos + q)) (word old k s (pos + (n + q)))) h)
-    (λ q hq. ap (λ n. word new k s (pos + (n + q))) (sym h) ∙ ap (word new k s) (sym (there q))))
+    outside_word pos (pos + half) to_mid mid_else k s (pos + half + q) (omega (arith, to_low.len_64))
+    (inr (omega arith))
+    ∙ low_high q)
+    (λ q hq. refl) of_high)
+    (λ q hq.
+    outside_word (pos + half) (pos + half + half) to_new new_else k s (pos + q) mid_hk (inl (omega arith))
+    ∙ sums q hq ∙ ap (bit_xor (word low k s (pos + q))) (low_high q))
+    (λ q hq. ap (word new k s) (sym (there q))))
 
--- The derivative step on the rows from row 0 on is the step on all rows.
-pub derivative_all : (old new : ShardsRefMut) (k s n size : ℕ) → size ≡ n
-    → IsDerivativeAdded size (λ q. word old k s (0 + q)) (λ q. word new k s (0 + q))
-    → IsDerivativeAdded n (word old k s) (word new k s)
-derivative_all old new k s n size e h =
-    let P : ℕ → Type 0 = λ m. IsDerivativeAdded m (λ q. word old k s (0 + q)) (λ q. word new k s (0 + q)) in
-    derivative_same n (word old k s) (λ q. word old k s (0 + q)) (word new k s) (λ q. word new k s (0 + q))
-    (λ q hq. ap (word old k s) (zero-add q)) (λ q hq. ap (word new k s) (sym (zero-add q))) (subst P e h)
+-- The derivative step on the words from word 0 on is the step on all words.
+pub derivative_all : (f g : ℕ → ℕ) {size n : ℕ} → size ≡ n → IsDerivativeAdded size (λ q. f (0 + q)) (λ q. g (0 + q))
+    → IsDerivativeAdded n f g
+derivative_all f g e h =
+    subst (λ m. IsDerivativeAdded m f g) e
+    (derivative_same (λ q hq. ap f (zero-add q)) (λ q hq. ap g (sym (zero-add q))) h)

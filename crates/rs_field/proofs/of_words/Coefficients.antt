@@ -99,10 +99,10 @@ forward-fewer n t f x none =
     grind (arith, common_steps, forward_is, sum_below-add, sum_below-zero, zero_product, xor_zero_r)
 
 -- A polynomial of n coefficients for a sum of n terms.
-record IsSum (n : ℕ) (f : ℕ → ℕ) (p : List ℕ) : Type 0 where
-  size : length p ≡ n
-  words : WordsOneByOne p
-  at : (x : ℕ) → value p x ≡ forward n 0 f x
+pub record IsSum (n : ℕ) (f : ℕ → ℕ) (p : List ℕ) : Type 0 where
+  pub size : length p ≡ n
+  pub words : WordsOneByOne p
+  pub at : (x : ℕ) → value p x ≡ forward n 0 f x
 
 sum_none : (f : ℕ → ℕ) → IsSum 0 f []
 sum_none f = record {
@@ -127,7 +127,7 @@ sum_more n f b p hb hp =
       forward-more,
     )
 
-sum_polynomial : (n : ℕ) (f : ℕ → ℕ) → n ≤ 65536 → (p : List ℕ) × IsSum n f p
+pub sum_polynomial : (n : ℕ) (f : ℕ → ℕ) → n ≤ 65536 → (p : List ℕ) × IsSum n f p
 sum_polynomial zero f hn = ([], sum_none f)
 sum_polynomial (suc n) f hn =
     let b = basis_polynomial 16 n (omega arith) (omega arith) in
