@@ -131,7 +131,7 @@ derivative_same {n} {f} {f'} {g} {g'} same_f same_g h p size words at x hx =
 outside_word : (a b : ℕ) {old new : ShardsRefMut} → SameExtent old new → SameRowsOutside a b old new
     → (k s r : ℕ) → k < old.shard_len_64 → (r < a) ⊎ (b ≤ r) → word new k s r ≡ word old k s r
 outside_word a b {old} {new} extent others k s r hk h =
-    word_same new old k s r r (outside_cell a b old new extent others r k hk h)
+    word_same new old k s r r (outside_cell extent others r k hk h)
 
 -- The effect of the calls of the derivative step on the rows.
 pub derivative_rows : {old low mid new : ShardsRefMut} (pos : ℕ) {size : ℕ} (k s : ℕ) → 1 < size

@@ -1,10 +1,8 @@
 -- The layers, and the transforms of the parts that they leave, make the whole transform.
-use Rattle.std.proofs.Common.{◌≡◌, ℕ, ◌+◌, ◌-◌, ◌*◌, ◌/◌, ◌<◌, ◌≤◌, arith, subst, sym, refl}
+use Rattle.std.proofs.Common.{◌≡◌, ℕ, ◌+◌, ◌*◌, ◌/◌, ◌<◌, ◌≤◌, arith, subst, sym, refl}
 use Rattle.rs_field.specs.rows.View.{word}
-use Rattle.rs_field.specs.rows.Layers.{rows_of_part, layer_steps}
 use Rattle.rs_field.specs.rows.MarkedRows.{is_used, HasMarks}
 use Rattle.rs_field.specs.rows.Directions.{AreTransformed}
-use Rattle.rs_field.specs.words.StepBounds.{transform_steps}
 use Rattle.rs_field.proofs.of_words.Counting.{counts_none, counts_rows}
 use Rattle.rs_field.proofs.of_rows.Recursion.{fits_kept}
 use Rattle.rs_field.proofs.of_rows.Directions.{layers_of_few}
@@ -15,10 +13,8 @@ use Rattle.rs_field.proofs.of_rows.PartLoops.{zeros_of_part, part_before}
 use Rattle.rs_field.proofs.rows.transform.+transform.Goals as goal
 
 pub transform-returns-then-are_none-clause-values : goal.transform-returns-then-are_none-clause-values
-transform-returns-then-are_none-clause-values g t c k s hk hs =
-    let block = c.args.block in
-    none_used c.args.direction c.args.used c.args.data.now k s block.pos block.size block.skew_delta hk hs
-    (c.are_none.ensures.none c.if-are_none.true) c.requires.zeros
+transform-returns-then-are_none-clause-values g t c =
+    none_used _ _ c.args.block _ (c.are_none.ensures.none c.if-are_none.true) c.requires.zeros
 
 pub transform_many-transform_parts-requires : goal.transform_many-transform_parts-requires
 transform_many-transform_parts-requires g t c κs within =
@@ -36,9 +32,8 @@ transform-returns-then-block-gt1-clause-values g t c k s hk hs =
     let block = c.args.block in
     let extent = c.layers.ensures.extent in let len = extent.len_64 in let count = extent.count in
     let within = c.requires.within in
-    layers_of_few c.args.direction (is_used c.args.used) block.size block.skew_delta
-    (λ (q : ℕ). word c.args.data.now k s (block.pos + q))
-    (λ (q : ℕ). word c.layers.new.data k s (block.pos + q)) (omega arith) (omega arith) (block_power block)
+    layers_of_few _ _ _ _ _ (λ q. word c.layers.new.data k s (block.pos + q)) (omega arith) (omega arith)
+    (block_power block)
     (λ i hi. c.row_symbols_are_words.ensures k s (block.pos + i) hk hs (omega (arith, within)))
     (λ i hi. c.row_symbols_are_words-then-block-gt1.ensures k s (block.pos + i) (omega (arith, len)) hs
     (omega (arith, count, within)))
@@ -46,13 +41,12 @@ transform-returns-then-block-gt1-clause-values g t c k s hk hs =
 
 pub transform-returns-then-block-gt1-clause-counts : goal.transform-returns-then-block-gt1-clause-counts
 transform-returns-then-block-gt1-clause-counts g t c =
-    counts_of_layers c.args.block c.args.steps.now c.layers.new.steps (omega arith) c.layers.ensures.counts
+    counts_of_layers c.args.block (omega arith) c.layers.ensures.counts
 
 pub transform-returns-else-block-gt1-clause-values : goal.transform-returns-else-block-gt1-clause-values
 transform-returns-else-block-gt1-clause-values g t c k s hk hs =
     let block = c.args.block in
-    one_used c.args.direction (is_used c.args.used) block.size block.skew_delta
-    (λ q. word c.args.data.now k s (block.pos + q)) (omega arith)
+    one_used _ _ _ _ _ (omega arith)
     (λ some. c.row_symbols_are_words.ensures k s (block.pos + 0) hk hs (omega arith))
 
 pub transform_many-returns-in-Forward-clause-values : goal.transform_many-returns-in-Forward-clause-values
@@ -60,9 +54,7 @@ transform_many-returns-in-Forward-clause-values g t c k s hk hs =
     let block = c.args.block in
     let len = c.layers.ensures.extent.len_64 in
     let layers = c.layers.ensures.parts k s hk hs in
-    rw c.in-Forward.is (forward_whole block.size (rows_of_part block.size) block.skew_delta (is_used c.args.used)
-    (λ q. word c.args.data.now k s (block.pos + q))
-    (λ q. word c.layers.new.data k s (block.pos + q)) (λ q. word c.transform_parts.new.data k s (block.pos + q))
+    rw c.in-Forward.is (forward_whole _ _ _ (λ q. word c.layers.new.data k s (block.pos + q)) _
     (part_found block _ refl c.requires.large)
     (rw c.in-Forward.is at layers)
     (λ m hm. let parts = c.transform_parts.ensures.parts k s m (omega (arith, len)) hs hm in
@@ -72,8 +64,7 @@ pub transform_many-returns-in-Forward-clause-counts : goal.transform_many-return
 transform_many-returns-in-Forward-clause-counts g t c =
     let block = c.args.block in let size = block.size in
     let few = (part_found block _ refl c.requires.large).steps in
-    counts_of_whole size (layer_steps size)
-    (transform_steps size - layer_steps size) c.args.steps.now c.layers.new.steps c.transform_parts.new.steps
+    counts_of_whole size c.transform_parts.new.steps
     (omega (arith, few))
     (counts_rows c.layers.ensures.counts)
     c.transform_parts.ensures.counts
@@ -83,10 +74,8 @@ transform_many-returns-in-Backward-clause-values g t c k s hk hs =
     let block = c.args.block in
     let len = c.transform_parts-in-Backward.ensures.extent.len_64 in
     let layers = c.layers-in-Backward.ensures.parts k s (omega (arith, len)) hs in
-    rw c.in-Backward.is (backward_whole block.size (rows_of_part block.size) block.skew_delta (is_used c.args.used)
-    (λ q. word c.args.data.now k s (block.pos + q))
-    (λ q. word c.transform_parts-in-Backward.new.data k s (block.pos + q))
-    (λ q. word c.layers-in-Backward.new.data k s (block.pos + q)) (part_found block _ refl c.requires.large)
+    rw c.in-Backward.is (backward_whole _ (is_used c.args.used) _
+    (λ q. word c.transform_parts-in-Backward.new.data k s (block.pos + q)) _ (part_found block _ refl c.requires.large)
     (rw c.in-Backward.is at layers)
     (λ m hm. let parts = c.transform_parts-in-Backward.ensures.parts k s m hk hs hm in rw c.in-Backward.is at parts))
 
@@ -95,8 +84,7 @@ transform_many-returns-in-Backward-clause-counts g t c =
     let block = c.args.block in let size = block.size in
     let few = (part_found block _ refl c.requires.large).steps in
     let mid = c.transform_parts-in-Backward.new.steps in
-    counts_of_whole size (transform_steps size - layer_steps size)
-    (layer_steps size) c.args.steps.now mid c.layers-in-Backward.new.steps (omega (arith, few))
+    counts_of_whole size c.layers-in-Backward.new.steps (omega (arith, few))
     c.transform_parts-in-Backward.ensures.counts
     (counts_rows c.layers-in-Backward.ensures.counts)
 
@@ -106,10 +94,8 @@ transform_parts-nonzero_div-j-end g t c = let part =
 
 pub transform_parts-loop-j-init : goal.transform_parts-loop-j-init
 transform_parts-loop-j-init g t c =
-    let block = c.args.block in
     record {
-      done = parts_begun c.args.direction
-          (is_used c.args.used) block.size c.part_rows-part.result block.skew_delta block.pos c.args.data.now;
+      done = parts_begun;
       counts = counts_none;
     }
 
@@ -117,7 +103,6 @@ pub transform_parts-transform-requires : goal.transform_parts-transform-requires
 transform_parts-transform-requires g t c κs within =
     let block = c.args.block in
     let n = c.part_rows-part.result in
-    let start = c.loop-j.j * n in
     let part = part_found block n c.part_rows-part.ensures c.requires.large in
     let done = c.loop-j.invariant.done in
     let smaller = part.smaller in
@@ -126,9 +111,8 @@ transform_parts-transform-requires g t c κs within =
     let extent = done.extent in let count = extent.count in
     let rows = c.part.ensures.rows in let size = c.part.ensures.size in
     let marks = subst (HasMarks c.part-in-loop-j.result) (sym size) c.part-in-loop-j.ensures.marks in
-    let zeros = zeros_of_part c.args.direction c.args.used c.part-in-loop-j.result c.args.data.now c.loop-j.data
-    block.pos block.size start n
-    inside extent.len_64 done.rest c.part-in-loop-j.ensures.used c.requires.zeros in (
+    let zeros = zeros_of_part _ c.args.used c.part-in-loop-j.result part begins done
+    c.part-in-loop-j.ensures.used c.requires.zeros in (
       omega arith,
       (
         within,
@@ -149,14 +133,10 @@ transform_parts-loop-j-preserved g t c =
     let rows = c.part.ensures.rows in let size = c.part.ensures.size in let shift = c.part.ensures.shift in
     record {
       done =
-          parts_next c.args.direction (is_used c.args.used)
-          (is_used c.part-in-loop-j.result) block.size n block.skew_delta block.pos j c.args.data.now c.loop-j.data
-          c.transform.new.data
-          part begins c.loop-j.invariant.done c.transform.ensures.extent
+          parts_next part begins c.loop-j.invariant.done c.transform.ensures.extent
           (rw (rows, size) at c.transform.ensures.others) c.part-in-loop-j.ensures.used
           (rw (rows, size, shift) at c.transform.ensures.values);
-      counts = counts_next
-          (transform_steps n) j c.args.steps.now c.loop-j.steps c.transform.new.steps c.loop-j.invariant.counts
+      counts = counts_next j c.loop-j.invariant.counts
           (rw size at c.transform.ensures.counts);
     }
 
@@ -188,5 +168,5 @@ transform_parts-returns-clause-counts g t c =
     let n = c.part_rows-part.result in
     let part = part_found block n c.part_rows-part.ensures c.requires.large in
     let end = c.loop-j.auto.j-end in
-    counts_of_parts block.size n c.loop-j.j c.args.steps.now c.loop-j.steps part
+    counts_of_parts part
     (omega (arith, parts_number block.size n part, end)) c.loop-j.invariant.counts

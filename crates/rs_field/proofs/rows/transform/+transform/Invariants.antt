@@ -15,6 +15,6 @@ decreases-transform_parts g l = 3 * l.block.size
 
 abbrev pub invariant-transform_parts-loop-j : goal.invariant-transform_parts-loop-j
 invariant-transform_parts-loop-j g l = record {
-  done : PartsDone l.direction (is_used l.used) l.block.size l.part l.block.skew_delta l.block.pos l.j l.fn.data l.data;
+  done : PartsDone l.direction (is_used l.used) l.block l.part l.j l.fn.data l.data;
   counts : CountsUpTo (l.j * transform_steps l.part) 0 0 l.fn.steps l.steps;
 }
