@@ -14,7 +14,6 @@ use Rattle.rs_field.proofs.of_words.Halves.{quarter_power, steps_quarters}
 use Rattle.rs_field.proofs.of_words.Totals.{total-zero, total-suc, total-same, total-near, total-none, total-split}
 use Rattle.rs_field.proofs.of_words.Totals.{total-scale, mul_near}
 use Rattle.rs_field.proofs.of_words.Signs.{sign-left, sign-right, sign-both, sign-zero}
-use Rattle.rs_field.proofs.of_words.Counting.{counted}
 
 -- An entry of the first half of a transform is the sum of the entries of both halves.
 pub sum_lower : (e w : ℕ) (f : ℕ → ℕ) → w < 2 ^ e
@@ -83,13 +82,11 @@ module _ {half : ℕ} (old low high : ℕ → ℕ) (power : (e : ℕ) × (half �
       → IsPairSum (low i) (high i) (signed_sum (half + half) old i) (signed_sum (half + half) old (half + i))
   walsh-entries i hi =
       let (e, is) = power in
-      let a = front i hi in
-      let b = back i hi in
       let lower = subst (λ n. signed_sum (n + n) old i ≡ signed_sum n old i + signed_sum n (λ y. old (n + y)) i)
       (sym is) (sum_lower e i old (omega arith)) in
       let upper = subst (λ n. signed_sum (n + n) old (n + i) % 65535
       ≡ (signed_sum n old i + 65534 * signed_sum n (λ y. old (n + y)) i) % 65535) (sym is)
-      (sum_upper e i old (omega arith)) in (omega arith, omega arith)
+      (sum_upper e i old (omega arith)) in omega (arith, front i hi, back i hi)
 
   -- The sums and differences of the transforms of both halves are the transform.
   pub walsh-halves : (new : ℕ → ℕ) → ((i : ℕ) → i < half → IsPairSum (low i) (high i) (new i) (new (half + i)))
@@ -116,10 +113,7 @@ walsh-two half old t0 t1 u0 u1 power front back size done0 done1 sums =
     walsh-halves _ _ _ power
     (walsh-same _ (λ y hy. ap (λ (l : List ℕ). get_or l y 0) front ∙ get_or-take half old y 0 hy) done0)
     (walsh-same _ (λ y hy. ap (λ (l : List ℕ). get_or l y 0) back ∙ get_or-drop half old y 0) done1)
-    _ (λ i hi. (
-      ap (λ v. v % 65535) ((appended _ _ i size).0 hi) ∙ (sums i hi).0,
-      ap (λ v. v % 65535) (appended _ _ i size).1 ∙ (sums i hi).1,
-    ))
+    _ (λ i hi. let (x, y) = appended u0 u1 i size in let first = x hi in omega (arith, sums i hi))
 
 -- The transform of one pair is its sum and its difference.
 pub walsh-pair : (old : List ℕ) (sum difference : ℕ) → length old ≡ 2
@@ -196,19 +190,13 @@ module _ {q : ℕ} {old x0 x1 x2 x3 : List ℕ} (cut : AreQuarters q old x0 x1 x
       (λ w hw. refl) (λ w hw. refl) new
       (in_both q (λ k. IsPairSum (low k) (high k) (new k) (new (q + q + k)))
       (λ i hi.
-      let (a, _) = lows i hi in
-      let (b, _) = highs i hi in
-      let (x, _, y, _) = j.sums i hi in (
-        ap (λ v. v % 65535) ((appended _ _ i front).0 (omega arith) ∙ (appended _ _ i j.size0).0 hi) ∙ omega arith,
-        ap (λ v. v % 65535) ((appended _ _ i front).1 ∙ (appended _ _ i j.size2).0 hi) ∙ omega arith,
-      ))
+      let x = (appended (u0 ++ u1) (u2 ++ u3) i front).0 (omega arith) ∙ (appended u0 u1 i j.size0).0 hi in
+      let y = (appended (u0 ++ u1) (u2 ++ u3) i front).1 ∙ (appended u2 u3 i j.size2).0 hi in
+      omega (arith, lows i hi, highs i hi, j.sums i hi))
       (λ i hi.
-      let (_, a) = lows i hi in
-      let (_, b) = highs i hi in
-      let (_, x, _, y) = j.sums i hi in (
-        ap (λ v. v % 65535) ((appended _ _ (q + i) front).0 (omega arith) ∙ (appended _ _ i j.size0).1) ∙ omega arith,
-        ap (λ v. v % 65535) ((appended _ _ (q + i) front).1 ∙ (appended _ _ i j.size2).1) ∙ omega arith,
-      ))))
+      let x = (appended (u0 ++ u1) (u2 ++ u3) (q + i) front).0 (omega arith) ∙ (appended u0 u1 i j.size0).1 in
+      let y = (appended (u0 ++ u1) (u2 ++ u3) (q + i) front).1 ∙ (appended u2 u3 i j.size2).1 in
+      omega (arith, lows i hi, highs i hi, j.sums i hi))))
     where
       entry : ℕ → ℕ
       entry y = get_or old y 0
@@ -265,6 +253,4 @@ small_steps = (refl, refl, refl)
 
 -- A transform that counts exactly the pair sums of its layers is within the bound.
 pub exact-counts : {n k m : ℕ} {a b : Steps} → n ≡ k → transform_steps k ≡ m → CountsPairs m a b → WalshCounts n a b
-exact-counts {n} {a = a} {b = b} is s (x, y, z) =
-    let t = ap transform_steps is in
-    counted 0 (transform_steps n) 0 a b (omega arith, omega arith) (omega arith, omega arith) (omega arith, omega arith)
+exact-counts is s (x, y, z) = omega (arith, ap transform_steps is)

@@ -1,5 +1,5 @@
 -- The transforms of the quarters, and two layers after them, make the whole transform.
-use Rattle.std.proofs.Common.{◌≡◌, ℕ, ◌+◌, ◌/◌, ◌%◌, ◌<◌, List, length, get_or, ap, ◌∙◌, arith}
+use Rattle.std.proofs.Common.{◌≡◌, ℕ, ◌+◌, ◌/◌, ◌<◌, length, get_or, ◌∙◌, arith}
 use Rattle.std.proofs.lemmas.Nat.{pow_pos}
 use Rattle.rs_field.proofs.of_words.Halving.{AreQuarters, in_quarters, walsh-joined, walsh-at, walsh-one, walsh-none}
 use Rattle.rs_field.proofs.of_words.Halving.{walsh-pair, walsh-counts, walsh-quarter-counts, exact-counts, small_steps}
@@ -71,22 +71,22 @@ fwht-requires-else-truncated-quarter-3 t c =
 pub copy_from_slice-requires : goal.copy_from_slice-requires
 copy_from_slice-requires t c =
     let cut = quarters t (goal.at.copy_from_slice-requires t c).After-split_at_mut-x2 in
-    omega (arith, cut.part0.size, cut.part1.size, cut.part2.size, cut.part3.size)
+    omega (arith, cut.part0.size, cut.part1.size)
 
 pub copy_from_slice-requires-then-truncated-quarter-2 : goal.copy_from_slice-requires-then-truncated-quarter-2
 copy_from_slice-requires-then-truncated-quarter-2 t c =
     let cut = quarters t (goal.at.copy_from_slice-requires-then-truncated-quarter-2 t c).After-split_at_mut-x2 in
-    omega (arith, cut.part0.size, cut.part1.size, cut.part2.size, cut.part3.size)
+    omega (arith, cut.part0.size, cut.part3.size)
 
 pub quarter_sums-requires-clause-one : goal.quarter_sums-requires-clause-one
 quarter_sums-requires-clause-one t c =
     let cut = quarters t (goal.at.quarter_sums-requires-clause-one t c).After-split_at_mut-x2 in
-    omega (arith, cut.part0.size, cut.part1.size, cut.part2.size, cut.part3.size)
+    omega (arith, cut.part0.size, cut.part1.size)
 
 pub quarter_sums-requires-clause-three : goal.quarter_sums-requires-clause-three
 quarter_sums-requires-clause-three t c =
     let cut = quarters t (goal.at.quarter_sums-requires-clause-three t c).After-split_at_mut-x2 in
-    omega (arith, cut.part0.size, cut.part1.size, cut.part2.size, cut.part3.size)
+    omega (arith, cut.part0.size, cut.part3.size)
 
 pub returns-then-n-eq64-clause-counts : goal.returns-then-n-eq64-clause-counts
 returns-then-n-eq64-clause-counts t c = exact-counts c.if-n-eq64.true small_steps.1 c.walsh_64.ensures.counts
@@ -111,10 +111,15 @@ returns-then-truncated-quarter-clause-values t c =
     cut.part2.entry y hy ∙ c.requires.zeros (q + q + y) (omega arith) (omega arith) in
     let none3 : (y : ℕ) → y < q → get_or c.split_at_mut-x2.result.1.now y 0 ≡ 0 = λ y hy.
     cut.part3.entry y hy ∙ c.requires.zeros (q + q + (q + y)) (omega arith) (omega arith) in
-    walsh-joined cut (record {
-      size0 = c.fwht.auto.entries ∙ cut.part0.size;
-      size1 = ap length c.copy_from_slice.ensures.after ∙ c.fwht.auto.entries ∙ cut.part0.size;
-      size2 = ap length c.copy_from_slice-then-truncated-quarter.ensures.after ∙ c.fwht.auto.entries ∙ cut.part0.size;
+    let size : length c.fwht.new.entries ≡ q = c.fwht.auto.entries ∙ cut.part0.size in
+    rw (
+      c.copy_from_slice.ensures.after,
+      c.copy_from_slice-then-truncated-quarter.ensures.after,
+      c.copy_from_slice-then-truncated-quarter-2.ensures.after,
+    ) (walsh-joined cut (record {
+      size0 = size;
+      size1 = size;
+      size2 = size;
       done0 = walsh-at _ _ cut.part0.size c.fwht.ensures.values;
       done1 = walsh-none none1;
       done2 = walsh-none none2;
@@ -122,15 +127,8 @@ returns-then-truncated-quarter-clause-values t c =
       sums = λ i hi.
           let z1 = none1 i hi in
           let z2 = none2 i hi in
-          let z3 = none3 i hi in (
-            omega arith,
-            ap (λ (l : List ℕ). get_or l i 0 % 65535) c.copy_from_slice.ensures.after ∙ omega arith,
-            ap (λ (l : List ℕ). get_or l i 0 % 65535) c.copy_from_slice-then-truncated-quarter.ensures.after
-                ∙ omega arith,
-            ap (λ (l : List ℕ). get_or l i 0 % 65535) c.copy_from_slice-then-truncated-quarter-2.ensures.after
-                ∙ omega arith,
-          );
-    })
+          let z3 = none3 i hi in omega arith;
+    }))
 
 pub returns-then-truncated-quarter-clause-counts : goal.returns-then-truncated-quarter-clause-counts
 returns-then-truncated-quarter-clause-counts t c =

@@ -1,5 +1,5 @@
 -- Two layers after the transforms of four vectors make the transform of the whole.
-use Rattle.std.proofs.Common.{◌%◌, ap, ◌∙◌, refl}
+use Rattle.std.proofs.Common.{◌∙◌, refl, arith}
 use Rattle.rs_field.proofs.of_words.Halving.{cut_in_quarters, walsh-joined, walsh-same, walsh-at}
 use Rattle.rs_field.proofs.words.walsh_lanes.walsh_64.Goals as goal
 
@@ -17,10 +17,13 @@ returns-clause-values c =
       done1 = walsh-same _ c.lanes_of-2.ensures c.walsh_16-v1.ensures;
       done2 = walsh-same _ c.lanes_of-3.ensures c.walsh_16-v2.ensures;
       done3 = walsh-same _ c.lanes_of-4.ensures c.walsh_16-v3.ensures;
-      sums = λ i hi. let (w, x, y, z) = c.vector_sums.ensures i hi in (
-        ap (λ v. v % 65535) (c.put_lanes.ensures i hi) ∙ w,
-        ap (λ v. v % 65535) (c.put_lanes-2.ensures i hi) ∙ x,
-        ap (λ v. v % 65535) (c.put_lanes-3.ensures i hi) ∙ y,
-        ap (λ v. v % 65535) (c.put_lanes-4.ensures i hi) ∙ z,
-      );
+      sums = λ i hi.
+          omega (
+            arith,
+            c.vector_sums.ensures i hi,
+            c.put_lanes.ensures i hi,
+            c.put_lanes-2.ensures i hi,
+            c.put_lanes-3.ensures i hi,
+            c.put_lanes-4.ensures i hi,
+          );
     }))
