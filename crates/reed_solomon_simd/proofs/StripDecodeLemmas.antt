@@ -1,7 +1,7 @@
 -- A round of a decoder over a strip of each received shard.
 use Rattle.std.proofs.Common.{◌≡◌, ℕ, suc, ◌+◌, ◌-◌, ◌<◌, ◌≤◌, Bool, true, cond, List, [], ◌∷◌, length, drop, get_or}
 use Rattle.std.proofs.Common.{Result, Ok, Err, Option, Some, None, refl, sym, ap, ◌∙◌, subst, inl, inr, arith}
-use Rattle.std.specs.Prelude.{◌⊎◌, nat_lt, unwrap_or, MatchResult}
+use Rattle.std.specs.Prelude.{◌⊎◌, nat_lt, nat_le, ◌==◌, not, is_some, if◌then◌else◌, unwrap_or, MatchResult}
 use Rattle.std.specs.List.{between}
 use Rattle.std.specs.Option.{option_map}
 use Rattle.std.proofs.lemmas.Option.{none-some}
@@ -11,14 +11,14 @@ use Rattle.std.proofs.lemmas.Bool.{cases_eq, cases_lt, lt-ltb, le-ltb, lt-leb, e
 use Rattle.rs_field.specs.declared.code.error.Error.{Error}
 use Rattle.rs_field.specs.declared.code.error.Error.TheVariants.{OutOfMemory}
 use Rattle.rs_field.specs.code.Column.{Shard}
-use Rattle.rs_field.specs.code.Configuration.{configuration}
-use Rattle.rs_field.specs.code.Decoder.{DecoderState, fresh_decoder, with_original, with_recovery, enough_given}
-use Rattle.rs_field.specs.code.Decoder.{Restored, NoneAgrees, DecodeAnswers, after_decode}
+use Rattle.rs_field.specs.code.Configuration.{Configuration, configuration}
+use Rattle.rs_field.specs.code.Counts.{default_rate}
+use Rattle.rs_field.specs.code.Decoder.{DecoderState, IsDecoder, fresh_decoder, with_original, with_recovery}
+use Rattle.rs_field.specs.code.Decoder.{enough_given, Restored, NoneAgrees, DecodeAnswers, after_decode}
 use Rattle.rs_field.specs.code.Given.{Shards, AreWithin, Lists, nothing, with_entry}
 use Rattle.rs_field.specs.code.Pieces.{IsStrip, ArePut}
 use Rattle.rs_field.specs.code.PieceStates.{pieces_of, state_of_pieces, shards_listed}
 use Rattle.rs_field.specs.code.OneCall.{Items}
-use Rattle.rs_field.specs.code.Outcome.{answer_of, state_after}
 use Rattle.rs_field.proofs.of_code.Given.{entered_cases}
 use Rattle.rs_field.proofs.of_code.RestoredBelow.{IsRestoredBelow, enough-pieces, none-pieces, restored-further}
 use Rattle.reed_solomon_simd.proofs.CallerLemmas.{ended}
@@ -38,7 +38,7 @@ pub first-none : (given : Shards) → nothing ≡ first 0 given
 first-none given = fun_ext (λ i. sym (first-outside 0 i given (omega arith)))
 
 -- If a map has no shards from index n on, its shards below n are all its shards.
-pub first-all : (n : ℕ) (given : Shards) → ((i : ℕ) → n ≤ i → given i ≡ None) → first n given ≡ given
+first-all : (n : ℕ) (given : Shards) → ((i : ℕ) → n ≤ i → given i ≡ None) → first n given ≡ given
 first-all n given none = fun_ext (λ i. elim (cases_lt i n) [
   | inl inside ↦ first-inside n i given inside
   | inr outside ↦ first-outside n i given outside ∙ sym (none i outside)
@@ -66,73 +66,64 @@ first-entered n given shard found = fun_ext (λ i. elim (entered_cases (first n 
   ]
 ])
 
--- Each piece has the length of the strip.
-pub piece-sized : (start end i : ℕ) (given : Shards) (piece : Shard) → start ≤ end
-    → ((i : ℕ) (shard : Shard) → given i ≡ Some shard → end ≤ length shard)
-    → pieces_of start end given i ≡ Some piece → length piece ≡ end - start
-piece-sized start end i given piece order inside found = by_shard (given i) refl found
-  where
-    by_shard : (o : Option Shard) → given i ≡ o → option_map (λ s. between start end s) o ≡ Some piece
-        → length piece ≡ end - start
-    by_shard (Some shard) is found =
-        let room = inside i shard is in
-        ap length (ap (λ o. unwrap_or o piece) (sym found))
-        ∙ length-take-le (end - start) (drop start shard) (omega (arith, length-drop start shard, room, order))
-    by_shard None is found = absurd (none-some piece found)
+-- The pieces of a strip of shards that are within bounds.
+module _ (start end n count size : ℕ) (given : Shards) (within : AreWithin count size given) where
+  -- A piece has the length of the strip.
+  piece-sized : (piece : Shard) → start ≤ end → end ≤ size → pieces_of start end given n ≡ Some piece
+      → length piece ≡ end - start
+  piece-sized piece order inside found = by_shard (given n) refl found
+    where
+      by_shard : (o : Option Shard) → given n ≡ o → option_map (λ s. between start end s) o ≡ Some piece
+          → length piece ≡ end - start
+      by_shard (Some shard) is found =
+          let long = (within.sized n shard is).length_is in
+          ap length (ap (λ o. unwrap_or o piece) (sym found))
+          ∙ length-take-le (end - start) (drop start shard)
+          (omega (arith, length-drop start shard, long, inside, order))
+      by_shard None is found = absurd (none-some piece found)
 
--- If shards are within bounds and a strip ends inside the size, the strip ends inside each shard.
-pub long-enough : (end count size : ℕ) (given : Shards) → AreWithin count size given → end ≤ size
-    → (i : ℕ) (shard : Shard) → given i ≡ Some shard → end ≤ length shard
-long-enough end count size given within inside i shard found =
-    let long = (within.sized i shard found).length_is in omega (arith, long, inside)
+  -- From the count on there are no pieces, so the pieces below the count are all pieces.
+  pub pieces-all : count ≤ n → first n (pieces_of start end given) ≡ pieces_of start end given
+  pieces-all all =
+      first-all n (pieces_of start end given) (λ i past.
+      ap (λ o. option_map (λ s. between start end s) o) (within.none_past i (omega (arith, all, past))))
 
--- At the indexes from the count on there are no pieces.
-pub pieces-past : (start end n count size : ℕ) (given : Shards) → AreWithin count size given → count ≤ n
-    → (i : ℕ) → n ≤ i → pieces_of start end given i ≡ None
-pieces-past start end n count size given within all i past =
-    ap (λ o. option_map (λ s. between start end s) o) (within.none_past i (omega (arith, all, past)))
+-- A decoder that has the pieces below n takes piece n.
+module _ (start end n : ℕ) (x s now : DecoderState) (piece : Shard) (order : start ≤ end)
+    (inside : end ≤ x.configuration.shard_bytes) (set_up : IsDecoder default_rate x)
+    (configured : s.configuration ≡ (state_of_pieces start end x).configuration) where
+  -- Adding a shard enters it if the index is below the count, it was not added before, and it has the size.
+  taken : (count most : ℕ) (given : Shards) (past double sized : Error) (put : Shards → DecoderState)
+      → AreWithin count x.configuration.shard_bytes given → n < most → pieces_of start end given n ≡ Some piece
+      → (
+      if nat_le most n then Err past else if is_some (first n (pieces_of start end given) n) then Err double
+      else if not (length piece == s.configuration.shard_bytes) then Err sized
+      else Ok (put (with_entry (first n (pieces_of start end given)) n piece))
+      ) ≡ Ok (put (first (n + 1) (pieces_of start end given)))
+  taken count most given past double sized put within below found =
+      let size = ap (λ (d : Configuration). d.shard_bytes) configured in
+      let long = piece-sized start end n count x.configuration.shard_bytes given within piece order inside found in
+      let none = first-outside n n (pieces_of start end given) (omega arith) in
+      rw (lt-leb most n below, none, eq-eqb (length piece) s.configuration.shard_bytes (long ∙ sym size))
+      (ap (λ (g : Shards). Ok (put g)) (first-entered n (pieces_of start end given) piece found))
 
-module _ (s now : DecoderState) (n : ℕ) (given : Shards) (shard : Shard) (found : given n ≡ Some shard)
-    (sized : length shard ≡ s.configuration.shard_bytes) where
-  module _ (is : now ≡ record s { originals = first n given }) (inside : n < s.configuration.original_count) where
-    -- Adding original n to a decoder that has the originals below n gives the originals below n + 1.
-    pub original-taken : with_original now n shard ≡ Ok (record s { originals = first (n + 1) given })
-    original-taken =
-        ap (λ (t : DecoderState). with_original t n shard) is
-        ∙ rw (
-          lt-leb s.configuration.original_count n inside,
-          first-outside n n given
-              (let e : n ≤ n = omega arith in e),
-          eq-eqb (length shard) s.configuration.shard_bytes sized,
-        )
-        (ap (λ (g : Shards). Ok (record s { originals = g })) (first-entered n given shard found))
+  pub original-taken : now ≡ record s { originals = first n (pieces_of start end x.originals) }
+      → n < x.configuration.original_count → pieces_of start end x.originals n ≡ Some piece
+      → with_original now n piece ≡ Ok (record s { originals = first (n + 1) (pieces_of start end x.originals) })
+  original-taken is below found =
+      let count = ap (λ (d : Configuration). d.original_count) configured in
+      ap (λ (t : DecoderState). with_original t n piece) is
+      ∙ taken x.configuration.original_count s.configuration.original_count x.originals _ _ _
+      (λ g. record s { originals = g }) set_up.originals_within (omega (arith, count, below)) found
 
-    pub original-next : (next : DecoderState) → next ≡ state_after now (with_original now n shard)
-        → next ≡ record s { originals = first (n + 1) given }
-    original-next next left = left ∙ ap (state_after now) original-taken
-
-    pub original-refused : (e : Error) → Err e ≡ answer_of (with_original now n shard) → ⊥
-    original-refused e refused = let answer = refused ∙ ap answer_of original-taken in let no : ⊥ = cc in no
-
-  module _ (is : now ≡ record s { recovery = first n given }) (inside : n < s.configuration.recovery_count) where
-    -- Adding recovery shard n to a decoder that has the recovery shards below n gives the recovery shards below n + 1.
-    pub recovery-taken : with_recovery now n shard ≡ Ok (record s { recovery = first (n + 1) given })
-    recovery-taken =
-        ap (λ (t : DecoderState). with_recovery t n shard) is
-        ∙ rw (
-          lt-leb s.configuration.recovery_count n inside,
-          first-outside n n given
-              (let e : n ≤ n = omega arith in e),
-          eq-eqb (length shard) s.configuration.shard_bytes sized,
-        )
-        (ap (λ (g : Shards). Ok (record s { recovery = g })) (first-entered n given shard found))
-
-    pub recovery-next : (next : DecoderState) → next ≡ state_after now (with_recovery now n shard)
-        → next ≡ record s { recovery = first (n + 1) given }
-    recovery-next next left = left ∙ ap (state_after now) recovery-taken
-
-    pub recovery-refused : (e : Error) → Err e ≡ answer_of (with_recovery now n shard) → ⊥
-    recovery-refused e refused = let answer = refused ∙ ap answer_of recovery-taken in let no : ⊥ = cc in no
+  pub recovery-taken : now ≡ record s { recovery = first n (pieces_of start end x.recovery) }
+      → n < x.configuration.recovery_count → pieces_of start end x.recovery n ≡ Some piece
+      → with_recovery now n piece ≡ Ok (record s { recovery = first (n + 1) (pieces_of start end x.recovery) })
+  recovery-taken is below found =
+      let count = ap (λ (d : Configuration). d.recovery_count) configured in
+      ap (λ (t : DecoderState). with_recovery t n piece) is
+      ∙ taken x.configuration.recovery_count s.configuration.recovery_count x.recovery _ _ _
+      (λ g. record s { recovery = g }) set_up.recovery_within (omega (arith, count, below)) found
 
 -- ---- pieces are put into rooms, one after another
 

@@ -1,80 +1,54 @@
-use Rattle.std.proofs.Common.{◌≡◌, ◌<◌, ◌≤◌, ℕ, Some, sym, ap, ◌∙◌, arith}
-use Rattle.rs_field.specs.code.Configuration.{Configuration}
+use Rattle.std.proofs.Common.{◌≤◌, sym, ap, ◌∙◌, arith}
 use Rattle.rs_field.specs.code.Counts.{default_rate}
 use Rattle.rs_field.specs.code.Decoder.{DecoderState}
 use Rattle.rs_field.specs.code.Given.{Shards}
-use Rattle.rs_field.specs.code.PieceStates.{pieces_of}
+use Rattle.rs_field.specs.code.Outcome.{answer_of, state_after}
 use Rattle.rs_rate.specs.rows.DecoderView.{decoder_state}
-use Rattle.reed_solomon_simd.proofs.StripDecodeLemmas.{first-none, first-all, first-skipped, original-next}
-use Rattle.reed_solomon_simd.proofs.StripDecodeLemmas.{original-refused, piece-sized, pieces-past, long-enough}
+use Rattle.reed_solomon_simd.proofs.StripDecodeLemmas.{first-none, first-skipped, pieces-all, original-taken}
 use Rattle.reed_solomon_simd.proofs.strip_decoder.add_original_pieces.Goals.{in-Some+in_ok-add_original_shard}
 use Rattle.reed_solomon_simd.proofs.strip_decoder.add_original_pieces.Goals.{in_default}
 use Rattle.reed_solomon_simd.proofs.strip_decoder.add_original_pieces.Goals as goal
 
+abbrev given_to : DecoderState → Shards → DecoderState
+given_to s given = record s { originals = given }
+
 pub loop-index-init : goal.loop-index-init
 loop-index-init g c =
-    let s : DecoderState = decoder_state default_rate c.args.decoder.now.rows in
-    let x : DecoderState = g.P.Pieces.received c.args.received.now in
-    ap (λ (given : Shards). record s { originals = given })
-    (c.requires.none ∙ first-none (pieces_of c.args.start c.args.end x.originals))
+    ap (given_to (decoder_state default_rate c.args.decoder.now.rows)) (c.requires.none ∙ first-none _)
 
 pub returns-in_err-add_original_shard : goal.returns-in_err-add_original_shard
 returns-in_err-add_original_shard g c =
     let s : DecoderState = decoder_state default_rate c.args.decoder.now.rows in
     let x : DecoderState = g.P.Pieces.received c.args.received.now in
-    let start : ℕ = c.args.start in let end : ℕ = c.args.end in
-    let given : Shards = pieces_of start end x.originals in
-    let found : pieces_of start end x.originals c.loop-index.index ≡ Some c.in-Some.piece.now = sym c.in-Some.ensures in
-    let count = ap (λ (d : Configuration). d.original_count) c.requires.configured in
-    let size = ap (λ (d : Configuration). d.shard_bytes) c.requires.configured in
-    let inside : c.loop-index.index < s.configuration.original_count =
-    omega (arith, count, c.counts-index-end.ensures.originals, c.loop-index-test.true) in
-    let long = long-enough end x.configuration.original_count x.configuration.shard_bytes x.originals
-    c.requires.set_up.originals_within c.requires.inside in
-    absurd (original-refused s
-    (decoder_state default_rate c.loop-index.decoder.rows) c.loop-index.index given c.in-Some.piece.now found
-    (piece-sized start end c.loop-index.index x.originals c.in-Some.piece.now c.requires.order long found ∙ sym size)
-    c.loop-index.invariant inside c.in_err-add_original_shard.field-0.0 c.in_err-add_original_shard.ensures.answer)
+    let refused = c.in_err-add_original_shard.ensures.answer
+    ∙ ap answer_of
+    (original-taken _ _ c.loop-index.index x s (decoder_state default_rate c.loop-index.decoder.rows) _
+    c.requires.order c.requires.inside c.requires.set_up
+    c.requires.configured c.loop-index.invariant
+    (omega (arith, c.counts-index-end.ensures.originals, c.loop-index-test.true)) (sym c.in-Some.ensures)) in
+    let no : ⊥ = cc in absurd no
 
 pub loop-index-preserved : goal.loop-index-preserved
 loop-index-preserved g c =
     let s : DecoderState = decoder_state default_rate c.args.decoder.now.rows in
     let x : DecoderState = g.P.Pieces.received c.args.received.now in
-    let start : ℕ = c.args.start in let end : ℕ = c.args.end in
-    let given : Shards = pieces_of start end x.originals in
-    let count = ap (λ (d : Configuration). d.original_count) c.requires.configured in
-    let size = ap (λ (d : Configuration). d.shard_bytes) c.requires.configured in
-    let inside : c.loop-index.index < s.configuration.original_count =
-    omega (arith, count, c.counts-index-end.ensures.originals, c.loop-index-test.true) in
-    let long = long-enough end x.configuration.original_count x.configuration.shard_bytes x.originals
-    c.requires.set_up.originals_within c.requires.inside in
     elim c.match-original_piece.branch [
       | in-Some+in_ok-add_original_shard w ↦
-          let found : pieces_of c.args.start c.args.end x.originals c.loop-index.index ≡ Some w.in-Some.piece.now =
-          sym w.in-Some.ensures in
-          ap (λ d. decoder_state default_rate d.rows) w.decoder-is
-          ∙ original-next s (decoder_state default_rate c.loop-index.decoder.rows) c.loop-index.index given
-          w.in-Some.piece.now found
-          (piece-sized start end c.loop-index.index x.originals w.in-Some.piece.now c.requires.order long found
-          ∙ sym size)
-          c.loop-index.invariant inside
-          (decoder_state default_rate w.add_original_shard.new.self.rows) w.in_ok-add_original_shard.ensures.left
+          ap (λ d. decoder_state default_rate d.rows) w.decoder-is ∙ w.in_ok-add_original_shard.ensures.left
+          ∙ ap (state_after (decoder_state default_rate c.loop-index.decoder.rows))
+          (original-taken _ _ c.loop-index.index x s (decoder_state default_rate c.loop-index.decoder.rows) _
+          c.requires.order c.requires.inside c.requires.set_up
+          c.requires.configured c.loop-index.invariant
+          (omega (arith, c.counts-index-end.ensures.originals, c.loop-index-test.true)) (sym w.in-Some.ensures))
       | in_default w ↦
           ap (λ d. decoder_state default_rate d.rows) w.decoder-is ∙ c.loop-index.invariant
-          ∙ ap (λ (given : Shards). record s { originals = given })
-          (first-skipped c.loop-index.index given (sym w.in_default.ensures))
+          ∙ ap (given_to s) (first-skipped c.loop-index.index _ (sym w.in_default.ensures))
     ]
 
 pub returns-clause-added : goal.returns-clause-added
 returns-clause-added g c =
-    let s : DecoderState = decoder_state default_rate c.args.decoder.now.rows in
-    let x : DecoderState = g.P.Pieces.received c.args.received.now in
-    let start : ℕ = c.args.start in let end : ℕ = c.args.end in
-    let n : ℕ = c.loop-index.index in
-    let all : x.configuration.original_count ≤ n =
+    let all : (g.P.Pieces.received c.args.received.now).configuration.original_count ≤ c.loop-index.index =
     omega (arith, c.counts-index-end.ensures.originals, c.loop-index-test.false) in
     c.loop-index.invariant
-    ∙ ap (λ (given : Shards). record s { originals = given })
-    (first-all n (pieces_of start end x.originals)
-    (pieces-past start end n x.configuration.original_count x.configuration.shard_bytes x.originals
-    c.requires.set_up.originals_within all))
+    ∙ ap (given_to (decoder_state default_rate c.args.decoder.now.rows))
+    (pieces-all _ _ c.loop-index.index _ _ _ c.requires.set_up.originals_within all)
