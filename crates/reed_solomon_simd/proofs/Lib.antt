@@ -14,6 +14,7 @@ pub mod RestoringLemmas
 pub mod ByIndex
 pub mod CallerLemmas
 pub mod ObjectRoundTrip
+pub mod StripLoops
 pub mod StripLemmas
 pub mod RoomFits
 pub mod MessageLemmas

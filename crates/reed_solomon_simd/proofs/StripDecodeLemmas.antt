@@ -188,16 +188,13 @@ module _ (start end : ℕ) (x state : DecoderState) (is : state ≡ state_of_pie
 
 -- ---- a strip, if only the rooms of the store were changed
 
-module _ (start end size : ℕ) (x now : DecoderState) (grows : Bool) (same : now ≡ x)
-    (long : size ≡ x.configuration.shard_bytes) (strip : IsStrip start end size) where
-  here : IsStrip start end x.configuration.shard_bytes
-  here = subst (λ (n : ℕ). IsStrip start end n) long strip
-
+module _ (start end : ℕ) (x now : DecoderState) (grows : Bool) (same : now ≡ x)
+    (strip : IsStrip start end x.configuration.shard_bytes) where
   -- If no message agrees with the pieces of a strip, no message agrees with the shards.
   pub strip-refused : (e : Error) → NoneAgrees (state_of_pieces start end now) e ⊎ ((grows ≡ true) × (e ≡ OutOfMemory))
       → NoneAgrees x e ⊎ (e ≡ OutOfMemory)
   strip-refused e (inl none) =
-      inl (none-pieces start end x e here
+      inl (none-pieces start end x e strip
       (subst (λ (s : DecoderState). NoneAgrees (state_of_pieces start end s) e) same none))
   strip-refused e (inr short) = inr short.1
 
@@ -212,4 +209,4 @@ module _ (start end size : ℕ) (x now : DecoderState) (grows : Bool) (same : no
       → IsRestoredBelow x grows end new
   strip-restored old new made done =
       let (out, restored, items, listing, put) = subst (λ (s : DecoderState). ArePiecesPut s old new) same made in
-      restored-further x grows start end out items here restored listing old new put done
+      restored-further x grows start end out items strip restored listing old new put done

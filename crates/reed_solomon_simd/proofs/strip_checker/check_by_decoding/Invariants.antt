@@ -1,9 +1,10 @@
-use Rattle.std.proofs.Common.{◌≡◌, ◌⊎◌, ◌-◌, ◌%◌, ◌<◌, ◌≤◌}
+use Rattle.std.proofs.Common.{◌≡◌, ◌-◌, ◌<◌}
 use Rattle.rs_field.specs.code.Counts.{default_rate}
 use Rattle.rs_field.specs.code.Decoder.{fresh_decoder}
 use Rattle.rs_field.specs.code.OneCall.{default_of}
 use Rattle.rs_rate.specs.rows.DecoderView.{decoder_state}
 use Rattle.rs_field.proofs.of_code.PieceStates.{AreConsistentBelow}
+use Rattle.reed_solomon_simd.proofs.StripLoops.{IsCut}
 use Rattle.reed_solomon_simd.proofs.strip_checker.check_by_decoding.Given as goal
 
 -- All strips before `start` are consistent. A chunk begins at `start`, or the shards end there. If bytes are left, the
@@ -11,8 +12,7 @@ use Rattle.reed_solomon_simd.proofs.strip_checker.check_by_decoding.Given as goa
 abbrev pub invariant-loop-start : goal.invariant-loop-start
 invariant-loop-start g l =
     record {
-      inside : l.start ≤ l.shard_bytes;
-      begins : (l.start % 64 ≡ 0) ⊎ (l.start ≡ l.shard_bytes);
+      cut : IsCut l.start l.shard_bytes;
       fresh : l.start < l.shard_bytes
           → decoder_state default_rate l.decoder.rows
           ≡ fresh_decoder (default_of l.counts.original_count l.counts.recovery_count l.width);

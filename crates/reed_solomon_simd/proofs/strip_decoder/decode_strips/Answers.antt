@@ -1,10 +1,9 @@
-use Rattle.std.proofs.Common.{rules, ◌≡◌, ℕ, ◌+◌, ◌-◌, ◌<◌, Err, ap, subst, ◌∙◌, refl, arith}
-use Rattle.std.proofs.Math.Nat.{min-eq_right}
+use Rattle.std.proofs.Common.{rules, ◌≡◌, ℕ, ◌+◌, Err, ap, subst, ◌∙◌, refl}
 use Rattle.rs_field.specs.code.Decoder.{DecoderState}
 use Rattle.rs_field.specs.code.Counts.{default_rate}
-use Rattle.rs_field.proofs.of_code.Pieces.{is_strip}
 use Rattle.rs_field.proofs.of_code.RestoredBelow.{IsRestoredBelow}
 use Rattle.rs_rate.specs.rows.DecoderView.{decoder_state}
+use Rattle.reed_solomon_simd.proofs.StripLoops.{strip-next, cut-last}
 use Rattle.reed_solomon_simd.proofs.ReceivedLaws.{strips-restored}
 use Rattle.reed_solomon_simd.proofs.StripDecodeLemmas.{strip-restored, strip-refused}
 use Rattle.reed_solomon_simd.proofs.strip_decoder.decode_strips.Goals.{then-left-width+in_ok-reset, else-left-width}
@@ -13,42 +12,33 @@ use Rattle.reed_solomon_simd.proofs.strip_decoder.decode_strips.Goals as goal
 pub returns-in_err-decode_strip-clause-refused : goal.returns-in_err-decode_strip-clause-refused
 returns-in_err-decode_strip-clause-refused g c =
     let x : DecoderState = g.S.Pieces.received c.args.store.now in
-    let size : ℕ = c.shard_bytes-shard_bytes.result in
     let start : ℕ = c.loop-start.start in
     let held = c.loop-start.invariant in
-    let strip = is_strip start 2048 size c.min-width.result c.min.result c.min-width.ensures c.min.ensures refl
-    held.begins c.loop-start-test.true in
+    let next = strip-next 2048 c.min-width.ensures c.min.ensures refl held.cut c.loop-start-test.true
+    c.shard_bytes-shard_bytes.ensures in
     let refused : c.from_residual-in_err-decode_strip.result ≡ Err c.in_err-decode_strip.field-0.0 = search rules in
-    rw refused (strip-refused start (start + c.min.result) size x
-    (g.S.Pieces.received c.loop-start.store) g.S.Rooms.grows
-    held.received c.shard_bytes-shard_bytes.ensures strip c.in_err-decode_strip.field-0.0
+    rw refused (strip-refused start (start + c.min.result) x (g.S.Pieces.received c.loop-start.store) g.S.Rooms.grows
+    held.received next.strip c.in_err-decode_strip.field-0.0
     c.in_err-decode_strip.ensures.refused)
 
 pub loop-start-preserved : goal.loop-start-preserved
 loop-start-preserved g c =
     let x : DecoderState = g.S.Pieces.received c.args.store.now in
-    let size : ℕ = c.shard_bytes-shard_bytes.result in
     let start : ℕ = c.loop-start.start in
     let held = c.loop-start.invariant in
-    let strip = is_strip start 2048 size c.min-width.result c.min.result c.min-width.ensures c.min.ensures refl
-    held.begins c.loop-start-test.true in
+    let next = strip-next 2048 c.min-width.ensures c.min.ensures refl held.cut c.loop-start-test.true
+    c.shard_bytes-shard_bytes.ensures in
     let now = c.in_ok-decode_strip.ensures in
     record {
       received = c.requires.kept c.decode_strip.new.store c.loop-start.store now.places ∙ held.received;
-      inside = strip.inside;
-      begins = strip.ends;
+      cut = next.cut;
       fresh = λ more. elim c.if-left-width.branch [
-        | then-left-width+in_ok-reset w ↦
-            let less : c.shard_bytes-shard_bytes.result - c.loop-start.start < c.min-width.result =
-            w.if-left-width.true in
-            let last : c.min.result ≡ c.shard_bytes-shard_bytes.result - c.loop-start.start =
-            c.min.ensures ∙ min-eq_right (omega (arith, less)) in
-            absurd (let no : ⊥ = omega (arith, more, last) in no)
+        | then-left-width+in_ok-reset w ↦ absurd (next.last w.if-left-width.true more)
         | else-left-width w ↦ now.fresh ∙ ap (λ d. decoder_state default_rate d.rows) w.decoder-is
             ∙ held.fresh c.loop-start-test.true
       ];
-      done = strip-restored start (start + c.min.result) size x (g.S.Pieces.received c.loop-start.store) g.S.Rooms.grows
-          held.received c.shard_bytes-shard_bytes.ensures strip (g.S.Rooms.held c.loop-start.store)
+      done = strip-restored start (start + c.min.result) x (g.S.Pieces.received c.loop-start.store) g.S.Rooms.grows
+          held.received next.strip (g.S.Rooms.held c.loop-start.store)
           (g.S.Rooms.held c.decode_strip.new.store) now.put held.done;
       places = now.places ∙ held.places;
       loan = now.loan ∙ held.loan;
@@ -58,9 +48,7 @@ pub returns-clause-restored : goal.returns-clause-restored
 returns-clause-restored g c =
     let x : DecoderState = g.S.Pieces.received c.args.store.now in
     let held = c.loop-start.invariant in
-    let ends : c.loop-start.start ≡ c.shard_bytes-shard_bytes.result =
-    omega (arith, held.inside, c.loop-start-test.false) in
     strips-restored x g.S.Rooms.grows (g.S.Rooms.held c.loop-start.store) c.requires.set_up c.requires.enough
     (subst (λ (n : ℕ). IsRestoredBelow (g.S.Pieces.received c.args.store.now) g.S.Rooms.grows n
     (g.S.Rooms.held c.loop-start.store))
-    (ends ∙ c.shard_bytes-shard_bytes.ensures) held.done)
+    (cut-last held.cut c.loop-start-test.false c.shard_bytes-shard_bytes.ensures) held.done)

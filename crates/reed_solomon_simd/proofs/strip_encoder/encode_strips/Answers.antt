@@ -1,13 +1,12 @@
-use Rattle.std.proofs.Common.{◌≡◌, ℕ, ◌+◌, ◌-◌, ◌<◌, Bool, List, length, All, ap, subst, ◌∙◌, refl, inl}
-use Rattle.std.proofs.Common.{arith}
-use Rattle.std.proofs.Math.Nat.{min-eq_right}
+use Rattle.std.proofs.Common.{◌≡◌, ℕ, ◌+◌, ◌-◌, Bool, List, length, All, ap, subst, ◌∙◌, refl}
 use Rattle.rs_field.specs.code.Code.{AreRecovery}
 use Rattle.rs_field.specs.code.Column.{Shard}
 use Rattle.rs_field.specs.code.Counts.{default_rate}
 use Rattle.rs_field.specs.code.OneCall.{default_of}
 use Rattle.rs_field.specs.code.Pieces.{pieces, IsStrip, ArePut}
-use Rattle.rs_field.proofs.of_code.Pieces.{IsDone, is_strip, done-none, done-further, done-all}
+use Rattle.rs_field.proofs.of_code.Pieces.{IsDone, done-none, done-further, done-all}
 use Rattle.rs_rate.specs.rows.EncoderView.{encoder_state}
+use Rattle.reed_solomon_simd.proofs.StripLoops.{cut-first, strip-next, cut-last}
 use Rattle.reed_solomon_simd.proofs.strip_encoder.encode_strips.Goals.{then-left-width+in_ok-reset, else-left-width}
 use Rattle.reed_solomon_simd.proofs.strip_encoder.encode_strips.Goals as goal
 
@@ -29,8 +28,7 @@ further grows k r size start end originals made old new count strip sized done r
 pub loop-start-init : goal.loop-start-init
 loop-start-init g c =
     record {
-      inside = omega arith;
-      begins = inl refl;
+      cut = cut-first c.args.shard_bytes;
       fresh = λ more. c.in_ok-encoder.ensures.made.0;
       done = done-none g.R.Rooms.grows default_rate c.args.counts.original_count c.args.counts.recovery_count
           c.args.shard_bytes (g.O.Originals.shards c.args.originals.now)
@@ -41,10 +39,9 @@ loop-start-init g c =
 
 pub encode_strip-requires-clause-fit : goal.encode_strip-requires-clause-fit
 encode_strip-requires-clause-fit g c =
-    let begins = c.loop-start.invariant.begins in
-    let strip = is_strip c.loop-start.start 4096 c.args.shard_bytes c.min-width.result c.min.result c.min-width.ensures
-    c.min.ensures refl begins c.loop-start-test.true in
-    (c.args.shard_bytes, strip.inside, c.loop-start.invariant.done.fit)
+    let next = strip-next 4096 c.min-width.ensures c.min.ensures refl
+    c.loop-start.invariant.cut c.loop-start-test.true refl in
+    (c.args.shard_bytes, next.strip.inside, c.loop-start.invariant.done.fit)
 
 pub loop-start-preserved : goal.loop-start-preserved
 loop-start-preserved g c =
@@ -52,25 +49,19 @@ loop-start-preserved g c =
     let start : ℕ = c.loop-start.start in
     let end : ℕ = c.loop-start.start + c.min.result in
     let held = c.loop-start.invariant in
-    let strip = is_strip start 4096 size c.min-width.result c.min.result c.min-width.ensures c.min.ensures refl
-    held.begins c.loop-start-test.true in
+    let next = strip-next 4096 c.min-width.ensures c.min.ensures refl held.cut c.loop-start-test.true refl in
     let now = c.in_ok-encode_strip.ensures in
     record {
-      inside = strip.inside;
-      begins = strip.ends;
+      cut = next.cut;
       fresh = λ more. elim c.if-left-width.branch [
-        | then-left-width+in_ok-reset w ↦
-            let less : c.args.shard_bytes - c.loop-start.start < c.min-width.result = w.if-left-width.true in
-            let last : c.min.result ≡ c.args.shard_bytes - c.loop-start.start =
-            c.min.ensures ∙ min-eq_right (omega (arith, less)) in
-            absurd (let no : ⊥ = omega (arith, more, last) in no)
+        | then-left-width+in_ok-reset w ↦ absurd (next.last w.if-left-width.true more)
         | else-left-width w ↦ now.fresh ∙ ap (λ e. encoder_state default_rate e.rows) w.encoder-is
             ∙ held.fresh c.loop-start-test.true
       ];
       done = further g.R.Rooms.grows c.args.counts.original_count c.args.counts.recovery_count size start end
           (g.O.Originals.shards c.args.originals.now) now.coded.0
           (g.R.Rooms.held c.loop-start.rooms)
-          (g.R.Rooms.held c.encode_strip.new.rooms) c.requires.originals strip c.requires.sized held.done
+          (g.R.Rooms.held c.encode_strip.new.rooms) c.requires.originals next.strip c.requires.sized held.done
           now.coded.1 now.coded.2;
       places = now.places ∙ held.places;
       loan = now.loan ∙ held.loan;
@@ -79,10 +70,10 @@ loop-start-preserved g c =
 pub returns-clause-coded : goal.returns-clause-coded
 returns-clause-coded g c =
     let held = c.loop-start.invariant in
-    let ends : c.loop-start.start ≡ c.args.shard_bytes = omega (arith, held.inside, c.loop-start-test.false) in
     done-all g.R.Rooms.grows default_rate c.args.counts.original_count c.args.counts.recovery_count c.args.shard_bytes
     (g.O.Originals.shards c.args.originals.now)
     (g.R.Rooms.held c.loop-start.rooms)
     (subst (λ (n : ℕ). IsDone c.args.counts.original_count c.args.counts.recovery_count c.args.shard_bytes n
     g.R.Rooms.grows default_rate
-    (g.O.Originals.shards c.args.originals.now) (g.R.Rooms.held c.loop-start.rooms)) ends held.done)
+    (g.O.Originals.shards c.args.originals.now) (g.R.Rooms.held c.loop-start.rooms))
+    (cut-last held.cut c.loop-start-test.false refl) held.done)

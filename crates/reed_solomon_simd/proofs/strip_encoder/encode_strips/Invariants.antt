@@ -1,9 +1,10 @@
-use Rattle.std.proofs.Common.{◌≡◌, ◌⊎◌, ◌-◌, ◌%◌, ◌<◌, ◌≤◌}
+use Rattle.std.proofs.Common.{◌≡◌, ◌-◌, ◌<◌}
 use Rattle.rs_field.specs.code.Counts.{default_rate}
 use Rattle.rs_field.specs.code.Encoder.{fresh_encoder}
 use Rattle.rs_field.specs.code.OneCall.{default_of}
 use Rattle.rs_field.proofs.of_code.Pieces.{IsDone}
 use Rattle.rs_rate.specs.rows.EncoderView.{encoder_state}
+use Rattle.reed_solomon_simd.proofs.StripLoops.{IsCut}
 use Rattle.reed_solomon_simd.proofs.strip_encoder.encode_strips.Given as goal
 
 -- All bytes before `start` are coded. A chunk begins at `start`, or the shards end there. If bytes are left, the
@@ -11,8 +12,7 @@ use Rattle.reed_solomon_simd.proofs.strip_encoder.encode_strips.Given as goal
 abbrev pub invariant-loop-start : goal.invariant-loop-start
 invariant-loop-start g l =
     record {
-      inside : l.start ≤ l.shard_bytes;
-      begins : (l.start % 64 ≡ 0) ⊎ (l.start ≡ l.shard_bytes);
+      cut : IsCut l.start l.shard_bytes;
       fresh : l.start < l.shard_bytes
           → encoder_state default_rate l.encoder.rows
           ≡ fresh_encoder (default_of l.counts.original_count l.counts.recovery_count l.width);

@@ -1,11 +1,9 @@
-use Rattle.std.proofs.Common.{rules, ◌≡◌, ℕ, ◌+◌, ◌-◌, ◌<◌, Err, ap, subst, ◌∙◌, refl, inl, inr, arith}
-use Rattle.std.proofs.Math.Nat.{min-eq_right}
+use Rattle.std.proofs.Common.{rules, ◌≡◌, ℕ, ◌+◌, Err, ap, subst, ◌∙◌, refl, inr, arith}
 use Rattle.rs_field.specs.code.Counts.{default_rate}
 use Rattle.rs_field.specs.code.Decoder.{DecoderState}
-use Rattle.rs_field.specs.code.Pieces.{IsStrip}
-use Rattle.rs_field.proofs.of_code.Pieces.{is_strip}
 use Rattle.rs_rate.specs.rows.DecoderView.{decoder_state}
 use Rattle.rs_rate.specs.rows.EncoderView.{encoder_state}
+use Rattle.reed_solomon_simd.proofs.StripLoops.{cut-first, strip-next, cut-last}
 use Rattle.reed_solomon_simd.proofs.RebuiltStrips.{IsRebuiltBelow, rebuilt-none, rebuilt-further, rebuilt-all}
 use Rattle.reed_solomon_simd.proofs.StripDecodeLemmas.{strip-refused}
 use Rattle.reed_solomon_simd.proofs.SetUp.{left-lacks, valid-even}
@@ -17,8 +15,7 @@ pub loop-start-init : goal.loop-start-init
 loop-start-init g c =
     let x : DecoderState = g.P.Pieces.received c.args.received.now in
     record {
-      inside = omega arith;
-      begins = inl refl;
+      cut = cut-first c.shard_bytes-shard_bytes.result;
       fresh = λ more. c.in_ok-decoder.ensures.made.0;
       fresh_encoder = λ more. c.in_ok-encoder.ensures.made.0;
       done = rebuilt-none x c.args.wanted.now g.R.Rooms.grows (g.R.Rooms.held c.args.rooms.now) c.requires.number
@@ -31,35 +28,33 @@ pub returns-in_err-rebuild_strip-clause-refused : goal.returns-in_err-rebuild_st
 returns-in_err-rebuild_strip-clause-refused g c =
     let x : DecoderState = g.P.Pieces.received c.args.received.now in
     let start : ℕ = c.loop-start.start in
-    let strip = is_strip start 2048 c.shard_bytes-shard_bytes.result c.min-width.result c.min.result
-    c.min-width.ensures c.min.ensures refl c.loop-start.invariant.begins c.loop-start-test.true in
+    let next = strip-next 2048 c.min-width.ensures c.min.ensures refl
+    c.loop-start.invariant.cut c.loop-start-test.true c.shard_bytes-shard_bytes.ensures in
     let refused : c.from_residual-in_err-rebuild_strip.result ≡ Err c.in_err-rebuild_strip.field-0.0 = search rules in
-    rw refused (strip-refused start (start + c.min.result) c.shard_bytes-shard_bytes.result x x g.R.Rooms.grows refl
-    c.shard_bytes-shard_bytes.ensures strip c.in_err-rebuild_strip.field-0.0
+    rw refused (strip-refused start (start + c.min.result) x x g.R.Rooms.grows refl next.strip
+    c.in_err-rebuild_strip.field-0.0
     c.in_err-rebuild_strip.ensures.refused)
 
 pub returns-clause-rebuilt : goal.returns-clause-rebuilt
 returns-clause-rebuilt g c =
     let x : DecoderState = g.P.Pieces.received c.args.received.now in
     let held = c.loop-start.invariant in
-    let ends : c.loop-start.start ≡ c.shard_bytes-shard_bytes.result =
-    omega (arith, held.inside, c.loop-start-test.false) in
     rebuilt-all x c.args.wanted.now g.R.Rooms.grows (g.R.Rooms.held c.loop-start.rooms) c.requires.set_up
     c.requires.enough c.requires.can
     (subst (λ (n : ℕ). IsRebuiltBelow (g.P.Pieces.received c.args.received.now) c.args.wanted.now g.R.Rooms.grows n
     (g.R.Rooms.held c.loop-start.rooms))
-    (ends ∙ c.shard_bytes-shard_bytes.ensures) held.done)
+    (cut-last held.cut c.loop-start-test.false c.shard_bytes-shard_bytes.ensures) held.done)
 
 pub returns-in_err-reset-clause-refused : goal.returns-in_err-reset-clause-refused
 returns-in_err-reset-clause-refused g c =
     let x : DecoderState = g.P.Pieces.received c.args.received.now in
-    let strip = is_strip c.loop-start.start 2048 c.shard_bytes-shard_bytes.result c.min-width.result _
-    c.min-width.ensures refl refl c.loop-start.invariant.begins c.loop-start-test.true in
+    let next = strip-next 2048 c.min-width.ensures refl refl
+    c.loop-start.invariant.cut c.loop-start-test.true refl in
     let whole = valid-even x.configuration c.requires.set_up.valid in
     let refused : c.from_residual-in_err-reset.result ≡ Err c.in_err-reset.field-0.0 = search rules in
     rw refused (inr (left-lacks _ c.counts-counts.result.original_count c.counts-counts.result.recovery_count
     c.shard_bytes-shard_bytes.result c.loop-start.start c.in_err-reset.field-0.0 c.counts-counts.result.supported
-    (omega (arith, whole, c.shard_bytes-shard_bytes.ensures)) c.loop-start-test.true strip.begins
+    (omega (arith, whole, c.shard_bytes-shard_bytes.ensures)) c.loop-start-test.true next.strip.begins
     c.in_err-reset.ensures.answer))
 
 pub loop-start-preserved : goal.loop-start-preserved
@@ -67,36 +62,23 @@ loop-start-preserved g c =
     let x : DecoderState = g.P.Pieces.received c.args.received.now in
     let start : ℕ = c.loop-start.start in
     let held = c.loop-start.invariant in
-    let strip = is_strip start 2048 c.shard_bytes-shard_bytes.result c.min-width.result c.min.result
-    c.min-width.ensures c.min.ensures refl held.begins c.loop-start-test.true in
-    let here = subst (λ (n : ℕ). IsStrip c.loop-start.start (c.loop-start.start + c.min.result) n)
-    c.shard_bytes-shard_bytes.ensures strip in
+    let next = strip-next 2048 c.min-width.ensures c.min.ensures refl held.cut c.loop-start-test.true
+    c.shard_bytes-shard_bytes.ensures in
     let now = c.in_ok-rebuild_strip.ensures in
     record {
-      inside = strip.inside;
-      begins = strip.ends;
+      cut = next.cut;
       fresh = λ more. elim c.if-left-width.branch [
-        | then-left-width+in_ok-reset+in_ok-reset-2 w ↦
-            let less : c.shard_bytes-shard_bytes.result - c.loop-start.start < c.min-width.result =
-            w.if-left-width.true in
-            let last : c.min.result ≡ c.shard_bytes-shard_bytes.result - c.loop-start.start =
-            c.min.ensures ∙ min-eq_right (omega (arith, less)) in
-            absurd (let no : ⊥ = omega (arith, more, last) in no)
+        | then-left-width+in_ok-reset+in_ok-reset-2 w ↦ absurd (next.last w.if-left-width.true more)
         | else-left-width w ↦ now.fresh ∙ ap (λ d. decoder_state default_rate d.rows) w.decoder-is
             ∙ held.fresh c.loop-start-test.true
       ];
       fresh_encoder = λ more. elim c.if-left-width.branch [
-        | then-left-width+in_ok-reset+in_ok-reset-2 w ↦
-            let less : c.shard_bytes-shard_bytes.result - c.loop-start.start < c.min-width.result =
-            w.if-left-width.true in
-            let last : c.min.result ≡ c.shard_bytes-shard_bytes.result - c.loop-start.start =
-            c.min.ensures ∙ min-eq_right (omega (arith, less)) in
-            absurd (let no : ⊥ = omega (arith, more, last) in no)
+        | then-left-width+in_ok-reset+in_ok-reset-2 w ↦ absurd (next.last w.if-left-width.true more)
         | else-left-width w ↦ now.fresh_encoder ∙ ap (λ e. encoder_state default_rate e.rows) w.encoder-is
             ∙ held.fresh_encoder c.loop-start-test.true
       ];
       done = rebuilt-further x c.requires.set_up c.args.wanted.now c.requires.can g.R.Rooms.grows start
-          (start + c.min.result) here now.put.0 now.put.1 (g.R.Rooms.held c.loop-start.rooms)
+          (start + c.min.result) next.strip now.put.0 now.put.1 (g.R.Rooms.held c.loop-start.rooms)
           (g.R.Rooms.held c.rebuild_strip.new.rooms) now.put.2 held.done;
       places = now.places ∙ held.places;
       loan = now.loan ∙ held.loan;

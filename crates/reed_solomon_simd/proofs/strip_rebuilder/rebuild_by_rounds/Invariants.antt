@@ -1,10 +1,11 @@
-use Rattle.std.proofs.Common.{◌≡◌, ◌⊎◌, ◌-◌, ◌%◌, ◌<◌, ◌≤◌}
+use Rattle.std.proofs.Common.{◌≡◌, ◌-◌, ◌<◌}
 use Rattle.rs_field.specs.code.Counts.{default_rate}
 use Rattle.rs_field.specs.code.Decoder.{fresh_decoder}
 use Rattle.rs_field.specs.code.Encoder.{fresh_encoder}
 use Rattle.rs_field.specs.code.OneCall.{default_of}
 use Rattle.rs_rate.specs.rows.DecoderView.{decoder_state}
 use Rattle.rs_rate.specs.rows.EncoderView.{encoder_state}
+use Rattle.reed_solomon_simd.proofs.StripLoops.{IsCut}
 use Rattle.reed_solomon_simd.proofs.RebuiltStrips.{IsRebuiltBelow}
 use Rattle.reed_solomon_simd.proofs.strip_rebuilder.rebuild_by_rounds.Given as goal
 
@@ -13,8 +14,7 @@ use Rattle.reed_solomon_simd.proofs.strip_rebuilder.rebuild_by_rounds.Given as g
 abbrev pub invariant-loop-start : goal.invariant-loop-start
 invariant-loop-start g l =
     record {
-      inside : l.start ≤ l.shard_bytes;
-      begins : (l.start % 64 ≡ 0) ⊎ (l.start ≡ l.shard_bytes);
+      cut : IsCut l.start l.shard_bytes;
       fresh : l.start < l.shard_bytes
           → decoder_state default_rate l.decoder.rows
           ≡ fresh_decoder (default_of l.counts.original_count l.counts.recovery_count l.width);

@@ -1,7 +1,6 @@
-use Rattle.std.proofs.Common.{rules, ◌≡◌, ℕ, ◌+◌, Err, subst, ◌∙◌, refl, inl, arith}
+use Rattle.std.proofs.Common.{rules, ◌≡◌, ℕ, ◌+◌, Err, subst, ◌∙◌, refl}
 use Rattle.rs_field.specs.code.Decoder.{DecoderState}
-use Rattle.rs_field.specs.code.Pieces.{IsStrip}
-use Rattle.rs_field.proofs.of_code.Pieces.{is_strip}
+use Rattle.reed_solomon_simd.proofs.StripLoops.{cut-first, strip-next, cut-last}
 use Rattle.reed_solomon_simd.proofs.RebuiltStrips.{IsRebuiltBelow, rebuilt-none, rebuilt-further, rebuilt-all}
 use Rattle.reed_solomon_simd.proofs.StripDecodeLemmas.{strip-refused}
 use Rattle.reed_solomon_simd.proofs.strip_summer.sum_strips.Goals as goal
@@ -10,8 +9,7 @@ pub loop-start-init : goal.loop-start-init
 loop-start-init g c =
     let x : DecoderState = g.P.Pieces.received c.args.received.now in
     record {
-      inside = omega arith;
-      begins = inl refl;
+      cut = cut-first c.shard_bytes-shard_bytes.result;
       done = rebuilt-none x c.args.wanted.now g.R.Rooms.grows (g.R.Rooms.held c.args.rooms.now) c.requires.number
           c.requires.fit;
       places = refl;
@@ -23,16 +21,13 @@ loop-start-preserved g c =
     let x : DecoderState = g.P.Pieces.received c.args.received.now in
     let start : ℕ = c.loop-start.start in
     let held = c.loop-start.invariant in
-    let strip = is_strip start 2048 c.shard_bytes-shard_bytes.result c.min-width.result c.min.result
-    c.min-width.ensures c.min.ensures refl held.begins c.loop-start-test.true in
-    let here = subst (λ (n : ℕ). IsStrip c.loop-start.start (c.loop-start.start + c.min.result) n)
-    c.shard_bytes-shard_bytes.ensures strip in
+    let next = strip-next 2048 c.min-width.ensures c.min.ensures refl held.cut c.loop-start-test.true
+    c.shard_bytes-shard_bytes.ensures in
     let now = c.in_ok-sum_strip.ensures in
     record {
-      inside = strip.inside;
-      begins = strip.ends;
+      cut = next.cut;
       done = rebuilt-further x c.requires.set_up c.args.wanted.now c.requires.can g.R.Rooms.grows start
-          (start + c.min.result) here now.put.0 now.put.1 (g.R.Rooms.held c.loop-start.rooms)
+          (start + c.min.result) next.strip now.put.0 now.put.1 (g.R.Rooms.held c.loop-start.rooms)
           (g.R.Rooms.held c.sum_strip.new.rooms) now.put.2 held.done;
       places = now.places ∙ held.places;
       loan = now.loan ∙ held.loan;
@@ -42,20 +37,18 @@ pub returns-in_err-sum_strip-clause-refused : goal.returns-in_err-sum_strip-clau
 returns-in_err-sum_strip-clause-refused g c =
     let x : DecoderState = g.P.Pieces.received c.args.received.now in
     let start : ℕ = c.loop-start.start in
-    let strip = is_strip start 2048 c.shard_bytes-shard_bytes.result c.min-width.result c.min.result
-    c.min-width.ensures c.min.ensures refl c.loop-start.invariant.begins c.loop-start-test.true in
+    let next = strip-next 2048 c.min-width.ensures c.min.ensures refl
+    c.loop-start.invariant.cut c.loop-start-test.true c.shard_bytes-shard_bytes.ensures in
     let refused : c.from_residual-in_err-sum_strip.result ≡ Err c.in_err-sum_strip.field-0.0 = search rules in
-    rw refused (strip-refused start (start + c.min.result) c.shard_bytes-shard_bytes.result x x g.R.Rooms.grows refl
-    c.shard_bytes-shard_bytes.ensures strip c.in_err-sum_strip.field-0.0 c.in_err-sum_strip.ensures.refused)
+    rw refused (strip-refused start (start + c.min.result) x x g.R.Rooms.grows refl next.strip
+    c.in_err-sum_strip.field-0.0 c.in_err-sum_strip.ensures.refused)
 
 pub returns-clause-rebuilt : goal.returns-clause-rebuilt
 returns-clause-rebuilt g c =
     let x : DecoderState = g.P.Pieces.received c.args.received.now in
     let held = c.loop-start.invariant in
-    let ends : c.loop-start.start ≡ c.shard_bytes-shard_bytes.result =
-    omega (arith, held.inside, c.loop-start-test.false) in
     rebuilt-all x c.args.wanted.now g.R.Rooms.grows (g.R.Rooms.held c.loop-start.rooms) c.requires.set_up
     c.requires.enough c.requires.can
     (subst (λ (n : ℕ). IsRebuiltBelow (g.P.Pieces.received c.args.received.now) c.args.wanted.now g.R.Rooms.grows n
     (g.R.Rooms.held c.loop-start.rooms))
-    (ends ∙ c.shard_bytes-shard_bytes.ensures) held.done)
+    (cut-last held.cut c.loop-start-test.false c.shard_bytes-shard_bytes.ensures) held.done)

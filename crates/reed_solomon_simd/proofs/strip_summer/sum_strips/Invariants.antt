@@ -1,4 +1,5 @@
-use Rattle.std.proofs.Common.{◌≡◌, ◌⊎◌, ◌-◌, ◌%◌, ◌≤◌}
+use Rattle.std.proofs.Common.{◌≡◌, ◌-◌}
+use Rattle.reed_solomon_simd.proofs.StripLoops.{IsCut}
 use Rattle.reed_solomon_simd.proofs.RebuiltStrips.{IsRebuiltBelow}
 use Rattle.reed_solomon_simd.proofs.strip_summer.sum_strips.Given as goal
 
@@ -6,8 +7,7 @@ use Rattle.reed_solomon_simd.proofs.strip_summer.sum_strips.Given as goal
 abbrev pub invariant-loop-start : goal.invariant-loop-start
 invariant-loop-start g l =
     record {
-      inside : l.start ≤ l.shard_bytes;
-      begins : (l.start % 64 ≡ 0) ⊎ (l.start ≡ l.shard_bytes);
+      cut : IsCut l.start l.shard_bytes;
       done : IsRebuiltBelow (g.P.Pieces.received l.received) l.wanted g.R.Rooms.grows l.start
           (g.R.Rooms.held l.rooms);
       places : g.R.Rooms.places l.rooms ≡ g.R.Rooms.places l.initial.rooms;

@@ -1,0 +1,37 @@
+-- Loops over the strips of shards, from the first bytes of the shards to the last.
+use Rattle.std.proofs.Common.{◌≡◌, ◌⊎◌, ℕ, ◌+◌, ◌-◌, ◌%◌, ◌<◌, ◌≤◌, min, refl, subst, ◌∙◌, inl, arith}
+use Rattle.std.proofs.Math.Nat.{min-eq_right}
+use Rattle.rs_field.specs.code.Pieces.{IsStrip}
+use Rattle.rs_field.proofs.of_code.Pieces.{is_strip}
+
+-- The next strip may begin at `start`: a chunk begins there, or the shards end there.
+pub record IsCut (start size : ℕ) : Type 0 where
+  pub inside : start ≤ size
+  pub begins : (start % 64 ≡ 0) ⊎ (start ≡ size)
+
+-- The first strip begins at zero.
+pub cut-first : (size : ℕ) → IsCut 0 size
+cut-first size = record { inside = omega arith; begins = inl refl }
+
+-- The strip at `start` lies inside the shards, the strip after it begins where it ends, and if it is shorter than the
+-- width, no bytes are left after it.
+pub record IsNext (start part width size whole : ℕ) : Type 0 where
+  pub strip : IsStrip start (start + part) whole
+  pub cut : IsCut (start + part) size
+  pub last : size - start < width → start + part < size → ⊥
+
+-- If bytes are left at `start`, the next ones are a strip.
+pub strip-next : (bytes : ℕ) {start part width size whole : ℕ} → width ≡ min bytes size
+    → part ≡ min width (size - start) → bytes % 64 ≡ 0 → IsCut start size → start < size → size ≡ whole
+    → IsNext start part width size whole
+strip-next bytes {start} {part} {width} {size} width_is part_is chunks cut more long =
+    let here = is_strip start bytes size width part width_is part_is chunks cut.begins more in
+    record {
+      strip = subst (λ (n : ℕ). IsStrip start (start + part) n) long here;
+      cut = record { inside = here.inside; begins = here.ends };
+      last = λ less left. let last = part_is ∙ min-eq_right (omega (arith, less)) in omega (arith, left, last);
+    }
+
+-- If no bytes are left, the strips end where the shards end.
+pub cut-last : {start size whole : ℕ} → IsCut start size → size ≤ start → size ≡ whole → start ≡ whole
+cut-last cut none long = let inside = cut.inside in omega (arith, inside, none, long)
