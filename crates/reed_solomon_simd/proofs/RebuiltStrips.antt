@@ -65,6 +65,23 @@ named-sized s message agrees wanted can =
         let all = agrees.coded.1.shards in
         (all.each i [] (let n = all.length_is in omega (arith, n, can.0))).length_is
 
+-- Reconstructed shards have the shard size.
+pub reconstructed-sized : (s : DecoderState) (wanted : List ShardIndex) (shards : List Shard)
+    → AreReconstructed s wanted shards → All (CanBeRebuilt s) wanted
+    → All (λ x. length x ≡ s.configuration.shard_bytes) shards
+reconstructed-sized s wanted shards are can =
+    subst (λ (l : List Shard). All (λ x. length x ≡ s.configuration.shard_bytes) l) (sym are.named)
+    (named-sized s are.message are.agrees wanted can)
+
+-- A shard that can be rebuilt from received shards can be rebuilt from their pieces.
+pub can-pieces : (s : DecoderState) (start end : ℕ) (wanted : List ShardIndex) → All (CanBeRebuilt s) wanted
+    → All (CanBeRebuilt (state_of_pieces start end s)) wanted
+can-pieces s start end wanted can i d h = by_kind (get_or wanted i d) (can i d h)
+  where
+    by_kind : (w : ShardIndex) → CanBeRebuilt s w → CanBeRebuilt (state_of_pieces start end s) w
+    by_kind (Original i) can = (can.0, ap (option_map (λ x. between start end x)) can.1)
+    by_kind (Recovery i) can = (can.0, ap (option_map (λ x. between start end x)) can.1)
+
 -- The strips below a byte are rebuilt: their pieces are consistent, and each room holds the first bytes of the wanted
 -- shard of each message that agrees.
 pub record IsRebuiltBelow (s : DecoderState) (wanted : List ShardIndex) (grows : Bool) (bound : ℕ) (rooms : List Shard)
@@ -122,19 +139,7 @@ module _ (s : DecoderState) (is : IsDecoder default_rate s) (wanted : List Shard
       ap length rebuilt.named ∙ length-map wanted (shard_named rebuilt.message rebuilt.agrees.coded.0)
 
   made-sized : All (λ x. length x ≡ end - start) made
-  made-sized =
-      subst (λ (l : List Shard). All (λ x. length x ≡ end - start) l) (sym rebuilt.named)
-      (All-map (λ x. length x ≡ end - start) (shard_named rebuilt.message rebuilt.agrees.coded.0) wanted
-      (λ i d h. by_kind (get_or wanted i d) (can i d h)))
-    where
-      by_kind : (w : ShardIndex) → CanBeRebuilt s w
-          → length (shard_named rebuilt.message rebuilt.agrees.coded.0 w) ≡ end - start
-      by_kind (Original i) can =
-          (rebuilt.agrees.shards.each i []
-          (let n = rebuilt.agrees.shards.length_is in omega (arith, n, can.0))).length_is
-      by_kind (Recovery i) can =
-          let all = rebuilt.agrees.coded.1.shards in
-          (all.each i [] (let n = all.length_is in omega (arith, n, can.0))).length_is
+  made-sized = reconstructed-sized (state_of_pieces start end s) wanted made rebuilt (can-pieces s start end wanted can)
 
   -- After the rebuilt pieces are put into the rooms, one more strip is rebuilt.
   pub rebuilt-further : (old new : List Shard) → ArePut start end made old new
@@ -163,7 +168,7 @@ module _ (s : DecoderState) (is : IsDecoder default_rate s) (wanted : List Shard
             let named : List Shard = named_shards message agrees.coded.0 wanted in
             let long = length-map wanted (shard_named message agrees.coded.0) in
             let cut : get_or made i []
-            ≡ take (end - start) (drop start (get_or (named_shards message agrees.coded.0 wanted) i [])) =
+            ≡ between start end (get_or (named_shards message agrees.coded.0 wanted) i []) =
             ap (λ (l : List Shard). get_or l i []) (made-cut message agrees)
             ∙ get_or-map (λ x. between start end x) named i [] [] (omega (arith, here, before.number, long)) in
             ap₂ (λ (n : ℕ) (x : Shard). take n x) (sym (ends i here)) (put.1 i here)
@@ -214,36 +219,28 @@ restored-there s out message i restored agrees inside none =
     restored.missing i ∙ ap (λ (m : List Shard). missing_of s m i) (sym (restored.only message agrees))
     ∙ missing-there s message i inside none
 
--- A shard that can be rebuilt from received shards can be rebuilt from their pieces.
-pub can-pieces : (s : DecoderState) (start end : ℕ) (wanted : List ShardIndex) → All (CanBeRebuilt s) wanted
-    → All (CanBeRebuilt (state_of_pieces start end s)) wanted
-can-pieces s start end wanted can i d h = by_kind (get_or wanted i d) (can i d h)
-  where
-    by_kind : (w : ShardIndex) → CanBeRebuilt s w → CanBeRebuilt (state_of_pieces start end s) w
-    by_kind (Original i) can = (can.0, ap (option_map (λ x. between start end x)) can.1)
-    by_kind (Recovery i) can = (can.0, ap (option_map (λ x. between start end x)) can.1)
-
 -- The wanted shards among the restored originals and the encoded recovery shards are those of the codeword.
-pub lent-named : (s : DecoderState) (out : Shards) (encoded message : List Shard) (agrees : IsAgreeing s message)
-    (wanted : List ShardIndex) → Restored s out → All (CanBeRebuilt s) wanted
-    → (list_any is_recovery wanted ≡ true → encoded ≡ agrees.coded.0)
-    → map (lent_at out encoded) wanted ≡ map (λ x. Some x) (named_shards message agrees.coded.0 wanted)
-lent-named s out encoded message agrees [] restored can coded = refl
-lent-named s out encoded message agrees (Original i ∷ wanted) restored can coded =
-    let here : (i < s.configuration.original_count) × (s.originals i ≡ None) = can 0 (Original i) (omega arith) in
-    ap₂ (λ (x : Option Shard) (l : List (Option Shard)). x ∷ l)
-    (restored-there s out message i restored agrees here.0 here.1)
-    (lent-named s out encoded message agrees wanted restored (λ k d h. can (suc k) d (omega (arith, h))) coded)
-lent-named s out encoded message agrees (Recovery i ∷ wanted) restored can coded =
-    let here : (i < s.configuration.recovery_count) × (s.recovery i ≡ None) = can 0 (Recovery i) (omega arith) in
-    let same = coded refl in
-    let long : length encoded ≡ s.configuration.recovery_count =
-    ap length same ∙ agrees.coded.1.shards.length_is in
-    ap₂ (λ (x : Option Shard) (l : List (Option Shard)). x ∷ l)
-    (ap (λ (b : Bool). cond b (Some (get_or encoded i [])) None)
-    (lt-ltb i (length encoded) (omega (arith, here.0, long)))
-    ∙ ap (λ (l : List Shard). Some (get_or l i [])) same)
-    (lent-named s out encoded message agrees wanted restored (λ k d h. can (suc k) d (omega (arith, h))) (λ _. same))
+module _ (s : DecoderState) (out : Shards) (encoded message : List Shard) (agrees : IsAgreeing s message)
+    (restored : Restored s out) where
+  pub lent-named : (wanted : List ShardIndex) → All (CanBeRebuilt s) wanted
+      → (list_any is_recovery wanted ≡ true → encoded ≡ agrees.coded.0)
+      → map (lent_at out encoded) wanted ≡ map (λ x. Some x) (named_shards message agrees.coded.0 wanted)
+  lent-named [] can coded = refl
+  lent-named (Original i ∷ wanted) can coded =
+      let here : (i < s.configuration.original_count) × (s.originals i ≡ None) = can 0 (Original i) (omega arith) in
+      ap₂ (λ (x : Option Shard) (l : List (Option Shard)). x ∷ l)
+      (restored-there s out message i restored agrees here.0 here.1)
+      (lent-named wanted (λ k d h. can (suc k) d (omega (arith, h))) coded)
+  lent-named (Recovery i ∷ wanted) can coded =
+      let here : (i < s.configuration.recovery_count) × (s.recovery i ≡ None) = can 0 (Recovery i) (omega arith) in
+      let same = coded refl in
+      let long : length encoded ≡ s.configuration.recovery_count =
+      ap length same ∙ agrees.coded.1.shards.length_is in
+      ap₂ (λ (x : Option Shard) (l : List (Option Shard)). x ∷ l)
+      (ap (λ (b : Bool). cond b (Some (get_or encoded i [])) None)
+      (lt-ltb i (length encoded) (omega (arith, here.0, long)))
+      ∙ ap (λ (l : List Shard). Some (get_or l i [])) same)
+      (lent-named wanted (λ k d h. can (suc k) d (omega (arith, h))) (λ _. same))
 
 -- Each listed piece is there.
 pub piece-there : (out : Shards) (encoded : List Shard) (wanted : List ShardIndex) (made : List Shard) (i : ℕ)
@@ -280,13 +277,5 @@ pieces-rebuilt s out encoded wanted made restored can coded listed =
       agrees = restored.agrees;
       only = restored.only;
       named = some-same made (named_shards restored.message restored.agrees.coded.0 wanted)
-          (sym listed ∙ lent-named s out encoded restored.message restored.agrees wanted restored can coded);
+          (sym listed ∙ lent-named s out encoded restored.message restored.agrees restored wanted can coded);
     }
-
--- Reconstructed shards have the shard size.
-pub reconstructed-sized : (s : DecoderState) (wanted : List ShardIndex) (shards : List Shard)
-    → AreReconstructed s wanted shards → All (CanBeRebuilt s) wanted
-    → All (λ x. length x ≡ s.configuration.shard_bytes) shards
-reconstructed-sized s wanted shards are can =
-    subst (λ (l : List Shard). All (λ x. length x ≡ s.configuration.shard_bytes) l) (sym are.named)
-    (named-sized s are.message are.agrees wanted can)

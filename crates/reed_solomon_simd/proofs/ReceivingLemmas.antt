@@ -34,6 +34,12 @@ module _ (k r : ℕ) (originals recovery : Items) where
       none (rw supported (inl refl))
 
   module _ (size : ℕ) (sized : Some size ≡ received_size originals recovery) where
+    abbrev opened : Result (Unit {0}) Error
+    opened = start_outcome (decoder_rows default_rate k r) (default_of k r size)
+
+    abbrev after_opening : Result (Unit {0}) Error → Result DecoderState Error
+    after_opening = result_and_then (λ _. with_both (fresh_decoder (default_of k r size)) originals recovery)
+
     receiving-led : (o : Result DecoderState Error) → receiving_outcome k r (Some size) originals recovery ≡ o
         → IsReceiving k r originals recovery o
     receiving-led o is =
@@ -41,26 +47,26 @@ module _ (k r : ℕ) (originals recovery : Items) where
 
     -- If setting up the decoder fails, collecting fails with the same error.
     pub receiving-unset : (e : Error)
-        → UpToMemory (start_outcome (decoder_rows default_rate k r) (default_of k r size)) (Err e)
+        → UpToMemory opened (Err e)
         → IsReceiving k r originals recovery (Err e)
     receiving-unset e (inl same) =
         receiving-led (Err e)
-        (ap (result_and_then (λ _. with_both (fresh_decoder (default_of k r size)) originals recovery)) (sym same))
+        (ap after_opening (sym same))
     receiving-unset e (inr lacks) =
         let refused = lacks.1 in
         let same : e ≡ OutOfMemory = cc in
         let (valid, fits) = started-parts (decoder_rows default_rate k r) (default_of k r size)
-        (success (start_outcome (decoder_rows default_rate k r) (default_of k r size)) lacks.0) in
+        (success opened lacks.0) in
         inr (subst (λ (n : Option ℕ). IsOk (receiving_opening k r n)) sized (ap is_ok valid), ap Err same)
 
     -- If the decoder was set up, the outcome of adding the shards is the outcome of collecting them.
     pub receiving-given : (start : DecoderState)
-        → UpToMemory (start_outcome (decoder_rows default_rate k r) (default_of k r size)) (Ok tt)
+        → UpToMemory opened (Ok tt)
         → start ≡ fresh_decoder (default_of k r size) → (o : Result DecoderState Error)
         → with_both start originals recovery ≡ o
         → IsReceiving k r originals recovery o
     receiving-given start made fresh o is =
         receiving-led o
-        (ap (result_and_then (λ _. with_both (fresh_decoder (default_of k r size)) originals recovery))
-        (was-set_up (start_outcome (decoder_rows default_rate k r) (default_of k r size)) made)
+        (ap after_opening
+        (was-set_up opened made)
         ∙ sym (ap (λ (s : DecoderState). with_both s originals recovery) fresh) ∙ is)

@@ -14,7 +14,7 @@ use Rattle.rs_field.specs.words.Field.{product, power}
 use Rattle.rs_field.specs.code.Column.{Shard, IsShard, shard_at, column, chunk_words}
 use Rattle.rs_field.specs.code.Pieces.{IsStrip}
 use Rattle.rs_field.proofs.of_code.Columns.{column-at, columns-at, byte_lt, shards_from_columns}
-use Rattle.rs_field.proofs.of_code.Pieces.{column-head, column-rest, column-piece}
+use Rattle.rs_field.proofs.of_code.Pieces.{column-head, column-rest, column-piece, is_strip}
 use Rattle.rs_field.proofs.of_words.Packed.{sum_of_bytes}
 use Rattle.std.specs.Prelude.{Result, Ok, Err, MatchResult, true, false}
 use Rattle.std.specs.Result.{result_map_both}
@@ -68,13 +68,17 @@ column-xor size j s t u hs ht hu bytes =
           (get_or_past t n 0 (let l = ht.length_is in omega (arith, past, l))))
     ]
 
+-- Column j of a shard after the change.
+abbrev changed_at : Shard → Shard → ℕ → Shard → ℕ → ℕ
+changed_at old new log before j =
+    bit_xor (column j before) (product (bit_xor (column j old) (column j new)) (power log))
+
 -- The first `start` bytes of a shard are changed, and the others are those of the shard before.
 pub record IsChangedBelow (start : ℕ) (old new : Shard) (log : ℕ) (before now : Shard) : Type 0 where
   pub length_is : length now ≡ length before
   pub bytes : (start ≡ 0) ⊎ All (λ b. b < 256) now
   pub begins : (start % 64 ≡ 0) ⊎ (start ≡ length before)
-  pub below : (j : ℕ) → j < start / 2
-      → column j now ≡ bit_xor (column j before) (product (bit_xor (column j old) (column j new)) (power log))
+  pub below : (j : ℕ) → j < start / 2 → column j now ≡ changed_at old new log before j
   pub above : drop start now ≡ drop start before
 
 -- No byte is changed at the start.
@@ -119,25 +123,28 @@ changed-all start old new log before now is some done =
 -- The parts of a list whose middle part is replaced.
 module _ (start end : ℕ) (now piece after : Shard) (order : start ≤ end) (within : end ≤ length now)
     (sized : length piece ≡ end - start) (is : after ≡ take start now ++ (piece ++ drop end now)) where
+  abbrev tail : List ℕ
+  tail = piece ++ drop end now
+
   front : length (take start now) ≡ start
   front = length-take-le start now (omega (arith, order, within))
 
   pub head-kept : take start after ≡ take start now
   head-kept =
       ap (take start) is
-      ∙ ap (λ (n : ℕ). take n (take start now ++ (piece ++ drop end now))) (sym front)
-      ∙ take-append_seam (take start now) (piece ++ drop end now)
+      ∙ ap (λ (n : ℕ). take n (take start now ++ tail)) (sym front)
+      ∙ take-append_seam (take start now) tail
 
-  behind : drop start after ≡ piece ++ drop end now
+  behind : drop start after ≡ tail
   behind =
       ap (drop start) is
-      ∙ ap (λ (n : ℕ). drop n (take start now ++ (piece ++ drop end now))) (sym front)
-      ∙ drop-append_seam (take start now) (piece ++ drop end now)
+      ∙ ap (λ (n : ℕ). drop n (take start now ++ tail)) (sym front)
+      ∙ drop-append_seam (take start now) tail
 
   pub middle-is : between start end after ≡ piece
   middle-is =
       ap (take (end - start)) behind
-      ∙ ap (λ (n : ℕ). take n (piece ++ drop end now)) (sym sized)
+      ∙ ap (λ (n : ℕ). take n tail) (sym sized)
       ∙ take-append_seam piece (drop end now)
 
   pub rest-kept : drop end after ≡ drop end now
@@ -145,7 +152,7 @@ module _ (start end : ℕ) (now piece after : Shard) (order : start ≤ end) (wi
       ap (λ (n : ℕ). drop n after) (let e : end ≡ start + (end - start) = omega (arith, order) in e)
       ∙ sym (drop-drop (end - start) start after)
       ∙ ap (drop (end - start)) behind
-      ∙ ap (λ (n : ℕ). drop n (piece ++ drop end now)) (sym sized)
+      ∙ ap (λ (n : ℕ). drop n tail) (sym sized)
       ∙ drop-append_seam piece (drop end now)
 
 -- If the next strip is changed, the bytes up to its end are.
@@ -163,8 +170,7 @@ changed-more start end old new log before now after is strip same_old same_new (
         | inr later ↦
             let begins = strip.begins in
             let place : start / 2 + (j - start / 2) ≡ j = omega (arith, later) in
-            subst (λ (n : ℕ). column n after
-            ≡ bit_xor (column n before) (product (bit_xor (column n old) (column n new)) (power log))) place
+            subst (λ (n : ℕ). column n after ≡ changed_at old new log before n) place
             (late (j - start / 2) (omega (arith, h, later, begins)))
       ];
       above = adds.rest
@@ -183,17 +189,14 @@ changed-more start end old new log before now after is strip same_old same_new (
     long : length after ≡ length before
     long = adds.length_is ∙ is.length_is
 
-    early : (j : ℕ) → j < start / 2
-        → column j after ≡ bit_xor (column j before) (product (bit_xor (column j old) (column j new)) (power log))
+    early : (j : ℕ) → j < start / 2 → column j after ≡ changed_at old new log before j
     early j h =
         sym (column-head start j after strip.begins (omega (arith, long, begin)) h)
         ∙ ap (column j) adds.first
         ∙ column-head start j now strip.begins (let l = is.length_is in omega (arith, l, begin)) h ∙ is.below j h
 
     late : (i : ℕ) → i < (end - start) / 2
-        → column (start / 2 + i) after
-        ≡ bit_xor (column (start / 2 + i) before)
-        (product (bit_xor (column (start / 2 + i) old) (column (start / 2 + i) new)) (power log))
+        → column (start / 2 + i) after ≡ changed_at old new log before (start / 2 + i)
     late i h =
         let inside : i < length change / 2 = omega (arith, h, sized) in
         sym (column-piece start end i after (subst (IsStrip start end) (sym long) strip) h)
@@ -210,25 +213,9 @@ changed-more start end old new log before now after is strip same_old same_new (
 -- The next piece of at most 2048 bytes is a strip.
 pub next-strip : (start size width : ℕ) → (start % 64 ≡ 0) ⊎ (start ≡ size) → start < size
     → width ≡ min 2048 (size - start) → IsStrip start (start + width) size
-next-strip start size width (inr last) more is = let no : ⊥ = omega (arith, last, more) in absurd no
-next-strip start size width (inl whole) more is = elim (cases_lt 2048 (size - start)) [
-  | inl short ↦
-      let wide : width ≡ 2048 = is ∙ omega (arith, short) in
-      record {
-        order = omega arith;
-        inside = omega (arith, wide, short);
-        begins = whole;
-        ends = inl (omega (arith, wide, whole));
-      }
-  | inr long ↦
-      let wide : width ≡ size - start = is ∙ omega (arith, long) in
-      record {
-        order = omega arith;
-        inside = omega (arith, wide, more);
-        begins = whole;
-        ends = inr (omega (arith, wide, more));
-      }
-]
+next-strip start size width begins more is =
+    let part : min 2048 (size - start) ≡ min (min 2048 size) (size - start) = omega arith in
+    is_strip start 2048 size (min 2048 size) width refl (is ∙ part) refl begins more
 
 -- ---- all recovery shards
 
@@ -277,27 +264,17 @@ updates-changed k r index old new factors before after supported even are number
 -- ---- the result of `update_into`
 
 module _ (k r index : ℕ) (old new : Shard) (before : List (List ℕ)) where
-  -- The first error of the checks is the result.
-  pub updates-refused : (e : RoomError) (answer : Result (Unit {0}) RoomError)
-      → update_outcome k r index (length old) (length new) before ≡ Err e → answer ≡ Err e
-      → UpdatesInto k r index old new before before answer
-  updates-refused e answer is same =
-      subst (λ (o : Result (Unit {0}) RoomError).
-      MatchResult o (λ _. ((answer ≡ Ok tt) × UpdatesShards k r index old new before before)
-      ⊎ ((answer ≡ Err (Refused OutOfMemory)) × (before ≡ before)))
-      (λ f. (answer ≡ Err f) × (before ≡ before))) (sym is) (same, refl)
-
-  -- If the checks find no error, the shards are updated, or memory is lacking and nothing has changed.
-  pub updates-done : (after : List (List ℕ)) (answer : Result (Unit {0}) RoomError)
-      → update_outcome k r index (length old) (length new) before ≡ Ok tt
-      → ((answer ≡ Ok tt) × UpdatesShards k r index old new before after)
-      ⊎ ((answer ≡ Err (Refused OutOfMemory)) × (after ≡ before))
-      → UpdatesInto k r index old new before after answer
-  updates-done after answer is does =
-      subst (λ (o : Result (Unit {0}) RoomError).
+  -- What `update_into` does, if this is the outcome of the checks.
+  abbrev Does : List (List ℕ) → Result (Unit {0}) RoomError → Result (Unit {0}) RoomError → Type 0
+  Does after answer o =
       MatchResult o (λ _. ((answer ≡ Ok tt) × UpdatesShards k r index old new before after)
       ⊎ ((answer ≡ Err (Refused OutOfMemory)) × (after ≡ before)))
-      (λ f. (answer ≡ Err f) × (after ≡ before))) (sym is) does
+      (λ e. (answer ≡ Err e) × (after ≡ before))
+
+  pub updates-by : (after : List (List ℕ)) (o answer : Result (Unit {0}) RoomError)
+      → update_outcome k r index (length old) (length new) before ≡ o → Does after answer o
+      → UpdatesInto k r index old new before after answer
+  updates-by after o answer is does = subst (Does after answer) (sym is) does
 
   -- If an update fails, the rooms are unchanged.
   pub updates-kept : (after : List (List ℕ)) (e : RoomError) (answer : Result (Unit {0}) RoomError) → answer ≡ Err e
@@ -305,10 +282,7 @@ module _ (k r index : ℕ) (old new : Shard) (before : List (List ℕ)) where
   updates-kept after e answer failed updates =
       by_outcome (update_outcome k r index (length old) (length new) before) updates
     where
-      by_outcome : (o : Result (Unit {0}) RoomError)
-          → MatchResult o (λ _. ((answer ≡ Ok tt) × UpdatesShards k r index old new before after)
-          ⊎ ((answer ≡ Err (Refused OutOfMemory)) × (after ≡ before)))
-          (λ f. (answer ≡ Err f) × (after ≡ before)) → after ≡ before
+      by_outcome : (o : Result (Unit {0}) RoomError) → Does after answer o → after ≡ before
       by_outcome (Ok u) (inl does) = let done = does.0 in absurd (let no : ⊥ = cc in no)
       by_outcome (Ok u) (inr does) = does.1
       by_outcome (Err f) does = does.1

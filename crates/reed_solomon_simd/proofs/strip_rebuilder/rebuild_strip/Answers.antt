@@ -29,7 +29,7 @@ put_wanted-requires-clause-pieces g c =
       named_shards restored.message restored.agrees.coded.0 c.args.wanted.now,
       ap₂ (λ (o : Shards) (e : List Shard). map (lent_at o e) c.args.wanted.now) c.lent_originals-restored.ensures
           c.lent_recovery.ensures
-          ∙ lent-named t out encoded restored.message restored.agrees c.args.wanted.now restored can coded,
+          ∙ lent-named t out encoded restored.message restored.agrees restored c.args.wanted.now can coded,
       named-sized t restored.message restored.agrees c.args.wanted.now can,
     )
 

@@ -3,7 +3,7 @@ use Rattle.std.proofs.lemmas.List.{length-map}
 use Rattle.reed_solomon_simd.specs.declared.room_error.RoomError.TheVariants.{Refused}
 use Rattle.reed_solomon_simd.specs.Rooms.{bytes_in}
 use Rattle.reed_solomon_simd.proofs.ReconstructLemmas.{zeros, zeros-number, zeros-sized}
-use Rattle.reed_solomon_simd.proofs.UpdateLemmas.{updates-refused, updates-done, updates-changed, outcome-uncounted}
+use Rattle.reed_solomon_simd.proofs.UpdateLemmas.{updates-by, updates-changed, outcome-uncounted}
 use Rattle.reed_solomon_simd.proofs.UpdateLemmas.{outcome-change, outcome-rooms}
 use Rattle.reed_solomon_simd.proofs.updating.update_into.Goals as goal
 
@@ -11,31 +11,32 @@ pub returns-in_err-counts-clause-answer : goal.returns-in_err-counts-clause-answ
 returns-in_err-counts-clause-answer g c =
     let k = c.args.original_count in let r = c.args.recovery_count in let before = bytes_in c.args.recovery.now in
     let e = c.in_err-counts.field-0.0 in
-    updates-refused k r c.args.index c.args.old.now c.args.new.now before (Refused e) _
-    (outcome-uncounted k r c.args.index c.args.old.now c.args.new.now before e c.in_err-counts.ensures) (search rules)
+    updates-by k r c.args.index c.args.old.now c.args.new.now before before _ _
+    (outcome-uncounted k r c.args.index c.args.old.now c.args.new.now before e c.in_err-counts.ensures)
+    (search rules, refl)
 
 pub returns-in_err-check_change-clause-answer : goal.returns-in_err-check_change-clause-answer
 returns-in_err-check_change-clause-answer g c =
     let k = c.args.original_count in let r = c.args.recovery_count in let before = bytes_in c.args.recovery.now in
     let e = c.in_err-check_change.field-0.0 in
-    updates-refused k r c.args.index c.args.old.now c.args.new.now before (Refused e) _
+    updates-by k r c.args.index c.args.old.now c.args.new.now before before _ _
     (outcome-change k r c.args.index c.args.old.now c.args.new.now before e
-    (rw (c.in_ok-counts.ensures.0, c.in_ok-counts.ensures.1) at c.in_err-check_change.ensures)) (search rules)
+    (rw (c.in_ok-counts.ensures.0, c.in_ok-counts.ensures.1) at c.in_err-check_change.ensures)) (search rules, refl)
 
 pub returns-in_err-check_rooms-clause-answer : goal.returns-in_err-check_rooms-clause-answer
 returns-in_err-check_rooms-clause-answer g c =
     let k = c.args.original_count in let r = c.args.recovery_count in let before = bytes_in c.args.recovery.now in
     let e = c.in_err-check_rooms.field-0.0 in
-    updates-refused k r c.args.index c.args.old.now c.args.new.now before e _
+    updates-by k r c.args.index c.args.old.now c.args.new.now before before _ _
     (outcome-rooms k r c.args.index c.args.old.now c.args.new.now before (Err e)
     (rw (c.in_ok-counts.ensures.0, c.in_ok-counts.ensures.1) at c.in_ok-check_change.ensures)
     (c.in_err-check_rooms.ensures.answer (zeros r (length c.args.old.now)) (zeros-number r (length c.args.old.now))
-    (zeros-sized r (length c.args.old.now)))) (search rules)
+    (zeros-sized r (length c.args.old.now)))) (search rules, refl)
 
 pub returns-in_err-factors-clause-answer : goal.returns-in_err-factors-clause-answer
 returns-in_err-factors-clause-answer g c =
     let k = c.args.original_count in let r = c.args.recovery_count in let before = bytes_in c.args.recovery.now in
-    updates-done k r c.args.index c.args.old.now c.args.new.now before before _
+    updates-by k r c.args.index c.args.old.now c.args.new.now before before _ _
     (outcome-rooms k r c.args.index c.args.old.now c.args.new.now before (Ok tt)
     (rw (c.in_ok-counts.ensures.0, c.in_ok-counts.ensures.1) at c.in_ok-check_change.ensures)
     (c.in_ok-check_rooms.ensures.answer (zeros r (length c.args.old.now)) (zeros-number r (length c.args.old.now))
@@ -45,7 +46,7 @@ pub returns-clause-answer : goal.returns-clause-answer
 returns-clause-answer g c =
     let k = c.args.original_count in let r = c.args.recovery_count in let before = bytes_in c.args.recovery.now in
     let number = length-map c.args.recovery.now (λ room. room.now) in
-    updates-done k r c.args.index c.args.old.now c.args.new.now before (bytes_in c.add_to_all.new.recovery) _
+    updates-by k r c.args.index c.args.old.now c.args.new.now before (bytes_in c.add_to_all.new.recovery) _ _
     (outcome-rooms k r c.args.index c.args.old.now c.args.new.now before (Ok tt)
     (rw (c.in_ok-counts.ensures.0, c.in_ok-counts.ensures.1) at c.in_ok-check_change.ensures)
     (c.in_ok-check_rooms.ensures.answer (zeros r (length c.args.old.now)) (zeros-number r (length c.args.old.now))
