@@ -25,9 +25,12 @@ use Rattle.rs_field.proofs.of_code.PieceStates.{is_some-map}
 use Rattle.rs_field.proofs.of_code.RateFrames.{distinct_rows}
 use Rattle.rs_field.proofs.of_code.RestoredBelow.{count-pieces}
 use Rattle.rs_field.proofs.of_words.Combination.{sum_below-same}
+use Rattle.rs_rate.specs.declared.passes.sums.SumBase.{SumBase}
 use Rattle.rs_rate.specs.passes.Sums.{AreMarksOf, ListsMarked}
 use Rattle.rs_rate.proofs.of_rows.StateLemmas.{valid-supported}
-use Rattle.reed_solomon_simd.specs.Base.{frame_in, shard_in_row, marked_part, marked_state, MarkBase, base_sum}
+use Rattle.reed_solomon_simd.specs.Base.{frame_in, row_of, shard_in_row, marked_part, marked_state, MarkBase, CanSum}
+use Rattle.reed_solomon_simd.specs.Base.{base_sum}
+use Rattle.reed_solomon_simd.specs.declared.shard_index.ShardIndex.{ShardIndex}
 
 -- ---- the shards in rows
 
@@ -54,12 +57,21 @@ few_surplus s surplus is enough =
     )
 
 -- The frame of counts is that of a decoder of these counts.
-pub frame_same : (frame : Frame) (k r : ℕ) (s : DecoderState) → IsDecoder default_rate s
+pub frame_same : {frame : Frame} {k r : ℕ} (s : DecoderState) → IsDecoder default_rate s
     → frame ≡ frame_of default_rate k r → k ≡ s.configuration.original_count → r ≡ s.configuration.recovery_count
     → frame ≡ frame_in s
-frame_same frame k r s is framed own other =
+frame_same s is framed own other =
     framed ∙ ap₂ (frame_of default_rate) own other
     ∙ ap (λ rate. frame_of rate s.configuration.original_count s.configuration.recovery_count) (sym is.of_rate)
+
+-- The frame of a base is that of the decoder, and a shard has the same row in both.
+pub sum_frame : {s : DecoderState} {base : SumBase} {start end : ℕ} → CanSum s base start end
+    → base.counts.frame ≡ frame_in s
+sum_frame {s} {base} ready = frame_same s ready.set_up base.counts.framed ready.originals ready.recovery
+
+pub sum_row : {s : DecoderState} {base : SumBase} {start end : ℕ} → CanSum s base start end → (w : ShardIndex)
+    → row_of base.counts.frame w ≡ row_of (frame_in s) w
+sum_row ready w = ap (λ p. row_of p w) (sum_frame ready)
 
 -- What holds of a frame and counts holds of equal ones.
 pub at_counts : (P : Frame → ℕ → ℕ → Type 0) (frame other : Frame) (k l r t : ℕ) → frame ≡ other → k ≡ l → r ≡ t

@@ -1,4 +1,4 @@
-use Rattle.std.proofs.Common.{rules, ◌≡◌, ◌∷◌, [], ℕ, ◌+◌, length, get_or, map, true, None, ap, subst, sym, arith, refl}
+use Rattle.std.proofs.Common.{rules, ◌≡◌, ◌∷◌, [], ℕ, length, get_or, map, true, None, ap, arith, refl}
 use Rattle.std.specs.Prelude.{is_some}
 use Rattle.std.proofs.lemmas.List.{nil_from_length}
 use Rattle.std.specs.Vec.Iter.{into_iter_items}
@@ -6,7 +6,7 @@ use Rattle.rs_field.specs.code.Decoder.{DecoderState}
 use Rattle.rs_field.specs.code.OneCall.{shards_in}
 use Rattle.reed_solomon_simd.specs.Received.{given_in}
 use Rattle.reed_solomon_simd.specs.ReceivedState.{received_state}
-use Rattle.reed_solomon_simd.proofs.ByIndex.{AreEntered, entered-none, entered-short, entered-next, entered-skipped}
+use Rattle.reed_solomon_simd.proofs.ByIndex.{entered-none, entered-short, entered-next, entered-skipped}
 use Rattle.reed_solomon_simd.proofs.ByIndex.{entered-all, some-place}
 use Rattle.reed_solomon_simd.proofs.Collecting.{shards_in-empty, with_entries-inserted}
 use Rattle.reed_solomon_simd.proofs.restoring.by_index.Goals.{then-is_none+in-Some+in_ok-insert+in-Some-1}
@@ -31,28 +31,22 @@ loop-index-preserved c =
           let free : given_in c.args.received.now.originals.shards.items c.loop-index.index ≡ None = search rules in
           let items : into_iter_items c.loop-index.left ≡ w.in-Some.shard ∷ into_iter_items w.next.new.self =
           search rules in
-          subst (λ left. AreEntered (received_state c.args.received.now) (c.loop-index.index + 1)
-          (map (λ v. v.items) (into_iter_items left)) (shards_in c.if-is_none.vectors)) (sym w.left-is)
-          (subst (λ vectors. AreEntered (received_state c.args.received.now) (c.loop-index.index + 1)
-          (map (λ v. v.items) (into_iter_items w.next.new.self)) (shards_in vectors)) (sym w.vectors-is)
+          rw (w.left-is, w.vectors-is)
           (entered-next s i _ (shards_in c.loop-index.vectors) now c.loop-index-test.true free w.in-Some.shard.items
           (map (λ v. v.items) (into_iter_items w.next.new.self)) (shards_in w.insert.new.self)
           (ap (map (λ v. v.items)) items)
           (λ all others is. with_entries-inserted c.loop-index.vectors w.insert.new.self i w.in-Some.shard
-          w.in-Some.shard.items all others is refl w.in_ok-insert.ensures.updates)))
+          w.in-Some.shard.items all others is refl w.in_ok-insert.ensures.updates))
       | then-is_none+in-Some+in_ok-insert+in-None-1 w ↦
           let free : given_in c.args.received.now.originals.shards.items c.loop-index.index ≡ None = search rules in
           let items : into_iter_items c.loop-index.left ≡ w.in-Some.shard ∷ into_iter_items w.next.new.self =
           search rules in
-          subst (λ left. AreEntered (received_state c.args.received.now) (c.loop-index.index + 1)
-          (map (λ v. v.items) (into_iter_items left)) (shards_in c.if-is_none.vectors)) (sym w.left-is)
-          (subst (λ vectors. AreEntered (received_state c.args.received.now) (c.loop-index.index + 1)
-          (map (λ v. v.items) (into_iter_items w.next.new.self)) (shards_in vectors)) (sym w.vectors-is)
+          rw (w.left-is, w.vectors-is)
           (entered-next s i _ (shards_in c.loop-index.vectors) now c.loop-index-test.true free w.in-Some.shard.items
           (map (λ v. v.items) (into_iter_items w.next.new.self)) (shards_in w.insert.new.self)
           (ap (map (λ v. v.items)) items)
           (λ all others is. with_entries-inserted c.loop-index.vectors w.insert.new.self i w.in-Some.shard
-          w.in-Some.shard.items all others is refl w.in_ok-insert.ensures.updates)))
+          w.in-Some.shard.items all others is refl w.in_ok-insert.ensures.updates))
       | then-is_none+in_default w ↦
           let free : given_in c.args.received.now.originals.shards.items c.loop-index.index ≡ None = search rules in
           let zero : length (into_iter_items c.loop-index.left) ≡ 0 = search rules in
@@ -66,11 +60,8 @@ loop-index-preserved c =
           ≡ c.index.result.now = search rules in
           let some = some-place c.args.received.now.originals.shards.items i c.index.result.now place
           (omega (arith, c.loop-index-test.true, c.args.received.now.original_places)) found in
-          subst (λ left. AreEntered (received_state c.args.received.now) (c.loop-index.index + 1)
-          (map (λ v. v.items) (into_iter_items left)) (shards_in c.if-is_none.vectors)) (sym w.left-is)
-          (subst (λ vectors. AreEntered (received_state c.args.received.now) (c.loop-index.index + 1)
-          (map (λ v. v.items) (into_iter_items c.loop-index.left)) (shards_in vectors)) (sym w.vectors-is)
-          (entered-skipped s i _ (shards_in c.loop-index.vectors) now c.loop-index-test.true some))
+          rw (w.left-is, w.vectors-is)
+          (entered-skipped s i _ (shards_in c.loop-index.vectors) now c.loop-index-test.true some)
     ]
 
 pub returns : goal.returns

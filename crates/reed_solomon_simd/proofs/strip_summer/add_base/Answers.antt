@@ -14,7 +14,7 @@ use Rattle.rs_field.specs.words.Transform.{sum_below}
 use Rattle.rs_field.proofs.of_words.Combination.{sum_below-zero, sum_below-suc}
 use Rattle.rs_rate.specs.passes.Sums.{AreMarksOf, ListsMarked, sum_word}
 use Rattle.reed_solomon_simd.specs.Base.{frame_in, shard_in_row, marked_state}
-use Rattle.reed_solomon_simd.proofs.BaseLemmas.{frame_same, at_counts, base_marks, base-pieces, base_term, term-of}
+use Rattle.reed_solomon_simd.proofs.BaseLemmas.{sum_frame, at_counts, base_marks, base-pieces, base_term, term-of}
 use Rattle.reed_solomon_simd.proofs.BaseLemmas.{base_sum-listed}
 use Rattle.reed_solomon_simd.proofs.BaseSums.{in_row-sized}
 use Rattle.reed_solomon_simd.proofs.ConsistentStrips.{even-strip}
@@ -61,8 +61,7 @@ loop-index-preserved g c j inside =
       | in-Some w ↦
           let there = sym w.in-Some.ensures in
           let sized = in_row-sized s ready.set_up c.args.start c.args.end ready.strip x w.in-Some.piece.now there in
-          let same = frame_same own.counts.frame own.counts.original_count own.counts.recovery_count s ready.set_up
-          own.counts.framed ready.originals ready.recovery in
+          let same = sum_frame ready in
           let factor = at_counts (λ p k r. (o c' : Shards) → AreMarksOf p k r o c' c.args.base.now.marks.items
           → w.factor-log_m.result ≡ direct_factor (locator_at p k r o c') c.index-from.result.now c.args.row)
           own.counts.frame (frame_in s) own.counts.original_count s.configuration.original_count
@@ -92,8 +91,7 @@ returns g c j inside =
     let t : DecoderState = state_of_pieces c.args.start c.args.end s in
     let ready = c.requires.ready in
     let own = c.args.base.now in
-    let same = frame_same own.counts.frame own.counts.original_count own.counts.recovery_count s ready.set_up
-    own.counts.framed ready.originals ready.recovery in
+    let same = sum_frame ready in
     let here = base-pieces c.args.start c.args.end own.marks.items s ready.marked in
     let ends : c.loop-index.index ≡ length c.args.base.now.rows.items =
     omega (arith, c.loop-index-test.false, c.len-index-end.ensures, c.loop-index.auto.index-end) in

@@ -4,10 +4,8 @@ use Rattle.std.proofs.Math.Nat.{min-eq_left, min-eq_right}
 use Rattle.std.specs.Prelude.{is_some, nat_lt}
 use Rattle.std.proofs.lemmas.List.{get_or-set_other, length-replicate}
 use Rattle.std.proofs.lemmas.Bool.{cases_eq}
-use Rattle.rs_field.specs.code.Counts.{default_rate}
-use Rattle.rs_field.specs.code.Decoder.{DecoderState, IsDecoder, originals_given, recovery_given}
-use Rattle.rs_field.specs.code.Frame.{frame_of, row_count}
-use Rattle.rs_field.specs.declared.code.frame.Frame.{Frame}
+use Rattle.rs_field.specs.code.Decoder.{DecoderState, originals_given, recovery_given}
+use Rattle.rs_field.specs.code.Frame.{row_count}
 use Rattle.rs_field.specs.rows.MarkedRows.{is_marked}
 use Rattle.rs_rate.specs.rows.Marks.{how_many}
 use Rattle.rs_rate.proofs.of_rows.HowMany.{how_many-zero, how_many-most}
@@ -16,15 +14,15 @@ use Rattle.reed_solomon_simd.specs.Base.{frame_in, shard_in_row}
 use Rattle.reed_solomon_simd.proofs.BaseLemmas.{decoder_frame, frame_same, some-pieces}
 use Rattle.reed_solomon_simd.proofs.BaseMarks.{some-copied, all-found, base-count, marked-more, many-more, many-passed}
 use Rattle.reed_solomon_simd.proofs.BaseMarks.{unmarked}
-use Rattle.reed_solomon_simd.proofs.strip_summer.mark_base.Goals.{then-is_some, else-is_some}
+use Rattle.reed_solomon_simd.proofs.strip_summer.mark_base.Given.{Over}
+use Rattle.reed_solomon_simd.proofs.strip_summer.mark_base.Goals.{After-loop-row, then-is_some, else-is_some}
 use Rattle.reed_solomon_simd.proofs.strip_summer.mark_base.Goals as goal
 
 pub row_count-row_count-requires : goal.row_count-row_count-requires
 row_count-row_count-requires g c =
     let s : DecoderState = g.P.Pieces.received c.args.received.now in
-    let counts = c.counts-counts.result in
-    let same = frame_same counts.frame counts.original_count counts.recovery_count s c.requires.set_up counts.framed
-    c.counts-counts.ensures.originals c.counts-counts.ensures.recovery in
+    let same = frame_same s c.requires.set_up c.counts-counts.result.framed c.counts-counts.ensures.originals
+    c.counts-counts.ensures.recovery in
     let f = decoder_frame s c.requires.set_up in
     omega (arith, f.few, ap (λ p. p.exponent) same)
 
@@ -44,9 +42,8 @@ loop-row-init g c =
 pub overflow_add-found : goal.overflow_add-found
 overflow_add-found g c =
     let s : DecoderState = g.P.Pieces.received c.args.received.now in
-    let counts = c.counts-counts.result in
-    let same = frame_same counts.frame counts.original_count counts.recovery_count s c.requires.set_up counts.framed
-    c.counts-counts.ensures.originals c.counts-counts.ensures.recovery in
+    let same = frame_same s c.requires.set_up c.counts-counts.result.framed c.counts-counts.ensures.originals
+    c.counts-counts.ensures.recovery in
     let f = decoder_frame s c.requires.set_up in
     let rows : row_count (frame_in (g.P.Pieces.received c.args.received.now)) ≤ 2 ^ 16 = pow_mono f.few in
     let most = how_many-most c.loop-row.row (λ x. is_some (shard_in_row (g.P.Pieces.received c.args.received.now) x)) in
@@ -108,53 +105,41 @@ loop-row-preserved g c =
           }
     ]
 
--- At the end of the loop, all received shards were counted.
-total : (s : DecoderState) (is : IsDecoder default_rate s) (frame : Frame) (k r found row rows : ℕ)
-    → frame ≡ frame_of default_rate k r → k ≡ s.configuration.original_count → r ≡ s.configuration.recovery_count
-    → rows ≡ row_count frame → found ≡ how_many row (λ x. is_some (shard_in_row s x)) → row ≤ rows → rows ≤ row
-    → (found ≡ originals_given s + recovery_given s) × (row ≡ row_count (frame_in s)) × (rows ≡ row_count (frame_in s))
-total s is frame k r found row rows framed own coded all counted below above =
-    let same = ap (λ p. row_count p) (frame_same frame k r s is framed own coded) in
-    let ends : rows ≡ row_count (frame_in s) = all ∙ same in
-    (all-found s is found row rows counted below above ends, omega arith, ends)
+-- At the end of the loop, all received shards were counted, and they are enough.
+total : (g : Over) (c : After-loop-row g) → let s : DecoderState = g.P.Pieces.received c.args.received.now in
+    (c.counts-counts.result.original_count ≤ c.loop-row.found)
+    × (c.loop-row.found ≡ originals_given s + recovery_given s) × (c.loop-row.row ≡ row_count (frame_in s))
+    × (c.row_count-row_count.result ≡ row_count (frame_in s))
+total g c =
+    let s : DecoderState = g.P.Pieces.received c.args.received.now in
+    let same = frame_same s c.requires.set_up c.counts-counts.result.framed c.counts-counts.ensures.originals
+    c.counts-counts.ensures.recovery in
+    let rows = c.row_count-row_count.ensures ∙ ap (λ p. row_count p) same in
+    let found = all-found s c.requires.set_up c.loop-row.found c.loop-row.row c.row_count-row_count.result
+    c.loop-row.invariant.found c.loop-row.auto.row-end c.loop-row-test.false rows in (
+      omega (arith, enough-least s (sym c.requires.enough), found, c.counts-counts.ensures.originals),
+      found,
+      omega (arith, rows, c.loop-row.auto.row-end, c.loop-row-test.false),
+      rows,
+    )
 
 pub overflow_sub-result : goal.overflow_sub-result
-overflow_sub-result g c =
-    let s : DecoderState = g.P.Pieces.received c.args.received.now in
-    let counts = c.counts-counts.result in
-    let least = enough-least s (sym c.requires.enough) in
-    let all = total s c.requires.set_up counts.frame counts.original_count counts.recovery_count c.loop-row.found
-    c.loop-row.row c.row_count-row_count.result counts.framed c.counts-counts.ensures.originals
-    c.counts-counts.ensures.recovery c.row_count-row_count.ensures c.loop-row.invariant.found c.loop-row.auto.row-end
-    c.loop-row-test.false in
-    omega (arith, least, all.0, c.counts-counts.ensures.originals)
+overflow_sub-result g c = omega (arith, (total g (goal.at.overflow_sub-result g c).After-loop-row).0)
 
 pub returns-clause-base : goal.returns-clause-base
 returns-clause-base g c =
-    let s : DecoderState = g.P.Pieces.received c.args.received.now in
     let held = c.loop-row.invariant in
-    let counts = c.counts-counts.result in
-    let least = enough-least s (sym c.requires.enough) in
-    let all = total s c.requires.set_up counts.frame counts.original_count counts.recovery_count c.loop-row.found
-    c.loop-row.row c.row_count-row_count.result counts.framed c.counts-counts.ensures.originals
-    c.counts-counts.ensures.recovery c.row_count-row_count.ensures held.found c.loop-row.auto.row-end
-    c.loop-row-test.false in
+    let all = total g (goal.at.returns-clause-base g c).After-loop-row in
     record {
-      count = omega (arith, held.count, all.2);
+      count = omega (arith, held.count, all.3);
       received = held.received;
-      enough = base-count s c.requires.set_up c.loop-row.marks.items held.received
-          ∙ ap (λ m. how_many m (is_marked c.loop-row.marks.items)) (sym all.1) ∙ held.marked
-          ∙ min-eq_right (omega (arith, least, all.0, c.counts-counts.ensures.originals))
-          ∙ c.counts-counts.ensures.originals;
+      enough = base-count (g.P.Pieces.received c.args.received.now) c.requires.set_up c.loop-row.marks.items
+          held.received
+          ∙ ap (λ m. how_many m (is_marked c.loop-row.marks.items)) (sym all.2) ∙ held.marked
+          ∙ min-eq_right all.0 ∙ c.counts-counts.ensures.originals;
     }
 
 pub returns-clause-surplus : goal.returns-clause-surplus
 returns-clause-surplus g c =
-    let s : DecoderState = g.P.Pieces.received c.args.received.now in
-    let counts = c.counts-counts.result in
-    let least = enough-least s (sym c.requires.enough) in
-    let all = total s c.requires.set_up counts.frame counts.original_count counts.recovery_count c.loop-row.found
-    c.loop-row.row c.row_count-row_count.result counts.framed c.counts-counts.ensures.originals
-    c.counts-counts.ensures.recovery c.row_count-row_count.ensures c.loop-row.invariant.found c.loop-row.auto.row-end
-    c.loop-row-test.false in
-    omega (arith, least, all.0, c.counts-counts.ensures.originals)
+    let all = total g (goal.at.returns-clause-surplus g c).After-loop-row in
+    omega (arith, all.0, all.1, c.counts-counts.ensures.originals)

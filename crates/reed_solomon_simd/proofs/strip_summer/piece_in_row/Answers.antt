@@ -12,7 +12,7 @@ returns-in-Some g c =
     let s : DecoderState = g.P.Pieces.received c.args.received.now in
     let t : DecoderState = state_of_pieces c.args.start c.args.end s in
     let counts = c.counts-counts.result in
-    let same = frame_same counts.frame counts.original_count counts.recovery_count s c.requires.set_up counts.framed
+    let same = frame_same s c.requires.set_up counts.framed
     c.counts-counts.ensures.originals c.counts-counts.ensures.recovery in
     let there = c.in-Some.ensures in
     let at : c.args.row ≡ original_row (frame_in s) c.in-Some.index =
@@ -27,7 +27,7 @@ returns-in-Some-index_of g c =
     let s : DecoderState = g.P.Pieces.received c.args.received.now in
     let t : DecoderState = state_of_pieces c.args.start c.args.end s in
     let counts = c.counts-counts.result in
-    let same = frame_same counts.frame counts.original_count counts.recovery_count s c.requires.set_up counts.framed
+    let same = frame_same s c.requires.set_up counts.framed
     c.counts-counts.ensures.originals c.counts-counts.ensures.recovery in
     let there = c.in-Some-index_of.ensures in
     let at : c.args.row ≡ recovery_row (frame_in s) c.in-Some-index_of.index =
@@ -43,7 +43,7 @@ returns g c =
     let s : DecoderState = g.P.Pieces.received c.args.received.now in
     let t : DecoderState = state_of_pieces c.args.start c.args.end s in
     let counts = c.counts-counts.result in
-    let same = frame_same counts.frame counts.original_count counts.recovery_count s c.requires.set_up counts.framed
+    let same = frame_same s c.requires.set_up counts.framed
     c.counts-counts.ensures.originals c.counts-counts.ensures.recovery in
     sym (given_at-other (frame_in s) s.configuration.original_count s.configuration.recovery_count t.originals
     t.recovery c.args.row

@@ -1,97 +1,83 @@
-use Rattle.std.proofs.Common.{◌≡◌, ℕ, ◌+◌, ◌-◌, ◌^◌, ◌<◌, ◌≤◌, [], ◌++◌, length, take, drop, get_or, refl, sym, ap}
+use Rattle.std.proofs.Common.{◌≡◌, List, ℕ, ◌+◌, ◌-◌, ◌^◌, ◌<◌, ◌≤◌, [], ◌++◌, length, take, drop, get_or, refl, sym}
+use Rattle.std.proofs.Common.{ap}
 use Rattle.std.proofs.Common.{ap₂, ◌∙◌, inl, inr, arith, pow_mono}
 use Rattle.std.proofs.lemmas.Bool.{cases_eq}
 use Rattle.rs_field.specs.code.Column.{Shard}
-use Rattle.rs_field.specs.code.Decoder.{DecoderState}
+use Rattle.rs_field.specs.code.Decoder.{DecoderState, IsAgreeing}
 use Rattle.rs_field.specs.code.Frame.{row_count}
 use Rattle.rs_rate.specs.rows.ShardRows.{shard_in_order}
 use Rattle.reed_solomon_simd.specs.declared.shard_index.ShardIndex.TheVariants.{Original}
 use Rattle.rs_field.specs.code.PieceStates.{state_of_pieces}
 use Rattle.reed_solomon_simd.specs.declared.shard_index.ShardIndex.{ShardIndex}
-use Rattle.reed_solomon_simd.specs.Base.{frame_in, row_of, shard_in_row}
-use Rattle.reed_solomon_simd.proofs.BaseLemmas.{decoder_frame, frame_same}
+use Rattle.reed_solomon_simd.specs.Base.{frame_in, shard_in_row}
+use Rattle.reed_solomon_simd.proofs.BaseLemmas.{decoder_frame, sum_row}
 use Rattle.reed_solomon_simd.proofs.BaseSums.{wanted-at, wanted-missing, missing-unmarked, only-message, row-inside}
 use Rattle.reed_solomon_simd.proofs.RebuiltStrips.{named_shards}
+use Rattle.reed_solomon_simd.proofs.strip_summer.put_sums.Given.{Over}
+use Rattle.reed_solomon_simd.proofs.strip_summer.put_sums.Goals.{After-summed_piece}
 use Rattle.reed_solomon_simd.proofs.strip_summer.put_sums.Goals as goal
 
 pub row_of-row-requires : goal.row_of-row-requires
 row_of-row-requires g c =
     let s : DecoderState = g.P.Pieces.received c.args.received.now in
     let ready = c.requires.ready in
-    let counts = c.args.base.now.counts in
-    let same = frame_same counts.frame counts.original_count counts.recovery_count s ready.set_up counts.framed
-    ready.originals ready.recovery in
+    let wanted : ShardIndex = get_or c.args.wanted.now c.loop-room.room (Original 0) in
     let f = decoder_frame s ready.set_up in
     let rows : row_count (frame_in (g.P.Pieces.received c.args.received.now)) ≤ 2 ^ 16 = pow_mono f.few in
-    let inside = row-inside s ready.set_up (get_or c.args.wanted.now c.loop-room.room (Original 0))
+    let inside = row-inside s ready.set_up wanted
     (c.requires.can c.loop-room.room (Original 0) c.loop-room-test.true) in
-    omega (arith, rows, inside, ap (λ p. row_of p (get_or c.args.wanted.now c.loop-room.room (Original 0))) same)
+    omega (arith, rows, inside, sum_row ready wanted)
 
 pub sum_piece-requires-clause-row : goal.sum_piece-requires-clause-row
 sum_piece-requires-clause-row g c =
-    let s : DecoderState = g.P.Pieces.received c.args.received.now in
     let ready = c.requires.ready in
-    let counts = c.args.base.now.counts in
-    let same = frame_same counts.frame counts.original_count counts.recovery_count s ready.set_up counts.framed
-    ready.originals ready.recovery in
-    let inside = row-inside s ready.set_up (get_or c.args.wanted.now c.loop-room.room (Original 0))
+    let wanted : ShardIndex = get_or c.args.wanted.now c.loop-room.room (Original 0) in
+    let inside = row-inside (g.P.Pieces.received c.args.received.now) ready.set_up wanted
     (c.requires.can c.loop-room.room (Original 0) c.loop-room-test.true) in
-    omega (
-      arith,
-      inside,
-      c.row_of-row.ensures,
-      ap (λ p. row_of p (get_or c.args.wanted.now c.loop-room.room (Original 0))) same,
-    )
+    omega (arith, inside, c.row_of-row.ensures, sum_row ready wanted)
 
 pub sum_piece-requires-clause-outside : goal.sum_piece-requires-clause-outside
 sum_piece-requires-clause-outside g c =
     let s : DecoderState = g.P.Pieces.received c.args.received.now in
     let ready = c.requires.ready in
-    let counts = c.args.base.now.counts in
-    let same = frame_same counts.frame counts.original_count counts.recovery_count s ready.set_up counts.framed
-    ready.originals ready.recovery in
     let wanted : ShardIndex = get_or c.args.wanted.now c.loop-room.room (Original 0) in
     missing-unmarked s ready.set_up c.args.start c.args.end ready.strip c.args.base.now.marks.items ready.marked
     c.row_of-row.result
-    (ap (shard_in_row (state_of_pieces c.args.start c.args.end s))
-    (c.row_of-row.ensures ∙ ap (λ p. row_of p wanted) same)
+    (ap (shard_in_row (state_of_pieces c.args.start c.args.end s)) (c.row_of-row.ensures ∙ sum_row ready wanted)
     ∙ wanted-missing s ready.set_up c.args.start c.args.end ready.strip c.args.base.now.marks.items ready.marked wanted
     (c.requires.can c.loop-room.room (Original 0) c.loop-room-test.true))
 
+-- The sum is the piece of the wanted shard.
+summed : (g : Over) (c : After-summed_piece g) (message : List Shard)
+    (agrees : IsAgreeing (state_of_pieces c.args.start c.args.end (g.P.Pieces.received c.args.received.now)) message)
+    → (c.summed_piece.result.now ≡ get_or (named_shards message agrees.coded.0 c.args.wanted.now) c.loop-room.room [])
+    × (c.args.start + length c.summed_piece.result.now ≡ c.args.end)
+summed g c message agrees =
+    let ready = c.requires.ready in
+    let piece = wanted-at (g.P.Pieces.received c.args.received.now) ready.set_up c.args.start c.args.end ready.strip
+    c.args.base.now.marks.items ready.marked message agrees c.args.wanted.now c.loop-room.room c.row_of-row.result
+    (Original 0) (shard_in_order c.sum_piece.new.sum (c.args.end - c.args.start) 0) c.requires.can c.loop-room-test.true
+    (c.row_of-row.ensures ∙ sum_row ready (get_or c.args.wanted.now c.loop-room.room (Original 0)))
+    c.sum_piece.ensures in
+    let long = ap length c.summed_piece.ensures ∙ piece.1 in
+    (c.summed_piece.ensures ∙ piece.0, omega (arith, long, ready.strip.order))
+
 pub put-requires-clause-fits : goal.put-requires-clause-fits
 put-requires-clause-fits g c =
-    let s : DecoderState = g.P.Pieces.received c.args.received.now in
-    let ready = c.requires.ready in
-    let own = c.args.base.now in
-    let counts = own.counts in
-    let same = frame_same counts.frame counts.original_count counts.recovery_count s ready.set_up counts.framed
-    ready.originals ready.recovery in
     let held = c.loop-room.invariant in
     let n : ℕ = c.loop-room.room in
     let (message, agrees) = c.requires.consistent in
-    let piece = wanted-at s ready.set_up c.args.start c.args.end ready.strip own.marks.items ready.marked message agrees
-    c.args.wanted.now n c.row_of-row.result (Original 0)
-    (shard_in_order c.sum_piece.new.sum (c.args.end - c.args.start) 0) c.requires.can c.loop-room-test.true
-    (c.row_of-row.ensures ∙ ap (λ p. row_of p (get_or c.args.wanted.now c.loop-room.room (Original 0))) same)
-    c.sum_piece.ensures in
-    let long : length c.summed_piece.result.now ≡ c.args.end - c.args.start =
-    ap length c.summed_piece.ensures ∙ piece.1 in
+    let piece = summed g (goal.at.put-requires-clause-fits g c).After-summed_piece message agrees in
     let inside : c.loop-room.room < length (g.R.Rooms.held c.args.rooms.now) =
     omega (arith, c.requires.number, c.loop-room-test.true) in (
-      s.configuration.shard_bytes,
-      omega (arith, long, ready.strip.order, ready.strip.inside),
-      ap length (held.others n (let e : c.loop-room.room ≤ c.loop-room.room = omega arith in e))
+      (g.P.Pieces.received c.args.received.now).configuration.shard_bytes,
+      omega (arith, piece.1, c.requires.ready.strip.inside),
+      ap length (held.others n (omega arith))
           ∙ c.requires.fit n [] inside,
     )
 
 pub loop-room-preserved : goal.loop-room-preserved
 loop-room-preserved g c =
-    let s : DecoderState = g.P.Pieces.received c.args.received.now in
-    let ready = c.requires.ready in
-    let own = c.args.base.now in
-    let counts = own.counts in
-    let same = frame_same counts.frame counts.original_count counts.recovery_count s ready.set_up counts.framed
-    ready.originals ready.recovery in
     let held = c.loop-room.invariant in
     let n : ℕ = c.loop-room.room in
     let before : get_or (g.R.Rooms.held c.loop-room.rooms) c.loop-room.room []
@@ -101,23 +87,15 @@ loop-room-preserved g c =
       number = c.in_ok-put.ensures.number ∙ held.number;
       put = λ message agrees i h. elim (cases_eq i n) [
         | inl here ↦
-            let piece = wanted-at s ready.set_up c.args.start c.args.end ready.strip own.marks.items ready.marked
-            message agrees c.args.wanted.now n c.row_of-row.result (Original 0)
-            (shard_in_order c.sum_piece.new.sum (c.args.end - c.args.start) 0) c.requires.can c.loop-room-test.true
-            (c.row_of-row.ensures ∙ ap (λ p. row_of p (get_or c.args.wanted.now c.loop-room.room (Original 0))) same)
-            c.sum_piece.ensures in
-            let long : length c.summed_piece.result.now ≡ c.args.end - c.args.start =
-            ap length c.summed_piece.ensures ∙ piece.1 in
-            let ends : c.args.start + length c.summed_piece.result.now ≡ c.args.end =
-            omega (arith, long, ready.strip.order) in
+            let piece = summed g (goal.at.loop-room-preserved g c).After-summed_piece message agrees in
             ap (λ (m : ℕ). get_or (g.R.Rooms.held c.put.new.self) m []) here
             ∙ c.in_ok-put.ensures.here
             ∙ ap₂ (λ (old : Shard) (m : ℕ). take c.args.start old ++ (c.summed_piece.result.now ++ drop m old)) before
-            ends
+            piece.1
             ∙ ap (λ (p : Shard).
             take c.args.start (get_or (g.R.Rooms.held c.args.rooms.now) n [])
             ++ (p ++ drop c.args.end (get_or (g.R.Rooms.held c.args.rooms.now) n [])))
-            (c.summed_piece.ensures ∙ piece.0)
+            piece.0
             ∙ ap (λ (m : ℕ). take c.args.start (get_or (g.R.Rooms.held c.args.rooms.now) m [])
             ++ (get_or (named_shards message agrees.coded.0 c.args.wanted.now) m []
             ++ drop c.args.end (get_or (g.R.Rooms.held c.args.rooms.now) m [])))

@@ -1,6 +1,5 @@
 use Rattle.std.proofs.Common.{rules, [], length, Ok, Err, refl, ◌∙◌, inl, inr, arith}
 use Rattle.std.proofs.lemmas.List.{length-map}
-use Rattle.reed_solomon_simd.specs.declared.room_error.RoomError.TheVariants.{Refused}
 use Rattle.reed_solomon_simd.specs.Rooms.{bytes_in}
 use Rattle.reed_solomon_simd.proofs.ReconstructLemmas.{zeros, zeros-number, zeros-sized}
 use Rattle.reed_solomon_simd.proofs.UpdateLemmas.{updates-by, updates-changed, outcome-uncounted}
