@@ -257,7 +257,7 @@ piece-there out encoded wanted made i d listed inside =
     )
 
 -- Lists of shards that are equal as lists of optional shards are equal.
-some-same : (xs ys : List Shard) → map (λ x. Some x) xs ≡ map (λ x. Some x) ys → xs ≡ ys
+pub some-same : (xs ys : List Shard) → map (λ x. Some x) xs ≡ map (λ x. Some x) ys → xs ≡ ys
 some-same [] [] same = refl
 some-same [] (y ∷ ys) same = absurd (let no : ⊥ = cc in no)
 some-same (x ∷ xs) [] same = absurd (let no : ⊥ = cc in no)
@@ -265,17 +265,3 @@ some-same (x ∷ xs) (y ∷ ys) same =
     let first : x ≡ y = cc in
     let rest : map (λ x. Some x) xs ≡ map (λ x. Some x) ys = cc in
     ap₂ (λ (z : Shard) (l : List Shard). z ∷ l) first (some-same xs ys rest)
-
--- Pieces that are all there among the restored originals and the encoded recovery shards are the wanted ones.
-pub pieces-rebuilt : (s : DecoderState) (out : Shards) (encoded : List Shard) (wanted : List ShardIndex)
-    (made : List Shard) (restored : Restored s out) → All (CanBeRebuilt s) wanted
-    → (list_any is_recovery wanted ≡ true → encoded ≡ restored.agrees.coded.0)
-    → map (lent_at out encoded) wanted ≡ map (λ x. Some x) made → AreReconstructed s wanted made
-pieces-rebuilt s out encoded wanted made restored can coded listed =
-    record {
-      message = restored.message;
-      agrees = restored.agrees;
-      only = restored.only;
-      named = some-same made (named_shards restored.message restored.agrees.coded.0 wanted)
-          (sym listed ∙ lent-named s out encoded restored.message restored.agrees restored wanted can coded);
-    }

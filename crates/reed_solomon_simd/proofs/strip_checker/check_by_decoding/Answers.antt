@@ -1,9 +1,7 @@
-use Rattle.std.proofs.Common.{rules, ◌≡◌, ℕ, ◌+◌, Err, ap, subst, ◌∙◌, refl, inl, arith}
+use Rattle.std.proofs.Common.{rules, ◌≡◌, Err, ap, ◌∙◌, refl, inl, arith}
 use Rattle.rs_field.specs.code.Counts.{default_rate}
-use Rattle.rs_field.specs.code.Decoder.{DecoderState}
 use Rattle.rs_field.proofs.of_code.RestoredBelow.{none-pieces}
 use Rattle.rs_rate.specs.rows.DecoderView.{decoder_state}
-use Rattle.rs_field.proofs.of_code.PieceStates.{AreConsistentBelow}
 use Rattle.reed_solomon_simd.proofs.StripLoops.{cut-first, strip-next, cut-last}
 use Rattle.reed_solomon_simd.proofs.ConsistentStrips.{checked-none, checked-further, checked-all}
 use Rattle.reed_solomon_simd.proofs.strip_checker.check_by_decoding.Goals.{then-left-width+in_ok-reset, else-left-width}
@@ -23,18 +21,15 @@ decode_pieces-requires-clause-inside g c =
 
 pub returns-in_err-decode_pieces : goal.returns-in_err-decode_pieces
 returns-in_err-decode_pieces g c =
-    let x : DecoderState = g.P.Pieces.received c.args.received.now in
-    let start : ℕ = c.loop-start.start in
     let next = strip-next 2048 c.min-width.ensures c.min.ensures refl
     c.loop-start.invariant.cut c.loop-start-test.true c.shard_bytes-shard_bytes.ensures in
     let refused : c.from_residual-in_err-decode_pieces.result ≡ Err c.in_err-decode_pieces.field-0.0 = search rules in
-    rw refused (inl (none-pieces start (start + c.min.result) x c.in_err-decode_pieces.field-0.0 next.strip
+    rw refused (inl (none-pieces _ _ (g.P.Pieces.received c.args.received.now) c.in_err-decode_pieces.field-0.0
+    next.strip
     c.in_err-decode_pieces.ensures.refused))
 
 pub loop-start-preserved : goal.loop-start-preserved
 loop-start-preserved g c =
-    let x : DecoderState = g.P.Pieces.received c.args.received.now in
-    let start : ℕ = c.loop-start.start in
     let held = c.loop-start.invariant in
     let next = strip-next 2048 c.min-width.ensures c.min.ensures refl held.cut c.loop-start-test.true
     c.shard_bytes-shard_bytes.ensures in
@@ -46,14 +41,13 @@ loop-start-preserved g c =
         | else-left-width w ↦ now.fresh ∙ ap (λ d. decoder_state default_rate d.rows) w.decoder-is
             ∙ held.fresh c.loop-start-test.true
       ];
-      checked = checked-further x start (start + c.min.result) next.strip (now.restored.message, now.restored.agrees)
+      checked = checked-further (g.P.Pieces.received c.args.received.now) _ _ next.strip
+          (now.restored.message, now.restored.agrees)
           held.checked;
     }
 
 pub returns : goal.returns
 returns g c =
-    let x : DecoderState = g.P.Pieces.received c.args.received.now in
     let held = c.loop-start.invariant in
-    checked-all x c.requires.set_up
-    (subst (λ (n : ℕ). AreConsistentBelow (g.P.Pieces.received c.args.received.now) n)
-    (cut-last held.cut c.loop-start-test.false c.shard_bytes-shard_bytes.ensures) held.checked)
+    checked-all (g.P.Pieces.received c.args.received.now) c.requires.set_up
+    (rw (cut-last held.cut c.loop-start-test.false c.shard_bytes-shard_bytes.ensures) at held.checked)

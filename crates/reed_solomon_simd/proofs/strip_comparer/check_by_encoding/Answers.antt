@@ -1,9 +1,8 @@
-use Rattle.std.proofs.Common.{rules, ℕ, ◌+◌, sym, ap, ap₂, subst, ◌∙◌, refl, inl, arith}
+use Rattle.std.proofs.Common.{rules, sym, ap, ap₂, ◌∙◌, refl, inl, arith}
 use Rattle.rs_field.specs.code.Counts.{default_rate}
 use Rattle.rs_field.specs.code.Decoder.{DecoderState}
 use Rattle.rs_field.specs.declared.code.error.Error.TheVariants.{InconsistentShards}
 use Rattle.rs_rate.specs.rows.EncoderView.{encoder_state}
-use Rattle.rs_field.proofs.of_code.PieceStates.{AreConsistentBelow}
 use Rattle.reed_solomon_simd.proofs.StripLoops.{cut-first, strip-next, cut-last}
 use Rattle.reed_solomon_simd.proofs.ConsistentStrips.{checked-none, checked-further, checked-all}
 use Rattle.reed_solomon_simd.proofs.ConsistentStrips.{consistent-cut}
@@ -28,8 +27,6 @@ agree_in_strip-requires-clause-strip g c =
 
 pub returns-then-not-branch : goal.returns-then-not-branch
 returns-then-not-branch g c =
-    let x : DecoderState = g.P.Pieces.received c.args.received.now in
-    let start : ℕ = c.loop-start.start in
     let next = strip-next 4096 c.min-width.ensures c.min.ensures refl
     c.loop-start.invariant.cut c.loop-start-test.true c.shard_bytes-shard_bytes.ensures in
     inl (record {
@@ -38,7 +35,7 @@ returns-then-not-branch g c =
       surplus = omega (arith, c.requires.all, c.requires.number, c.requires.some);
       none = λ some.
           let agree = c.in_ok-agree_in_strip.ensures.answer.1
-          (consistent-cut x start (start + c.min.result) next.strip some)
+          (consistent-cut (g.P.Pieces.received c.args.received.now) _ _ next.strip some)
           in
           let other = c.if-not-branch.true in
           let no : ⊥ = cc in no;
@@ -47,7 +44,6 @@ returns-then-not-branch g c =
 pub loop-start-preserved : goal.loop-start-preserved
 loop-start-preserved g c =
     let x : DecoderState = g.P.Pieces.received c.args.received.now in
-    let start : ℕ = c.loop-start.start in
     let held = c.loop-start.invariant in
     let next = strip-next 4096 c.min-width.ensures c.min.ensures refl held.cut c.loop-start-test.true
     c.shard_bytes-shard_bytes.ensures in
@@ -59,13 +55,11 @@ loop-start-preserved g c =
         | else-left-width w ↦ now.fresh ∙ ap (λ e. encoder_state default_rate e.rows) w.encoder-is
             ∙ held.fresh c.loop-start-test.true
       ];
-      checked = checked-further x start (start + c.min.result) next.strip (now.answer.0 (search rules)) held.checked;
+      checked = checked-further x _ _ next.strip (now.answer.0 (search rules)) held.checked;
     }
 
 pub returns : goal.returns
 returns g c =
-    let x : DecoderState = g.P.Pieces.received c.args.received.now in
     let held = c.loop-start.invariant in
-    checked-all x c.requires.set_up
-    (subst (λ (n : ℕ). AreConsistentBelow (g.P.Pieces.received c.args.received.now) n)
-    (cut-last held.cut c.loop-start-test.false c.shard_bytes-shard_bytes.ensures) held.checked)
+    checked-all (g.P.Pieces.received c.args.received.now) c.requires.set_up
+    (rw (cut-last held.cut c.loop-start-test.false c.shard_bytes-shard_bytes.ensures) at held.checked)

@@ -1,7 +1,5 @@
-use Rattle.std.proofs.Common.{rules, ◌≡◌, ℕ, ◌+◌, Err, ap, subst, ◌∙◌, refl}
-use Rattle.rs_field.specs.code.Decoder.{DecoderState}
+use Rattle.std.proofs.Common.{rules, ◌≡◌, Err, ap, ◌∙◌, refl}
 use Rattle.rs_field.specs.code.Counts.{default_rate}
-use Rattle.rs_field.proofs.of_code.RestoredBelow.{IsRestoredBelow}
 use Rattle.rs_rate.specs.rows.DecoderView.{decoder_state}
 use Rattle.reed_solomon_simd.proofs.StripLoops.{strip-next, cut-last}
 use Rattle.reed_solomon_simd.proofs.ReceivedLaws.{strips-restored}
@@ -11,20 +9,17 @@ use Rattle.reed_solomon_simd.proofs.strip_decoder.decode_strips.Goals as goal
 
 pub returns-in_err-decode_strip-clause-refused : goal.returns-in_err-decode_strip-clause-refused
 returns-in_err-decode_strip-clause-refused g c =
-    let x : DecoderState = g.S.Pieces.received c.args.store.now in
-    let start : ℕ = c.loop-start.start in
     let held = c.loop-start.invariant in
     let next = strip-next 2048 c.min-width.ensures c.min.ensures refl held.cut c.loop-start-test.true
     c.shard_bytes-shard_bytes.ensures in
     let refused : c.from_residual-in_err-decode_strip.result ≡ Err c.in_err-decode_strip.field-0.0 = search rules in
-    rw refused (strip-refused start (start + c.min.result) x (g.S.Pieces.received c.loop-start.store) g.S.Rooms.grows
+    rw refused (strip-refused _ _ (g.S.Pieces.received c.args.store.now) (g.S.Pieces.received c.loop-start.store)
+    g.S.Rooms.grows
     held.received next.strip c.in_err-decode_strip.field-0.0
     c.in_err-decode_strip.ensures.refused)
 
 pub loop-start-preserved : goal.loop-start-preserved
 loop-start-preserved g c =
-    let x : DecoderState = g.S.Pieces.received c.args.store.now in
-    let start : ℕ = c.loop-start.start in
     let held = c.loop-start.invariant in
     let next = strip-next 2048 c.min-width.ensures c.min.ensures refl held.cut c.loop-start-test.true
     c.shard_bytes-shard_bytes.ensures in
@@ -37,7 +32,8 @@ loop-start-preserved g c =
         | else-left-width w ↦ now.fresh ∙ ap (λ d. decoder_state default_rate d.rows) w.decoder-is
             ∙ held.fresh c.loop-start-test.true
       ];
-      done = strip-restored start (start + c.min.result) x (g.S.Pieces.received c.loop-start.store) g.S.Rooms.grows
+      done = strip-restored _ _ (g.S.Pieces.received c.args.store.now) (g.S.Pieces.received c.loop-start.store)
+          g.S.Rooms.grows
           held.received next.strip (g.S.Rooms.held c.loop-start.store)
           (g.S.Rooms.held c.decode_strip.new.store) now.put held.done;
       places = now.places ∙ held.places;
@@ -46,9 +42,7 @@ loop-start-preserved g c =
 
 pub returns-clause-restored : goal.returns-clause-restored
 returns-clause-restored g c =
-    let x : DecoderState = g.S.Pieces.received c.args.store.now in
     let held = c.loop-start.invariant in
-    strips-restored x g.S.Rooms.grows (g.S.Rooms.held c.loop-start.store) c.requires.set_up c.requires.enough
-    (subst (λ (n : ℕ). IsRestoredBelow (g.S.Pieces.received c.args.store.now) g.S.Rooms.grows n
-    (g.S.Rooms.held c.loop-start.store))
-    (cut-last held.cut c.loop-start-test.false c.shard_bytes-shard_bytes.ensures) held.done)
+    strips-restored (g.S.Pieces.received c.args.store.now) g.S.Rooms.grows (g.S.Rooms.held c.loop-start.store)
+    c.requires.set_up c.requires.enough
+    (rw (cut-last held.cut c.loop-start-test.false c.shard_bytes-shard_bytes.ensures) at held.done)

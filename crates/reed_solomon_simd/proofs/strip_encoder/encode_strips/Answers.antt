@@ -73,7 +73,4 @@ returns-clause-coded g c =
     done-all g.R.Rooms.grows default_rate c.args.counts.original_count c.args.counts.recovery_count c.args.shard_bytes
     (g.O.Originals.shards c.args.originals.now)
     (g.R.Rooms.held c.loop-start.rooms)
-    (subst (λ (n : ℕ). IsDone c.args.counts.original_count c.args.counts.recovery_count c.args.shard_bytes n
-    g.R.Rooms.grows default_rate
-    (g.O.Originals.shards c.args.originals.now) (g.R.Rooms.held c.loop-start.rooms))
-    (cut-last held.cut c.loop-start-test.false refl) held.done)
+    (rw (cut-last held.cut c.loop-start-test.false refl) at held.done)
