@@ -28,7 +28,9 @@ use Rattle.rs_field.proofs.of_words.Combination.{sum_below-same}
 use Rattle.rs_rate.specs.declared.passes.sums.SumBase.{SumBase}
 use Rattle.rs_rate.specs.passes.Sums.{AreMarksOf, ListsMarked}
 use Rattle.rs_rate.proofs.of_rows.StateLemmas.{valid-supported}
-use Rattle.reed_solomon_simd.specs.Base.{frame_in, row_of, shard_in_row, marked_part, marked_state, MarkBase, CanSum}
+use Rattle.reed_solomon_simd.specs.Base.{row_of, marked_part, marked_state, MarkBase, CanSum}
+use Rattle.rs_field.specs.code.Frame.{frame_at}
+use Rattle.rs_field.specs.code.DirectLaws.{shard_in_row}
 use Rattle.reed_solomon_simd.specs.Base.{base_sum}
 use Rattle.reed_solomon_simd.specs.declared.shard_index.ShardIndex.{ShardIndex}
 
@@ -36,7 +38,7 @@ use Rattle.reed_solomon_simd.specs.declared.shard_index.ShardIndex.{ShardIndex}
 
 -- The frame of a decoder.
 pub decoder_frame : (s : DecoderState) → IsDecoder default_rate s
-    → HasDistinctRows (frame_in s) s.configuration.original_count s.configuration.recovery_count
+    → HasDistinctRows (frame_at s.configuration) s.configuration.original_count s.configuration.recovery_count
 decoder_frame s is =
     distinct_rows s.configuration.rate s.configuration.original_count s.configuration.recovery_count
     (valid-supported s.configuration is.valid)
@@ -46,7 +48,7 @@ pub few_surplus : (s : DecoderState) (surplus : ℕ) → IsDecoder default_rate 
     → originals_given s + recovery_given s ≡ s.configuration.original_count + surplus → surplus ≤ 65536
 few_surplus s surplus is enough =
     let f = decoder_frame s is in
-    let rows : row_count (frame_in s) ≤ 2 ^ 16 = pow_mono f.few in
+    let rows : row_count (frame_at s.configuration) ≤ 2 ^ 16 = pow_mono f.few in
     omega (
       arith,
       rows,
@@ -59,18 +61,18 @@ few_surplus s surplus is enough =
 -- The frame of counts is that of a decoder of these counts.
 pub frame_same : {frame : Frame} {k r : ℕ} (s : DecoderState) → IsDecoder default_rate s
     → frame ≡ frame_of default_rate k r → k ≡ s.configuration.original_count → r ≡ s.configuration.recovery_count
-    → frame ≡ frame_in s
+    → frame ≡ frame_at s.configuration
 frame_same s is framed own other =
     framed ∙ ap₂ (frame_of default_rate) own other
     ∙ ap (λ rate. frame_of rate s.configuration.original_count s.configuration.recovery_count) (sym is.of_rate)
 
 -- The frame of a base is that of the decoder, and a shard has the same row in both.
 pub sum_frame : {s : DecoderState} {base : SumBase} {start end : ℕ} → CanSum s base start end
-    → base.counts.frame ≡ frame_in s
+    → base.counts.frame ≡ frame_at s.configuration
 sum_frame {s} {base} ready = frame_same s ready.set_up base.counts.framed ready.originals ready.recovery
 
 pub sum_row : {s : DecoderState} {base : SumBase} {start end : ℕ} → CanSum s base start end → (w : ShardIndex)
-    → row_of base.counts.frame w ≡ row_of (frame_in s) w
+    → row_of base.counts.frame w ≡ row_of (frame_at s.configuration) w
 sum_row ready w = ap (λ p. row_of p w) (sum_frame ready)
 
 -- What holds of a frame and counts holds of equal ones.
@@ -87,8 +89,8 @@ outside-same x a b n m from same (inr past) = inr (omega arith)
 
 -- The shard in a row, from its place among the originals and the recovery shards.
 in_row-is : (s : DecoderState) (x : ℕ)
-    → shard_in_row s x ≡ entry_in (frame_in s).originals_from s.configuration.original_count s.originals
-    (entry_in (frame_in s).recovery_from s.configuration.recovery_count s.recovery None x) x
+    → shard_in_row s x ≡ entry_in (frame_at s.configuration).originals_from s.configuration.original_count s.originals
+    (entry_in (frame_at s.configuration).recovery_from s.configuration.recovery_count s.recovery None x) x
 unfolding given_at
 in_row-is s x = refl
 
@@ -97,7 +99,7 @@ pub in_row-pieces : (start end : ℕ) (s : DecoderState) (x : ℕ)
     → shard_in_row (state_of_pieces start end s) x ≡ option_map (λ shard. between start end shard) (shard_in_row s x)
 unfolding given_at entry_in
 in_row-pieces start end s x =
-    let p = frame_in s in
+    let p = frame_at s.configuration in
     by_tests (nat_le p.originals_from x && nat_lt x (p.originals_from + s.configuration.original_count))
     (nat_le p.recovery_from x && nat_lt x (p.recovery_from + s.configuration.recovery_count))
     (s.originals (x - p.originals_from)) (s.recovery (x - p.recovery_from))
@@ -142,7 +144,7 @@ entry-marked marks from n x given other part b is rest = elim (index_or_outside 
 pub in_row-marked : (marks : List Bool) (s : DecoderState) (x : ℕ) (b : Bool) → is_marked marks x ≡ b
     → shard_in_row (marked_state marks s) x ≡ cond b (shard_in_row s x) None
 in_row-marked marks s x b is =
-    let p = frame_in s in let k = s.configuration.original_count in let r = s.configuration.recovery_count in
+    let p = frame_at s.configuration in let k = s.configuration.original_count in let r = s.configuration.recovery_count in
     in_row-is (marked_state marks s) x
     ∙ entry-marked marks p.originals_from k x s.originals (entry_in p.recovery_from r s.recovery None x) _ b is
     (entry-marked marks p.recovery_from r x s.recovery None None b is (nothing_there b))
@@ -154,7 +156,7 @@ in_row-marked marks s x b is =
 
 -- Exactly the rows of the shards of the base are marked.
 pub base_marks : (marks : List Bool) (s : DecoderState) → MarkBase s marks
-    → AreMarksOf (frame_in s) s.configuration.original_count s.configuration.recovery_count
+    → AreMarksOf (frame_at s.configuration) s.configuration.original_count s.configuration.recovery_count
     (marked_state marks s).originals (marked_state marks s).recovery marks
 base_marks marks s base x inside = elim (cases_Bool (is_marked marks x)) [
   | inl is ↦ is ∙ sym (ap is_some (in_row-marked marks s x true is) ∙ base.received x is)
@@ -181,7 +183,7 @@ marked-pieces start end marks from given =
 pub base-pieces : (start end : ℕ) (marks : List Bool) (s : DecoderState) → MarkBase s marks
     → MarkBase (state_of_pieces start end s) marks
 base-pieces start end marks s base =
-    let p = frame_in s in record {
+    let p = frame_at s.configuration in record {
       count = base.count;
       received = λ x is. some-pieces start end s x ∙ base.received x is;
       enough =
@@ -201,15 +203,15 @@ base-pieces start end marks s base =
 pub base_term : List Bool → DecoderState → ℕ → ℕ → ℕ → ℕ
 base_term marks s j y x =
     let b = marked_state marks s in
-    product (word_at (frame_in s) s.configuration.original_count s.configuration.recovery_count b.originals b.recovery
+    product (word_at (frame_at s.configuration) s.configuration.original_count s.configuration.recovery_count b.originals b.recovery
     j x)
-    (power (direct_factor (locator_at (frame_in s) s.configuration.original_count s.configuration.recovery_count
+    (power (direct_factor (locator_at (frame_at s.configuration) s.configuration.original_count s.configuration.recovery_count
     b.originals b.recovery) x y))
 
 -- The term of a marked row is the word of its shard times its factor.
 pub term-of : (marks : List Bool) (s : DecoderState) (j y x log_m : ℕ) (shard : Shard) → is_marked marks x ≡ true
     → shard_in_row s x ≡ Some shard
-    → log_m ≡ direct_factor (locator_at (frame_in s) s.configuration.original_count s.configuration.recovery_count
+    → log_m ≡ direct_factor (locator_at (frame_at s.configuration) s.configuration.original_count s.configuration.recovery_count
     (marked_state marks s).originals (marked_state marks s).recovery) x y
     → product (column j shard) (power log_m) ≡ base_term marks s j y x
 unfolding base_term word_at word_of
@@ -218,10 +220,10 @@ term-of marks s j y x log_m shard is there factor =
 
 -- The direct sum is the sum of the terms of the rows in a list of the marked rows.
 pub base_sum-listed : (marks : List Bool) (s : DecoderState) (rows : List ℕ) (j y : ℕ) → MarkBase s marks
-    → ListsMarked marks (row_count (frame_in s)) rows
+    → ListsMarked marks (row_count (frame_at s.configuration)) rows
     → base_sum marks s j y ≡ sum_below (length rows) (λ i. base_term marks s j y (slice_index rows i))
 unfolding summed_word direct_sum base_term
 base_sum-listed marks s rows j y base lists =
-    sum_below-same (row_count (frame_in s)) _ (λ x. cond (is_marked marks x) (base_term marks s j y x) 0)
+    sum_below-same (row_count (frame_at s.configuration)) _ (λ x. cond (is_marked marks x) (base_term marks s j y x) 0)
     (λ x inside. ap (λ (b : Bool). cond b (base_term marks s j y x) 0) (sym (base_marks marks s base x inside)))
     ∙ sym (lists.sums (base_term marks s j y))

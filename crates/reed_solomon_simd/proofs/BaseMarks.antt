@@ -15,7 +15,9 @@ use Rattle.rs_field.proofs.of_code.Frame.{HasDistinctRows}
 use Rattle.rs_field.proofs.of_code.GivenRows.{given_at-own, given_at-coded, given_at-other}
 use Rattle.rs_rate.specs.rows.Marks.{how_many}
 use Rattle.rs_rate.proofs.of_rows.HowMany.{how_many-suc, how_many-same, count_below-many, many_in_frame}
-use Rattle.reed_solomon_simd.specs.Base.{frame_in, shard_in_row, marked_state}
+use Rattle.reed_solomon_simd.specs.Base.{marked_state}
+use Rattle.rs_field.specs.code.Frame.{frame_at}
+use Rattle.rs_field.specs.code.DirectLaws.{shard_in_row}
 use Rattle.reed_solomon_simd.proofs.BaseLemmas.{decoder_frame, in_row-marked}
 
 -- A reference is lent exactly if there is a shard.
@@ -24,37 +26,37 @@ some-copied o = search rules
 
 -- The rows with a shard are as many as the received shards.
 pub rows-count : (s : DecoderState)
-    → HasDistinctRows (frame_in s) s.configuration.original_count s.configuration.recovery_count
-    → how_many (row_count (frame_in s)) (λ x. is_some (shard_in_row s x)) ≡ originals_given s + recovery_given s
+    → HasDistinctRows (frame_at s.configuration) s.configuration.original_count s.configuration.recovery_count
+    → how_many (row_count (frame_at s.configuration)) (λ x. is_some (shard_in_row s x)) ≡ originals_given s + recovery_given s
 rows-count s f =
     let k = s.configuration.original_count in let r = s.configuration.recovery_count in
-    many_in_frame (frame_in s) k r f (λ x. is_some (shard_in_row s x))
-    (λ p not_own not_coded. ap is_some (given_at-other (frame_in s) k r s.originals s.recovery p not_own not_coded))
+    many_in_frame (frame_at s.configuration) k r f (λ x. is_some (shard_in_row s x))
+    (λ p not_own not_coded. ap is_some (given_at-other (frame_at s.configuration) k r s.originals s.recovery p not_own not_coded))
     ∙ ap₂ (λ (a b : ℕ). a + b)
-    (how_many-same k (λ i. is_some (shard_in_row s (original_row (frame_in s) i))) (λ i. is_some (s.originals i))
-    (λ i inside. ap is_some (given_at-own (frame_in s) k r s.originals s.recovery i inside))
+    (how_many-same k (λ i. is_some (shard_in_row s (original_row (frame_at s.configuration) i))) (λ i. is_some (s.originals i))
+    (λ i inside. ap is_some (given_at-own (frame_at s.configuration) k r s.originals s.recovery i inside))
     ∙ count_below-many k s.originals)
-    (how_many-same r (λ i. is_some (shard_in_row s (recovery_row (frame_in s) i))) (λ i. is_some (s.recovery i))
-    (λ i inside. ap is_some (given_at-coded (frame_in s) k r s.originals s.recovery i f inside))
+    (how_many-same r (λ i. is_some (shard_in_row s (recovery_row (frame_at s.configuration) i))) (λ i. is_some (s.recovery i))
+    (λ i inside. ap is_some (given_at-coded (frame_at s.configuration) k r s.originals s.recovery i f inside))
     ∙ count_below-many r s.recovery)
 
 module _ (s : DecoderState) (is : IsDecoder default_rate s) where
   -- If the shards in all rows were counted, all received shards were counted.
   pub all-found : (found row rows : ℕ) → found ≡ how_many row (λ x. is_some (shard_in_row s x)) → row ≤ rows
-      → rows ≤ row → rows ≡ row_count (frame_in s) → found ≡ originals_given s + recovery_given s
+      → rows ≤ row → rows ≡ row_count (frame_at s.configuration) → found ≡ originals_given s + recovery_given s
   all-found found row rows counted below above all =
       counted ∙ ap (λ n. how_many n (λ x. is_some (shard_in_row s x)))
-      (let ends : row ≡ row_count (frame_in s) = omega arith in ends) ∙ rows-count s (decoder_frame s is)
+      (let ends : row ≡ row_count (frame_at s.configuration) = omega arith in ends) ∙ rows-count s (decoder_frame s is)
 
   -- The shards of a base are as many as the marked rows, if each of them has a shard.
   pub base-count : (marks : List Bool)
       → ((x : ℕ) → is_marked marks x ≡ true → is_some (shard_in_row s x) ≡ true)
       → originals_given (marked_state marks s) + recovery_given (marked_state marks s)
-      ≡ how_many (row_count (frame_in s)) (is_marked marks)
+      ≡ how_many (row_count (frame_at s.configuration)) (is_marked marks)
   base-count marks received =
       let b = marked_state marks s in
       sym (rows-count (marked_state marks s) (decoder_frame s is))
-      ∙ how_many-same (row_count (frame_in s)) (λ x. is_some (shard_in_row b x)) (is_marked marks)
+      ∙ how_many-same (row_count (frame_at s.configuration)) (λ x. is_some (shard_in_row b x)) (is_marked marks)
       (λ x inside. elim (cases_Bool (is_marked marks x)) [
         | inl there ↦ ap is_some (in_row-marked marks s x true there) ∙ received x there ∙ sym there
         | inr not ↦ ap is_some (in_row-marked marks s x false not) ∙ sym not

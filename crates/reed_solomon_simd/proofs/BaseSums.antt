@@ -23,13 +23,15 @@ use Rattle.rs_field.proofs.of_code.Agreement.{one_message}
 use Rattle.rs_field.proofs.of_code.DirectColumn.{direct_original, direct_recovery}
 use Rattle.rs_field.proofs.of_code.GivenRows.{AreGiven, given_within, given-either, given-below}
 use Rattle.rs_field.proofs.of_code.GivenRows.{given_at-own, given_at-coded}
-use Rattle.rs_field.proofs.of_code.BaseShards.{AreSums, locator_in, all_located, base_given, agrees_with_part}
+use Rattle.rs_field.proofs.of_code.BaseShards.{AreSums, all_located, base_given, agrees_with_part}
 use Rattle.rs_field.proofs.of_code.BaseShards.{consistent_by_sums}
 use Rattle.rs_field.proofs.of_code.Columns.{shard_from_columns, shard_in}
 use Rattle.rs_rate.proofs.of_rows.StateLemmas.{valid-supported}
 use Rattle.reed_solomon_simd.specs.declared.shard_index.ShardIndex.{ShardIndex}
 use Rattle.reed_solomon_simd.specs.declared.shard_index.ShardIndex.TheVariants.{Original, Recovery}
-use Rattle.reed_solomon_simd.specs.Base.{frame_in, row_of, shard_in_row, marked_part, marked_state, MarkBase}
+use Rattle.reed_solomon_simd.specs.Base.{row_of, marked_part, marked_state, MarkBase}
+use Rattle.rs_field.specs.code.Frame.{frame_at}
+use Rattle.rs_field.specs.code.DirectLaws.{shard_in_row}
 use Rattle.reed_solomon_simd.specs.Base.{base_sum, IsBaseSum, AgreesInRow}
 use Rattle.reed_solomon_simd.specs.Reconstructed.{CanBeRebuilt}
 use Rattle.reed_solomon_simd.specs.ShardNames.{shard_named}
@@ -125,10 +127,10 @@ module _ (s : DecoderState) (is : IsDecoder default_rate s) (start end : ℕ)
     chosen_enough = (base-pieces start end marks s base).enough
 
     own_part : IsPartOf chosen.originals (state_of_pieces start end s).originals
-    own_part = part-of marks (frame_in s).originals_from (state_of_pieces start end s).originals
+    own_part = part-of marks (frame_at s.configuration).originals_from (state_of_pieces start end s).originals
 
     coded_part : IsPartOf chosen.recovery (state_of_pieces start end s).recovery
-    coded_part = part-of marks (frame_in s).recovery_from (state_of_pieces start end s).recovery
+    coded_part = part-of marks (frame_at s.configuration).recovery_from (state_of_pieces start end s).recovery
 
     -- Some message agrees with the strip exactly if the pieces outside of the base are the direct sums.
     decided : IsConsistent (state_of_pieces start end s)
@@ -156,7 +158,7 @@ module _ (s : DecoderState) (is : IsDecoder default_rate s) (start end : ℕ)
     }
 
     -- If all pieces outside of the base are the direct sums, some message agrees with the strip.
-    pub agrees-consistent : ((x : ℕ) → x < row_count (frame_in s) → AgreesInRow marks (state_of_pieces start end s) x)
+    pub agrees-consistent : ((x : ℕ) → x < row_count (frame_at s.configuration) → AgreesInRow marks (state_of_pieces start end s) x)
         → IsConsistent (state_of_pieces start end s)
     agrees-consistent each = decided.1 (λ x j piece there none inside.
         let below = given-below given x piece there in
@@ -173,10 +175,10 @@ module _ (s : DecoderState) (is : IsDecoder default_rate s) (start end : ℕ)
     summed-words : (message : List Shard) (agrees : IsAgreeing (state_of_pieces start end s) message) (i j : ℕ)
         → j < (end - start) / 2
         → (i < s.configuration.original_count → is_some (chosen.originals i) ≡ false
-        → base_sum marks (state_of_pieces start end s) j (original_row (frame_in s) i)
+        → base_sum marks (state_of_pieces start end s) j (original_row (frame_at s.configuration) i)
         ≡ column j (shard_at message i))
         × (i < s.configuration.recovery_count → is_some (chosen.recovery i) ≡ false
-        → base_sum marks (state_of_pieces start end s) j (recovery_row (frame_in s) i)
+        → base_sum marks (state_of_pieces start end s) j (recovery_row (frame_at s.configuration) i)
         ≡ column j (shard_at agrees.coded.0 i))
     unfolding summed_word
     summed-words message agrees i j inside =
@@ -190,20 +192,20 @@ module _ (s : DecoderState) (is : IsDecoder default_rate s) (start end : ℕ)
 
     -- No piece was received in the row of a shard that can be rebuilt.
     pub wanted-missing : (w : ShardIndex) → CanBeRebuilt s w
-        → shard_in_row (state_of_pieces start end s) (row_of (frame_in s) w) ≡ None
+        → shard_in_row (state_of_pieces start end s) (row_of (frame_at s.configuration) w) ≡ None
     wanted-missing (Original i) can =
         let t = state_of_pieces start end s in
-        given_at-own (frame_in s) s.configuration.original_count s.configuration.recovery_count t.originals t.recovery i
+        given_at-own (frame_at s.configuration) s.configuration.original_count s.configuration.recovery_count t.originals t.recovery i
         can.0 ∙ ap (option_map (λ x. between start end x)) can.1
     wanted-missing (Recovery i) can =
         let t = state_of_pieces start end s in
-        given_at-coded (frame_in s) s.configuration.original_count s.configuration.recovery_count t.originals
+        given_at-coded (frame_at s.configuration) s.configuration.original_count s.configuration.recovery_count t.originals
         t.recovery i (decoder_frame s is) can.0 ∙ ap (option_map (λ x. between start end x)) can.1
 
     -- The direct sum is the piece of a wanted shard.
     pub wanted-piece : (message : List Shard) (agrees : IsAgreeing (state_of_pieces start end s) message)
         (w : ShardIndex) (piece : Shard) → CanBeRebuilt s w
-        → IsBaseSum marks (state_of_pieces start end s) (row_of (frame_in s) w) piece
+        → IsBaseSum marks (state_of_pieces start end s) (row_of (frame_at s.configuration) w) piece
         → piece ≡ shard_named message agrees.coded.0 w
     wanted-piece message agrees (Original i) piece can sum =
         let t = state_of_pieces start end s in
@@ -211,7 +213,7 @@ module _ (s : DecoderState) (is : IsDecoder default_rate s) (start end : ℕ)
         (shard_in s.configuration.original_count (end - start) message agrees.shards i can.0)
         (even-strip s is start end strip)
         (λ j inside. sum.words j inside ∙ (summed-words message agrees i j inside).0 can.0
-        (part-missing marks (frame_in s).originals_from i t.originals
+        (part-missing marks (frame_at s.configuration).originals_from i t.originals
         (ap (option_map (λ x. between start end x)) can.1)))
     wanted-piece message agrees (Recovery i) piece can sum =
         let t = state_of_pieces start end s in
@@ -219,7 +221,7 @@ module _ (s : DecoderState) (is : IsDecoder default_rate s) (start end : ℕ)
         (shard_in s.configuration.recovery_count (end - start) agrees.coded.0 agrees.coded.1.shards i can.0)
         (even-strip s is start end strip)
         (λ j inside. sum.words j inside ∙ (summed-words message agrees i j inside).1 can.0
-        (part-missing marks (frame_in s).recovery_from i t.recovery
+        (part-missing marks (frame_at s.configuration).recovery_from i t.recovery
         (ap (option_map (λ x. between start end x)) can.1)))
 
     -- Shards with the direct sums as their words are equal.
@@ -251,7 +253,7 @@ module _ (s : DecoderState) (is : IsDecoder default_rate s) (start end : ℕ)
     -- The same for a wanted shard in a list.
     pub wanted-at : (message : List Shard) (agrees : IsAgreeing (state_of_pieces start end s) message)
         (wanted : List ShardIndex) (n x : ℕ) (d : ShardIndex) (piece : Shard) → All (CanBeRebuilt s) wanted
-        → n < length wanted → x ≡ row_of (frame_in s) (get_or wanted n d)
+        → n < length wanted → x ≡ row_of (frame_at s.configuration) (get_or wanted n d)
         → IsBaseSum marks (state_of_pieces start end s) x piece
         → (piece ≡ get_or (named_shards message agrees.coded.0 wanted) n []) × (length piece ≡ end - start)
     wanted-at message agrees wanted n x d piece can inside at sum =
@@ -262,6 +264,6 @@ module _ (s : DecoderState) (is : IsDecoder default_rate s) (start end : ℕ)
 
 -- The row of a shard that can be rebuilt is a row of a decoder.
 pub row-inside : (s : DecoderState) → IsDecoder default_rate s → (w : ShardIndex) → CanBeRebuilt s w
-    → row_of (frame_in s) w < row_count (frame_in s)
+    → row_of (frame_at s.configuration) w < row_count (frame_at s.configuration)
 row-inside s is (Original i) can = let f = decoder_frame s is in omega (arith, f.originals, can.0)
 row-inside s is (Recovery i) can = let f = decoder_frame s is in omega (arith, f.recovery, can.0)

@@ -1,12 +1,12 @@
 -- The base of direct sums: received shards in marked rows, over which the words of all other shards are summed.
-use Rattle.std.specs.Prelude.{◌≡◌, ℕ, ◌+◌, ◌/◌, ◌<◌, Bool, true, false, List, length, Option, Some, None, is_some}
+use Rattle.std.specs.Prelude.{◌≡◌, ℕ, ◌+◌, ◌/◌, ◌<◌, Bool, true, false, List, length, Some, None, is_some}
 use Rattle.std.specs.Prelude.{if◌then◌else◌}
 use Rattle.rs_field.specs.declared.code.frame.Frame.{Frame}
 use Rattle.rs_field.specs.code.Column.{Shard, IsShard, column}
 use Rattle.rs_field.specs.code.Counts.{default_rate}
 use Rattle.rs_field.specs.code.Decoder.{DecoderState, IsDecoder, originals_given, recovery_given}
-use Rattle.rs_field.specs.code.DirectLaws.{given_at, summed_word}
-use Rattle.rs_field.specs.code.Frame.{frame_of, row_count, original_row, recovery_row}
+use Rattle.rs_field.specs.code.DirectLaws.{shard_in_row, summed_word}
+use Rattle.rs_field.specs.code.Frame.{frame_at, row_count, original_row, recovery_row}
 use Rattle.rs_field.specs.code.Given.{Shards}
 use Rattle.rs_field.specs.code.Pieces.{IsStrip}
 use Rattle.rs_field.specs.rows.MarkedRows.{is_marked}
@@ -14,19 +14,10 @@ use Rattle.rs_rate.specs.declared.passes.sums.SumBase.{SumBase}
 use Rattle.reed_solomon_simd.specs.declared.shard_index.ShardIndex.{ShardIndex}
 use Rattle.reed_solomon_simd.specs.declared.shard_index.ShardIndex.TheVariants.{Original, Recovery}
 
--- the frame of the counts of a decoder
-abbrev pub frame_in : DecoderState → Frame
-frame_in s = frame_of s.configuration.rate s.configuration.original_count s.configuration.recovery_count
-
 -- the row of a shard
 abbrev pub row_of : Frame → ShardIndex → ℕ
 row_of frame (Original i) = original_row frame i
 row_of frame (Recovery i) = recovery_row frame i
-
--- the shard that was received in a row, if there is one
-abbrev pub shard_in_row : DecoderState → ℕ → Option Shard
-shard_in_row s x =
-    given_at (frame_in s) s.configuration.original_count s.configuration.recovery_count s.originals s.recovery x
 
 -- the shards with marked rows, of a map in which the shard with the index i has the row from + i
 unfoldable pub marked_part : List Bool → ℕ → Shards → Shards
@@ -36,13 +27,13 @@ marked_part marks from given i = if is_marked marks (from + i) then given i else
 abbrev pub marked_state : List Bool → DecoderState → DecoderState
 marked_state marks s =
     record s {
-      originals = marked_part marks (frame_in s).originals_from s.originals;
-      recovery = marked_part marks (frame_in s).recovery_from s.recovery;
+      originals = marked_part marks (frame_at s.configuration).originals_from s.originals;
+      recovery = marked_part marks (frame_at s.configuration).recovery_from s.recovery;
     }
 
 -- marks of rows mark a base: as many received shards as there are originals
 pub record MarkBase (s : DecoderState) (marks : List Bool) : Type 0 where
-  pub count : length marks ≡ row_count (frame_in s)
+  pub count : length marks ≡ row_count (frame_at s.configuration)
   pub received : (x : ℕ) → is_marked marks x ≡ true → is_some (shard_in_row s x) ≡ true
   pub enough : originals_given (marked_state marks s) + recovery_given (marked_state marks s)
       ≡ s.configuration.original_count

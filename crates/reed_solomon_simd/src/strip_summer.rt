@@ -14,7 +14,9 @@ ghost use Rattle.rs_field.specs.rows.MarkedRows.{is_marked};
 ghost use Rattle.rs_rate.specs.rows.ShardRows.{shard_in_order};
 ghost use Rattle.rs_rate.specs.passes.Sums.{sum_word};
 ghost use Rattle.rs_rate.specs.values.SumCosts.{AreSumsCheaper};
-ghost use Rattle.reed_solomon_simd.specs.Base.{frame_in, row_of, shard_in_row, MarkBase, CanSum};
+ghost use Rattle.reed_solomon_simd.specs.Base.{row_of, MarkBase, CanSum};
+ghost use Rattle.rs_field.specs.code.Frame.{frame_at};
+ghost use Rattle.rs_field.specs.code.DirectLaws.{shard_in_row};
 ghost use Rattle.reed_solomon_simd.specs.Base.{base_sum, IsBaseSum, AgreesInRow};
 ghost use Rattle.reed_solomon_simd.specs.Reconstructed.{AreReconstructed, CanBeRebuilt, NamesMissing};
 
@@ -313,7 +315,7 @@ fn agrees_in_row<E: Engine, P: Pieces>(
     sum: &mut [[u8; 64]],
 ) -> bool
     requires ready { CanSum (P.received received.now) base.now start end }
-    requires row { row < row_count (frame_in (P.received received.now)) }
+    requires row { row < row_count (frame_at (P.received received.now).configuration) }
     requires room { length sum.old ≡ row_len (end - start) }
     ensures { IsTrue result ↔ AgreesInRow base.now.marks.items
         (state_of_pieces start end (P.received received.now)) row }
@@ -392,7 +394,7 @@ fn sum_piece<E: Engine, P: Pieces>(
     sum: &mut [[u8; 64]],
 )
     requires ready { CanSum (P.received received.now) base.now start end }
-    requires row { row < row_count (frame_in (P.received received.now)) }
+    requires row { row < row_count (frame_at (P.received received.now).configuration) }
     requires outside { is_marked base.now.marks.items row ≡ false }
     requires room { length sum.old ≡ row_len (end - start) }
     ensures { IsBaseSum base.now.marks.items
@@ -415,7 +417,7 @@ fn add_base<E: Engine, P: Pieces>(
     sum: &mut [[u8; 64]],
 )
     requires ready { CanSum (P.received received.now) base.now start end }
-    requires row { row < row_count (frame_in (P.received received.now)) }
+    requires row { row < row_count (frame_at (P.received received.now).configuration) }
     requires outside { is_marked base.now.marks.items row ≡ false }
     requires room { length sum.old ≡ row_len (end - start) }
     requires zeros { (j : ℕ) → j < (end - start) / 2 → sum_word sum.old j ≡ 0 }

@@ -13,7 +13,8 @@ use Rattle.rs_field.specs.code.Decoder.{DecoderState, IsAgreeing, IsConsistent}
 use Rattle.rs_field.proofs.of_words.Roots.{value_lt, words_from}
 use Rattle.rs_field.proofs.of_code.Columns.{columns-at, shard_from_columns}
 use Rattle.rs_field.proofs.of_code.DecodedColumn.{TakesGiven, IsTaken}
-use Rattle.rs_field.proofs.of_code.GivenRows.{AreGiven, AreSized, frame_at}
+use Rattle.rs_field.proofs.of_code.GivenRows.{AreGiven, AreSized}
+use Rattle.rs_field.specs.code.Frame.{frame_at}
 use Rattle.rs_field.proofs.of_code.MadeShards.{shards_of}
 
 -- The polynomial of each column of a message that agrees has the given words as values.

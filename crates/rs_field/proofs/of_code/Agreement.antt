@@ -15,7 +15,8 @@ use Rattle.rs_field.proofs.of_code.Columns.{columns-at}
 use Rattle.rs_field.proofs.of_code.Given.{some_of}
 use Rattle.rs_field.proofs.of_code.Places.{fixed_by_places, places_given, by_place, count-by_place, codeword_given}
 use Rattle.rs_field.proofs.of_code.DecodedColumn.{IsColumnOf, surplus_rows, some_message, restored_word}
-use Rattle.rs_field.proofs.of_code.GivenRows.{AreGiven, frame_at, erased_in, rows_of, distinct}
+use Rattle.rs_field.proofs.of_code.GivenRows.{AreGiven, erased_in, rows_of, distinct}
+use Rattle.rs_field.specs.code.Frame.{frame_at}
 use Rattle.rs_field.proofs.of_code.AgreeingMessages.{column_taken, consistent}
 
 -- The columns of a decode: in each column, the located words of the given shards, and the coefficients of the

@@ -9,7 +9,9 @@ use Rattle.rs_field.specs.code.DirectLaws.{HasOneMessage}
 use Rattle.rs_field.proofs.of_words.Product.{product_lt}
 use Rattle.rs_field.proofs.of_words.PointValues.{coefficients_of}
 use Rattle.rs_field.proofs.of_code.DecodedColumn.{IsColumnOf, some_message}
-use Rattle.rs_field.proofs.of_code.GivenRows.{AreGiven, frame_at, given_within, given_in}
+use Rattle.rs_field.proofs.of_code.GivenRows.{AreGiven, given_within}
+use Rattle.rs_field.specs.code.Frame.{frame_at}
+use Rattle.rs_field.specs.code.DirectLaws.{shard_in_row}
 use Rattle.rs_field.proofs.of_code.GivenRows.{erased_in, words_in, rows_of, distinct, word-given}
 use Rattle.rs_field.proofs.of_code.AgreeingMessages.{consistent}
 use Rattle.rs_field.proofs.of_code.Agreement.{one_message}
@@ -17,7 +19,7 @@ use Rattle.rs_field.proofs.of_code.Agreement.{one_message}
 -- The located word of a row: the word times the power of the locator if a shard is given, else 0.
 located_at : DecoderState → ℕ → ℕ → ℕ
 located_at s j x =
-    cond (is_some (given_in s x)) (product (words_in s j x) (power (log_sum (rows_of s) (erased_in s) x))) 0
+    cond (is_some (shard_in_row s x)) (product (words_in s j x) (power (log_sum (rows_of s) (erased_in s) x))) 0
 
 located_at_lt : (s : DecoderState) (j x : ℕ) → located_at s j x < 2 ^ 16
 unfolding located_at

@@ -14,7 +14,9 @@ use Rattle.rs_field.specs.code.Frame.{original_row, recovery_row}
 use Rattle.rs_field.specs.code.Given.{Shards, AreAmong, Agrees}
 use Rattle.rs_field.proofs.of_code.Given.{some_of}
 use Rattle.rs_field.proofs.of_code.Columns.{shard_from_columns, shard_in}
-use Rattle.rs_field.proofs.of_code.GivenRows.{AreGiven, frame_at, state_with, given_within, given_in, erased_in}
+use Rattle.rs_field.proofs.of_code.GivenRows.{AreGiven, state_with, given_within, erased_in}
+use Rattle.rs_field.specs.code.Frame.{frame_at}
+use Rattle.rs_field.specs.code.DirectLaws.{shard_in_row}
 use Rattle.rs_field.proofs.of_code.GivenRows.{words_in, rows_of, distinct, given_at-own, given_at-coded, given-own}
 use Rattle.rs_field.proofs.of_code.GivenRows.{given-coded, given-either}
 use Rattle.rs_field.proofs.of_code.DirectColumn.{IsLocated, direct_original, direct_recovery}
@@ -44,7 +46,7 @@ locator_in s = locator_at (frame_at s.configuration) s.configuration.original_co
     s.originals s.recovery
 
 -- The rows of all given shards, and their locator.
-pub all_located : (s : DecoderState) → IsLocated s (λ x. is_some (given_in s x)) (locator_in s)
+pub all_located : (s : DecoderState) → IsLocated s (λ x. is_some (shard_in_row s x)) (locator_in s)
 unfolding locator_at
 all_located s = record {
   rows = λ x hx. refl;
@@ -67,7 +69,7 @@ summed_directly c originals recovery message i j is own coded enough agrees hj =
 -- These sums are the words of each given shard whose row is not received.
 abbrev pub AreSums : DecoderState → (ℕ → Bool) → (ℕ → ℕ → ℕ) → Type 0
 AreSums s received sum =
-    (x j : ℕ) (shard : Shard) → given_in s x ≡ Some shard → received x ≡ false → j < s.configuration.shard_bytes / 2
+    (x j : ℕ) (shard : Shard) → shard_in_row s x ≡ Some shard → received x ≡ false → j < s.configuration.shard_bytes / 2
     → sum j x ≡ column j shard
 
 -- The shards of a base are given shards.
@@ -208,9 +210,9 @@ consistent_by_base c originals recovery base_originals base_recovery is even own
       λ summed. both.1 (λ x j shard given none hj. elim (given-either g x shard given) [
         | inl here ↦
             ap (sum j) here.2 ∙ summed.own here.0 shard j here.3
-            (sym (own_is here.0 here.1) ∙ ap (λ y. is_some (given_in base y)) (sym here.2) ∙ none) hj
+            (sym (own_is here.0 here.1) ∙ ap (λ y. is_some (shard_in_row base y)) (sym here.2) ∙ none) hj
         | inr there ↦
             ap (sum j) there.2 ∙ summed.coded there.0 shard j there.3
-            (sym (coded_is there.0 there.1) ∙ ap (λ y. is_some (given_in base y)) (sym there.2) ∙ none) hj
+            (sym (coded_is there.0 there.1) ∙ ap (λ y. is_some (shard_in_row base y)) (sym there.2) ∙ none) hj
       ]),
     )

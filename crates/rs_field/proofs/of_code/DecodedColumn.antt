@@ -19,7 +19,9 @@ use Rattle.rs_field.proofs.of_words.Total.{product-comm}
 use Rattle.rs_field.proofs.of_code.CodedWords.{values_of, values_of-at}
 use Rattle.rs_field.proofs.of_code.ErasedCount.{erased_count}
 use Rattle.rs_field.proofs.of_code.Frame.{coefficient_count, zeros_end, framed, unframed}
-use Rattle.rs_field.proofs.of_code.GivenRows.{AreGiven, frame_at, given_in, erased_in, words_in, rows_of, distinct}
+use Rattle.rs_field.proofs.of_code.GivenRows.{AreGiven, erased_in, words_in, rows_of, distinct}
+use Rattle.rs_field.specs.code.Frame.{frame_at}
+use Rattle.rs_field.specs.code.DirectLaws.{shard_in_row}
 use Rattle.rs_field.proofs.of_code.GivenRows.{erasures, given-own, given-coded, given-either, given-zero, erased-given}
 use Rattle.rs_field.proofs.of_code.GivenRows.{erased-none, word-given, word-none, cases_given, word_lt}
 
@@ -40,9 +42,9 @@ IsTaken s j p =
 -- The rows of a column in a decode: the located words, and the coefficients of the polynomial whose values they are. At
 -- a given shard the located word is the word times the power of the locator; without a given shard it is 0.
 pub record IsColumnOf (s : DecoderState) (j : ℕ) (located coefficients : ℕ → ℕ) : Type 0 where
-  pub given : (x : ℕ) (shard : Shard) → x < rows_of s → given_in s x ≡ Some shard
+  pub given : (x : ℕ) (shard : Shard) → x < rows_of s → shard_in_row s x ≡ Some shard
       → located x ≡ product (column j shard) (power (log_sum (rows_of s) (erased_in s) x))
-  pub none : (x : ℕ) → x < rows_of s → given_in s x ≡ None → located x ≡ 0
+  pub none : (x : ℕ) → x < rows_of s → shard_in_row s x ≡ None → located x ≡ 0
   pub are_words : (x : ℕ) → x < rows_of s → coefficients x < 2 ^ 16
   pub back : (x : ℕ) → x < rows_of s → forward (rows_of s) 0 coefficients x ≡ located x
 
@@ -130,7 +132,7 @@ module _ {s : DecoderState} (g : AreGiven s) {j : ℕ} where
       )
     where
       at_given : (p : List ℕ) → ((x : ℕ) → x < rows_of s → value p x ≡ value q x) → (x : ℕ) (shard : Shard)
-          → x < rows_of s → given_in s x ≡ Some shard → value p x ≡ column j shard
+          → x < rows_of s → shard_in_row s x ≡ Some shard → value p x ≡ column j shard
       at_given p same x shard hx is =
           same x hx ∙ takes.given x hx (erased-given g x shard is) ∙ word-given s j x shard is
 

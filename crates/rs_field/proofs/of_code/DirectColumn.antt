@@ -12,14 +12,16 @@ use Rattle.rs_field.proofs.of_words.DirectSum.{direct_value}
 use Rattle.rs_field.proofs.of_code.Columns.{columns-at}
 use Rattle.rs_field.proofs.of_code.Unique.{codes_unique}
 use Rattle.rs_field.proofs.of_code.Frame.{coefficient_count}
-use Rattle.rs_field.proofs.of_code.GivenRows.{AreGiven, frame_at, given_in, erased_in, words_in, rows_of, distinct}
+use Rattle.rs_field.proofs.of_code.GivenRows.{AreGiven, erased_in, words_in, rows_of, distinct}
+use Rattle.rs_field.specs.code.Frame.{frame_at}
+use Rattle.rs_field.specs.code.DirectLaws.{shard_in_row}
 use Rattle.rs_field.proofs.of_code.GivenRows.{erasures, cases_given, erased-given, word-none}
 use Rattle.rs_field.proofs.of_code.DecodedColumn.{IsTaken, taken_from, counted}
 use Rattle.rs_field.proofs.of_code.AgreeingMessages.{column_taken}
 
 -- The rows of the received shards, and the locator of the erased rows.
 pub record IsLocated (s : DecoderState) (received : ℕ → Bool) (locator : ℕ → ℕ) : Type 0 where
-  pub rows : (x : ℕ) → x < rows_of s → received x ≡ is_some (given_in s x)
+  pub rows : (x : ℕ) → x < rows_of s → received x ≡ is_some (shard_in_row s x)
   pub logarithms : IsLocatorBelow (rows_of s) (erased_in s) locator
   pub most : (x : ℕ) → x < rows_of s → locator x ≤ 65535
 

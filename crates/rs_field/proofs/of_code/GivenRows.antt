@@ -9,8 +9,8 @@ use Rattle.rs_field.specs.code.Column.{Shard, IsShard, column}
 use Rattle.rs_field.specs.code.Configuration.{Configuration}
 use Rattle.rs_field.specs.code.Counts.{supports}
 use Rattle.rs_field.specs.code.Decoder.{DecoderState}
-use Rattle.rs_field.specs.code.DirectLaws.{entry_in, given_at, word_of, word_at, mark_at}
-use Rattle.rs_field.specs.code.Frame.{frame_of, row_count, original_row, recovery_row}
+use Rattle.rs_field.specs.code.DirectLaws.{entry_in, given_at, shard_in_row, word_of, word_at, mark_at}
+use Rattle.rs_field.specs.code.Frame.{frame_at, row_count, original_row, recovery_row}
 use Rattle.rs_field.specs.code.Given.{Shards, AreWithin}
 use Rattle.rs_field.specs.declared.code.frame.Frame.{Frame}
 use Rattle.rs_field.proofs.of_code.Columns.{column_lt}
@@ -32,10 +32,6 @@ sized-within {count} within =
         within.sized i shard is,
       );
     }
-
--- The frame of a configuration.
-abbrev pub frame_at : Configuration → Frame
-frame_at c = frame_of c.rate c.original_count c.recovery_count
 
 -- The shards of a decoder for supported counts: all have the size, and their indexes are below the counts.
 pub record AreGiven (s : DecoderState) : Type 0 where
@@ -185,11 +181,6 @@ module _ (frame : Frame) (k r : ℕ) (originals recovery : Shards) where
 
 -- ---- the rows of a decoder
 
--- The given shard in a row, if there is one.
-abbrev pub given_in : DecoderState → ℕ → Option Shard
-given_in s x = given_at (frame_at s.configuration) s.configuration.original_count s.configuration.recovery_count
-    s.originals s.recovery x
-
 -- 1 if a row is erased, else 0.
 abbrev pub erased_in : DecoderState → ℕ → ℕ
 erased_in s x = mark_at (frame_at s.configuration) s.configuration.original_count s.configuration.recovery_count
@@ -205,20 +196,20 @@ abbrev pub rows_of : DecoderState → ℕ
 rows_of s = row_count (frame_at s.configuration)
 
 module _ (s : DecoderState) (j x : ℕ) where
-  pub word-given : (shard : Shard) → given_in s x ≡ Some shard → words_in s j x ≡ column j shard
+  pub word-given : (shard : Shard) → shard_in_row s x ≡ Some shard → words_in s j x ≡ column j shard
   unfolding word_at word_of
   word-given shard is = ap (word_of j) is
 
-  pub word-none : given_in s x ≡ None → words_in s j x ≡ 0
+  pub word-none : shard_in_row s x ≡ None → words_in s j x ≡ 0
   unfolding word_at word_of
   word-none is = ap (word_of j) is
 
   -- There is a shard in a row, or none.
-  pub cases_given : ((shard : Shard) × (given_in s x ≡ Some shard)) ⊎ (given_in s x ≡ None)
-  cases_given = by_entry (given_in s x) refl
+  pub cases_given : ((shard : Shard) × (shard_in_row s x ≡ Some shard)) ⊎ (shard_in_row s x ≡ None)
+  cases_given = by_entry (shard_in_row s x) refl
     where
-      by_entry : (o : Option Shard) → given_in s x ≡ o
-          → ((shard : Shard) × (given_in s x ≡ Some shard)) ⊎ (given_in s x ≡ None)
+      by_entry : (o : Option Shard) → shard_in_row s x ≡ o
+          → ((shard : Shard) × (shard_in_row s x ≡ Some shard)) ⊎ (shard_in_row s x ≡ None)
       by_entry None is = inr is
       by_entry (Some shard) is = inl (shard, is)
 
@@ -235,19 +226,19 @@ module _ {s : DecoderState} (g : AreGiven s) where
 
   -- A given original is in its row, and so is a given recovery shard.
   pub given-own : (i : ℕ) (shard : Shard) → i < s.configuration.original_count → s.originals i ≡ Some shard
-      → given_in s (original_row (frame_at s.configuration) i) ≡ Some shard
+      → shard_in_row s (original_row (frame_at s.configuration) i) ≡ Some shard
   given-own i shard hi is =
       given_at-own (frame_at s.configuration) s.configuration.original_count s.configuration.recovery_count s.originals
       s.recovery i hi ∙ is
 
   pub given-coded : (i : ℕ) (shard : Shard) → i < s.configuration.recovery_count → s.recovery i ≡ Some shard
-      → given_in s (recovery_row (frame_at s.configuration) i) ≡ Some shard
+      → shard_in_row s (recovery_row (frame_at s.configuration) i) ≡ Some shard
   given-coded i shard hi is =
       given_at-coded (frame_at s.configuration) s.configuration.original_count s.configuration.recovery_count
       s.originals s.recovery i distinct hi ∙ is
 
   -- A shard in a row is a given original or a given recovery shard.
-  pub given-either : (x : ℕ) (shard : Shard) → given_in s x ≡ Some shard
+  pub given-either : (x : ℕ) (shard : Shard) → shard_in_row s x ≡ Some shard
       → ((i : ℕ) × (i < s.configuration.original_count) × (x ≡ original_row (frame_at s.configuration) i)
       × (s.originals i ≡ Some shard))
       ⊎ ((i : ℕ) × (i < s.configuration.recovery_count) × (x ≡ recovery_row (frame_at s.configuration) i)
@@ -261,14 +252,14 @@ module _ {s : DecoderState} (g : AreGiven s) where
           own.0,
           own.1,
           own.2,
-          sym (ap (given_in s) own.2 ∙ given_at-own f k r s.originals s.recovery own.0 own.1) ∙ is,
+          sym (ap (shard_in_row s) own.2 ∙ given_at-own f k r s.originals s.recovery own.0 own.1) ∙ is,
         )
         | inr rest ↦ elim rest [
           | inl coded ↦ inr (
             coded.0,
             coded.1,
             coded.2,
-            sym (ap (given_in s) coded.2 ∙ given_at-coded f k r s.originals s.recovery coded.0 distinct coded.1) ∙ is,
+            sym (ap (shard_in_row s) coded.2 ∙ given_at-coded f k r s.originals s.recovery coded.0 distinct coded.1) ∙ is,
           )
           | inr neither ↦
               absurd (none-some shard (sym (given_at-other f k r s.originals s.recovery x neither.0 neither.1) ∙ is))
@@ -276,7 +267,7 @@ module _ {s : DecoderState} (g : AreGiven s) where
       ]
 
   -- A shard is given in one of the rows of the frame.
-  pub given-below : (x : ℕ) (shard : Shard) → given_in s x ≡ Some shard → x < rows_of s
+  pub given-below : (x : ℕ) (shard : Shard) → shard_in_row s x ≡ Some shard → x < rows_of s
   given-below x shard is =
       let f = distinct in
       elim (given-either x shard is) [
@@ -286,7 +277,7 @@ module _ {s : DecoderState} (g : AreGiven s) where
 
   -- No shard is given in the row of a zero point.
   pub given-zero : (x : ℕ) → (frame_at s.configuration).zeros_from ≤ x → x < zeros_end (frame_at s.configuration)
-      → given_in s x ≡ None
+      → shard_in_row s x ≡ None
   given-zero x above below =
       let follow = distinct.follow in
       given_at-other (frame_at s.configuration) s.configuration.original_count s.configuration.recovery_count
@@ -295,13 +286,13 @@ module _ {s : DecoderState} (g : AreGiven s) where
       [ inl low ↦ inl (omega (arith, low.1, below)) | inr high ↦ inr (omega (arith, high.0, high.1, follow, above)) ])
 
   -- A row with a given shard is not erased.
-  pub erased-given : (x : ℕ) (shard : Shard) → given_in s x ≡ Some shard → erased_in s x ≡ 0
+  pub erased-given : (x : ℕ) (shard : Shard) → shard_in_row s x ≡ Some shard → erased_in s x ≡ 0
   erased-given x shard is =
       mark_at-given (frame_at s.configuration) s.configuration.original_count s.configuration.recovery_count s.originals
       s.recovery x shard is
 
   -- A row without a given shard is erased, or is the row of a zero point.
-  pub erased-none : (x : ℕ) → x < rows_of s → given_in s x ≡ None → erased_in s x ≡ 0
+  pub erased-none : (x : ℕ) → x < rows_of s → shard_in_row s x ≡ None → erased_in s x ≡ 0
       → ((frame_at s.configuration).zeros_from ≤ x) × (x < zeros_end (frame_at s.configuration))
   erased-none x hx none is =
       let f = frame_at s.configuration in

@@ -19,7 +19,9 @@ use Rattle.rs_field.proofs.of_words.DirectSum.{direct_sum-changed}
 use Rattle.rs_field.proofs.of_code.Columns.{shard_in}
 use Rattle.rs_field.proofs.of_code.DirectColumn.{IsLocated, direct_recovery}
 use Rattle.rs_field.proofs.of_code.Given.{count_below-zero, count_below-suc, nothing_among}
-use Rattle.rs_field.proofs.of_code.GivenRows.{frame_at, state_with, given_in, words_in, kind_of_row, rows_apart}
+use Rattle.rs_field.proofs.of_code.GivenRows.{state_with, words_in, kind_of_row, rows_apart}
+use Rattle.rs_field.specs.code.Frame.{frame_at}
+use Rattle.rs_field.specs.code.DirectLaws.{shard_in_row}
 use Rattle.rs_field.proofs.of_code.GivenRows.{given_at-own, given_at-coded, given_at-other, word-given, word-none}
 use Rattle.rs_field.proofs.of_code.RateFrames.{distinct_rows}
 
@@ -63,7 +65,7 @@ module _ (c : Configuration) (supported : supports c.rate c.original_count c.rec
   -- A row is that of an original, or no shard is given there.
   which : (x : ℕ) → ((i : ℕ) × (i < c.original_count) × (x ≡ original_row (frame_at c) i))
       ⊎ (((x < (frame_at c).originals_from) ⊎ (original_row (frame_at c) c.original_count ≤ x))
-      × ((message : List Shard) → given_in (with_message c message) x ≡ None))
+      × ((message : List Shard) → shard_in_row (with_message c message) x ≡ None))
   which x =
       let f = distinct_rows c.rate c.original_count c.recovery_count supported in
       elim (kind_of_row (frame_at c) c.original_count c.recovery_count x) [
@@ -72,7 +74,7 @@ module _ (c : Configuration) (supported : supports c.rate c.original_count c.rec
           | inl coded ↦ (
             subst (λ (y : ℕ). (y < (frame_at c).originals_from) ⊎ (original_row (frame_at c) c.original_count ≤ y))
                 (sym coded.2) (rows_apart (frame_at c) c.original_count c.recovery_count coded.0 f coded.1),
-            λ message. ap (given_in (with_message c message)) coded.2
+            λ message. ap (shard_in_row (with_message c message)) coded.2
                 ∙ given_at-coded (frame_at c) c.original_count c.recovery_count (all_of c.original_count message)
                 nothing coded.0 f coded.1,
           )
@@ -85,7 +87,7 @@ module _ (c : Configuration) (supported : supports c.rate c.original_count c.rec
       ]
 
   own-given : (message : List Shard) (i : ℕ) → i < c.original_count
-      → given_in (with_message c message) (original_row (frame_at c) i) ≡ Some (shard_at message i)
+      → shard_in_row (with_message c message) (original_row (frame_at c) i) ≡ Some (shard_at message i)
   own-given message i hi =
       given_at-own (frame_at c) c.original_count c.recovery_count (all_of c.original_count message) nothing i hi
       ∙ all_of-in c.original_count i message hi
@@ -100,11 +102,11 @@ module _ (c : Configuration) (supported : supports c.rate c.original_count c.rec
       → ((i : ℕ) → i < c.original_count → marked (original_row (frame_at c) i) ≡ true)
       → ((x : ℕ) → (x < (frame_at c).originals_from) ⊎ (original_row (frame_at c) c.original_count ≤ x)
       → marked x ≡ false)
-      → (message : List Shard) (x : ℕ) → marked x ≡ is_some (given_in (with_message c message) x)
+      → (message : List Shard) (x : ℕ) → marked x ≡ is_some (shard_in_row (with_message c message) x)
   marked-originals marked own others message x = elim (which x) [
     | inl inside ↦
         ap marked inside.2 ∙ own inside.0 inside.1
-        ∙ sym (ap is_some (ap (given_in (with_message c message)) inside.2 ∙ own-given message inside.0 inside.1))
+        ∙ sym (ap is_some (ap (shard_in_row (with_message c message)) inside.2 ∙ own-given message inside.0 inside.1))
     | inr outside ↦ others x outside.0 ∙ sym (ap is_some (outside.1 message))
   ]
 

@@ -6,8 +6,9 @@ use Rattle.rs_field.specs.words.DirectSum.{direct_sum}
 use Rattle.rs_field.specs.code.Column.{Shard, shard_at, column}
 use Rattle.rs_field.specs.code.Counts.{supports}
 use Rattle.rs_field.specs.declared.code.frame.Frame.{Frame}
-use Rattle.rs_field.specs.code.Frame.{frame_of, row_count, original_row, recovery_row}
+use Rattle.rs_field.specs.code.Frame.{frame_at, row_count, original_row, recovery_row}
 use Rattle.rs_field.specs.code.Configuration.{Configuration}
+use Rattle.rs_field.specs.code.Decoder.{DecoderState}
 use Rattle.rs_field.specs.code.Given.{Shards, count_below, AreWithin, Agrees, Consistent}
 
 -- the given shard at a point of n shards, which have the points from `from` on; at other points another entry
@@ -18,6 +19,12 @@ entry_in from n given other x = if nat_le from x && nat_lt x (from + n) then giv
 unfoldable pub given_at : Frame → ℕ → ℕ → Shards → Shards → ℕ → Option Shard
 given_at frame k r originals recovery x =
     entry_in frame.originals_from k originals (entry_in frame.recovery_from r recovery None x) x
+
+-- the shard that a decoder received in a row, if there is one
+abbrev pub shard_in_row : DecoderState → ℕ → Option Shard
+shard_in_row s x =
+    given_at (frame_at s.configuration) s.configuration.original_count s.configuration.recovery_count s.originals
+    s.recovery x
 
 -- word j of a shard, or 0 if there is no shard
 unfoldable pub word_of : ℕ → Option Shard → ℕ
@@ -43,7 +50,7 @@ unfoldable pub summed_word : Configuration → Shards → Shards → ℕ → ℕ
 summed_word c originals recovery j =
     let k = c.original_count in
     let r = c.recovery_count in
-    let frame = frame_of c.rate k r in
+    let frame = frame_at c in
     direct_sum (row_count frame) (λ x. is_some (given_at frame k r originals recovery x))
     (locator_at frame k r originals recovery) (word_at frame k r originals recovery j)
 
@@ -67,10 +74,10 @@ IsSummedDirectly =
     → c.original_count ≤ count_below c.original_count originals + count_below c.recovery_count recovery
     → (agrees : Agrees c originals recovery message) → j < c.shard_bytes / 2
     → (i < c.original_count → is_some (originals i) ≡ false
-    → summed_word c originals recovery j (original_row (frame_of c.rate c.original_count c.recovery_count) i)
+    → summed_word c originals recovery j (original_row (frame_at c) i)
     ≡ column j (shard_at message i))
     × (i < c.recovery_count → is_some (recovery i) ≡ false
-    → summed_word c originals recovery j (recovery_row (frame_of c.rate c.original_count c.recovery_count) i)
+    → summed_word c originals recovery j (recovery_row (frame_at c) i)
     ≡ column j (shard_at agrees.coded.0 i))
 
 -- each entry of a map is an entry of another map
@@ -82,11 +89,11 @@ pub record AreSummed (c : Configuration) (originals recovery base_originals base
   pub own : (i : ℕ) (shard : Shard) (j : ℕ) → originals i ≡ Some shard → is_some (base_originals i) ≡ false
       → j < c.shard_bytes / 2
       → summed_word c base_originals base_recovery j
-      (original_row (frame_of c.rate c.original_count c.recovery_count) i) ≡ column j shard
+      (original_row (frame_at c) i) ≡ column j shard
   pub coded : (i : ℕ) (shard : Shard) (j : ℕ) → recovery i ≡ Some shard → is_some (base_recovery i) ≡ false
       → j < c.shard_bytes / 2
       → summed_word c base_originals base_recovery j
-      (recovery_row (frame_of c.rate c.original_count c.recovery_count) i) ≡ column j shard
+      (recovery_row (frame_at c) i) ≡ column j shard
 
 -- take any k of the given shards as the base: some message agrees with all given shards if and only if the words of all
 -- others are the direct sums over the base

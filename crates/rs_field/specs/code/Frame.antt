@@ -1,6 +1,7 @@
 -- The frame of a code: the points of its shards, and the rows of a decoder. A point is a number from 0 to 65535.
 use Rattle.std.specs.Prelude.{ℕ, ◌+◌, ◌-◌, ◌*◌, ◌/◌, ◌^◌, true, false, if◌then◌else◌}
 use Rattle.rs_field.specs.code.Counts.{Rate, next_power, exponent_of, is_low}
+use Rattle.rs_field.specs.code.Configuration.{Configuration}
 use Rattle.rs_field.specs.declared.code.frame.Frame.{Frame}
 
 -- the low rate, with m the power of k: originals have the points from 0 on, recovery shards those from m on, and k to m
@@ -34,6 +35,10 @@ high_frame k r =
 -- the frame of a rate for these counts
 unfoldable pub frame_of : Rate → ℕ → ℕ → Frame
 frame_of rate k r = if is_low rate k r then low_frame k r else high_frame k r
+
+-- the frame of a configuration
+abbrev pub frame_at : Configuration → Frame
+frame_at c = frame_of c.rate c.original_count c.recovery_count
 
 -- a bound on the degree: there is one coefficient for each point from the first original to the last zero point
 abbrev pub degree_bound : Frame → ℕ

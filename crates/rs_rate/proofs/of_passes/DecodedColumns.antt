@@ -16,7 +16,8 @@ use Rattle.rs_field.specs.rows.MarkedRows.{is_marked}
 use Rattle.rs_field.proofs.of_words.LocatorProduct.{same_residue}
 use Rattle.rs_field.proofs.of_code.Agreement.{AreColumns}
 use Rattle.rs_field.proofs.of_code.DirectColumn.{IsLocated}
-use Rattle.rs_field.proofs.of_code.GivenRows.{AreGiven, AreSized, given_in, erased_in, rows_of, kind_of_row}
+use Rattle.rs_field.proofs.of_code.GivenRows.{AreGiven, AreSized, erased_in, rows_of, kind_of_row}
+use Rattle.rs_field.specs.code.DirectLaws.{shard_in_row}
 use Rattle.rs_field.proofs.of_code.GivenRows.{given_at-own, given_at-coded, given_at-other}
 use Rattle.rs_rate.specs.declared.values.configuration.Configuration.{Configuration}
 use Rattle.rs_rate.specs.values.Configured.{IsConfigured, rate_configuration}
@@ -105,18 +106,18 @@ module _ (rate : Rate) {k r size : ℕ} (supported : supports rate k r ≡ true)
       }
 
   -- The shard in a row is the shard that is given there.
-  pub row-given : (x : ℕ) → given_in state x ≡ shards_by_row g.marks g.chunks size x
+  pub row-given : (x : ℕ) → shard_in_row state x ≡ shards_by_row g.marks g.chunks size x
   row-given x =
       let rows = shards_by_row g.marks g.chunks size in
       let own = originals_in (rate_configuration rate k r size) (shards_by_row g.marks g.chunks size) in
       let coded = recovery_in (rate_configuration rate k r size) (shards_by_row g.marks g.chunks size) in
       elim (kind_of_row (frame_of rate k r) k r x) [
         | inl here ↦
-            ap (given_in state) here.2 ∙ given_at-own (frame_of rate k r) k r own coded here.0 here.1
+            ap (shard_in_row state) here.2 ∙ given_at-own (frame_of rate k r) k r own coded here.0 here.1
             ∙ part-in rows (frame_of rate k r).originals_from k here.0 here.1 ∙ sym (ap rows here.2)
         | inr rest ↦ elim rest [
           | inl there ↦
-              ap (given_in state) there.2
+              ap (shard_in_row state) there.2
               ∙ given_at-coded (frame_of rate k r) k r own coded there.0
               (places-known g.configured) there.1
               ∙ part-in rows (frame_of rate k r).recovery_from r there.0 there.1 ∙ sym (ap rows there.2)
@@ -133,7 +134,7 @@ module _ (rate : Rate) {k r size : ℕ} (supported : supports rate k r ≡ true)
   are_marks x hx = sym (some-marked g.marks (shard_laid_out g.chunks size) x) ∙ sym (ap is_some (row-given x))
 
   -- The words in the row of a given shard are the words of the shard.
-  pub row_words : (j x : ℕ) (shard : Shard) → j < size / 2 → given_in state x ≡ Some shard
+  pub row_words : (j x : ℕ) (shard : Shard) → j < size / 2 → shard_in_row state x ≡ Some shard
       → (is_marked g.marks x ≡ true) × (word_in g.chunks (row_len size) (j / 32) (j % 32) x ≡ column j shard)
   row_words j x shard hj is =
       let (mark, same) = row_some g.marks g.chunks size x shard (sym (row-given x) ∙ is) in

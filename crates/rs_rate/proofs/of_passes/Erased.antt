@@ -10,7 +10,7 @@ use Rattle.rs_field.specs.declared.code.frame.Frame.{Frame}
 use Rattle.rs_field.specs.rows.MarkedRows.{is_marked}
 use Rattle.rs_field.specs.words.Locator.{IsLocatorBelow}
 use Rattle.rs_field.proofs.of_code.DirectColumn.{IsLocated}
-use Rattle.rs_field.proofs.of_code.GivenRows.{frame_at}
+use Rattle.rs_field.specs.code.Frame.{frame_at}
 use Rattle.rs_field.proofs.of_words.LocatorLemmas.{log_sum-same}
 use Rattle.rs_rate.specs.passes.Decoding.{IsLocatorOf}
 use Rattle.rs_rate.specs.passes.Sums.{AreMarksOf}

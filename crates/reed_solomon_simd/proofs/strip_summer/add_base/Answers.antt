@@ -13,7 +13,9 @@ use Rattle.rs_field.specs.words.DirectSum.{direct_factor}
 use Rattle.rs_field.specs.words.Transform.{sum_below}
 use Rattle.rs_field.proofs.of_words.Combination.{sum_below-zero, sum_below-suc}
 use Rattle.rs_rate.specs.passes.Sums.{AreMarksOf, ListsMarked, sum_word}
-use Rattle.reed_solomon_simd.specs.Base.{frame_in, shard_in_row, marked_state}
+use Rattle.reed_solomon_simd.specs.Base.{marked_state}
+use Rattle.rs_field.specs.code.Frame.{frame_at}
+use Rattle.rs_field.specs.code.DirectLaws.{shard_in_row}
 use Rattle.reed_solomon_simd.proofs.BaseLemmas.{sum_frame, at_counts, base_marks, base-pieces, base_term, term-of}
 use Rattle.reed_solomon_simd.proofs.BaseLemmas.{base_sum-listed}
 use Rattle.reed_solomon_simd.proofs.BaseSums.{in_row-sized}
@@ -64,7 +66,7 @@ loop-index-preserved g c j inside =
           let same = sum_frame ready in
           let factor = at_counts (λ p k r. (o c' : Shards) → AreMarksOf p k r o c' c.args.base.now.marks.items
           → w.factor-log_m.result ≡ direct_factor (locator_at p k r o c') c.index-from.result.now c.args.row)
-          own.counts.frame (frame_in s) own.counts.original_count s.configuration.original_count
+          own.counts.frame (frame_at s.configuration) own.counts.original_count s.configuration.original_count
           own.counts.recovery_count s.configuration.recovery_count same ready.originals ready.recovery
           w.factor-log_m.ensures.given (marked_state marks t).originals (marked_state marks t).recovery
           (base_marks marks t here) in

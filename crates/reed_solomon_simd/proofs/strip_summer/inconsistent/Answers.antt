@@ -6,7 +6,7 @@ use Rattle.rs_field.specs.code.Given.{count_below}
 use Rattle.rs_field.proofs.of_code.Given.{count_below-zero, count_below-suc}
 use Rattle.rs_field.proofs.of_code.Entries.{count_most}
 use Rattle.rs_field.proofs.of_code.PieceStates.{is_some-map}
-use Rattle.reed_solomon_simd.specs.Base.{frame_in}
+use Rattle.rs_field.specs.code.Frame.{frame_at}
 use Rattle.reed_solomon_simd.proofs.BaseLemmas.{decoder_frame}
 use Rattle.reed_solomon_simd.proofs.BaseMarks.{some-copied}
 use Rattle.reed_solomon_simd.proofs.ConsistentStrips.{few-originals}
@@ -59,7 +59,7 @@ pub overflow_add-result : goal.overflow_add-result
 overflow_add-result g c =
     let s : DecoderState = g.P.Pieces.received c.args.received.now in
     let f = decoder_frame s c.requires.set_up in
-    let rows : row_count (frame_in (g.P.Pieces.received c.args.received.now)) ≤ 2 ^ 16 = pow_mono f.few in
+    let rows : row_count (frame_at (g.P.Pieces.received c.args.received.now).configuration) ≤ 2 ^ 16 = pow_mono f.few in
     omega (
       arith,
       rows,

@@ -10,7 +10,8 @@ use Rattle.rs_field.specs.rows.MarkedRows.{is_marked}
 use Rattle.rs_rate.specs.rows.Marks.{how_many}
 use Rattle.rs_rate.proofs.of_rows.HowMany.{how_many-zero, how_many-most}
 use Rattle.rs_rate.proofs.of_rows.DecoderRows.{enough-least}
-use Rattle.reed_solomon_simd.specs.Base.{frame_in, shard_in_row}
+use Rattle.rs_field.specs.code.Frame.{frame_at}
+use Rattle.rs_field.specs.code.DirectLaws.{shard_in_row}
 use Rattle.reed_solomon_simd.proofs.BaseLemmas.{decoder_frame, frame_same, some-pieces}
 use Rattle.reed_solomon_simd.proofs.BaseMarks.{some-copied, all-found, base-count, marked-more, many-more, many-passed}
 use Rattle.reed_solomon_simd.proofs.BaseMarks.{unmarked}
@@ -45,7 +46,7 @@ overflow_add-found g c =
     let same = frame_same s c.requires.set_up c.counts-counts.result.framed c.counts-counts.ensures.originals
     c.counts-counts.ensures.recovery in
     let f = decoder_frame s c.requires.set_up in
-    let rows : row_count (frame_in (g.P.Pieces.received c.args.received.now)) ≤ 2 ^ 16 = pow_mono f.few in
+    let rows : row_count (frame_at (g.P.Pieces.received c.args.received.now).configuration) ≤ 2 ^ 16 = pow_mono f.few in
     let most = how_many-most c.loop-row.row (λ x. is_some (shard_in_row (g.P.Pieces.received c.args.received.now) x)) in
     let found : c.loop-row.found
     ≡ how_many c.loop-row.row (λ x. is_some (shard_in_row (g.P.Pieces.received c.args.received.now) x)) =
@@ -108,8 +109,8 @@ loop-row-preserved g c =
 -- At the end of the loop, all received shards were counted, and they are enough.
 total : (g : Over) (c : After-loop-row g) → let s : DecoderState = g.P.Pieces.received c.args.received.now in
     (c.counts-counts.result.original_count ≤ c.loop-row.found)
-    × (c.loop-row.found ≡ originals_given s + recovery_given s) × (c.loop-row.row ≡ row_count (frame_in s))
-    × (c.row_count-row_count.result ≡ row_count (frame_in s))
+    × (c.loop-row.found ≡ originals_given s + recovery_given s) × (c.loop-row.row ≡ row_count (frame_at s.configuration))
+    × (c.row_count-row_count.result ≡ row_count (frame_at s.configuration))
 total g c =
     let s : DecoderState = g.P.Pieces.received c.args.received.now in
     let same = frame_same s c.requires.set_up c.counts-counts.result.framed c.counts-counts.ensures.originals

@@ -2,7 +2,7 @@ use Rattle.std.proofs.Common.{◌≡◌, ℕ, ◌≤◌, true, false, min, vec_l
 use Rattle.std.specs.Prelude.{is_some}
 use Rattle.rs_field.specs.rows.MarkedRows.{is_marked}
 use Rattle.rs_rate.specs.rows.Marks.{how_many}
-use Rattle.reed_solomon_simd.specs.Base.{shard_in_row}
+use Rattle.rs_field.specs.code.DirectLaws.{shard_in_row}
 use Rattle.reed_solomon_simd.proofs.strip_summer.mark_base.Given as goal
 
 -- The shards in the rows before `row` are counted, and the first of them are marked, at most as many as there are

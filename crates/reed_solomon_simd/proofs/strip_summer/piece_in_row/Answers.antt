@@ -3,7 +3,8 @@ use Rattle.rs_field.specs.code.Decoder.{DecoderState}
 use Rattle.rs_field.specs.code.Frame.{recovery_row, original_row}
 use Rattle.rs_field.specs.code.PieceStates.{state_of_pieces}
 use Rattle.rs_field.proofs.of_code.GivenRows.{given_at-own, given_at-coded, given_at-other}
-use Rattle.reed_solomon_simd.specs.Base.{frame_in, shard_in_row}
+use Rattle.rs_field.specs.code.Frame.{frame_at}
+use Rattle.rs_field.specs.code.DirectLaws.{shard_in_row}
 use Rattle.reed_solomon_simd.proofs.BaseLemmas.{decoder_frame, frame_same, outside-same}
 use Rattle.reed_solomon_simd.proofs.strip_summer.piece_in_row.Goals as goal
 
@@ -15,11 +16,11 @@ returns-in-Some g c =
     let same = frame_same s c.requires.set_up counts.framed
     c.counts-counts.ensures.originals c.counts-counts.ensures.recovery in
     let there = c.in-Some.ensures in
-    let at : c.args.row ≡ original_row (frame_in s) c.in-Some.index =
+    let at : c.args.row ≡ original_row (frame_at s.configuration) c.in-Some.index =
     there.1 ∙ ap (λ p. original_row p c.in-Some.index) same in
     c.original_piece.ensures
     ∙ sym (ap (shard_in_row t) at
-    ∙ given_at-own (frame_in s) s.configuration.original_count s.configuration.recovery_count t.originals
+    ∙ given_at-own (frame_at s.configuration) s.configuration.original_count s.configuration.recovery_count t.originals
     t.recovery c.in-Some.index (omega (arith, there.0, c.counts-counts.ensures.originals)))
 
 pub returns-in-Some-index_of : goal.returns-in-Some-index_of
@@ -30,11 +31,11 @@ returns-in-Some-index_of g c =
     let same = frame_same s c.requires.set_up counts.framed
     c.counts-counts.ensures.originals c.counts-counts.ensures.recovery in
     let there = c.in-Some-index_of.ensures in
-    let at : c.args.row ≡ recovery_row (frame_in s) c.in-Some-index_of.index =
+    let at : c.args.row ≡ recovery_row (frame_at s.configuration) c.in-Some-index_of.index =
     there.1 ∙ ap (λ p. recovery_row p c.in-Some-index_of.index) same in
     c.recovery_piece.ensures
     ∙ sym (ap (shard_in_row t) at
-    ∙ given_at-coded (frame_in s) s.configuration.original_count s.configuration.recovery_count
+    ∙ given_at-coded (frame_at s.configuration) s.configuration.original_count s.configuration.recovery_count
     t.originals t.recovery c.in-Some-index_of.index (decoder_frame s c.requires.set_up)
     (omega (arith, there.0, c.counts-counts.ensures.recovery)))
 
@@ -45,9 +46,9 @@ returns g c =
     let counts = c.counts-counts.result in
     let same = frame_same s c.requires.set_up counts.framed
     c.counts-counts.ensures.originals c.counts-counts.ensures.recovery in
-    sym (given_at-other (frame_in s) s.configuration.original_count s.configuration.recovery_count t.originals
+    sym (given_at-other (frame_at s.configuration) s.configuration.original_count s.configuration.recovery_count t.originals
     t.recovery c.args.row
-    (outside-same c.args.row _ (frame_in s).originals_from _ s.configuration.original_count
+    (outside-same c.args.row _ (frame_at s.configuration).originals_from _ s.configuration.original_count
     (ap (λ p. p.originals_from) same) c.counts-counts.ensures.originals c.in_default.ensures)
-    (outside-same c.args.row _ (frame_in s).recovery_from _ s.configuration.recovery_count
+    (outside-same c.args.row _ (frame_at s.configuration).recovery_from _ s.configuration.recovery_count
     (ap (λ p. p.recovery_from) same) c.counts-counts.ensures.recovery c.in_default-index_of.ensures))

@@ -9,7 +9,8 @@ use Rattle.rs_rate.specs.rows.ShardRows.{shard_in_order}
 use Rattle.reed_solomon_simd.specs.declared.shard_index.ShardIndex.TheVariants.{Original}
 use Rattle.rs_field.specs.code.PieceStates.{state_of_pieces}
 use Rattle.reed_solomon_simd.specs.declared.shard_index.ShardIndex.{ShardIndex}
-use Rattle.reed_solomon_simd.specs.Base.{frame_in, shard_in_row}
+use Rattle.rs_field.specs.code.Frame.{frame_at}
+use Rattle.rs_field.specs.code.DirectLaws.{shard_in_row}
 use Rattle.reed_solomon_simd.proofs.BaseLemmas.{decoder_frame, sum_row}
 use Rattle.reed_solomon_simd.proofs.BaseSums.{wanted-at, wanted-missing, missing-unmarked, only-message, row-inside}
 use Rattle.reed_solomon_simd.proofs.RebuiltStrips.{named_shards}
@@ -23,7 +24,7 @@ row_of-row-requires g c =
     let ready = c.requires.ready in
     let wanted : ShardIndex = get_or c.args.wanted.now c.loop-room.room (Original 0) in
     let f = decoder_frame s ready.set_up in
-    let rows : row_count (frame_in (g.P.Pieces.received c.args.received.now)) ≤ 2 ^ 16 = pow_mono f.few in
+    let rows : row_count (frame_at (g.P.Pieces.received c.args.received.now).configuration) ≤ 2 ^ 16 = pow_mono f.few in
     let inside = row-inside s ready.set_up wanted
     (c.requires.can c.loop-room.room (Original 0) c.loop-room-test.true) in
     omega (arith, rows, inside, sum_row ready wanted)
