@@ -144,7 +144,8 @@ entry-marked marks from n x given other part b is rest = elim (index_or_outside 
 pub in_row-marked : (marks : List Bool) (s : DecoderState) (x : ℕ) (b : Bool) → is_marked marks x ≡ b
     → shard_in_row (marked_state marks s) x ≡ cond b (shard_in_row s x) None
 in_row-marked marks s x b is =
-    let p = frame_at s.configuration in let k = s.configuration.original_count in let r = s.configuration.recovery_count in
+    let p = frame_at s.configuration in
+    let k = s.configuration.original_count in let r = s.configuration.recovery_count in
     in_row-is (marked_state marks s) x
     ∙ entry-marked marks p.originals_from k x s.originals (entry_in p.recovery_from r s.recovery None x) _ b is
     (entry-marked marks p.recovery_from r x s.recovery None None b is (nothing_there b))
@@ -203,15 +204,18 @@ base-pieces start end marks s base =
 pub base_term : List Bool → DecoderState → ℕ → ℕ → ℕ → ℕ
 base_term marks s j y x =
     let b = marked_state marks s in
-    product (word_at (frame_at s.configuration) s.configuration.original_count s.configuration.recovery_count b.originals b.recovery
+    product (word_at (frame_at s.configuration) s.configuration.original_count s.configuration.recovery_count
+    b.originals b.recovery
     j x)
-    (power (direct_factor (locator_at (frame_at s.configuration) s.configuration.original_count s.configuration.recovery_count
+    (power (direct_factor (locator_at (frame_at s.configuration) s.configuration.original_count
+    s.configuration.recovery_count
     b.originals b.recovery) x y))
 
 -- The term of a marked row is the word of its shard times its factor.
 pub term-of : (marks : List Bool) (s : DecoderState) (j y x log_m : ℕ) (shard : Shard) → is_marked marks x ≡ true
     → shard_in_row s x ≡ Some shard
-    → log_m ≡ direct_factor (locator_at (frame_at s.configuration) s.configuration.original_count s.configuration.recovery_count
+    → log_m ≡ direct_factor (locator_at (frame_at s.configuration) s.configuration.original_count
+    s.configuration.recovery_count
     (marked_state marks s).originals (marked_state marks s).recovery) x y
     → product (column j shard) (power log_m) ≡ base_term marks s j y x
 unfolding base_term word_at word_of

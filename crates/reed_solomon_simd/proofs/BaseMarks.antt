@@ -27,16 +27,20 @@ some-copied o = search rules
 -- The rows with a shard are as many as the received shards.
 pub rows-count : (s : DecoderState)
     → HasDistinctRows (frame_at s.configuration) s.configuration.original_count s.configuration.recovery_count
-    → how_many (row_count (frame_at s.configuration)) (λ x. is_some (shard_in_row s x)) ≡ originals_given s + recovery_given s
+    → how_many (row_count (frame_at s.configuration)) (λ x. is_some (shard_in_row s x))
+    ≡ originals_given s + recovery_given s
 rows-count s f =
     let k = s.configuration.original_count in let r = s.configuration.recovery_count in
     many_in_frame (frame_at s.configuration) k r f (λ x. is_some (shard_in_row s x))
-    (λ p not_own not_coded. ap is_some (given_at-other (frame_at s.configuration) k r s.originals s.recovery p not_own not_coded))
+    (λ p not_own not_coded.
+    ap is_some (given_at-other (frame_at s.configuration) k r s.originals s.recovery p not_own not_coded))
     ∙ ap₂ (λ (a b : ℕ). a + b)
-    (how_many-same k (λ i. is_some (shard_in_row s (original_row (frame_at s.configuration) i))) (λ i. is_some (s.originals i))
+    (how_many-same k (λ i. is_some (shard_in_row s (original_row (frame_at s.configuration) i)))
+    (λ i. is_some (s.originals i))
     (λ i inside. ap is_some (given_at-own (frame_at s.configuration) k r s.originals s.recovery i inside))
     ∙ count_below-many k s.originals)
-    (how_many-same r (λ i. is_some (shard_in_row s (recovery_row (frame_at s.configuration) i))) (λ i. is_some (s.recovery i))
+    (how_many-same r (λ i. is_some (shard_in_row s (recovery_row (frame_at s.configuration) i)))
+    (λ i. is_some (s.recovery i))
     (λ i inside. ap is_some (given_at-coded (frame_at s.configuration) k r s.originals s.recovery i f inside))
     ∙ count_below-many r s.recovery)
 

@@ -158,7 +158,8 @@ module _ (s : DecoderState) (is : IsDecoder default_rate s) (start end : ℕ)
     }
 
     -- If all pieces outside of the base are the direct sums, some message agrees with the strip.
-    pub agrees-consistent : ((x : ℕ) → x < row_count (frame_at s.configuration) → AgreesInRow marks (state_of_pieces start end s) x)
+    pub agrees-consistent : ((x : ℕ) → x < row_count (frame_at s.configuration)
+        → AgreesInRow marks (state_of_pieces start end s) x)
         → IsConsistent (state_of_pieces start end s)
     agrees-consistent each = decided.1 (λ x j piece there none inside.
         let below = given-below given x piece there in
@@ -195,11 +196,13 @@ module _ (s : DecoderState) (is : IsDecoder default_rate s) (start end : ℕ)
         → shard_in_row (state_of_pieces start end s) (row_of (frame_at s.configuration) w) ≡ None
     wanted-missing (Original i) can =
         let t = state_of_pieces start end s in
-        given_at-own (frame_at s.configuration) s.configuration.original_count s.configuration.recovery_count t.originals t.recovery i
+        given_at-own (frame_at s.configuration) s.configuration.original_count s.configuration.recovery_count
+        t.originals t.recovery i
         can.0 ∙ ap (option_map (λ x. between start end x)) can.1
     wanted-missing (Recovery i) can =
         let t = state_of_pieces start end s in
-        given_at-coded (frame_at s.configuration) s.configuration.original_count s.configuration.recovery_count t.originals
+        given_at-coded (frame_at s.configuration) s.configuration.original_count s.configuration.recovery_count
+        t.originals
         t.recovery i (decoder_frame s is) can.0 ∙ ap (option_map (λ x. between start end x)) can.1
 
     -- The direct sum is the piece of a wanted shard.

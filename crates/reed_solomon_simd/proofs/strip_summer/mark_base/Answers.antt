@@ -109,7 +109,8 @@ loop-row-preserved g c =
 -- At the end of the loop, all received shards were counted, and they are enough.
 total : (g : Over) (c : After-loop-row g) → let s : DecoderState = g.P.Pieces.received c.args.received.now in
     (c.counts-counts.result.original_count ≤ c.loop-row.found)
-    × (c.loop-row.found ≡ originals_given s + recovery_given s) × (c.loop-row.row ≡ row_count (frame_at s.configuration))
+    × (c.loop-row.found ≡ originals_given s + recovery_given s)
+    × (c.loop-row.row ≡ row_count (frame_at s.configuration))
     × (c.row_count-row_count.result ≡ row_count (frame_at s.configuration))
 total g c =
     let s : DecoderState = g.P.Pieces.received c.args.received.now in

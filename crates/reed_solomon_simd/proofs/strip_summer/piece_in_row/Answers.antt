@@ -46,7 +46,8 @@ returns g c =
     let counts = c.counts-counts.result in
     let same = frame_same s c.requires.set_up counts.framed
     c.counts-counts.ensures.originals c.counts-counts.ensures.recovery in
-    sym (given_at-other (frame_at s.configuration) s.configuration.original_count s.configuration.recovery_count t.originals
+    sym (given_at-other (frame_at s.configuration) s.configuration.original_count s.configuration.recovery_count
+    t.originals
     t.recovery c.args.row
     (outside-same c.args.row _ (frame_at s.configuration).originals_from _ s.configuration.original_count
     (ap (λ p. p.originals_from) same) c.counts-counts.ensures.originals c.in_default.ensures)
