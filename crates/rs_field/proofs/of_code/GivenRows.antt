@@ -260,7 +260,7 @@ module _ {s : DecoderState} (g : AreGiven s) where
             coded.1,
             coded.2,
             sym (ap (shard_in_row s) coded.2 ∙ given_at-coded f k r s.originals s.recovery coded.0 distinct coded.1)
-            ∙ is,
+                ∙ is,
           )
           | inr neither ↦
               absurd (none-some shard (sym (given_at-other f k r s.originals s.recovery x neither.0 neither.1) ∙ is))
