@@ -7,5 +7,6 @@ mod AloneLemmas
 mod RoomFaults
 mod CutLemmas
 mod LostLemmas
+mod AddedInOrder
 mod MarkedState
 mod RestoredBuffer

@@ -23,8 +23,8 @@ use Rattle.rs_field.specs.code.Frame.{decoder_rows}
 use Rattle.rs_field.proofs.of_code.Given.{count_below-zero, count_below-suc}
 use Rattle.rs_rate.specs.objects.Giving.{IsDecoding}
 use Rattle.reed_solomon_simd.proofs.SetUp.{started-parts}
-use Rattle.reed_solomon_simd.proofs.StripDecodeLemmas.{first, first-none, first-all, first-skipped, original-taken}
-use Rattle.reed_solomon_simd.proofs.StripDecodeLemmas.{recovery-taken}
+use Rattle.reed_solomon_simd.proofs.StripDecodeLemmas.{first, first-none, first-skipped}
+use Rattle.rs_calls.proofs.AddedInOrder.{all_first, next_taken}
 use Rattle.rs_calls.specs.declared.marked_buffers.MarkedBuffers.{MarkedBuffers}
 use Rattle.rs_calls.specs.MarkedState.{state_in}
 use Rattle.rs_calls.specs.Buffers.{lost_indexes, marked_shards, marked_map, marked_state, shard_place}
@@ -228,12 +228,11 @@ module _ (k r size : ℕ) (own originals other recovery : List ℕ) (own_number 
       ∙ marked-added (λ (g : Shards). record zero_state { originals = g })
       (λ s item. with_original s item.0 item.1) size own_map k
       (λ n shard found sized inside.
-      original-taken zero_state
-      (record zero_state { originals = first n own_map }) n own_map shard found sized refl inside)
+      next_taken k size n own_map shard _ _ _ (λ (g : Shards). record zero_state { originals = g }) inside found sized)
       0 own originals (own_whole ∙ ap (λ (n : ℕ). n * size) (sym own_number)) (omega (arith, own_number))
       (λ j inside. ap own_map (let e : 0 + j ≡ j = omega arith in e))
       ∙ ap (λ (g : Shards). Ok (record zero_state { originals = g }))
-      (first-all (0 + length own) own_map
+      (all_first (0 + length own) own_map
       (λ i past. map-lost size own originals i (get_or_past own i 0 (omega (arith, past))))) in
       let two : with_recoveries half (marked_shards 0 size other recovery)
       ≡ Ok (marked_state k r size own originals other recovery) =
@@ -242,11 +241,11 @@ module _ (k r size : ℕ) (own originals other recovery : List ℕ) (own_number 
       ∙ marked-added (λ (g : Shards). record half { recovery = g })
       (λ s item. with_recovery s item.0 item.1) size other_map r
       (λ n shard found sized inside.
-      recovery-taken half (record half { recovery = first n other_map }) n other_map shard found sized refl inside)
+      next_taken r size n other_map shard _ _ _ (λ (g : Shards). record half { recovery = g }) inside found sized)
       0 other recovery (other_whole ∙ ap (λ (n : ℕ). n * size) (sym other_number)) (omega (arith, other_number))
       (λ j inside. ap other_map (let e : 0 + j ≡ j = omega arith in e))
       ∙ ap (λ (g : Shards). Ok (record half { recovery = g }))
-      (first-all (0 + length other) other_map
+      (all_first (0 + length other) other_map
       (λ i past. map-lost size other recovery i (get_or_past other i 0 (omega (arith, past))))) in
       ap (result_and_then (λ now. with_recoveries now (marked_shards 0 size other recovery))) one ∙ two
 
