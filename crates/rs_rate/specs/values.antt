@@ -2,4 +2,5 @@
 pub mod ChunkCounts
 pub mod Configured
 pub mod SetUp
+pub mod RowCounts
 pub mod SumCosts

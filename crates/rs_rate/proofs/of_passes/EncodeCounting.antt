@@ -12,7 +12,7 @@ use Rattle.rs_field.proofs.of_words.Counting.{counts_then, counts_within}
 use Rattle.rs_rate.specs.passes.Coding.{further_blocks}
 use Rattle.rs_rate.specs.values.Configured.{low_or_high}
 use Rattle.rs_rate.proofs.of_values.HighCounts.{rows-fit}
-use Rattle.rs_rate.specs.rows.RowsLaws.{encoder_rows_alike}
+use Rattle.rs_rate.specs.values.RowCounts.{encoder_rows_alike}
 use Rattle.rs_rate.proofs.of_values.RateLemmas.{chooses, chosen, block-is, block_alike}
 
 -- If the bounds of two calls add up to at most a bound, both calls together are within it.

@@ -1,7 +1,7 @@
 -- The shards in the rows of a decoder, and the originals and the recovery shards among them.
 use Rattle.std.proofs.Common.{◌≡◌, ◌≢◌, ℕ, ◌+◌, ◌<◌, ◌≤◌, Bool, true, false, List, cond, refl, sym, ap, ap₂, ◌∙◌}
 use Rattle.std.proofs.Common.{arith, inl, inr}
-use Rattle.std.specs.Prelude.{Some, None, is_some}
+use Rattle.std.specs.Prelude.{Some, None, is_some, unwrap_or}
 use Rattle.std.proofs.lemmas.Bool.{cases_lt, lt-ltb, le-ltb}
 use Rattle.std.proofs.lemmas.Option.{none-some}
 use mathlib.Core.Path.{fun_ext}
@@ -38,6 +38,13 @@ pub marked-at : (marks : List Bool) (shards : ℕ → Shard) (p : ℕ) (b : Bool
     → marked_shards marks shards p ≡ cond b (Some (shards p)) None
 marked-at marks shards p b is = ap (λ c. cond c (Some (shards p)) None) is
 
+-- If a row holds a shard, the row is marked, and the shard is the one that belongs to the row.
+pub marked-some : (marks : List Bool) (shards : ℕ → Shard) (p : ℕ) (shard : Shard)
+    → marked_shards marks shards p ≡ Some shard → (is_marked marks p ≡ true) × (shards p ≡ shard)
+marked-some marks shards p shard is =
+    let mark = sym (some-marked marks shards p) ∙ ap is_some is in
+    (mark, ap (λ o. unwrap_or o shard) (sym (marked-at marks shards p true mark) ∙ is))
+
 -- Rows without marks hold no shards.
 pub none-marked : (marks : List Bool) (shards : ℕ → Shard) → ((p : ℕ) → is_marked marks p ≡ false)
     → (p : ℕ) → marked_shards marks shards p ≡ None
@@ -68,6 +75,21 @@ part-in rows from n i inside = rw (lt-ltb i n inside) refl
 pub part-out : (rows : Shards) (from n i : ℕ) → n ≤ i → part rows from n i ≡ None
 unfolding part
 part-out rows from n i outside = rw (le-ltb i n outside) refl
+
+-- A shard in a part of the rows has an index below the count, and is in its row.
+pub part-some : (rows : Shards) (from n i : ℕ) (shard : Shard) → part rows from n i ≡ Some shard
+    → (i < n) × (rows (from + i) ≡ Some shard)
+part-some rows from n i shard is =
+    elim (cases_lt i n) [
+      | inl inside ↦ (inside, sym (part-in rows from n i inside) ∙ is)
+      | inr outside ↦ absurd (none-some shard (sym (part-out rows from n i outside) ∙ is))
+    ]
+
+-- A part of the rows holds a shard at an index below the count exactly if the row of the index is marked.
+pub part-marked : (marks : List Bool) (shards : ℕ → Shard) (from n i : ℕ) → i < n
+    → is_some (part (marked_shards marks shards) from n i) ≡ is_marked marks (from + i)
+part-marked marks shards from n i inside =
+    ap is_some (part-in (marked_shards marks shards) from n i inside) ∙ some-marked marks shards (from + i)
 
 -- Maps that are equal in the rows of a part have equal parts.
 part-kept : (one other : Shards) (from n : ℕ) → ((i : ℕ) → i < n → one (from + i) ≡ other (from + i))

@@ -10,17 +10,13 @@ use Rattle.rs_field.specs.rows.Rows.{Chunks, chunk}
 use Rattle.rs_field.specs.rows.Layout.{row_len, laid_out, in_order}
 use Rattle.rs_field.specs.words.UpTo.{up_to}
 use Rattle.rs_field.specs.code.Column.{Shard, IsShard, column}
-pub use Rattle.rs_rate.specs.rows.RowsLaws.{chunk_count-size}
+pub use Rattle.rs_rate.specs.values.RowCounts.{chunk_count-size}
 use Rattle.rs_rate.specs.values.ChunkCounts.{chunk_count}
 use Rattle.rs_rate.specs.rows.ShardRows.{row_chunk, shard_laid_out, shard_in_order, word_in}
 use Rattle.rs_field.proofs.of_rows.Symbols.{byte_fits}
 use Rattle.rs_field.proofs.of_rows.LayoutLemmas.{laid_out-same, in_order-same, column-laid_out}
 use Rattle.rs_field.proofs.of_words.UpTo.{up_to-same}
 use Rattle.rs_field.proofs.of_rows.RowOffsets.{offset_apart}
-
-pub chunk_count-is : (rows size : ℕ) → chunk_count rows size ≡ rows * row_len size
-unfolding chunk_count
-chunk_count-is rows size = refl
 
 pub chunk_count-more : (m n size : ℕ) → m ≤ n → chunk_count m size ≤ chunk_count n size
 unfolding chunk_count

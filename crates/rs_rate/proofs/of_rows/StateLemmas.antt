@@ -1,7 +1,7 @@
 -- Outcomes of setting up an encoder and of the calls on it.
 use Rattle.std.proofs.Common.{◌≡◌, ℕ, ◌<◌, ◌≤◌, ◌*◌, ◌^◌, ◌%◌, ◌++◌, ◌∷◌, [], length, refl, sym, ap, ap₂, ◌∙◌, subst}
 use Rattle.std.proofs.Common.{Bool, true, false, cond}
-use Rattle.std.specs.Prelude.{nat_le, Result, Ok, Err, OnOk, OnErr, not, ◌||◌, ◌==◌, List, nat_lt, is_ok, IsOkAnd}
+use Rattle.std.specs.Prelude.{Result, Ok, Err, OnOk, OnErr, not, ◌||◌, ◌==◌, List, nat_lt, is_ok, IsOkAnd}
 use Rattle.std.specs.Prelude.{MatchResult}
 use Rattle.std.proofs.lemmas.Bool.{lt-leb, eq-eqb, ltb-false}
 use Rattle.rs_field.specs.declared.code.error.Error.{Error}
@@ -9,8 +9,8 @@ use Rattle.rs_field.specs.declared.code.error.Error.TheVariants.{OutOfMemory, Un
 use Rattle.rs_field.specs.declared.code.error.Error.TheVariants.{TooFewOriginalShards}
 use Rattle.rs_field.specs.code.Column.{Shard}
 use Rattle.rs_field.specs.code.Counts.{Rate, supports}
-use Rattle.rs_field.specs.code.Outcome.{answer_of, state_after, result_and_then}
-use Rattle.rs_field.specs.code.Configuration.{Configuration as AsDefined, validation_outcome, bytes_of_rows}
+use Rattle.rs_field.specs.code.Outcome.{answer_of, state_after}
+use Rattle.rs_field.specs.code.Configuration.{Configuration as AsDefined, validation_outcome}
 use Rattle.rs_field.specs.code.Configuration.{start_outcome}
 use Rattle.rs_field.specs.code.Encoder.{EncoderState, fresh_encoder, with_shard, message_of, EncodeAnswers}
 use Rattle.rs_field.specs.code.Encoder.{after_encode}
@@ -22,6 +22,7 @@ use Rattle.rs_rate.specs.values.Configured.{configuration_at}
 use Rattle.rs_rate.specs.rows.EncoderView.{encoder_state}
 use Rattle.rs_rate.specs.values.ChunkCounts.{memory_outcome, chunk_count}
 use Rattle.rs_rate.specs.rows.ShardRows.{shard_laid_out}
+use Rattle.rs_rate.proofs.of_values.ConfiguredLemmas.{start_outcome-by}
 
 -- If an encoder has room, a shard of the size is added.
 pub with_shard-added : (s : EncoderState) (shard : Shard) → length s.given < s.configuration.original_count
@@ -33,14 +34,6 @@ with_shard-added s shard room same =
       eq-eqb
           (length shard) s.configuration.shard_bytes same,
     ) refl
-
--- The outcome of setting up a valid configuration is the outcome of allocating its chunks.
-pub start_outcome-by : (rows : ℕ) (c : AsDefined) (chunks : ℕ) → validation_outcome c ≡ Ok tt
-    → chunks ≡ chunk_count rows c.shard_bytes → start_outcome rows c ≡ memory_outcome chunks
-unfolding chunk_count
-start_outcome-by rows c chunks valid is =
-    ap (result_and_then (λ _. cond (nat_le (2 ^ 64) (bytes_of_rows rows c.shard_bytes)) (Err OutOfMemory) (Ok tt)))
-    valid ∙ ap memory_outcome (sym is)
 
 -- If the size of chunks in bytes fits a `usize`, the outcome of allocating them is a success.
 memory_outcome-fits : (chunks : ℕ) → chunks * 64 < 2 ^ 64 → memory_outcome chunks ≡ Ok tt

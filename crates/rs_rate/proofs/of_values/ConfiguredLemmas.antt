@@ -1,23 +1,24 @@
 -- Facts about the configuration of an object that was set up: it uses the low or the high rate, and its rows and its
 -- frame have room for its shards.
 use Rattle.std.proofs.Common.{◌^◌, ◌≡◌, ℕ, ◌+◌, ◌%◌, ◌<◌, ◌≤◌, Bool, true, false, refl, sym, ap, ◌∙◌, subst, arith}
-use Rattle.std.specs.Prelude.{cond, Result, Ok, Err, OnOk, OnErr, if◌then◌else◌}
+use Rattle.std.specs.Prelude.{cond, nat_le, Result, Ok, Err, OnOk, OnErr, if◌then◌else◌}
 use Rattle.rs_field.specs.declared.code.error.Error.{Error}
+use Rattle.rs_field.specs.declared.code.error.Error.TheVariants.{OutOfMemory}
 use Rattle.rs_field.specs.declared.code.frame.Frame.{Frame}
-use Rattle.rs_field.specs.code.Configuration.{Configuration as AsDefined, configuration, validation_outcome}
-use Rattle.rs_field.specs.code.Configuration.{start_outcome}
+use Rattle.rs_field.specs.code.Configuration.{Configuration as AsDefined, validation_outcome, start_outcome}
+use Rattle.rs_field.specs.code.Configuration.{bytes_of_rows}
 use Rattle.rs_field.specs.code.Counts.{Rate, next_power, supports}
-use Rattle.rs_field.specs.code.Frame.{encoder_rows, frame_of, next_multiple, row_count}
+use Rattle.rs_field.specs.code.Outcome.{result_and_then}
+use Rattle.rs_field.specs.code.Frame.{encoder_rows, frame_of, frame_at, next_multiple, row_count}
 use Rattle.rs_field.proofs.of_code.Frame.{HasDistinctRows}
 use Rattle.rs_field.proofs.of_code.RateFrames.{distinct_rows}
 use Rattle.rs_rate.specs.declared.values.configuration.Configuration.{Configuration}
-use Rattle.rs_rate.specs.values.Configured.{configuration_at, rate_configuration, low_or_high, block_of, rows_to_encode}
+use Rattle.rs_rate.specs.values.Configured.{with_frame, low_or_high, block_of, rows_to_encode}
 use Rattle.rs_rate.specs.values.Configured.{rate_of, IsConfigured}
 use Rattle.rs_rate.specs.values.ChunkCounts.{memory_outcome, chunk_count}
-use Rattle.rs_rate.specs.values.SetUp.{IsSetUp, rows_of}
+use Rattle.rs_rate.specs.values.SetUp.{IsSetUp, IsMadeFor, rows_of}
 use Rattle.rs_rate.proofs.of_values.HighCounts.{rows-fit}
 use Rattle.rs_rate.proofs.of_values.PowerLemmas.{next_multiple-by}
-use Rattle.rs_rate.proofs.of_rows.StateLemmas.{start_outcome-by}
 use Rattle.rs_rate.proofs.of_values.RateLemmas.{chooses, chosen, frame_block-is, frame_alike, frame-low}
 
 -- An encoder has rows for its originals and for its recovery shards.
@@ -27,15 +28,17 @@ coded-fit true k r is = let rows = rows-fit true k r is in (omega (arith, rows.b
 coded-fit false k r is = let rows = rows-fit false k r is in (rows.enough, omega (arith, rows.block, rows.some))
 
 -- The configuration of a rate, for supported counts and a positive even size, is valid.
-pub rate_configuration-is : (rate : Rate) (k r size : ℕ) → supports rate k r ≡ true → 0 < size → size % 2 ≡ 0
-    → IsConfigured (rate_configuration rate k r size)
-rate_configuration-is rate k r size is some even =
-    let low = (frame_of rate k r).is_low in
-    let supported = chosen rate k r (frame_of rate k r).is_low is (sym (frame-low rate k r)) in
-    let framed = frame_alike rate (low_or_high (frame_of rate k r).is_low) k r
-    (sym (frame-low rate k r) ∙ sym (chooses (frame_of rate k r).is_low k r)) in
+pub with_frame-is : (asked : AsDefined) → supports asked.rate asked.original_count asked.recovery_count ≡ true
+    → 0 < asked.shard_bytes → asked.shard_bytes % 2 ≡ 0 → IsConfigured (with_frame asked)
+with_frame-is asked is some even =
+    let rate = asked.rate in
+    let k = asked.original_count in
+    let r = asked.recovery_count in
+    let low = (frame_at asked).is_low in
+    let supported = chosen rate k r low is (sym (frame-low rate k r)) in
+    let framed = frame_alike rate (low_or_high low) k r (sym (frame-low rate k r) ∙ sym (chooses low k r)) in
     let places = distinct_rows rate k r is in
-    let fit = coded-fit (frame_of rate k r).is_low k r supported in
+    let fit = coded-fit low k r supported in
     record {
       positive = some;
       even = even;
@@ -85,29 +88,33 @@ blocks-known {c} {low} is choice =
           ∙ ap (λ (b : Bool). encoder_rows (low_or_high b) c.original_count c.recovery_count) (sym choice);
     }
 
--- What `rate_configuration` guarantees about a configuration, for a given number of rows.
-pub record IsAsked (row_count : Rate → ℕ → ℕ → ℕ) (rate : Rate) (k r size : ℕ) (c : Configuration) : Type 0 where
-  pub own : configuration_at rate c ≡ configuration rate k r size
-  pub count : rows_of row_count c ≡ row_count rate k r
-  pub bytes : c.shard_bytes ≡ size
-  pub answer : start_outcome (row_count rate k r) (configuration rate k r size)
-      ≡ memory_outcome (chunk_count (row_count rate k r) size)
+-- The outcome of setting up a valid configuration is the outcome of allocating its chunks.
+pub start_outcome-by : (rows : ℕ) (c : AsDefined) (chunks : ℕ) → validation_outcome c ≡ Ok tt
+    → chunks ≡ chunk_count rows c.shard_bytes → start_outcome rows c ≡ memory_outcome chunks
+unfolding chunk_count
+start_outcome-by rows c chunks valid is =
+    ap (result_and_then (λ _. cond (nat_le (2 ^ 64) (bytes_of_rows rows c.shard_bytes)) (Err OutOfMemory) (Ok tt)))
+    valid ∙ ap memory_outcome (sym is)
 
-pub is_asked : (row_count : Rate → ℕ → ℕ → ℕ)
+-- The rows of a configuration that was made, and the outcome of allocating them, are those of the configuration that
+-- was asked for.
+pub record HasAskedRows (row_count : Rate → ℕ → ℕ → ℕ) (asked : AsDefined) (c : Configuration) : Type 0 where
+  pub count : rows_of row_count c ≡ row_count asked.rate asked.original_count asked.recovery_count
+  pub bytes : c.shard_bytes ≡ asked.shard_bytes
+  pub answer : start_outcome (row_count asked.rate asked.original_count asked.recovery_count) asked
+      ≡ memory_outcome (chunk_count (row_count asked.rate asked.original_count asked.recovery_count) asked.shard_bytes)
+
+pub asked_rows : (row_count : Rate → ℕ → ℕ → ℕ)
     → ((rate : Rate) (c : Configuration) → IsSetUp rate c
     → rows_of row_count c ≡ row_count rate c.original_count c.recovery_count)
-    → (rate : Rate) (k r size : ℕ) (c : Configuration) → (c ≡ rate_configuration rate k r size) × IsSetUp rate c
-    → IsAsked row_count rate k r size c
-is_asked row_count rows rate k r size c (same, is) =
-    let own = ap (configuration_at rate) same in
-    record {
-      own = own;
-      count = rows rate c is ∙ ap (λ (x : AsDefined). row_count rate x.original_count x.recovery_count) own;
-      bytes = ap (λ (x : AsDefined). x.shard_bytes) own;
-      answer = start_outcome-by (row_count rate k r) (configuration rate k r size)
-          (chunk_count (row_count rate k r) size)
-          (subst (λ (x : AsDefined). validation_outcome x ≡ Ok tt) own is.valid) refl;
-    }
+    → {asked : AsDefined} {c : Configuration} → IsMadeFor asked c → HasAskedRows row_count asked c
+asked_rows row_count rows {asked} {c} made = record {
+  count = rows asked.rate c made.set_up
+      ∙ ap (λ (x : AsDefined). row_count asked.rate x.original_count x.recovery_count) made.same;
+  bytes = ap (λ (x : AsDefined). x.shard_bytes) made.same;
+  answer = start_outcome-by (row_count asked.rate asked.original_count asked.recovery_count) asked _
+      (subst (λ (x : AsDefined). validation_outcome x ≡ Ok tt) made.same made.set_up.valid) refl;
+}
 
 -- A property that holds after a success and after an error always holds.
 pub either_way : {Made Kept P : Type 0} (result : Result (Unit {0}) Error) → OnOk result Made → OnErr result Kept

@@ -14,7 +14,7 @@ use Rattle.rs_field.specs.code.Frame.{encoder_rows, decoder_rows}
 use Rattle.rs_field.proofs.of_words.UpTo.{length-up_to, get-up_to}
 use Rattle.rs_rate.specs.declared.rows.encoder_work.EncoderRows.{EncoderRows}
 use Rattle.rs_rate.specs.declared.rows.decoder_work.DecoderRows.{DecoderRows}
-use Rattle.rs_rate.specs.rows.RowsLaws.{encoder_rows_set_up, decoder_rows_set_up}
+use Rattle.rs_rate.specs.values.RowCounts.{encoder_rows_set_up, decoder_rows_set_up}
 use Rattle.rs_rate.specs.rows.EncoderView.{encoder_state}
 use Rattle.rs_rate.specs.rows.DecoderRoom.{HasRoom, memory_room}
 use Rattle.rs_rate.specs.rows.DecoderView.{decoder_state}

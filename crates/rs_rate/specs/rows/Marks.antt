@@ -65,13 +65,17 @@ mark_room marks = vec_capacity marks.rows
 abbrev pub AreSameMarks : Marks → Marks → Type 0
 AreSameMarks old new = (new.rows.items ≡ old.rows.items) × (new.shards ≡ old.shards)
 
+-- the new marks mark exactly the originals' rows that the old marks do not mark
+abbrev pub AreMissing : Configuration → List Bool → List Bool → Type 0
+AreMissing c old new =
+    (i : ℕ) → i < c.original_count
+    → is_marked new (original_row c.frame i) ≡ not (is_marked old (original_row c.frame i))
+
 -- the new marks are those of restored originals: they mark exactly the originals' rows that the old marks do not mark
 -- as given
 pub record WantsMissing (c : Configuration) (old new : Marks) : Type 0 where
   pub shards : new.shards ≡ Restored
-  pub missing : (i : ℕ) → i < c.original_count
-      → is_marked (restored_marks new) (original_row c.frame i)
-      ≡ not (is_marked (given_marks old) (original_row c.frame i))
+  pub missing : AreMissing c (given_marks old) (restored_marks new)
   pub others : (p : ℕ) → (p < c.frame.originals_from) ⊎ (original_row c.frame c.original_count ≤ p)
       → is_marked (restored_marks new) p ≡ false
   pub length : mark_count new ≡ mark_count old

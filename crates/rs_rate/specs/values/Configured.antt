@@ -2,7 +2,7 @@
 use Rattle.std.specs.Prelude.{◌≡◌, ◌≤◌, ◌%◌, ◌<◌, ℕ, Bool, true, if◌then◌else◌, Option, Some, None}
 use Rattle.rs_field.specs.code.Counts.{Rate, low_rate, high_rate, supports}
 use Rattle.rs_field.specs.code.Configuration.{Configuration as AsDefined, configuration}
-use Rattle.rs_field.specs.code.Frame.{frame_of, row_count, original_row, recovery_row, encoder_rows, decoder_rows}
+use Rattle.rs_field.specs.code.Frame.{frame_of, frame_at, row_count, original_row, recovery_row, encoder_rows, decoder_rows}
 use Rattle.rs_field.specs.declared.code.frame.Frame.{Frame}
 use Rattle.rs_rate.specs.declared.values.configuration.Configuration.{Configuration}
 
@@ -14,10 +14,14 @@ frame_if rate k r = if supports rate k r then Some (frame_of rate k r) else None
 abbrev pub configuration_at : Rate → Configuration → AsDefined
 configuration_at rate c = configuration rate c.original_count c.recovery_count c.shard_bytes
 
--- the configuration of a rate for these counts and this size
-abbrev pub rate_configuration : Rate → ℕ → ℕ → ℕ → Configuration
-rate_configuration rate k r size =
-    record { original_count = k; recovery_count = r; shard_bytes = size; frame = frame_of rate k r }
+-- a configuration together with the frame of its rate for its counts
+abbrev pub with_frame : AsDefined → Configuration
+with_frame asked = record {
+  original_count = asked.original_count;
+  recovery_count = asked.recovery_count;
+  shard_bytes = asked.shard_bytes;
+  frame = frame_at asked;
+}
 
 -- the low rate or the high rate
 abbrev pub low_or_high : Bool → Rate

@@ -247,7 +247,8 @@ impl ObjectRows for DecoderRows {
     ghost use Rattle.std.proofs.Common.{le_refl};
     ghost use Rattle.rs_field.specs.code.Decoder.{DecoderState};
     ghost use Rattle.rs_field.specs.code.Frame.{decoder_rows};
-    ghost use Rattle.rs_rate.specs.rows.RowsLaws.{some_anyway, decoder_rows_set_up, room_within};
+    ghost use Rattle.rs_rate.specs.rows.RowsLaws.{some_anyway, room_within};
+    ghost use Rattle.rs_rate.specs.values.RowCounts.{decoder_rows_set_up};
     ghost use Rattle.rs_rate.specs.rows.DecoderRoom.{DecoderRoom, HasRoom, Grows, memory_room, work_room};
     ghost use Rattle.rs_rate.specs.rows.DecoderView.{decoder_state};
 

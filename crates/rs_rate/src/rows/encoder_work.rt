@@ -70,7 +70,8 @@ impl ObjectRows for EncoderRows {
     ghost use Rattle.std.proofs.Common.{le_refl, refl};
     ghost use Rattle.rs_field.specs.code.Encoder.{EncoderState};
     ghost use Rattle.rs_field.specs.code.Frame.{encoder_rows};
-    ghost use Rattle.rs_rate.specs.rows.RowsLaws.{some_anyway, encoder_rows_set_up, chunks_within};
+    ghost use Rattle.rs_rate.specs.rows.RowsLaws.{some_anyway};
+    ghost use Rattle.rs_rate.specs.values.RowCounts.{encoder_rows_set_up, chunks_within};
     ghost use Rattle.rs_rate.specs.rows.EncoderView.{encoder_state, work_room};
 
     type Work = Option<EncoderWork>;

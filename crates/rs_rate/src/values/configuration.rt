@@ -2,8 +2,8 @@
 ghost use Rattle.std.specs.Prelude.{◌≡◌, ◌*◌, ◌^◌, ◌<◌, ◌≤◌, Err, MatchResult};
 ghost use Rattle.rs_field.specs.code.Configuration.{configuration, validation_outcome, start_outcome};
 ghost use Rattle.rs_field.specs.code.Frame.{encoder_rows, decoder_rows};
-ghost use Rattle.rs_rate.specs.values.Configured.{rate_configuration, IsConfigured, block_of, rows_to_encode};
-ghost use Rattle.rs_rate.specs.values.SetUp.{IsSetUp};
+ghost use Rattle.rs_rate.specs.values.Configured.{IsConfigured, block_of, rows_to_encode};
+ghost use Rattle.rs_rate.specs.values.SetUp.{IsMadeFor};
 ghost use Rattle.rs_rate.specs.values.ChunkCounts.{chunk_count};
 
 use crate::values::frames::next_multiple_of_power;
@@ -44,13 +44,9 @@ impl Configuration {
         counts: SupportedCounts<C>,
         shard_bytes: usize,
     ) -> Result<Configuration, Error>
-        ensures { MatchResult result
-            (λ c.
-            (c ≡ rate_configuration C.rate counts.original_count counts.recovery_count shard_bytes)
-            × IsSetUp C.rate c)
-            (λ e. validation_outcome
-            (configuration C.rate counts.original_count counts.recovery_count shard_bytes)
-            ≡ Err e) }
+        ensures { let asked =
+            configuration C.rate counts.original_count counts.recovery_count shard_bytes in
+            MatchResult result (IsMadeFor asked) (λ e. validation_outcome asked ≡ Err e) }
     {
         if shard_bytes == 0 || shard_bytes % 2 == 1 {
             return Err(Error::InvalidShardSize { shard_bytes });
@@ -71,11 +67,8 @@ impl Configuration {
         recovery_count: usize,
         shard_bytes: usize,
     ) -> Result<Configuration, Error>
-        ensures { MatchResult result
-            (λ c. (c ≡ rate_configuration C.rate original_count recovery_count shard_bytes)
-            × IsSetUp C.rate c)
-            (λ e. validation_outcome
-            (configuration C.rate original_count recovery_count shard_bytes) ≡ Err e) }
+        ensures { let asked = configuration C.rate original_count recovery_count shard_bytes in
+            MatchResult result (IsMadeFor asked) (λ e. validation_outcome asked ≡ Err e) }
     {
         let counts = SupportedCounts::<C>::new(original_count, recovery_count)?;
         Configuration::new(counts, shard_bytes)

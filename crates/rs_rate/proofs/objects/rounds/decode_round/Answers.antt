@@ -5,7 +5,7 @@ use Rattle.rs_rate.specs.rows.DecoderView.{decoder_state, restored_by_rows}
 use Rattle.rs_rate.proofs.of_rows.DecoderRows.{enough-least, after_decode-refused, after_decode-made}
 use Rattle.rs_rate.proofs.of_rows.DecoderRows.{decode_answers-refused}
 use Rattle.rs_rate.proofs.of_rows.DecoderRows.{decode_answers-made}
-use Rattle.rs_rate.specs.rows.RowsLaws.{decoder_rows_set_up}
+use Rattle.rs_rate.specs.values.RowCounts.{decoder_rows_set_up}
 use Rattle.rs_rate.proofs.objects.rounds.decode_round.Goals as goal
 
 pub returns-in_err-check_enough_given-clause-answer : goal.returns-in_err-check_enough_given-clause-answer

@@ -3,16 +3,17 @@ use Rattle.std.proofs.Math.Nat.{sub-zero}
 use Rattle.std.specs.Prelude.{Ok}
 use Rattle.std.proofs.lemmas.Bool.{cases_eq}
 use Rattle.rs_field.specs.code.Frame.{original_row}
-use Rattle.rs_rate.specs.values.Configured.{rows_to_decode}
+use Rattle.rs_rate.specs.values.Configured.{configuration_at, rows_to_decode}
 use Rattle.rs_rate.specs.rows.DecoderRoom.{DecoderRoom, HasRoom}
 use Rattle.rs_rate.specs.passes.Decoding.{RestoresShards}
 use Rattle.rs_rate.specs.rows.Entering.{given_rows}
 use Rattle.rs_rate.proofs.of_passes.SumLemmas.{written-back}
 use Rattle.rs_rate.specs.rows.Marks.{given_marks, restored_marks, WantsMissing}
 use Rattle.rs_rate.specs.rows.ShardRows.{shard_laid_out}
-use Rattle.rs_rate.proofs.of_passes.DecodedColumns.{GivenRows}
+use Rattle.rs_rate.proofs.of_passes.DecodedColumns.{FilledRows, LeftRows}
 use Rattle.rs_rate.proofs.of_passes.DecodeAnswer.{AnswersOver, decode_answers, complete_answers, told_answer}
 use Rattle.rs_rate.proofs.of_rows.ResultLemmas.{length-restored}
+use Rattle.rs_rate.proofs.of_rows.StateLemmas.{valid-supported}
 use Rattle.rs_rate.proofs.of_rows.RowMaps.{hold_nothing, none-marked, none_told, nothing-given}
 use Rattle.std.proofs.Common.{rules, List, length}
 use Rattle.std.specs.Vec.{with_items}
@@ -68,11 +69,10 @@ returns-clause-answer g c = λ rate is.
     let old = c.args.rows.now in
     let own = old.configuration in
     let before = old.memory.chunks.items in
-    let marks = restored_marks c.restore-agrees.new.marks in
     let new = c.restore-agrees.new in
     let now = written old.memory new.chunks new.marks new.entries in
-    let after = now.chunks.items in
-    let rows : GivenRows c.args.rows.now.configuration = record {
+    let rows : FilledRows rate c.args.rows.now.configuration = record {
+      supported = valid-supported (configuration_at rate own) is.valid;
       configured = old.configured;
       marks = given_marks old.memory.marks;
       chunks = before;
@@ -88,30 +88,31 @@ returns-clause-answer g c = λ rate is.
     let count = rw tally.configuration at c.row_count.ensures in
     let missing : WantsMissing c.args.rows.now.configuration c.args.rows.now.memory.marks
     c.restore-agrees.new.marks = rw tally.configuration at c.restore-agrees.ensures.marks in
-    let over : AnswersOver rate own rows marks after c.restore-agrees.result =
+    let left : LeftRows rows = record {
+      marks = restored_marks c.restore-agrees.new.marks;
+      chunks = now.chunks.items;
+      missing = missing.missing;
+    } in
+    let over : AnswersOver rows left c.restore-agrees.result =
     elim (cases_eq (c.tally-tally.result.missing + c.tally-tally.result.surplus) 0) [
       | inl none ↦
-          subst (λ b. AnswersOver rate own rows marks after b)
-          (sym (c.restore-agrees.ensures.nothing (omega arith) (omega arith)))
-          (complete_answers rate own is rows marks after
-          (omega (arith, none, tally.missing), omega (arith, none, tally.missing, tally.surplus)) missing.missing)
+          subst (AnswersOver rows left) (sym (c.restore-agrees.ensures.nothing (omega arith) (omega arith)))
+          (complete_answers left (omega (arith, none, tally.missing), omega (arith, none, tally.missing, tally.surplus)))
       | inr some ↦
           let made = subst
           (λ l. RestoresShards own (given_marks old.memory.marks) c.tally-tally.result.surplus before l
           c.restore-agrees.result) (sym same)
           (rw (tally.configuration, c.as_mut_slice-chunks.ensures.value) at
           (c.restore-agrees.ensures.restored (omega arith))) in
-          decode_answers rate own is rows marks c.tally-tally.result.surplus after c.restore-agrees.result
-          (record {
+          decode_answers is {left = left} {surplus = c.tally-tally.result.surplus} (record {
             counted = tally.surplus;
             restores = made;
-            marked = missing.missing;
             sized = λ i inside.
                 rw (tally.configuration, c.as_slice.ensures.value) at (c.rows_are_bytes.ensures.in_order
                 (original_row own.frame i) (omega (arith, inside, count, old.configured.own_rows)));
           })
     ] in
-    told_answer rate own rows marks after c.restore-agrees.result c.if-agrees.answer over
+    told_answer rows left c.restore-agrees.result c.if-agrees.answer over
     (λ yes. elim c.if-agrees.branch [
       | then-agrees w ↦ (c.tally-tally.result.missing, w.answer-is)
       | else-agrees w ↦ absurd (true≢false (sym yes ∙ w.if-agrees.false))

@@ -2,17 +2,16 @@ use Rattle.std.proofs.Common.{rules, ◌≡◌, ◌^◌, ℕ, Bool, cond, Ok, Er
 use Rattle.std.proofs.lemmas.Bool.{lt-leb, le-leb}
 use Rattle.rs_field.specs.declared.code.error.Error.TheVariants.{OutOfMemory}
 use Rattle.rs_field.specs.code.Frame.{decoder_rows}
-use Rattle.rs_rate.specs.rows.RowsLaws.{decoder_rows_set_up}
+use Rattle.rs_rate.specs.values.RowCounts.{decoder_rows_set_up}
 use Rattle.rs_rate.specs.values.ChunkCounts.{chunk_count, memory_outcome}
-use Rattle.rs_rate.proofs.of_values.ConfiguredLemmas.{is_asked}
+use Rattle.rs_rate.proofs.of_values.ConfiguredLemmas.{asked_rows}
 use Rattle.rs_rate.proofs.values.configuration.check_decoder_rows.Goals as goal
 
 pub returns-in_err-chunk_count : goal.returns-in_err-chunk_count
 returns-in_err-chunk_count g c =
     let made = c.in_ok-configuration.ensures in
-    let is = is_asked decoder_rows decoder_rows_set_up g.C.RateMarker.rate c.args.counts.original_count
-    c.args.counts.recovery_count c.args.shard_bytes c.in_ok-configuration.configuration made in
-    let rows = c.row_count.ensures ∙ made.1.configured.rows ∙ is.count in
+    let is = asked_rows decoder_rows decoder_rows_set_up made in
+    let rows = c.row_count.ensures ∙ made.set_up.configured.rows ∙ is.count in
     let led = is.answer ∙ ap (λ (n : ℕ). memory_outcome (chunk_count n c.args.shard_bytes)) (sym rows) in
     let refused : c.from_residual-in_err-chunk_count.result ≡ Err OutOfMemory = search rules in
     refused ∙ sym (led ∙ ap (λ (b : Bool). cond b (Err OutOfMemory) (Ok tt))
@@ -21,9 +20,8 @@ returns-in_err-chunk_count g c =
 pub returns : goal.returns
 returns g c =
     let made = c.in_ok-configuration.ensures in
-    let is = is_asked decoder_rows decoder_rows_set_up g.C.RateMarker.rate c.args.counts.original_count
-    c.args.counts.recovery_count c.args.shard_bytes c.in_ok-configuration.configuration made in
-    let rows = c.row_count.ensures ∙ made.1.configured.rows ∙ is.count in
+    let is = asked_rows decoder_rows decoder_rows_set_up made in
+    let rows = c.row_count.ensures ∙ made.set_up.configured.rows ∙ is.count in
     let led = is.answer ∙ ap (λ (n : ℕ). memory_outcome (chunk_count n c.args.shard_bytes)) (sym rows) in
     let n = c.in_ok-chunk_count.ensures.0 in
     sym (led ∙ ap (λ (b : Bool). cond b (Err OutOfMemory) (Ok tt))

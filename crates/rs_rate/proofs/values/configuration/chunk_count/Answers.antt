@@ -1,6 +1,11 @@
-use Rattle.std.proofs.Common.{◌*◌, ap, refl, arith}
-use Rattle.rs_rate.proofs.of_rows.ShardRowsLemmas.{chunk_count-is}
+use Rattle.std.proofs.Common.{◌≡◌, ℕ, ◌*◌, ap, refl, arith}
+use Rattle.rs_field.specs.rows.Layout.{row_len}
+use Rattle.rs_rate.specs.values.ChunkCounts.{chunk_count}
 use Rattle.rs_rate.proofs.values.configuration.chunk_count.Goals as goal
+
+chunk_count-is : (rows size : ℕ) → chunk_count rows size ≡ rows * row_len size
+unfolding chunk_count
+chunk_count-is rows size = refl
 
 pub returns-in_default : goal.returns-in_default
 returns-in_default c =

@@ -1,6 +1,6 @@
 use Rattle.std.proofs.Common.{ap₂, sym, ◌∙◌, refl}
 use Rattle.rs_rate.specs.values.SetUp.{IsSetUp}
-use Rattle.rs_rate.proofs.of_values.ConfiguredLemmas.{is_asked, either_way}
+use Rattle.rs_rate.proofs.of_values.ConfiguredLemmas.{asked_rows, either_way}
 use Rattle.rs_rate.proofs.of_rows.StateLemmas.{memory_outcome-made, on_ok-at, on_err-at}
 use Rattle.rs_rate.proofs.objects.rate_object.RateObject.set_up_anew.Goals as goal
 
@@ -9,14 +9,13 @@ returns-in_err-configuration-clause-grown g c = g.met.R.ObjectRows.grows_from_it
 
 pub returns : goal.returns
 returns g c =
-    let is = is_asked g.R.ObjectRows.row_count g.met.R.ObjectRows.rows_set_up g.C.RateMarker.rate _ _ _ _
-    c.in_ok-configuration.ensures in
+    let is = asked_rows g.R.ObjectRows.row_count g.met.R.ObjectRows.rows_set_up c.in_ok-configuration.ensures in
     let old = c.args.self.now in
     let own = g.R.ObjectRows.configuration_of old.rows in
     let roomy = rw (is.count, is.bytes, ← is.answer) at c.reset.ensures.roomy in
     record {
       answer = rw (is.count, is.bytes, ← is.answer) at c.reset.ensures.answer;
-      ok = rw (← is.own) (on_ok-at g.C.RateMarker.rate c.reset.result _ c.reset.ensures.ok);
+      ok = rw (← c.in_ok-configuration.ensures.same) (on_ok-at g.C.RateMarker.rate c.reset.result _ c.reset.ensures.ok);
       err = on_err-at g.C.RateMarker.rate c.reset.result _ c.reset.ensures.err;
       roomy = roomy;
       own = λ within.
@@ -32,5 +31,5 @@ pub invariant_of-self : goal.invariant_of-self
 invariant_of-self g c =
     let own : IsSetUp g.C.RateMarker.rate (g.R.ObjectRows.configuration_of c.reset.new.self) =
     either_way c.reset.result c.reset.ensures.configuration c.reset.ensures.kept
-    (λ same. rw same c.in_ok-configuration.ensures.1) (λ kept. rw kept c.args.self.now.set_up) in
+    (λ same. rw same c.in_ok-configuration.ensures.set_up) (λ kept. rw kept c.args.self.now.set_up) in
     record { set_up = own }

@@ -5,7 +5,6 @@ use Rattle.rs_rate.specs.values.Configured.{rate_of}
 use Rattle.rs_rate.specs.rows.Entering.{given_rows}
 use Rattle.rs_rate.specs.rows.Marks.{given_marks, originals_in}
 use Rattle.rs_rate.specs.rows.ShardRows.{shard_laid_out}
-use Rattle.rs_rate.proofs.of_passes.DecodedColumns.{given-marked}
 use Rattle.rs_rate.proofs.of_values.FrameLemmas.{supported-in_field}
 use Rattle.rs_field.specs.code.Column.{Shard}
 use Rattle.rs_field.specs.code.Frame.{original_row}
@@ -13,7 +12,7 @@ use Rattle.rs_field.specs.rows.MarkedRows.{is_marked}
 use Rattle.rs_rate.specs.values.Configured.{rows_to_decode}
 use Rattle.rs_rate.proofs.of_values.ConfiguredLemmas.{places-known}
 use Rattle.rs_rate.proofs.of_rows.HowMany.{how_many-same, how_many-not, many_originals, many_rows}
-use Rattle.rs_rate.proofs.of_rows.RowMaps.{given_if_some, hold-most, some-marked}
+use Rattle.rs_rate.proofs.of_rows.RowMaps.{given_if_some, hold-most, some-marked, part-marked}
 use Rattle.rs_rate.proofs.rows.decoder_work.DecoderRows.tally.Goals as goal
 
 pub overflow_add-given : goal.overflow_add-given
@@ -57,8 +56,7 @@ returns-clause-facts c =
           ∙ many_originals frame w.given in
           omega (arith, how_many-not own.original_count has, some);
       none_missing = λ none i inside.
-          sym (given-marked (given_marks w.memory.marks) w.memory.chunks.items own.shard_bytes own.frame.originals_from
-          own.original_count i inside)
+          sym (part-marked (given_marks w.memory.marks) held own.frame.originals_from own.original_count i inside)
           ∙ all_some own.original_count (originals_in own rows)
           (omega (arith, none, most.0, w.given.originals_counted)) i inside;
       few_surplus = omega (arith, most.0, most.1, w.configured.other_rows);

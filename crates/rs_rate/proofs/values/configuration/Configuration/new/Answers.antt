@@ -6,7 +6,7 @@ use Rattle.rs_field.specs.code.Configuration.{configuration, validation_outcome}
 use Rattle.rs_field.specs.code.Frame.{frame_of}
 use Rattle.rs_rate.specs.declared.values.configuration.Configuration.{Configuration}
 use Rattle.rs_rate.specs.values.SetUp.{IsSetUp}
-use Rattle.rs_rate.proofs.of_values.ConfiguredLemmas.{rate_configuration-is}
+use Rattle.rs_rate.proofs.of_values.ConfiguredLemmas.{with_frame-is}
 use Rattle.rs_rate.proofs.of_values.RateLemmas.{chooses, frame-low}
 use Rattle.rs_rate.proofs.values.configuration.Configuration.new.Goals as goal
 
@@ -25,13 +25,14 @@ returns g c =
       ne_eqb (size % 2) 1 c.if-shard_bytes-eq1.false,
     ) refl in
     let same = ap (λ (x : Frame). let own : Configuration =
-    record { original_count = k; recovery_count = r; shard_bytes = size; frame = x } in own) c.args.counts.framed in (
-      same,
-      subst (IsSetUp g.C.RateMarker.rate) (sym same) (record {
+    record { original_count = k; recovery_count = r; shard_bytes = size; frame = x } in own) c.args.counts.framed in
+    record {
+      same = refl;
+      set_up = subst (IsSetUp g.C.RateMarker.rate) (sym same) (record {
         valid = valid;
         chosen = refl;
         alike = chooses (frame_of rate k r).is_low k r ∙ frame-low rate k r;
-        configured = rate_configuration-is rate k r size c.args.counts.supported
+        configured = with_frame-is (configuration rate k r size) c.args.counts.supported
             (omega (arith, c.if-shard_bytes-eq0.false)) (omega (arith, c.if-shard_bytes-eq1.false));
-      }),
-    )
+      });
+    }
