@@ -1,6 +1,7 @@
 -- The elements of a list of the first values of a function.
 use Rattle.std.proofs.Common.{◌≡◌, ℕ, zero, suc, ◌+◌, ◌<◌, List, [], ◌∷◌, ◌++◌, length, get_or, sym, ap, ap₂, ◌∙◌, refl}
 use Rattle.std.proofs.Common.{subst, arith, inl, inr, add-one, length-append}
+use Rattle.std.specs.Prelude.{All}
 use Rattle.std.proofs.Math.Seq.{get_or-append_seam}
 use Rattle.std.proofs.lemmas.Bool.{cases_lt}
 use Rattle.std.proofs.lemmas.List.{ext_get_or, get_or_append_left}
@@ -22,6 +23,12 @@ get-up_to (suc n) f i d h =
           let seam = get_or-append_seam (up_to n f) (f n) [] d in
           ap (λ k. get_or (up_to n f ++ f n ∷ []) k d) (last ∙ sym (length-up_to n f)) ∙ seam ∙ ap f (sym last)
     ]
+
+-- A property of each of the first n values holds for all elements of their list.
+pub all-up_to : {A : Type 0} (P : A → Type 0) (n : ℕ) (f : ℕ → A) → ((i : ℕ) → i < n → P (f i)) → All P (up_to n f)
+all-up_to P n f each i d h =
+    let inside : i < n = subst (λ (m : ℕ). i < m) (length-up_to n f) h in
+    subst P (sym (get-up_to n f i d inside)) (each i inside)
 
 pub up_to-same : {A : Type 0} (n : ℕ) (f g : ℕ → A) → ((i : ℕ) → i < n → f i ≡ g i) → up_to n f ≡ up_to n g
 up_to-same zero f g same = refl

@@ -19,7 +19,7 @@ use Rattle.rs_field.specs.rows.Layout.{row_len}
 use Rattle.rs_field.specs.words.Locator.{log_sum}
 use Rattle.rs_field.specs.rows.MarkedRows.{is_marked}
 use Rattle.rs_field.proofs.of_words.LocatorProduct.{same_residue}
-use Rattle.rs_field.proofs.of_words.UpTo.{length-up_to, get-up_to}
+use Rattle.rs_field.proofs.of_words.UpTo.{length-up_to, get-up_to, all-up_to}
 use Rattle.rs_field.proofs.of_code.Agreement.{AreColumns, consistent_exactly, restored_column, one_message}
 use Rattle.rs_field.proofs.of_code.AnyShards.{any_consistent}
 use Rattle.rs_field.proofs.of_code.Columns.{shard_from_columns, shard_in}
@@ -34,7 +34,6 @@ use Rattle.rs_rate.specs.values.SetUp.{IsSetUp}
 use Rattle.rs_rate.specs.passes.Decoding.{IsBaseOf, IsLocatorOf, RestoresWords, SumsWords, located_word}
 use Rattle.rs_rate.specs.rows.Marks.{restored_by_row, originals_in, recovery_in}
 use Rattle.rs_rate.specs.rows.ShardRows.{word_in, shard_laid_out, shard_in_order}
-use Rattle.rs_rate.specs.objects.ObjectLaws.{all-up_to}
 use Rattle.rs_rate.proofs.of_rows.RowMaps.{marked-at, marked-some, part-in, part-out, part-some, part-marked}
 use Rattle.rs_rate.proofs.of_passes.BaseAnswer.{consistent_by_rows, summed_original}
 use Rattle.rs_rate.proofs.of_passes.DecodedColumns.{FilledRows, LeftRows, IsDecoded, IsMissing, shards_in, state_before}

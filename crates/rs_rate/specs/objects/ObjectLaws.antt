@@ -11,7 +11,7 @@ use Rattle.rs_field.specs.code.Decoder.{IsDecoder}
 use Rattle.rs_field.specs.code.Given.{AreWithin, Shards}
 use Rattle.rs_field.specs.words.UpTo.{up_to}
 use Rattle.rs_field.specs.code.Frame.{encoder_rows, decoder_rows}
-use Rattle.rs_field.proofs.of_words.UpTo.{length-up_to, get-up_to}
+use Rattle.rs_field.proofs.of_words.UpTo.{length-up_to, all-up_to}
 use Rattle.rs_rate.specs.declared.rows.encoder_work.EncoderRows.{EncoderRows}
 use Rattle.rs_rate.specs.declared.rows.decoder_work.DecoderRows.{DecoderRows}
 use Rattle.rs_rate.specs.values.RowCounts.{encoder_rows_set_up, decoder_rows_set_up}
@@ -23,12 +23,6 @@ use Rattle.rs_rate.specs.rows.Marks.{part}
 use Rattle.rs_rate.specs.values.SetUp.{IsSetUp}
 use Rattle.rs_rate.specs.values.ChunkCounts.{chunk_count}
 use Rattle.rs_rate.specs.rows.ShardRows.{shard_laid_out}
-
--- a property of each of the first n values holds for all items of their list
-pub all-up_to : (P : Shard → Type 0) (n : ℕ) (f : ℕ → Shard) → ((i : ℕ) → i < n → P (f i)) → All P (up_to n f)
-all-up_to P n f each i d h =
-    let inside : i < n = subst (λ (m : ℕ). i < m) (length-up_to n f) h in
-    subst P (sym (get-up_to n f i d inside)) (each i inside)
 
 -- an encoder over rows of a valid configuration has a state that an encoder can have
 pub is_encoder : (rate : Rate) (rows : EncoderRows) → IsSetUp rate rows.configuration
