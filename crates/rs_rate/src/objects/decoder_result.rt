@@ -11,27 +11,15 @@ use std::marker::Model;
 /// The originals that `decode` restored. They are lent from the rows, without copying.
 #[derive(Drop)]
 pub struct DecoderResult<'a> {
-    rows: &'a DecoderRows,
-    restored_count: usize,
+    pub(crate) rows: &'a DecoderRows,
+    pub(crate) restored_count: usize,
     pub ghost counted: { restored_count ≡ length (restored_from rows.now 0) },
 }
 
 impl<'a> DecoderResult<'a> {
     ghost use Rattle.std.specs.Prelude.{◌^◌, ◌<◌, option_copied};
     ghost use Rattle.rs_field.specs.code.Given.{Lists};
-    ghost use Rattle.rs_rate.specs.rows.DecoderView.{restored_by_rows};
     ghost use Rattle.rs_rate.specs.objects.ResultView.{restored_originals};
-
-    // Makes the result over the rows. `restored_count` is the number of restored originals in the rows.
-    pub(crate) fn new(rows: &'a DecoderRows, restored_count: usize) -> DecoderResult<'a>
-        requires { restored_count ≡ length (restored_from rows.now 0) }
-        ensures { restored_originals result ≡ restored_by_rows rows.now }
-    {
-        DecoderResult {
-            rows,
-            restored_count,
-        }
-    }
 
     /// Returns the restored original with this index. Returns `None` if this original was added to the decoder, or if
     /// `index` is not below the number of originals.

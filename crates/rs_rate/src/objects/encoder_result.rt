@@ -10,21 +10,13 @@ use std::marker::Model;
 /// The recovery shards that `encode` computed. They are lent from the rows, without copying.
 #[derive(Drop)]
 pub struct EncoderResult<'a> {
-    rows: &'a EncoderRows,
+    pub(crate) rows: &'a EncoderRows,
 }
 
 impl<'a> EncoderResult<'a> {
     ghost use Rattle.std.specs.Prelude.{◌≡◌, ◌^◌, ◌<◌, ◌≤◌, length, MatchOption};
     ghost use Rattle.rs_field.specs.code.Column.{shard_at};
-    ghost use Rattle.rs_rate.specs.rows.EncoderView.{lent_shards};
     ghost use Rattle.rs_rate.specs.objects.ResultView.{recovery_shards};
-
-    // Makes the result over the rows.
-    pub(crate) fn new(rows: &'a EncoderRows) -> EncoderResult<'a>
-        ensures { recovery_shards result ≡ lent_shards rows.now }
-    {
-        EncoderResult { rows }
-    }
 
     /// Returns the recovery shard with this index, or `None` if `index` is not below the number of recovery shards.
     ///

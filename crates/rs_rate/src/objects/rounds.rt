@@ -59,7 +59,9 @@ pub fn encode_round<E: Engine, C: RateMarker>(
 pub fn lent_recovery<E: Engine, C: RateMarker>(encoder: &Encoder<E, C>) -> EncoderResult<'_>
     ensures { recovery_shards result ≡ lent_shards encoder.now.rows }
 {
-    EncoderResult::new(&encoder.rows)
+    EncoderResult {
+        rows: &encoder.rows,
+    }
 }
 
 /// Restores the originals that were not added and ends the round, as `RateDecoder::decode` does. The restored originals
@@ -101,5 +103,8 @@ pub fn lent_originals<E: Engine, C: RateMarker>(
     requires { restored_count ≡ length (restored_from decoder.now.rows 0) }
     ensures { restored_originals result ≡ restored_by_rows decoder.now.rows }
 {
-    DecoderResult::new(&decoder.rows, restored_count)
+    DecoderResult {
+        rows: &decoder.rows,
+        restored_count,
+    }
 }
