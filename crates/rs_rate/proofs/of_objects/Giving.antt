@@ -1,6 +1,6 @@
 -- Following an iterator whose items are taken one after another.
-use Rattle.std.proofs.Common.{◌≡◌, true, false, List, [], ◌∷◌, ◌++◌, map, Option, Some, None, Result, Ok, Err, refl}
-use Rattle.std.proofs.Common.{sym, ap, subst, ◌∙◌, true≢false}
+use Rattle.std.proofs.Common.{rules, ◌≡◌, true, false, List, [], ◌∷◌, ◌++◌, map, Option, Some, None, Result, Ok, Err}
+use Rattle.std.proofs.Common.{refl, sym, ap, subst, ◌∙◌, true≢false}
 use Rattle.std.specs.Iterator.{AlwaysYields, Yields, YieldsFirstBy}
 use Rattle.std.proofs.lemmas.Iterator.{YieldsList}
 use Rattle.rs_field.specs.declared.code.error.Error.{Error}
@@ -39,13 +39,7 @@ always-begins steps view (item ∷ items) iterator left gave list yields =
 module _ {I A T : Type 0} (steps : I → Option A → I → Type 0) (view : A → T) where
   pub begins-always : (iterator : I) (calls : Calls steps iterator) (list : List T)
       → AlwaysYields steps view iterator list → Begins view calls list
-  begins-always iterator calls list yields =
-      let parts = always-begins steps view calls.items iterator calls.gave.0 calls.gave.1 list yields in (
-        parts.0,
-        parts.1,
-        λ ended. let last = calls.gave.2 ended in
-            no-item steps view calls.gave.0 last.0 parts.0 last.1 parts.2,
-      )
+  begins-always iterator calls list yields = search (rules, always-begins, no-item)
 
 -- The record of no calls.
 abbrev pub no-calls : {I A : Type 0} {steps : I → Option A → I → Type 0} (iterator : I) → Calls steps iterator
@@ -138,13 +132,7 @@ module _ {I A S T : Type 0} {steps : I → Option A → I → Type 0} {view : A 
       → LeadsOn steps view add begin first iterator now → steps iterator (Some item) after
       → add now (view item) ≡ Ok next → LeadsOn steps view add begin first after next
   leads-taken {begin} {iterator} {after} {first} {now} {next} {item} leads gives taken =
-      record {
-        taken = leads.taken ++ item ∷ [];
-        gave = Yields-further steps leads.taken item begin iterator after leads.gave gives;
-        led = λ more.
-            ap (one_by_one add first) (map-further view leads.taken item more) ∙ leads.led (view item ∷ more)
-            ∙ ap (result_and_then (λ s. one_by_one add s more)) taken;
-      }
+      search (rules, Yields-further, map-further)
 
   -- If an item cannot be added, its error is the outcome, whatever comes after the item.
   pub leads-refused : {begin iterator after : I} {first now : S} {item : A} {e : Error}

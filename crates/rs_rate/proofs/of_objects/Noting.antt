@@ -1,14 +1,11 @@
 -- Noting the indexes that were received, in a list of places that are true or false.
-use Rattle.std.proofs.Common.{◌≡◌, ◌<◌, ◌≤◌, ◌+◌, ◌||◌, ℕ, Bool, true, false, List, [], ◌∷◌, length, if◌then◌else◌}
-use Rattle.std.proofs.Common.{cond, nat_le, nat_lt, nat_eq, replicate, Result, Ok, Err, refl, sym, ap, subst, ◌∙◌, inl}
-use Rattle.std.proofs.Common.{inr, arith}
+use Rattle.std.proofs.Common.{rules, ◌≡◌, ◌<◌, ℕ, Bool, true, false, List, [], ◌∷◌, length, if◌then◌else◌, nat_le}
+use Rattle.std.proofs.Common.{nat_lt, replicate, Result, Ok, Err, ap, subst, ◌∙◌}
 use Rattle.std.proofs.Math.ListN.{get_or, set, get_or-eq_default}
-use Rattle.std.proofs.lemmas.Bool.{cases_lt, cases_eq, eq-eqb, ne_eqb, leb-false}
-use Rattle.std.proofs.lemmas.Grind.{get_or-set_at}
-use Rattle.std.proofs.lemmas.List.{get_or-replicate, get_or-set_other, length-replicate}
+use Rattle.std.proofs.lemmas.List.{get_or-replicate, length-replicate}
 use Rattle.std.proofs.lemmas.List.Folds.{sum_by-replicate}
 use Rattle.std.proofs.lemmas.List.Sums.{sum_by-set}
-use Rattle.std.specs.List.{sum_by, count_by, list_any}
+use Rattle.std.specs.List.{count_by}
 use Rattle.rs_field.specs.declared.code.error.Error.{Error}
 use Rattle.rs_field.specs.declared.code.error.Error.TheVariants.{InvalidOriginalShardIndex, DuplicateOriginalShardIndex}
 use Rattle.rs_field.specs.declared.code.error.Error.TheVariants.{NotEnoughShards}
@@ -19,16 +16,7 @@ use Rattle.rs_rate.proofs.of_objects.Giving.{outcome-err}
 
 -- Before the first index is noted, no place is true.
 pub note_outcome-none : (n : ℕ) → AreNoted [] (replicate n false)
-note_outcome-none n =
-    record {
-      places = λ i. elim (cases_lt i n) [
-        | inl inside ↦ get_or-replicate n i false false inside
-        | inr outside ↦
-            get_or-eq_default (replicate n false) false
-            (subst (λ (m : ℕ). m ≤ i) (sym (length-replicate n false)) outside)
-      ];
-      number = sum_by-replicate (λ (b : Bool). cond b 1 0) n false ∙ omega arith;
-    }
+note_outcome-none n = search (rules, get_or-replicate, get_or-eq_default, length-replicate, sum_by-replicate)
 
 -- The outcome of noting an index, from the test of its range and the test of its place.
 abbrev pub tested : ℕ → ℕ → Bool → Bool → Result (Unit {0}) Error
@@ -48,17 +36,7 @@ note_outcome-tested : (count : ℕ) (indexes : List ℕ) (given : List Bool) (in
     → AreNoted indexes given
     → tested (length given) index (nat_le (length given) index) (get_or given index false)
     ≡ answer_of (note_outcome count indexes index)
-note_outcome-tested count indexes given index size are =
-    subst (λ (n : ℕ). tested n index (nat_le n index) (get_or given index false)
-    ≡ answer_of (note_outcome count indexes index)) (sym size)
-    (ap (tested count index (nat_le count index)) (are.places index)
-    ∙ by_tests (nat_le count index) (list_any (nat_eq index) indexes))
-  where
-    by_tests : (outside taken : Bool)
-        → tested count index outside taken ≡ answer_of (noted_by count indexes index outside taken)
-    by_tests true taken = refl
-    by_tests false true = refl
-    by_tests false false = refl
+note_outcome-tested count indexes given index size are = search rules
 
 -- An error of the test of an index is the error of noting the index.
 pub note_outcome-refused : {count : ℕ} {indexes : List ℕ} {given : List Bool} (index : ℕ) {e : Error}
@@ -73,49 +51,18 @@ pub note_outcome-added : {count : ℕ} {indexes : List ℕ} {given : List Bool} 
     → AreNoted indexes given
     → Ok tt ≡ tested (length given) index (nat_le (length given) index) (get_or given index false)
     → note_outcome count indexes index ≡ Ok (index ∷ indexes)
-note_outcome-added {count} {indexes} {given} index size are told =
-    by_tests (nat_le count index) (list_any (nat_eq index) indexes)
-    (told ∙ note_outcome-tested count indexes given index size are)
-  where
-    by_tests : (outside taken : Bool) → Ok tt ≡ answer_of (noted_by count indexes index outside taken)
-        → noted_by count indexes index outside taken ≡ Ok (index ∷ indexes)
-    by_tests true taken answer = cc
-    by_tests false true answer = cc
-    by_tests false false answer = refl
+note_outcome-added {count} {indexes} {given} index size are told = search rules
 
 -- If the test of an index succeeds, the index is below the count and its place is false.
 tested-free : (count index : ℕ) (taken : Bool) → Ok tt ≡ tested count index (nat_le count index) taken → (index < count)
     × (taken ≡ false)
-tested-free count index taken told =
-    let free = by_tests (nat_le count index) taken told in (leb-false count index free.0, free.1)
-  where
-    by_tests : (outside taken : Bool) → Ok tt ≡ tested count index outside taken → (outside ≡ false) × (taken ≡ false)
-    by_tests true taken told = cc
-    by_tests false true told = cc
-    by_tests false false told = (refl, refl)
+tested-free count index taken told = search rules
 
 -- Setting the place of an index to true notes one more index.
 pub note_outcome-more : {indexes : List ℕ} {given new : List Bool} (index : ℕ) → AreNoted indexes given
     → Ok tt ≡ tested (length given) index (nat_le (length given) index) (get_or given index false)
     → new ≡ set given index true → AreNoted (index ∷ indexes) new
-note_outcome-more {indexes} {given} {new} index are told is =
-    let free = tested-free (length given) index (get_or given index false) told in
-    subst (AreNoted (index ∷ indexes)) (sym is)
-    (record {
-      places = λ i. elim (cases_eq i index) [
-        | inl same ↦ get_or-set_at given index i true false same free.0
-            ∙ sym (ap (λ (b : Bool). b || list_any (nat_eq i) indexes) (eq-eqb i index same))
-        | inr other ↦ get_or-set_other given index i true false other ∙ are.places i
-            ∙ sym (ap (λ (b : Bool). b || list_any (nat_eq i) indexes) (ne_eqb i index other))
-      ];
-      number =
-          let one : Bool → ℕ = λ b. cond b 1 0 in
-          let more : sum_by one (set given index true) + one (get_or given index false) ≡ sum_by one given + 1 =
-          sum_by-set one given index true false free.0 in
-          let none : one (get_or given index false) ≡ 0 = ap one free.1 in
-          let noted : sum_by one given ≡ length indexes = are.number in
-          omega arith;
-    })
+note_outcome-more {indexes} {given} {new} index are told is = search (rules, sum_by-set)
 
 -- The outcome of the check whether enough indexes were noted.
 abbrev enough : ℕ → Result (List ℕ) Error → Result (Unit {0}) Error
@@ -140,20 +87,10 @@ module _ (k : ℕ) (items : Items) (places given : List Bool) (result : Result (
   -- An error of noting is the result of `originals_alone`.
   pub originals_alone-refused : (e : Error) → result ≡ Err e → result ≡ originals_alone k items
   unfolding outcome
-  originals_alone-refused e refused = by_outcome outcome led
-    where
-      by_outcome : (o : Result (List ℕ) Error) → Reaches o result (λ all. AreNoted all given) → result ≡ enough k o
-      by_outcome (Ok all) made = let made : result ≡ Ok tt = made.0 in cc
-      by_outcome (Err f) same = same
+  originals_alone-refused e refused = search (rules, led)
 
   -- If all indexes were noted, the check of their number has the result of `originals_alone`.
   pub originals_alone-counted : (received : ℕ) → result ≡ Ok tt → received ≡ count_by (λ b. b) given
       → (if nat_lt received k then Err (NotEnoughShards k received 0) else Ok tt) ≡ originals_alone k items
   unfolding outcome
-  originals_alone-counted received made number = by_outcome outcome led
-    where
-      by_outcome : (o : Result (List ℕ) Error) → Reaches o result (λ all. AreNoted all given)
-          → (if nat_lt received k then Err (NotEnoughShards k received 0) else Ok tt) ≡ enough k o
-      by_outcome (Ok all) led =
-          ap (λ (m : ℕ). if nat_lt m k then Err (NotEnoughShards k m 0) else Ok tt) (number ∙ led.1.number)
-      by_outcome (Err f) refused = cc
+  originals_alone-counted received made number = search (rules, led)

@@ -1,6 +1,6 @@
 -- From encoders and decoders to which shards were added, to the result of one call.
-use Rattle.std.proofs.Common.{◌≡◌, ℕ, true, false, List, [], ◌∷◌, length, Some, None, Result, Ok, Err, IsOk, IfOk}
-use Rattle.std.proofs.Common.{MatchResult, inl, inr, refl, sym, ap, subst, ◌⊎◌, ◌∙◌}
+use Rattle.std.proofs.Common.{rules, ◌≡◌, ℕ, true, false, List, [], ◌∷◌, length, Some, None, Result, Ok, Err, IsOk}
+use Rattle.std.proofs.Common.{IfOk, MatchResult, inl, inr, refl, sym, ap, subst, ◌⊎◌, ◌∙◌}
 use Rattle.rs_field.specs.declared.code.error.Error.{Error}
 use Rattle.rs_field.specs.declared.code.error.Error.TheVariants.{OutOfMemory, UnsupportedShardCount}
 use Rattle.rs_field.specs.code.Column.{Shard}
@@ -9,15 +9,15 @@ use Rattle.rs_field.specs.code.Counts.{default_rate, supports}
 use Rattle.rs_field.specs.code.Decoder.{DecoderState, fresh_decoder, DecodeAnswers}
 use Rattle.rs_field.specs.code.Encoder.{EncoderState, IsEncoder, fresh_encoder, EncodeAnswers}
 use Rattle.rs_field.specs.code.Given.{Shards, nothing, Lists}
-use Rattle.rs_field.specs.code.OneCall.{Items, default_of, counts_outcome, originals_alone, encode_opening}
-use Rattle.rs_field.specs.code.OneCall.{with_shards, with_originals, with_recoveries, with_both, encoding_outcome}
-use Rattle.rs_field.specs.code.OneCall.{decoding_outcome, OneEncodeAnswers, OneDecodeAnswers}
+use Rattle.rs_field.specs.code.OneCall.{Items, default_of, counts_outcome, originals_alone, encode_opening, with_shards}
+use Rattle.rs_field.specs.code.OneCall.{with_originals, with_recoveries, with_both, encoding_outcome, decoding_outcome}
+use Rattle.rs_field.specs.code.OneCall.{OneEncodeAnswers, OneDecodeAnswers}
 use Rattle.rs_field.specs.code.Outcome.{result_and_then}
 use Rattle.rs_field.specs.code.Frame.{encoder_rows, decoder_rows}
 use Rattle.rs_field.specs.code.RoundTrip.{AreCoded}
 use Rattle.rs_field.proofs.of_code.Listed.{items_from-zero}
 use Rattle.rs_field.proofs.of_code.OneRoundTrip.{coded_by}
-use Rattle.rs_rate.specs.objects.Giving.{IsEncoding, IsDecoding, received_outcome}
+use Rattle.rs_rate.specs.objects.Giving.{IsEncoding, IsDecoding}
 
 -- ---- calls one after another
 
@@ -40,12 +40,7 @@ first-err f (Err x) e is = let same : e ≡ x = cc in ap Err (sym same)
 
 -- If setting up succeeds, the configuration is valid.
 start_outcome-valid : (rows : ℕ) (c : Configuration) → IsOk (start_outcome rows c) → IsOk (validation_outcome c)
-start_outcome-valid rows c made = by_outcome (validation_outcome c) _ made
-  where
-    by_outcome : (o : Result (Unit {0}) Error) (f : Unit {0} → Result (Unit {0}) Error) → IsOk (result_and_then f o)
-        → IsOk o
-    by_outcome (Ok u) f is = refl
-    by_outcome (Err e) f is = is
+start_outcome-valid rows c made = search rules
 
 -- `OutOfMemory` as a result of one type is `OutOfMemory` as a result of another type.
 as-lacking : {S T : Type 0} (e : Error) → ◌≡◌ {A = Result S Error} (Err e) (Err OutOfMemory)
@@ -90,10 +85,7 @@ module _ (k r : ℕ) (first : Shard) (rest : List Shard) where
       → UpToMemory (start_outcome (encoder_rows default_rate k r) (default_of k r (length first))) (Ok tt)
       → start ≡ fresh_encoder (default_of k r (length first)) → (o : Result EncoderState Error)
       → with_shards start (first ∷ rest) ≡ o → IsEncoding k r (first ∷ rest) o
-  encoding-given start made fresh o is =
-      inl (sym is ∙ ap (λ s. with_shards s (first ∷ rest)) fresh
-      ∙ ap (result_and_then (λ _. with_shards (fresh_encoder (default_of k r (length first))) (first ∷ rest)))
-      (sym (start_outcome-made _ made)))
+  encoding-given start made fresh o is = search rules
 
 -- An error of adding the originals is an error of one-call `encode`.
 pub encoding-refused : (k r : ℕ) (shards : List Shard) (e : Error) → IsEncoding k r shards (Err e)
@@ -112,15 +104,7 @@ module _ (k r : ℕ) (shards : List Shard) (s : EncoderState) (is : IsEncoding k
 
   -- If the encoder has all shards, the checks before memory is allocated succeeded.
   pub encoding-opened : IsOk (encode_opening k r shards)
-  encoding-opened = by_shards shards led
-    where
-      by_shards : (shards : List Shard) → encoding_outcome k r shards ≡ Ok s → IsOk (encode_opening k r shards)
-      by_shards [] is = let two = first-ok {T = EncoderState} _ (counts_outcome k r) s (sym is) in let refused =
-          two.2 in absurd (let no : ⊥ = cc in no)
-      by_shards (x ∷ xs) is = let one =
-          first-ok _ (start_outcome (encoder_rows default_rate k r) (default_of k r (length x))) s (sym is) in
-          start_outcome-valid (encoder_rows default_rate k r) (default_of k r (length x))
-          (subst (λ (o : Result (Unit {0}) Error). IsOk o) (sym one.1) refl)
+  encoding-opened = search rules
 
   -- The recovery shards that the encoder returns are the recovery shards of the code.
   pub encoding-coded : IsEncoder default_rate s → (recovery : List Shard) (result : Result (List Shard) Error)
@@ -183,10 +167,7 @@ module _ (k r : ℕ) (originals : Items) (first : ℕ × Shard) (rest : Items) w
       → start ≡ fresh_decoder (default_of k r (length first.1)) → (o : Result DecoderState Error)
       → with_both start originals (first ∷ rest) ≡ o
       → IsDecoding k r originals (first ∷ rest) (result_and_then (λ s. Ok (Some s)) o)
-  decoding-given start made fresh o is =
-      inl (ap (result_and_then (λ s. Ok (Some s))) (sym is ∙ ap (λ s. with_both s originals (first ∷ rest)) fresh
-      ∙ ap (result_and_then (λ _. with_both (fresh_decoder (default_of k r (length first.1))) originals (first ∷ rest)))
-      (sym (start_outcome-made _ made))))
+  decoding-given start made fresh o is = search rules
 
 -- An error of adding the shards is an error of one-call `decode`.
 pub decoding-refused : (k r : ℕ) (originals recovery : Items) (e : Error) → IsDecoding k r originals recovery (Err e)
@@ -217,24 +198,12 @@ module _ (k r : ℕ) (originals recovery : Items) (s : DecoderState)
   -- shards.
   pub decoding-led : (first : ℕ × Shard) × (rest : Items) × (recovery ≡ first ∷ rest)
       × (decoding_outcome k r originals first rest ≡ Ok s)
-  decoding-led = elim is
-      [ inl same ↦ by_recovery recovery same | inr lacks ↦ let refused = lacks.1 in absurd (let no : ⊥ = cc in no) ]
-    where
-      by_recovery : (recovery : Items) → Ok (Some s) ≡ received_outcome k r originals recovery → (first : ℕ × Shard)
-          × (rest : Items) × (recovery ≡ first ∷ rest) × (decoding_outcome k r originals first rest ≡ Ok s)
-      by_recovery [] same = let none = first-ok {S = Unit {0}} (λ _. Ok None) _ (Some s) same in let other = none.2 in
-          absurd (let no : ⊥ = cc in no)
-      by_recovery (first ∷ rest) same = let one =
-          first-ok _ (decoding_outcome k r originals first rest) (Some s) same in let own = one.2 in
-          (first, rest, refl, one.1 ∙ ap Ok (let e : one.0 ≡ s = cc in e))
+  decoding-led = search rules
 
   -- The result of the decoder is a result of one call.
   pub decoding-answers : (result : Result Shards Error) → DecodeAnswers s result
       → OneDecodeAnswers k r originals recovery result
-  decoding-answers result answers =
-      let led = decoding-led in
-      subst (λ items. OneDecodeAnswers k r originals items result) (sym led.2)
-      (inl (leads-on DecodeAnswers (decoding_outcome k r originals led.0 led.1) s result led.3 answers))
+  decoding-answers result answers = search rules
 
   -- The collected result of the decoder, or `OutOfMemory`, is a result of one call.
   pub decoding-collected : (restored : Shards) (result : Result Shards Error) → DecodeAnswers s (Ok restored)

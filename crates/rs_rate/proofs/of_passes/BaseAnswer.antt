@@ -1,9 +1,8 @@
 -- What direct sums over a base say of the given shards: whether some message agrees with all of them, and what its
 -- missing originals are.
-use Rattle.std.proofs.Common.{◌≡◌, ℕ, ◌+◌, ◌/◌, ◌<◌, List, Bool, true, false, sym, ap, ap₂, ◌∙◌, arith}
-use Rattle.std.proofs.Common.{inl, inr, refl, true≢false}
+use Rattle.std.proofs.Common.{rules, ◌≡◌, ℕ, ◌+◌, ◌/◌, ◌<◌, List, Bool, true, false, sym, ap, ap₂, ◌∙◌, arith, refl}
+use Rattle.std.proofs.Common.{true≢false}
 use Rattle.std.specs.Prelude.{slice_index, Some, is_some, not, ◌&&◌, ◌↔◌}
-use Rattle.std.proofs.lemmas.Bool.{cases_Bool}
 use Rattle.rs_field.specs.code.Column.{Shard, shard_at, column}
 use Rattle.rs_field.specs.code.Configuration.{Configuration as AsDefined}
 use Rattle.rs_field.specs.code.Decoder.{IsAgreeing, IsConsistent}
@@ -25,7 +24,7 @@ use Rattle.rs_rate.proofs.of_values.ConfiguredLemmas.{places-known}
 use Rattle.rs_rate.proofs.of_passes.DecodedColumns.{FilledRows, IsMissing, shards_in, state_before, words_before}
 use Rattle.rs_rate.proofs.of_passes.DecodedColumns.{are_given, row-given, row_words, rows_located}
 use Rattle.rs_rate.proofs.of_rows.HowMany.{how_many-same, many_rows}
-use Rattle.rs_rate.proofs.of_rows.RowMaps.{marked-at, marked-some, part-in, part-some, part-marked, some-marked}
+use Rattle.rs_rate.proofs.of_rows.RowMaps.{marked-at, part-in, part-some, part-marked, some-marked}
 
 module _ (s : AsDefined) (g : FilledRows s.rate (with_frame s)) {base : List Bool} {locator : List ℕ}
     (is_base : IsBaseOf (with_frame s) g.marks base) (is_locator : IsLocatorOf (frame_at s) base locator) where
@@ -39,16 +38,10 @@ module _ (s : AsDefined) (g : FilledRows s.rate (with_frame s)) {base : List Boo
 
   -- A shard of the base is a given shard.
   row_of_base : (p : ℕ) (shard : Shard) → base_rows p ≡ Some shard → shards_in g p ≡ Some shard
-  row_of_base p shard is =
-      let (mark, same) =
-      marked-some base (shard_laid_out g.chunks s.shard_bytes) p shard is in
-      marked-at g.marks (shard_laid_out g.chunks s.shard_bytes) p true (is_base.given p mark) ∙ ap Some same
+  row_of_base p shard is = search rules
 
   outside_base : (p : ℕ) → is_marked g.marks p ≡ false → is_marked base p ≡ false
-  outside_base p none = elim (cases_Bool (is_marked base p)) [
-    | inl is ↦ absurd (true≢false (sym (is_base.given p is) ∙ none))
-    | inr not ↦ not
-  ]
+  outside_base p none = search rules
 
   -- The rows with the shards of the base alone.
   abbrev base_filled : FilledRows s.rate (with_frame s)
@@ -78,11 +71,7 @@ module _ (s : AsDefined) (g : FilledRows s.rate (with_frame s)) {base : List Boo
       ∙ is_base.counted
 
   part_of : (from n : ℕ) → IsPartOf (part base_rows from n) (part (shards_in g) from n)
-  part_of from n = record {
-    entries = λ i shard is.
-        let (inside, at) = part-some base_rows from n i shard is in
-        part-in (shards_in g) from n i inside ∙ row_of_base (from + i) shard at;
-  }
+  part_of from n = search (rules, part-some, part-in)
 
   -- The sums over the words in the rows are the sums over the words of the given shards.
   sum_in_rows : (j p : ℕ) → j < s.shard_bytes / 2

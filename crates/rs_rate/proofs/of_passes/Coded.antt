@@ -1,13 +1,12 @@
 -- The recovery shards of a message, from the words of each column.
-use Rattle.std.proofs.Common.{◌≡◌, ℕ, zero, suc, ◌/◌, ◌<◌, List, [], ◌∷◌, ◌++◌, refl, sym, ap, ap₂, ◌∙◌, subst, ◌+◌}
-use Rattle.std.proofs.Common.{◌*◌}
+use Rattle.std.proofs.Common.{rules, ◌≡◌, ℕ, zero, suc, ◌/◌, ◌<◌, List, [], ◌∷◌, ◌++◌, refl, sym, ap, ◌∙◌, subst}
 use Rattle.std.proofs.lemmas.List.{map-append}
 use Rattle.rs_field.specs.code.Column.{Shard, IsShard, column, columns}
 use Rattle.rs_field.specs.code.Code.{AreRecovery, AreRecoveryWords}
 use Rattle.rs_field.specs.code.Configuration.{Configuration}
 use Rattle.rs_field.specs.code.Counts.{Rate}
 use Rattle.rs_field.specs.words.UpTo.{up_to}
-use Rattle.rs_field.specs.rows.Rows.{Chunks, chunk, symbol}
+use Rattle.rs_field.specs.rows.Rows.{Chunks}
 use Rattle.rs_field.specs.rows.View.{cell, word}
 use Rattle.rs_field.specs.declared.rows.shards.ShardsRefMut.{ShardsRefMut}
 use Rattle.rs_field.proofs.of_words.UpTo.{length-up_to, up_to-same, all-up_to}
@@ -18,11 +17,7 @@ use Rattle.rs_rate.specs.rows.ShardRows.{word_in}
 pub words-read : (rate : Rate) (k r : ℕ) (old new old_read new_read : ℕ → ℕ) → ((i : ℕ) → i < k → old_read i ≡ old i)
     → ((i : ℕ) → i < r → new_read i ≡ new i)
     → CodesWords rate k r old new → CodesWords rate k r old_read new_read
-words-read rate k r old new old_read new_read same_old same_new coded =
-    subst (λ (words : List ℕ). AreRecoveryWords rate k r words (up_to r new_read))
-    (sym (up_to-same k old_read old same_old))
-    (subst (λ (words : List ℕ). AreRecoveryWords rate k r (up_to k old) words)
-    (sym (up_to-same r new_read new same_new)) coded)
+words-read rate k r old new old_read new_read same_old same_new coded = search (rules, up_to-same)
 
 -- Words read from the chunks of coded rows are coded.
 pub rows-read : (rate : Rate) (k r n c s : ℕ) (before after : Chunks) (old new : ShardsRefMut) → old.shard_len_64 ≡ n
@@ -31,10 +26,7 @@ pub rows-read : (rate : Rate) (k r n c s : ℕ) (before after : Chunks) (old new
     → CodesWords rate k r (word old c s) (word new c s)
     → CodesWords rate k r (word_in before n c s) (word_in after n c s)
 unfolding cell
-rows-read rate k r n c s before after old new len len_too was is coded =
-    words-read rate k r (word old c s) (word new c s) (word_in before n c s) (word_in after n c s)
-    (λ i few. ap₂ (λ (m : ℕ) (xs : Chunks). symbol (chunk xs (i * m + c)) s) (sym len) (sym was))
-    (λ i few. ap₂ (λ (m : ℕ) (xs : Chunks). symbol (chunk xs (i * m + c)) s) (sym len_too) is) coded
+rows-read rate k r n c s before after old new len len_too was is coded = search rules
 
 columns-up_to : (j n : ℕ) (shards : ℕ → Shard) → columns j (up_to n shards) ≡ up_to n (λ i. column j (shards i))
 columns-up_to j zero shards = refl

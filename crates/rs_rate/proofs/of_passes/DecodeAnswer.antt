@@ -1,10 +1,9 @@
 -- The result of a decode, from what it did to the rows: the missing originals of the only message that agrees, or an
 -- error if no message agrees.
-use Rattle.std.proofs.Common.{◌≡◌, ℕ, ◌+◌, ◌/◌, ◌%◌, ◌<◌, List, Bool, true, false, cond, refl, sym, ap, ap₂, ◌∙◌}
+use Rattle.std.proofs.Common.{rules, ◌≡◌, ℕ, ◌+◌, ◌/◌, ◌%◌, ◌<◌, List, Bool, true, false, cond, refl, sym, ap, ap₂, ◌∙◌}
 use Rattle.std.proofs.Common.{arith, inl, inr, subst, true≢false, zero, suc}
-use Rattle.std.specs.Prelude.{slice_index, Option, Some, None, is_some, not, ◌&&◌, ◌↔◌, [], Result, Ok, Err}
-use Rattle.std.specs.Prelude.{MatchResult}
-use Rattle.std.proofs.lemmas.Bool.{cases_lt, cases_eq, lt-ltb}
+use Rattle.std.specs.Prelude.{slice_index, Some, None, is_some, not, ◌&&◌, ◌↔◌, [], Result, Ok, Err, MatchResult}
+use Rattle.std.proofs.lemmas.Bool.{cases_eq, lt-ltb}
 use Rattle.rs_field.specs.declared.code.error.Error.{Error}
 use Rattle.rs_field.specs.declared.code.error.Error.TheVariants.{InconsistentShards}
 use Rattle.rs_field.specs.code.Column.{Shard, IsShard, AreShards, shard_at, column}
@@ -22,7 +21,7 @@ use Rattle.rs_field.proofs.of_words.LocatorProduct.{same_residue}
 use Rattle.rs_field.proofs.of_words.UpTo.{length-up_to, get-up_to, all-up_to}
 use Rattle.rs_field.proofs.of_code.Agreement.{AreColumns, consistent_exactly, restored_column, one_message}
 use Rattle.rs_field.proofs.of_code.AnyShards.{any_consistent}
-use Rattle.rs_field.proofs.of_code.Columns.{shard_from_columns, shard_in}
+use Rattle.rs_field.proofs.of_code.Columns.{shard_from_columns}
 use Rattle.rs_field.proofs.of_code.Entries.{all_some}
 use Rattle.rs_field.proofs.of_code.Given.{count_below-suc}
 use Rattle.rs_field.proofs.of_code.GivenRows.{erased_in, rows_of, erasures}
@@ -63,31 +62,7 @@ module _ {rate : Rate} {c : Configuration} (g : FilledRows rate c) where
       → ((i : ℕ) → i < c.original_count → IsMissing g i
       → shard_in_order left.chunks c.shard_bytes (original_row c.frame i) ≡ shard_at message i)
       → (i : ℕ) → restored_after left i ≡ missing_of (state_before g) message i
-  restores_missing left message same i =
-      elim (cases_lt i c.original_count) [
-        | inl inside ↦ by_mark inside (is_marked g.marks (original_row c.frame i)) refl
-        | inr outside ↦
-            part-out (restored_by_row left.marks left.chunks c.shard_bytes) c.frame.originals_from c.original_count i
-            outside
-            ∙ sym (missing-past (state_before g) message i outside)
-      ]
-    where
-      at : i < c.original_count → (given : Bool) → is_marked g.marks (original_row c.frame i) ≡ given
-          → ◌≡◌ {A = Option Shard}
-          (cond (not given) (Some (shard_in_order left.chunks c.shard_bytes (original_row c.frame i))) None)
-          (cond (not given) (Some (shard_at message i)) None)
-      at inside true is = refl
-      at inside false is = ap Some (same i inside is)
-
-      by_mark : i < c.original_count → (given : Bool) → is_marked g.marks (original_row c.frame i) ≡ given
-          → restored_after left i ≡ missing_of (state_before g) message i
-      by_mark inside given is =
-          part-in (restored_by_row left.marks left.chunks c.shard_bytes) c.frame.originals_from c.original_count i
-          inside
-          ∙ marked-at left.marks (shard_in_order left.chunks c.shard_bytes) (original_row c.frame i) (not given)
-          (left.missing i inside ∙ ap not is)
-          ∙ at inside given is
-          ∙ sym (missing-in (state_before g) message i given inside (given-marked i inside ∙ is))
+  restores_missing left message same i = search (rules, part-out, missing-past, part-in, missing-in)
 
 -- The result of a decode: the restored originals if some message agrees, else an error.
 abbrev pub AnswersOver : {rate : Rate} {c : Configuration} (g : FilledRows rate c) → LeftRows g → Bool → Type 0
@@ -110,10 +85,7 @@ module _ (s : AsDefined) {g : FilledRows s.rate (with_frame s)} {left : LeftRows
   restored_from : agrees ≡ true → (message : List Shard) → IsAgreeing (state_before g) message → AreFoundFor message
       → (i : ℕ) → i < s.original_count → IsMissing g i
       → shard_in_order left.chunks s.shard_bytes (original_row (frame_at s) i) ≡ shard_at message i
-  restored_from agreed message a words i inside none =
-      shard_from_columns s.shard_bytes (shard_in_order left.chunks s.shard_bytes (original_row (frame_at s) i))
-      (shard_at message i) (d.sized i inside) (shard_in s.original_count s.shard_bytes message a.shards i inside)
-      g.configured.even (λ j hj. d.restores.shards agreed i j inside hj none ∙ words i j inside hj none)
+  restored_from agreed message a words i inside none = search (rules, shard_from_columns)
 
   -- The result of a decode that found out whether some message agrees, and then found the words of the missing
   -- originals of this message.
@@ -190,9 +162,7 @@ module _ (s : AsDefined) {g : FilledRows s.rate (with_frame s)} {left : LeftRows
     -- The words that were found by sums are those of a message that agrees.
     found_by_sums : agrees ≡ true → (message : List Shard) → IsAgreeing (state_before g) message
         → AreFoundFor message
-    found_by_sums agreed message a i j inside hj none =
-        sums.summed agreed (j / 32) (j % 32) i (omega (arith, hj)) (omega arith) inside none
-        ∙ summed_original s g is_base is_locator message i j a inside hj none
+    found_by_sums agreed message a i j inside hj none = search (rules, summed_original)
 
   -- The result of a decode, by the way in which the missing words were found.
   by_way : AnswersOver g left agrees

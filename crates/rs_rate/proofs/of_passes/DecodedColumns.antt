@@ -1,8 +1,6 @@
 -- The columns of a decoder's rows: the words of the given shards, and the polynomial that a decode makes of them.
-use Rattle.std.proofs.Common.{◌≡◌, ℕ, ◌+◌, ◌/◌, ◌%◌, ◌<◌, List, Bool, true, false, sym, ap, ap₂, ◌∙◌, arith, inl, inr}
+use Rattle.std.proofs.Common.{rules, ◌≡◌, ℕ, ◌+◌, ◌/◌, ◌%◌, ◌<◌, List, Bool, true, false, sym, ap, ◌∙◌, inl, inr}
 use Rattle.std.specs.Prelude.{slice_index, Some, is_some}
-use Rattle.rs_field.specs.words.Field.{product}
-use Rattle.rs_field.specs.words.Locator.{log_sum}
 use Rattle.rs_field.specs.code.Column.{Shard, IsShard, column}
 use Rattle.rs_field.specs.code.Configuration.{Configuration as AsDefined}
 use Rattle.rs_field.specs.code.Counts.{Rate, supports}
@@ -16,17 +14,16 @@ use Rattle.rs_field.specs.rows.MarkedRows.{is_marked}
 use Rattle.rs_field.proofs.of_words.LocatorProduct.{same_residue}
 use Rattle.rs_field.proofs.of_code.Agreement.{AreColumns}
 use Rattle.rs_field.proofs.of_code.DirectColumn.{IsLocated}
-use Rattle.rs_field.proofs.of_code.GivenRows.{AreGiven, AreSized, erased_in, rows_of, kind_of_row}
-use Rattle.rs_field.proofs.of_code.GivenRows.{given_at-own, given_at-coded, given_at-other}
+use Rattle.rs_field.proofs.of_code.GivenRows.{AreGiven, kind_of_row, given_at-own, given_at-coded, given_at-other}
 use Rattle.rs_rate.specs.declared.values.configuration.Configuration.{Configuration}
 use Rattle.rs_rate.specs.values.Configured.{IsConfigured, with_frame}
 use Rattle.rs_rate.specs.passes.Decoding.{IsLocatorOf, RestoresWords, RestoresShards, located_word}
 use Rattle.rs_rate.specs.passes.Sums.{AreMarksOf}
 use Rattle.rs_rate.specs.rows.DecoderView.{state_over}
-use Rattle.rs_rate.specs.rows.Marks.{shards_by_row, part, originals_in, recovery_in, HoldGiven, AreMissing}
+use Rattle.rs_rate.specs.rows.Marks.{shards_by_row, originals_in, recovery_in, HoldGiven, AreMissing}
 use Rattle.rs_rate.specs.rows.ShardRows.{word_in, shard_laid_out, shard_in_order}
 use Rattle.rs_rate.proofs.of_rows.ShardRowsLemmas.{column-put}
-use Rattle.rs_rate.proofs.of_rows.RowMaps.{some-marked, marked-some, part-in, part-some}
+use Rattle.rs_rate.proofs.of_rows.RowMaps.{some-marked, part-in, part-some}
 use Rattle.rs_rate.proofs.of_passes.Erased.{is_located}
 use Rattle.rs_rate.proofs.of_passes.RestoringRows.{located_word-at}
 use Rattle.rs_rate.proofs.of_values.ConfiguredLemmas.{places-known}
@@ -75,17 +72,7 @@ pub record IsDecoded {rate : Rate} {c : Configuration} (g : FilledRows rate c) (
 module _ (s : AsDefined) (g : FilledRows s.rate (with_frame s)) where
   -- The given shards are shards of a decoder.
   pub are_given : AreGiven (state_before g)
-  are_given = record {
-    supported = g.supported;
-    own_sized = sized_part (frame_at s).originals_from s.original_count;
-    coded_sized = sized_part (frame_at s).recovery_from s.recovery_count;
-  }
-    where
-      sized_part : (from n : ℕ) → AreSized n s.shard_bytes (part (shards_in g) from n)
-      sized_part from n = record {
-        each = λ i shard is.
-            let s = part-some (shards_in g) from n i shard is in (s.0, g.given.sized (from + i) shard s.1);
-      }
+  are_given = search (rules, part-some)
 
   -- The shard in a row is the shard that is given there.
   pub row-given : (x : ℕ) → shard_in_row (state_before g) x ≡ shards_in g x
@@ -117,10 +104,7 @@ module _ (s : AsDefined) (g : FilledRows s.rate (with_frame s)) where
   -- The words in the row of a given shard are the words of the shard.
   pub row_words : (j x : ℕ) (shard : Shard) → j < s.shard_bytes / 2 → shard_in_row (state_before g) x ≡ Some shard
       → (is_marked g.marks x ≡ true) × (words_before g j x ≡ column j shard)
-  row_words j x shard hj is =
-      let (mark, same) = marked-some g.marks (shard_laid_out g.chunks s.shard_bytes) x shard
-      (sym (row-given x) ∙ is) in
-      (mark, sym (column-put g.chunks s.shard_bytes x j g.configured.even hj) ∙ ap (column j) same)
+  row_words j x shard hj is = search (rules, row-given, column-put)
 
   module _ {locator : List ℕ} (is_locator : IsLocatorOf (frame_at s) g.marks locator) where
     -- The locator is that of the given shards.
@@ -133,16 +117,4 @@ module _ (s : AsDefined) (g : FilledRows s.rate (with_frame s)) where
         words agrees)
         → AreColumns (state_before g) (λ j. located_word g.marks locator (words_before g j))
         (λ j. restored.coefficients (j / 32) (j % 32))
-    are_columns restored j hj =
-        let found = restored.found in
-        record {
-          given = λ x shard hx is.
-              let (mark, word) = row_words j x shard hj is in
-              located_word-at g.marks locator (words_before g j) x true mark
-              ∙ ap₂ product word (same_residue (slice_index locator x)
-              (log_sum (rows_of (state_before g)) (erased_in (state_before g)) x) (rows_located.logarithms x hx));
-          none = λ x hx is.
-              located_word-at g.marks locator (words_before g j) x false (are_marks x hx ∙ ap is_some is);
-          are_words = λ x hx. found.are_words (j / 32) (j % 32) x (omega (arith, hj)) (omega arith) hx;
-          back = λ x hx. sym (found.of_located (j / 32) (j % 32) (omega (arith, hj)) (omega arith) x hx);
-        }
+    are_columns restored j hj = search (rules, row_words, located_word-at, same_residue, rows_located)

@@ -1,8 +1,9 @@
 -- What the passes of direct sums do to the rows of a decoder.
-use Rattle.std.proofs.Common.{◌≡◌, ℕ, ◌+◌, ◌*◌, ◌/◌, ◌%◌, ◌<◌, ◌≤◌, ◌⊎◌, Bool, true, false, cond, sym, ap, ap₂, ◌∙◌}
-use Rattle.std.proofs.Common.{arith, inl, inr, subst, bit_xor, true≢false, refl, add-one}
+use Rattle.std.proofs.Common.{rules, ◌≡◌, ℕ, ◌+◌, ◌*◌, ◌/◌, ◌%◌, ◌<◌, ◌≤◌, ◌⊎◌, Bool, true, false, cond, sym, ap, ap₂}
+use Rattle.std.proofs.Common.{◌∙◌, arith, inl, inr, subst, bit_xor, true≢false, add-one}
+use Rattle.std.proofs.lemmas.Grind.{common_steps}
 use Rattle.std.specs.Prelude.{not, ◌&&◌, ◌↔◌, if◌then◌else◌}
-use Rattle.std.specs.Int.Bits.{xor_assoc, xor_zero_r}
+use Rattle.std.specs.Int.Bits.{xor_assoc}
 use Rattle.std.proofs.lemmas.Bool.{cases_lt, cases_eq}
 use Rattle.std.proofs.Math.Nat.{mul-le-mul_right}
 use Rattle.rs_field.specs.code.Frame.{original_row}
@@ -18,7 +19,7 @@ use Rattle.rs_field.specs.words.Transform.{sum_below}
 use Rattle.rs_field.proofs.of_rows.Recursion.{fits_kept}
 use Rattle.rs_field.proofs.of_rows.RowOffsets.{outside_cell, outside_both, extent_then}
 use Rattle.rs_field.proofs.of_words.Combination.{sum_below-zero, sum_below-suc}
-use Rattle.rs_field.proofs.of_words.Counting.{counts_none, counts_then, counts_within}
+use Rattle.rs_field.proofs.of_words.Counting.{counts_then, counts_within}
 use Rattle.rs_field.proofs.of_words.DirectSum.{direct_term-same, direct_sum-same}
 use Rattle.rs_rate.specs.rows.Marks.{how_many}
 use Rattle.rs_rate.proofs.of_rows.HowMany.{how_many-suc, how_many-one, how_many-none, how_many-rises}
@@ -44,16 +45,7 @@ module _ (received : ℕ → Bool) (locator : ℕ → ℕ) (y : ℕ) where
 
   -- Before the first row, nothing was added.
   pub none_added : (rows : ShardsRefMut) (steps : Steps) → Fits rows → RowsAdded 0 rows rows steps steps
-  none_added rows steps fits = record {
-    fits = fits;
-    extent = record { name = refl; count = refl; len_64 = refl; length = refl };
-    others = λ k _. refl;
-    added = λ k s hk hs.
-        sym (xor_zero_r (word rows k s y))
-        ∙ ap (bit_xor (word rows k s y)) (sym (sum_below-zero 0 (λ x. direct_term received locator (word rows k s) y x)
-        (λ i h. absurd (let no : ⊥ = omega arith in no))));
-    counts = counts_none;
-  }
+  none_added rows steps fits = grind (arith, common_steps, sum_below-zero)
 
   -- One more row was added.
   pub one_more_added : (x : ℕ) (old mid new : ShardsRefMut) (a b c : Steps) → received y ≡ false
@@ -168,12 +160,7 @@ module _ (given base : ℕ → Bool) (locator : ℕ → ℕ) (w size : ℕ) wher
 
   -- Before the first row, nothing was tested.
   pub none_tested : (rows : ShardsRefMut) (steps : Steps) → Fits rows → RowsTested 0 rows rows steps steps
-  none_tested rows steps fits = record {
-    fits = fits;
-    extent = record { name = refl; count = refl; len_64 = refl; length = refl };
-    left = λ k q hk which. refl;
-    counts = counts_none;
-  }
+  none_tested rows steps fits = search rules
 
   -- The given rows below n that are outside the base are equal to their sums.
   abbrev pub AreEqualBelow : ℕ → ShardsRefMut → Type 0
@@ -182,31 +169,12 @@ module _ (given base : ℕ → Bool) (locator : ℕ → ℕ) (w size : ℕ) wher
   -- One more row is equal to its sum, or needs no test.
   pub one_more_equal : (n : ℕ) (rows : ShardsRefMut) → ((given n && not (base n)) ≡ true → IsEqualToSum rows n)
       → AreEqualBelow n rows → AreEqualBelow (n + 1) rows
-  one_more_equal n rows last before p hp which =
-      elim (cases_eq p n) [
-        | inl same ↦
-            subst (λ (q : ℕ). (given q && not (base q)) ≡ true → IsEqualToSum rows q) (sym same) last which
-        | inr less ↦ before p (omega arith) which
-      ]
+  one_more_equal n rows last before p hp which = search rules
 
   module _ (n : ℕ) (old mid : ShardsRefMut) (a b : Steps) (before : RowsTested n old mid a b) where
     -- The next row is equal to its sum exactly if it was before the tests.
     pub equal_left : old.shard_len_64 ≡ row_len size → IsEqualToSum mid n ↔ IsEqualToSum old n
-    equal_left len = (
-      λ e j hj. sym (same j hj n (inr (omega arith))) ∙ e j hj ∙ sums j hj,
-      λ e j hj. same j hj n (inr (omega arith)) ∙ e j hj ∙ sym (sums j hj),
-    )
-      where
-        same : (j : ℕ) → j < size / 2 → (q : ℕ) → (base q ≡ true) ⊎ (n ≤ q)
-            → word mid (j / 32) (j % 32) q ≡ word old (j / 32) (j % 32) q
-        same j hj q which = ap (λ z. symbol z (j % 32)) (before.left (j / 32) q (omega (arith, len, hj)) which)
-
-        sums : (j : ℕ) → j < size / 2
-            → direct_sum w base locator (word mid (j / 32) (j % 32)) n
-            ≡ direct_sum w base locator (word old (j / 32) (j % 32)) n
-        sums j hj =
-            direct_sum-same w base locator (word mid (j / 32) (j % 32)) (word old (j / 32) (j % 32)) n
-            (λ x hx is. same j hj x (inl is))
+    equal_left len = search (rules, direct_sum-same)
 
     -- One more row was tested.
     pub one_more_tested : (new : ShardsRefMut) (c : Steps) → given n ≡ true → base n ≡ false → SameExtent mid new

@@ -1,8 +1,9 @@
 -- The row steps of each block of an encode, and of the whole encode.
+use Rattle.std.proofs.lemmas.Grind.{common_steps}
 use Rattle.std.proofs.Common.{◌≡◌, ℕ, true, false, Bool, cond, ◌+◌, ◌-◌, ◌*◌, ◌/◌, ◌%◌, ◌<◌, ◌≤◌, refl, sym, ap, ap₂}
 use Rattle.std.proofs.Common.{◌∙◌, subst, arith}
-use Rattle.std.proofs.Math.Nat.{add-div_right, div-mul-le_self, mul-le-mul_right}
-use Rattle.std.proofs.lemmas.Nat.{pow_pos, le-div, div-add-mod'}
+use Rattle.std.proofs.Math.Nat.{add-div_right, mul-le-mul_right}
+use Rattle.std.proofs.lemmas.Nat.{pow_pos, div-add-mod'}
 use Rattle.rs_field.specs.code.Counts.{Rate, next_power, supports, is_low, low_rate, high_rate}
 use Rattle.rs_field.specs.code.Frame.{encoder_rows}
 use Rattle.rs_field.specs.words.StepBounds.{CountsUpTo, transform_steps}
@@ -32,9 +33,7 @@ further-next start m step some from =
 
 pub further-within : (start rows m step : ℕ) → 0 < m → start - m ≤ rows - m
     → further_blocks m start * step ≤ further_blocks m rows * step
-further-within start rows m step some within =
-    let below : (start - m) / m * m ≤ start - m = div-mul-le_self (start - m) m in
-    mul-le-mul_right step (le-div ((start - m) / m) (rows - m) m some (omega arith))
+further-within start rows m step some within = grind (arith, common_steps, mul-le-mul_right)
 
 -- The rows are whole blocks, and the row steps of an encode follow from the number of blocks after the first.
 bound-is : (low : Bool) (k r m rows : ℕ) → supports (low_or_high low) k r ≡ true → m ≡ next_power (cond low k r)

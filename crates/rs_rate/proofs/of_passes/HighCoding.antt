@@ -1,9 +1,9 @@
 -- Coding with the high rate: the transforms of one column turn the original words into the recovery words of the code.
-use Rattle.std.proofs.Common.{◌≡◌, ℕ, zero, suc, ◌+◌, ◌-◌, ◌*◌, ◌/◌, ◌%◌, ◌^◌, ◌<◌, ◌≤◌, Bool, true, cond, eqb, List}
-use Rattle.std.proofs.Common.{length, bit_xor, refl, sym, ap, ap₂, ◌∙◌, subst, inl, inr, arith, zero-add, add-one}
-use Rattle.std.proofs.Common.{pow-add, ne_eqb}
+use Rattle.std.proofs.Common.{rules, ◌≡◌, ℕ, zero, suc, ◌+◌, ◌-◌, ◌*◌, ◌/◌, ◌%◌, ◌^◌, ◌<◌, ◌≤◌, Bool, true, cond, eqb}
+use Rattle.std.proofs.Common.{List, length, bit_xor, refl, sym, ap, ap₂, ◌∙◌, subst, inl, inr, arith, zero-add, add-one}
+use Rattle.std.proofs.Common.{pow-add}
 use Rattle.std.specs.Prelude.{All, nat_lt}
-use Rattle.std.specs.Int.Bits.{xor_self, xor_zero_l, xor_zero_r}
+use Rattle.std.specs.Int.Bits.{xor_self, xor_zero_r}
 use Rattle.std.proofs.Math.Nat.{zero-mod, mul-le-mul_right, div_self, add-div_right}
 use Rattle.std.proofs.lemmas.Bool.{cases_lt, lt-ltb, le-ltb, eq-eqb}
 use Rattle.std.proofs.lemmas.Nat.{pow_pos, div-add-mod'}
@@ -24,9 +24,7 @@ use Rattle.rs_rate.proofs.of_values.HighCounts.{high_small}
 -- ---- sums of combinations
 
 sum_one : (f : ℕ → ℕ) → sum_below 1 f ≡ f 0
-sum_one f =
-    sum_below-suc 0 f ∙ ap (λ v. bit_xor v (f 0)) (sum_below-zero 0 f (λ i h. let no : ⊥ = omega arith in absurd no))
-    ∙ xor_zero_l (f 0)
+sum_one f = search (rules, sum_below-suc, sum_below-zero)
 
 -- The sums of one block are the combination of the first block.
 sums-first : (m k : ℕ) (old sums : ℕ → ℕ) → ((i : ℕ) → i < m → forward m m sums i ≡ zero_padded k old i)
@@ -46,8 +44,7 @@ extended n those one u q = cond (eqb u n) (one q) (those u q)
 
 extended-before : (n : ℕ) (those : ℕ → ℕ → ℕ) (one : ℕ → ℕ) (u q : ℕ) → u < n → extended n those one u q ≡ those u q
 unfolding extended
-extended-before n those one u q h =
-    ap (λ (b : Bool). cond b (one q) (those u q)) (ne_eqb u n (λ e. let no : ⊥ = omega arith in no))
+extended-before n those one u q h = search rules
 
 extended-last : (n : ℕ) (those : ℕ → ℕ → ℕ) (one : ℕ → ℕ) (q : ℕ) → extended n those one n q ≡ one q
 unfolding extended
@@ -158,12 +155,7 @@ sum_family first n later q count room sum =
 
 -- A point below n blocks is in one of the n blocks.
 quotient_below : (j n m i x : ℕ) → x ≡ j * m + i → x < n * m → j < n
-quotient_below j n m i x is h =
-    elim (cases_lt j n) [
-      | inl below ↦ below
-      | inr above ↦ let le : n * m ≤ j * m = mul-le-mul_right m above in
-          absurd (let no : ⊥ = omega arith in no)
-    ]
+quotient_below j n m i x is h = search rules
 
 -- A polynomial whose values on each block of points are the values of the combination of this block.
 record IsHigh (m all n : ℕ) (sums : ℕ → ℕ) (those : ℕ → ℕ → ℕ) (p : List ℕ) : Type 0 where

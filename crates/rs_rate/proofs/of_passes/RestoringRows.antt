@@ -1,8 +1,6 @@
 -- What one pass over the rows of a decode does to each row.
-use Rattle.std.proofs.Common.{◌≡◌, ℕ, ◌+◌, ◌-◌, ◌*◌, ◌/◌, ◌%◌, ◌<◌, ◌≤◌, Bool, true, false, cond, sym, ap, ap₂, ◌∙◌}
-use Rattle.std.proofs.Common.{arith, zero-add}
+use Rattle.std.proofs.Common.{rules, ◌≡◌, ℕ, ◌+◌, ◌-◌, ◌/◌, ◌%◌, ◌<◌, ◌≤◌, Bool, true, false, cond, sym, ap, ◌∙◌, arith}
 use Rattle.std.specs.Prelude.{replicate, slice_index, List, ◌↔◌}
-use mathlib.Core.Path.{fun_ext}
 use Rattle.rs_field.specs.words.Transform.{forward}
 use Rattle.rs_field.specs.words.StepBounds.{CountsUpTo}
 use Rattle.rs_field.specs.words.Field.{product, power}
@@ -11,7 +9,6 @@ use Rattle.rs_field.specs.rows.View.{cell, word, row_at, Fits, SameExtent, SameR
 use Rattle.rs_field.specs.declared.rows.shards.ShardsRefMut.{ShardsRefMut}
 use Rattle.rs_field.specs.declared.words.steps.Steps.{Steps}
 use Rattle.rs_field.specs.rows.MarkedRows.{is_marked}
-use Rattle.rs_field.proofs.of_rows.RowOffsets.{row_ends}
 use Rattle.rs_rate.specs.passes.Decoding.{located_word}
 use Rattle.rs_rate.proofs.of_rows.ShardRowsLemmas.{part-read}
 
@@ -19,10 +16,7 @@ use Rattle.rs_rate.proofs.of_rows.ShardRowsLemmas.{part-read}
 pub row-read : (r : ShardsRefMut) (i k : ℕ) → Fits r → i < r.shard_count → k < r.shard_len_64
     → chunk (row_at r i) k ≡ cell r k i
 unfolding cell
-row-read r i k fits hi hk =
-    let ends : i * r.shard_len_64 + r.shard_len_64 ≤ r.shard_count * r.shard_len_64 =
-    row_ends i r.shard_count r.shard_len_64 hi in
-    part-read r.chunks.now (i * r.shard_len_64) r.shard_len_64 k (omega arith) hk
+row-read r i k fits hi hk = search (rules, part-read)
 
 -- One row was multiplied by its locator factor, in at most one row step, and no other row was changed.
 pub record RowLocated (marks : List Bool) (locator : List ℕ) (p : ℕ) (old new : ShardsRefMut)
@@ -61,9 +55,7 @@ pub record RowRevealed (marks : List Bool) (locator : List ℕ) (p : ℕ) (old n
 pub from_row_zero : (size n i : ℕ) (values coefficients : ℕ → ℕ) → size ≡ n
     → values (0 + i) ≡ forward size 0 (λ q. coefficients (0 + q)) i
     → values i ≡ forward n 0 coefficients i
-from_row_zero size n i values coefficients same is =
-    sym (ap values (zero-add i)) ∙ is
-    ∙ ap₂ (λ m (f : ℕ → ℕ). forward m 0 f i) same (fun_ext (λ q. ap coefficients (zero-add q)))
+from_row_zero size n i values coefficients same is = search rules
 
 -- The last rows are zero exactly if the check of the last rows returns true.
 pub checked_rows : (rows surplus size count first : ℕ) (f : ℕ → ℕ → ℕ → ℕ) (answer agrees : Bool) → surplus ≤ rows

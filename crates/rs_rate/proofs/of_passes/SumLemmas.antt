@@ -1,7 +1,7 @@
 -- Direct sums over a base: the list of its rows, the factors, and the words of a sum.
-use Rattle.std.proofs.Common.{◌≡◌, ℕ, ◌+◌, ◌-◌, ◌*◌, ◌/◌, ◌%◌, ◌<◌, ◌≤◌, Bool, true, false, cond, List, [], ◌∷◌, ◌++◌}
-use Rattle.std.proofs.Common.{take, drop, replicate}
-use Rattle.std.proofs.Common.{length, bit_xor, sym, ap, ap₂, ◌∙◌, arith, inl, inr, add-one, ne_eqb, get_or}
+use Rattle.std.proofs.Common.{rules, ◌≡◌, ℕ, ◌+◌, ◌-◌, ◌*◌, ◌/◌, ◌%◌, ◌<◌, ◌≤◌, Bool, true, false, cond, List, [], ◌∷◌}
+use Rattle.std.proofs.Common.{◌++◌, take, drop, replicate, length, bit_xor, sym, ap, ap₂, ◌∙◌, arith, inl, inr, add-one}
+use Rattle.std.proofs.Common.{get_or}
 use Rattle.std.specs.Prelude.{slice_index}
 use Rattle.std.specs.Int.Bits.{xor_zero_r}
 use Rattle.std.proofs.Math.Seq.{get_or-append_seam, take-append_seam}
@@ -35,23 +35,15 @@ one_row size chunks is = omega arith
 -- Column j of a shard that was laid out in chunks is word j of the sum in these chunks.
 pub column-sum : (chunks : Chunks) (size j : ℕ) → size % 2 ≡ 0 → j < size / 2
     → column j (shard_laid_out chunks size 0) ≡ sum_word chunks j
-column-sum chunks size j even inside =
-    column-put chunks size 0 j even inside
-    ∙ ap (λ k. symbol (chunk chunks k) (j % 32))
-    (let first : 0 * row_len size + j / 32 ≡ j / 32 = omega arith in first)
+column-sum chunks size j even inside = search (rules, column-put)
 
 -- The words of a sum in two parts: those of the first n chunks, and those of the others.
 pub words-first : (n j : ℕ) (xs ys : Chunks) → length xs ≡ n → j / 32 < n → sum_word (xs ++ ys) j ≡ sum_word xs j
-words-first n j xs ys long inside =
-    ap (λ (c : List ℕ). symbol c (j % 32)) (get_or_append_left xs ys [] (j / 32) (omega (arith, long, inside)))
+words-first n j xs ys long inside = search (rules, get_or_append_left)
 
 pub words-last : (n j : ℕ) (xs ys : Chunks) → length xs ≡ n → n ≤ j / 32
     → sum_word (xs ++ ys) j ≡ sum_word ys (j - 32 * n)
-words-last n j xs ys long past =
-    ap₂ (λ (c : List ℕ) (s : ℕ). symbol c s)
-    (get_or-append_right xs ys n (j / 32) [] long past
-    ∙ ap (λ (k : ℕ). chunk ys k) (let e : j / 32 - n ≡ (j - 32 * n) / 32 = omega (arith, past) in e))
-    (let e : j % 32 ≡ (j - 32 * n) % 32 = omega (arith, past) in e)
+words-last n j xs ys long past = search (rules, get_or-append_right)
 
 -- A slice that was lent by a vector is its list of elements afterwards, if it has as many elements.
 pub written-back : {X : Type 0} (xs ys : List X) (n : ℕ) → length xs ≡ n → length ys ≡ n
@@ -68,7 +60,7 @@ zero-word chunks j is =
 
 -- A logarithm below 65535 is that of its factor.
 pub times_known : (l w : ℕ) → l < 65535 → times_factor l w ≡ product w (power l)
-times_known l w small = ap (λ b. cond b 0 (product w (power l))) (ne_eqb l 65535 (λ e. let no : ⊥ = omega arith in no))
+times_known l w small = search rules
 
 -- ---- the list of marked rows
 
@@ -81,12 +73,7 @@ unfolding term
 term-at marks f x b is = ap (λ (c : Bool). cond c (f x) 0) is
 
 pub listed-none : (marks : List Bool) → ListsMarked marks 0 []
-listed-none marks = record {
-  entries = λ i h. absurd (let no : ⊥ = omega arith in no);
-  sums = λ f. sum_below-zero 0 (λ i. f (slice_index [] i)) (λ i h. absurd (let no : ⊥ = omega arith in no))
-      ∙ sym (sum_below-zero 0 (λ x. cond (is_marked marks x) (f x) 0)
-      (λ i h. absurd (let no : ⊥ = omega arith in no)));
-}
+listed-none marks = search (rules, sum_below-zero)
 
 -- A marked row is listed next.
 pub listed-more : (marks : List Bool) (n : ℕ) (rows : List ℕ) → is_marked marks n ≡ true → ListsMarked marks n rows

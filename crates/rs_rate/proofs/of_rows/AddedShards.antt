@@ -1,5 +1,5 @@
 -- Adding an original or a recovery shard to a decoder: the outcome of the tests, and the state after the addition.
-use Rattle.std.proofs.Common.{◌≡◌, ℕ, ◌<◌, Bool, true, false, cond, length, refl, sym, ap}
+use Rattle.std.proofs.Common.{rules, ◌≡◌, ℕ, ◌<◌, Bool, true, false, cond, length, refl, sym, ap}
 use Rattle.std.specs.Prelude.{Option, Some, None, Result, Ok, Err, is_some, not, ◌==◌}
 use Rattle.std.specs.Result.{result_map_both}
 use Rattle.std.proofs.lemmas.Bool.{lt-leb, eq-eqb}
@@ -112,10 +112,7 @@ module _ (rows : Shards) (row size : ℕ) (repeated : Error) (shard : Shard) whe
   -- If an entry succeeds, the row was free, and the shard is in the row afterwards.
   pub entry-made : Ok tt ≡ answer_of (entry_outcome rows row size repeated shard)
       → (rows row ≡ None) × (entry_outcome rows row size repeated shard ≡ Ok (with_entry rows row shard))
-  entry-made made =
-      let known = made_by (is_some (rows row)) (not (length shard == size)) repeated
-      (DifferentShardSize size (length shard)) (with_entry rows row shard) made in
-      (none_of (rows row) known.0, known.1)
+  entry-made made = search rules
 
   -- If an entry fails, the rows stay as they are.
   pub entry-refused : (e : Error) → Err e ≡ answer_of (entry_outcome rows row size repeated shard)

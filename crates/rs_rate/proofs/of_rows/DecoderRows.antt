@@ -1,14 +1,13 @@
 -- Whether a decoder has enough shards, what `decode` returns, and the state after `decode`.
-use Rattle.std.proofs.Common.{◌≡◌, ℕ, ◌+◌, ◌<◌, ◌≤◌, refl, sym, ap, subst, ◌∙◌, inl, inr, true≢false}
-use Rattle.std.proofs.lemmas.Bool.{cases_lt, lt-ltb, le-ltb}
+use Rattle.std.proofs.Common.{rules, ◌≡◌, ℕ, ◌+◌, ◌<◌, ◌≤◌, refl, sym, ap, subst}
+use Rattle.std.proofs.lemmas.Bool.{lt-ltb, le-ltb}
 use Rattle.std.specs.Prelude.{Result, Ok, Err, is_ok, cond, MatchResult}
 use Rattle.std.specs.Result.{result_map_both}
 use Rattle.rs_field.specs.declared.code.error.Error.{Error}
 use Rattle.rs_field.specs.code.Given.{Shards}
 use Rattle.rs_field.specs.code.Decoder.{DecoderState, fresh_decoder, enough_given, Restored, NoneAgrees, DecodeAnswers}
-use Rattle.rs_field.specs.code.Decoder.{after_decode}
+use Rattle.rs_field.specs.code.Decoder.{after_decode, originals_given, recovery_given}
 use Rattle.rs_field.specs.declared.code.error.Error.TheVariants.{NotEnoughShards}
-use Rattle.rs_field.specs.code.Decoder.{originals_given, recovery_given}
 
 -- The outcome of the check for enough shards, from the numbers of given shards.
 pub enough-few : (s : DecoderState) (o r : ℕ) → o ≡ originals_given s → r ≡ recovery_given s
@@ -25,12 +24,7 @@ enough-many s o r originals recovery many =
 -- A decoder that has enough shards has at least as many shards as originals.
 pub enough-least : (s : DecoderState) → Ok tt ≡ enough_given s
     → s.configuration.original_count ≤ originals_given s + recovery_given s
-enough-least s made =
-    elim (cases_lt (originals_given s + recovery_given s) s.configuration.original_count) [
-      | inl few ↦ absurd (true≢false
-          (ap is_ok (made ∙ enough-few s (originals_given s) (recovery_given s) refl refl few)))
-      | inr many ↦ many
-    ]
+enough-least s made = search rules
 
 -- The state after `decode` and the result of `decode`, by whether enough shards were added.
 abbrev LeftBy : DecoderState → Result (Unit {0}) Error → DecoderState

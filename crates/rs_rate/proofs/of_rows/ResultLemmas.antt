@@ -1,13 +1,13 @@
 -- The shards of a result that an iterator has not lent yet.
-use Rattle.std.proofs.Common.{◌≡◌, ℕ, zero, suc, ◌+◌, ◌-◌, ◌^◌, ◌<◌, ◌≤◌, List, [], ◌∷◌, length, drop, Bool, true}
-use Rattle.std.proofs.Common.{false, cond, refl, sym, ap, ap₂, ◌∙◌, arith, pow_mono}
+use Rattle.std.proofs.Common.{rules, ◌≡◌, ℕ, zero, suc, ◌+◌, ◌-◌, ◌^◌, ◌<◌, ◌≤◌, List, [], ◌∷◌, length, drop, Bool}
+use Rattle.std.proofs.Common.{true, false, cond, refl, sym, ap, ap₂, ◌∙◌, arith}
 use Rattle.std.proofs.Math.Nat.{sub-zero}
 use Rattle.std.proofs.Math.Seq.{drop-cons}
 use Rattle.std.proofs.lemmas.List.{length-drop, drop_all}
 use Rattle.std.specs.Borrow.{Bor}
 use Rattle.std.specs.Prelude.{Option, Some, None, is_some, not, option_copied}
 use Rattle.rs_field.specs.code.Column.{Shard}
-use Rattle.rs_field.specs.code.Given.{Lists, items_below, items_from, count_below}
+use Rattle.rs_field.specs.code.Given.{Lists, items_below, items_from, count_below, Shards}
 use Rattle.rs_field.specs.rows.Rows.{Chunks}
 use Rattle.rs_field.specs.rows.MarkedRows.{is_marked}
 use Rattle.rs_field.proofs.of_code.Given.{count_below-zero, count_below-suc}
@@ -17,11 +17,10 @@ use Rattle.rs_rate.specs.declared.rows.decoder_work.DecoderRows.{DecoderRows}
 use Rattle.rs_rate.specs.declared.rows.encoder_work.EncoderRows.{EncoderRows}
 use Rattle.rs_rate.specs.rows.DecoderView.{restored_by_rows, restored_from}
 use Rattle.rs_rate.specs.rows.EncoderView.{lent_shards}
-use Rattle.rs_field.specs.code.Given.{Shards}
 use Rattle.rs_field.proofs.of_code.Entries.{count_most}
 use Rattle.rs_rate.specs.values.Configured.{rows_to_encode}
 use Rattle.rs_rate.specs.rows.Marks.{restored_marks, part, shards_by_row, restored_by_row}
-use Rattle.rs_rate.specs.rows.ShardRows.{shard_in_order, shard_laid_out}
+use Rattle.rs_rate.specs.rows.ShardRows.{shard_in_order}
 use Rattle.rs_rate.proofs.of_rows.RowMaps.{part-in, part-out, some-marked}
 use Rattle.rs_rate.proofs.of_rows.ShardRowsLemmas.{count-few}
 
@@ -104,29 +103,11 @@ pub length-restored : (old new : List Bool) (before after : Chunks) (size from n
     → length (items_below n (part (restored_by_row new after size) from n))
     + count_below n (part (shards_by_row old before size) from n) ≡ n
 length-restored old new before after size from n marked =
-    let counted = length-listed n (part (restored_by_row new after size) from n) in
-    let apart = count-apart n (part (restored_by_row new after size) from n)
-    (part (shards_by_row old before size) from n)
-    (λ i inside.
-    ap is_some (part-in (restored_by_row new after size) from n i inside)
-    ∙ some-marked new (shard_in_order after size) (from + i) ∙ marked i inside
-    ∙ ap not (sym (ap is_some (part-in (shards_by_row old before size) from n i inside)
-    ∙ some-marked old (shard_laid_out before size) (from + i)))) in
-    omega (arith, counted, apart)
+    search (rules, length-listed, count-apart, part-in, some-marked)
 
 -- The number of restored originals fits a `usize`.
 pub restored-few : (rows : DecoderRows) → length (restored_from rows 0) < 2 ^ 64
-restored-few rows =
-    let listed_all = ap length (restored_from-all rows)
-    ∙ length-listed rows.configuration.original_count (restored_by_rows rows) in
-    omega (
-      arith,
-      listed_all,
-      count_most rows.configuration.original_count
-          (restored_by_rows rows),
-      pow_mono {i = rows.configuration.frame.exponent} {j = 16} rows.configured.few,
-      rows.configured.own_rows,
-    )
+restored-few rows = search (rules, length-listed, count_most)
 
 -- The number of recovery shards of an encoder's configuration fits a `usize`.
 pub recovery_count-few : (rows : EncoderRows) → rows.configuration.recovery_count < 2 ^ 64

@@ -1,20 +1,17 @@
 -- The shards in the rows of a decoder, and the originals and the recovery shards among them.
-use Rattle.std.proofs.Common.{◌≡◌, ◌≢◌, ℕ, ◌+◌, ◌<◌, ◌≤◌, Bool, true, false, List, cond, refl, sym, ap, ap₂, ◌∙◌}
-use Rattle.std.proofs.Common.{arith, inl, inr}
-use Rattle.std.specs.Prelude.{Some, None, is_some, unwrap_or}
-use Rattle.std.proofs.lemmas.Bool.{cases_lt, lt-ltb, le-ltb}
-use Rattle.std.proofs.lemmas.Option.{none-some}
-use mathlib.Core.Path.{fun_ext}
+use Rattle.std.proofs.Common.{rules, ◌≡◌, ◌≢◌, ℕ, ◌+◌, ◌<◌, ◌≤◌, Bool, true, false, List, cond, refl, ap, ◌∙◌, arith}
+use Rattle.std.proofs.Common.{inl, inr}
+use Rattle.std.specs.Prelude.{Some, None, is_some}
+use Rattle.std.proofs.lemmas.Bool.{lt-ltb, le-ltb}
 use Rattle.rs_field.specs.code.Column.{Shard, IsShard}
 use Rattle.rs_field.specs.code.Counts.{Rate}
 use Rattle.rs_field.specs.code.Frame.{original_row, recovery_row}
-use Rattle.rs_field.specs.code.Decoder.{DecoderState, fresh_decoder}
-use Rattle.rs_field.specs.code.Given.{Shards, nothing, with_entry, count_below}
+use Rattle.rs_field.specs.code.Decoder.{fresh_decoder}
+use Rattle.rs_field.specs.code.Given.{Shards, nothing, with_entry}
 use Rattle.rs_field.proofs.of_code.Given.{entered_cases}
 use Rattle.rs_field.proofs.of_code.Entries.{count-nothing, count-entered, count_most}
 use Rattle.rs_rate.specs.declared.values.configuration.Configuration.{Configuration}
 use Rattle.rs_rate.specs.declared.rows.marks.Marks.{Marks}
-use Rattle.rs_rate.specs.declared.rows.marks.MarkedShards.{MarkedShards}
 use Rattle.rs_rate.specs.declared.rows.marks.MarkedShards.TheVariants.{Given, Restored}
 use Rattle.rs_rate.specs.values.Configured.{configuration_at}
 use Rattle.rs_rate.specs.rows.DecoderView.{state_over}
@@ -28,11 +25,7 @@ use Rattle.rs_field.proofs.of_code.Frame.{HasDistinctRows}
 -- A row holds a shard exactly if it is marked.
 pub some-marked : (marks : List Bool) (shards : ℕ → Shard) (p : ℕ)
     → is_some (marked_shards marks shards p) ≡ is_marked marks p
-some-marked marks shards p = by_mark (is_marked marks p)
-  where
-    by_mark : (b : Bool) → is_some (cond b (Some (shards p)) None) ≡ b
-    by_mark true = refl
-    by_mark false = refl
+some-marked marks shards p = search rules
 
 pub marked-at : (marks : List Bool) (shards : ℕ → Shard) (p : ℕ) (b : Bool) → is_marked marks p ≡ b
     → marked_shards marks shards p ≡ cond b (Some (shards p)) None
@@ -41,9 +34,7 @@ marked-at marks shards p b is = ap (λ c. cond c (Some (shards p)) None) is
 -- If a row holds a shard, the row is marked, and the shard is the one that belongs to the row.
 pub marked-some : (marks : List Bool) (shards : ℕ → Shard) (p : ℕ) (shard : Shard)
     → marked_shards marks shards p ≡ Some shard → (is_marked marks p ≡ true) × (shards p ≡ shard)
-marked-some marks shards p shard is =
-    let mark = sym (some-marked marks shards p) ∙ ap is_some is in
-    (mark, ap (λ o. unwrap_or o shard) (sym (marked-at marks shards p true mark) ∙ is))
+marked-some marks shards p shard is = search rules
 
 -- Rows without marks hold no shards.
 pub none-marked : (marks : List Bool) (shards : ℕ → Shard) → ((p : ℕ) → is_marked marks p ≡ false)
@@ -55,12 +46,7 @@ pub rows-entered : (old new : List Bool) (before after : ℕ → Shard) (row : �
     → is_marked new row ≡ true → ((p : ℕ) → p ≢ row → is_marked new p ≡ is_marked old p)
     → after row ≡ shard → ((p : ℕ) → p ≢ row → after p ≡ before p)
     → marked_shards new after ≡ with_entry (marked_shards old before) row shard
-rows-entered old new before after row shard mark others here kept =
-    fun_ext (λ p. elim (entered_cases (marked_shards old before) row p shard) [
-      | inl same ↦ ap (marked_shards new after) same.0 ∙ marked-at new after row true mark ∙ ap Some here ∙ sym same.1
-      | inr apart ↦ ap₂ (λ (b : Bool) (x : Shard). cond b (Some x) None) (others p apart.0) (kept p apart.0)
-          ∙ sym apart.1
-    ])
+rows-entered old new before after row shard mark others here kept = search (rules, entered_cases)
 
 -- The marks of restored originals mark no given shard.
 pub none_told : (marks : Marks) → marks.shards ≡ Restored → (p : ℕ) → is_marked (given_marks marks) p ≡ false
@@ -79,11 +65,7 @@ part-out rows from n i outside = rw (le-ltb i n outside) refl
 -- A shard in a part of the rows has an index below the count, and is in its row.
 pub part-some : (rows : Shards) (from n i : ℕ) (shard : Shard) → part rows from n i ≡ Some shard
     → (i < n) × (rows (from + i) ≡ Some shard)
-part-some rows from n i shard is =
-    elim (cases_lt i n) [
-      | inl inside ↦ (inside, sym (part-in rows from n i inside) ∙ is)
-      | inr outside ↦ absurd (none-some shard (sym (part-out rows from n i outside) ∙ is))
-    ]
+part-some rows from n i shard is = search (rules, part-in, part-out)
 
 -- A part of the rows holds a shard at an index below the count exactly if the row of the index is marked.
 pub part-marked : (marks : List Bool) (shards : ℕ → Shard) (from n i : ℕ) → i < n
@@ -94,36 +76,15 @@ part-marked marks shards from n i inside =
 -- Maps that are equal in the rows of a part have equal parts.
 part-kept : (one other : Shards) (from n : ℕ) → ((i : ℕ) → i < n → one (from + i) ≡ other (from + i))
     → part one from n ≡ part other from n
-part-kept one other from n same =
-    fun_ext (λ i. elim (cases_lt i n) [
-      | inl inside ↦ part-in one from n i inside ∙ same i inside ∙ sym (part-in other from n i inside)
-      | inr outside ↦ part-out one from n i outside ∙ sym (part-out other from n i outside)
-    ])
+part-kept one other from n same = search (rules, part-in, part-out)
 
 pub part-nothing : (rows : Shards) (from n : ℕ) → ((p : ℕ) → rows p ≡ None) → part rows from n ≡ nothing
-part-nothing rows from n empty =
-    fun_ext (λ i. elim (cases_lt i n) [
-      | inl inside ↦ part-in rows from n i inside ∙ empty (from + i)
-      | inr outside ↦ part-out rows from n i outside
-    ])
+part-nothing rows from n empty = search (rules, part-in, part-out)
 
 -- A shard that is entered in a row of a part is entered in the part.
 part-entered : (rows : Shards) (from n index : ℕ) (shard : Shard) → index < n
     → part (with_entry rows (from + index) shard) from n ≡ with_entry (part rows from n) index shard
-part-entered rows from n index shard inside =
-    fun_ext (λ i. elim (entered_cases (part rows from n) index i shard) [
-      | inl same ↦ part-in (with_entry rows (from + index) shard) from n i (omega (arith, same.0))
-          ∙ elim (entered_cases rows (from + index) (from + i) shard)
-          [ inl here ↦ here.1 | inr apart ↦ absurd (apart.0 (ap (λ j. from + j) same.0)) ] ∙ sym same.1
-      | inr other ↦ elim (cases_lt i n) [
-        | inl low ↦ part-in (with_entry rows (from + index) shard) from n i low
-            ∙ elim (entered_cases rows (from + index) (from + i) shard)
-            [ inl here ↦ absurd (other.0 (omega (arith, here.0))) | inr apart ↦ apart.1 ]
-            ∙ sym (part-in rows from n i low) ∙ sym other.1
-        | inr past ↦ part-out (with_entry rows (from + index) shard) from n i past ∙ sym (part-out rows from n i past)
-            ∙ sym other.1
-      ]
-    ])
+part-entered rows from n index shard inside = search (rules, entered_cases, part-in, part-out)
 
 -- A shard that is entered in another row does not change a part.
 part-apart : (rows : Shards) (from n row : ℕ) (shard : Shard) → ((i : ℕ) → i < n → from + i ≢ row)
@@ -137,24 +98,12 @@ part-apart rows from n row shard apart =
 
 -- Rows without shards hold zero originals and zero recovery shards.
 pub hold_nothing : (c : Configuration) (rows : Shards) → ((p : ℕ) → rows p ≡ None) → HoldGiven c 0 0 rows
-hold_nothing c rows empty =
-    record {
-      originals_counted = sym (ap (count_below c.original_count)
-          (part-nothing rows c.frame.originals_from c.original_count empty) ∙ count-nothing c.original_count);
-      recovery_counted = sym (ap (count_below c.recovery_count)
-          (part-nothing rows c.frame.recovery_from c.recovery_count empty) ∙ count-nothing c.recovery_count);
-      placed = λ p not_own not_coded. empty p;
-      sized = λ p shard is. absurd (none-some shard (sym (empty p) ∙ is));
-    }
+hold_nothing c rows empty = search (rules, part-nothing, count-nothing)
 
 -- A decoder whose rows hold no shards is a fresh decoder.
 pub nothing-given : (rate : Rate) (c : Configuration) (rows : Shards) → ((p : ℕ) → rows p ≡ None)
     → state_over rate c rows ≡ fresh_decoder (configuration_at rate c)
-nothing-given rate c rows empty =
-    ap₂ (λ (o r : Shards). let state : DecoderState =
-    record { configuration = configuration_at rate c; originals = o; recovery = r } in state)
-    (part-nothing rows c.frame.originals_from c.original_count empty)
-    (part-nothing rows c.frame.recovery_from c.recovery_count empty)
+nothing-given rate c rows empty = search (rules, part-nothing)
 
 -- There are at most as many given shards as a message has.
 pub hold-most : {c : Configuration} {originals recovery : ℕ} {rows : Shards} → HoldGiven c originals recovery rows
@@ -168,86 +117,28 @@ hold-most {c} {originals} {recovery} {rows} given = (
 pub given_if_some : (c : Configuration) (originals recovery : ℕ) (marks : Marks) (shards : ℕ → Shard)
     → 0 < originals + recovery → HoldGiven c originals recovery (marked_shards (given_marks marks) shards)
     → marks.shards ≡ Given
-given_if_some c originals recovery marks shards some given = by_kind marks.shards given
-  where
-    by_kind : (told : MarkedShards)
-        → HoldGiven c originals recovery (marked_shards (marks_of_given told marks.rows.items) shards) → told ≡ Given
-    by_kind Given given = refl
-    by_kind Restored given =
-        let rows = marked_shards (marks_of_given Restored marks.rows.items) shards in
-        let none = hold_nothing c rows (none-marked (marks_of_given Restored marks.rows.items) shards (λ p. refl)) in
-        absurd (omega (
-          arith,
-          some,
-          given.originals_counted,
-          given.recovery_counted,
-          none.originals_counted,
-          none.recovery_counted,
-        ))
+given_if_some c originals recovery marks shards some given = search (rules, hold_nothing)
 
 -- The row of an original is never that of a recovery shard.
 apart : (c : Configuration) (i j : ℕ) → HasDistinctRows c.frame c.original_count c.recovery_count → i < c.original_count
     → j < c.recovery_count → original_row c.frame i ≢ recovery_row c.frame j
-apart c i j is own coded same =
-    let zeros = is.zeros in
-    elim is.order [
-      | inl low ↦ omega (arith, low.0, low.1, is.follow)
-      | inr high ↦ omega (arith, high.0, high.1)
-    ]
+apart c i j is own coded same = search rules
 
 module _ {c : Configuration} (is : HasDistinctRows c.frame c.original_count c.recovery_count) {originals recovery : ℕ}
     {rows : Shards} (given : HoldGiven c originals recovery rows) (index : ℕ) (shard : Shard)
     (sized : IsShard c.shard_bytes shard) where
   entered-sized : (row p : ℕ) (other : Shard) → with_entry rows row shard p ≡ Some other → IsShard c.shard_bytes other
-  entered-sized row p other found =
-      elim (entered_cases rows row p shard) [
-        | inl here ↦ let same = sym here.1 ∙ found in rw (let e : shard ≡ other = cc in e) at sized
-        | inr apart ↦ given.sized p other (sym apart.1 ∙ found)
-      ]
+  entered-sized row p other found = search (rules, entered_cases)
 
   -- After an original is entered in a free row of originals, there is one more.
   pub hold-original : index < c.original_count → rows (original_row c.frame index) ≡ None
       → HoldGiven c (originals + 1) recovery (with_entry rows (original_row c.frame index) shard)
-  hold-original inside free =
-      record {
-        originals_counted = ap (λ n. n + 1) given.originals_counted
-            ∙ sym (ap (count_below c.original_count)
-            (part-entered rows c.frame.originals_from c.original_count index shard inside)
-            ∙ count-entered c.original_count (originals_in c rows) index shard inside
-            (part-in rows c.frame.originals_from c.original_count index inside ∙ free));
-        recovery_counted = given.recovery_counted
-            ∙ sym (ap (count_below c.recovery_count)
-            (part-apart rows c.frame.recovery_from c.recovery_count (original_row c.frame index) shard
-            (λ i below same. apart c index i is inside below (sym same))));
-        placed = λ p not_own not_coded. elim (entered_cases rows (original_row c.frame index) p shard) [
-          | inl here ↦ absurd (elim not_own
-              [ inl before ↦ omega (arith, here.0, before) | inr past ↦ omega (arith, here.0, past, inside) ])
-          | inr other ↦ other.1 ∙ given.placed p not_own not_coded
-        ];
-        sized = entered-sized (original_row c.frame index);
-      }
+  hold-original inside free = search (rules, part-entered, count-entered, part-in, part-apart, entered_cases)
 
   -- After a recovery shard is entered in a free row of recovery shards, there is one more.
   pub hold-recovery : index < c.recovery_count → rows (recovery_row c.frame index) ≡ None
       → HoldGiven c originals (recovery + 1) (with_entry rows (recovery_row c.frame index) shard)
-  hold-recovery inside free =
-      record {
-        originals_counted = given.originals_counted
-            ∙ sym (ap (count_below c.original_count)
-            (part-apart rows c.frame.originals_from c.original_count (recovery_row c.frame index) shard
-            (λ i below same. apart c i index is below inside same)));
-        recovery_counted = ap (λ n. n + 1) given.recovery_counted
-            ∙ sym (ap (count_below c.recovery_count)
-            (part-entered rows c.frame.recovery_from c.recovery_count index shard inside)
-            ∙ count-entered c.recovery_count (recovery_in c rows) index shard inside
-            (part-in rows c.frame.recovery_from c.recovery_count index inside ∙ free));
-        placed = λ p not_own not_coded. elim (entered_cases rows (recovery_row c.frame index) p shard) [
-          | inl here ↦ absurd (elim not_coded
-              [ inl before ↦ omega (arith, here.0, before) | inr past ↦ omega (arith, here.0, past, inside) ])
-          | inr other ↦ other.1 ∙ given.placed p not_own not_coded
-        ];
-        sized = entered-sized (recovery_row c.frame index);
-      }
+  hold-recovery inside free = search (rules, part-apart, part-entered, count-entered, part-in, entered_cases)
 
 -- ---- adding a shard
 
@@ -257,20 +148,10 @@ module _ (rate : Rate) (c : Configuration) (is : HasDistinctRows c.frame c.origi
   pub original-entered : index < c.original_count
       → state_over rate c (with_entry rows (original_row c.frame index) shard)
       ≡ record (state_over rate c rows) { originals = with_entry (originals_in c rows) index shard }
-  original-entered inside =
-      ap₂ (λ (o r : Shards). let state : DecoderState =
-      record { configuration = configuration_at rate c; originals = o; recovery = r } in state)
-      (part-entered rows c.frame.originals_from c.original_count index shard inside)
-      (part-apart rows c.frame.recovery_from c.recovery_count (original_row c.frame index) shard
-      (λ i below same. apart c index i is inside below (sym same)))
+  original-entered inside = search (rules, part-entered, part-apart)
 
   -- Entering a shard in a row of recovery shards changes the recovery shards alone.
   pub recovery-entered : index < c.recovery_count
       → state_over rate c (with_entry rows (recovery_row c.frame index) shard)
       ≡ record (state_over rate c rows) { recovery = with_entry (recovery_in c rows) index shard }
-  recovery-entered inside =
-      ap₂ (λ (o r : Shards). let state : DecoderState =
-      record { configuration = configuration_at rate c; originals = o; recovery = r } in state)
-      (part-apart rows c.frame.originals_from c.original_count (recovery_row c.frame index) shard
-      (λ i below same. apart c i index is below inside same))
-      (part-entered rows c.frame.recovery_from c.recovery_count index shard inside)
+  recovery-entered inside = search (rules, part-apart, part-entered)

@@ -1,9 +1,9 @@
 -- The chunks of rows, and the shards in rows.
+use Rattle.std.proofs.lemmas.Grind.{common_steps}
 use Rattle.std.proofs.Common.{◌≡◌, ◌≢◌, ℕ, ◌+◌, ◌*◌, ◌/◌, ◌%◌, ◌^◌, ◌<◌, ◌≤◌, List, [], ◌∷◌, ◌++◌, length, take, drop}
-use Rattle.std.proofs.Common.{get_or, refl, sym, ap, ◌∙◌, inl, inr, subst, arith, ◌⊎◌, add-one, rules, ap₂}
-use Rattle.std.proofs.Math.Nat.{mul-le-mul_right, mul-le-mul_left}
+use Rattle.std.proofs.Common.{get_or, ◌∙◌, arith, ◌⊎◌, rules}
+use Rattle.std.proofs.Math.Nat.{mul-le-mul_right}
 use Rattle.std.specs.Prelude.{slice_index, flat_map}
-use Rattle.std.proofs.lemmas.Bool.{cases_eq}
 use Rattle.std.proofs.lemmas.List.{places, length-take, length-drop}
 use borrow.Rule.Slice.PartMut.{put_mid}
 use Rattle.rs_field.specs.rows.Rows.{Chunks, chunk}
@@ -25,10 +25,7 @@ chunk_count-more m n size h = mul-le-mul_right (row_len size) h
 -- If the size of rows in bytes fits a `usize`, the number of rows fits a `usize`.
 pub count-few : (n size : ℕ) → 0 < size → chunk_count n size * 64 < 2 ^ 64 → n < 2 ^ 64
 unfolding chunk_count
-count-few n size some fits =
-    let longer : 1 ≤ row_len size = omega (arith, some) in
-    let more = mul-le-mul_left n longer in
-    omega (arith, more, fits)
+count-few n size some fits = search rules
 
 -- The number of chunks up to the end of row i.
 pub row_end : (i size : ℕ) → chunk_count (i + 1) size ≡ i * row_len size + row_len size
@@ -45,15 +42,7 @@ pub given-more : (old new : Chunks) (size n length_ : ℕ) (shard : Shard) → l
     → shard_laid_out new length_ n ≡ shard
     → ((i : ℕ) → i ≢ n → shard_laid_out new length_ i ≡ shard_laid_out old length_ i)
     → up_to (n + 1) (shard_laid_out new size) ≡ up_to n (shard_laid_out old size) ++ shard ∷ []
-given-more old new size n length_ shard same here others =
-    subst (λ (z : ℕ). up_to (n + 1) (shard_laid_out new z) ≡ up_to n (shard_laid_out old z) ++ shard ∷ []) same
-    (at length_ here others)
-  where
-    at : (z : ℕ) → shard_laid_out new z n ≡ shard → ((i : ℕ) → i ≢ n → shard_laid_out new z i ≡ shard_laid_out old z i)
-        → up_to (n + 1) (shard_laid_out new z) ≡ up_to n (shard_laid_out old z) ++ shard ∷ []
-    at z here others =
-        let before = up_to-same n (shard_laid_out new z) (shard_laid_out old z) (λ i p. others i (omega (arith, p))) in
-        rw (add-one n) (rw (before, here) refl)
+given-more old new size n length_ shard same here others = search (rules, up_to-same)
 
 -- After a shard of the size was laid into a row, this row and the other rows that held shards of the size hold shards
 -- of the size.
@@ -62,13 +51,7 @@ pub shard-entered : (old new : Chunks) (size row length_ i : ℕ) (shard : Shard
     → ((j : ℕ) → j ≢ row → shard_laid_out new length_ j ≡ shard_laid_out old length_ j)
     → (i ≢ row → IsShard size (shard_laid_out old size i))
     → IsShard size (shard_laid_out new size i)
-shard-entered old new size row length_ i shard same is here others before =
-    subst (λ (z : ℕ). IsShard z (shard_laid_out new z i)) same
-    (elim (cases_eq i row) [
-      | inl e ↦ subst (IsShard length_) (sym (ap (shard_laid_out new length_) e ∙ here)) is
-      | inr apart ↦ subst (IsShard length_) (sym (others i apart))
-          (subst (λ (z : ℕ). IsShard z (shard_laid_out old z i)) (sym same) (before apart))
-    ])
+shard-entered old new size row length_ i shard same is here others before = search rules
 
 -- A chunk inside a part that was written is the chunk of the part.
 pub part-inside : (chunks part : Chunks) (start n k : ℕ) → start + n ≤ length chunks → length part ≡ n → k < n
@@ -92,29 +75,19 @@ pub row_chunk-other : (chunks part : Chunks) (size i j k : ℕ) → i * row_len 
     → length part ≡ row_len size → k < row_len size → j ≢ i
     → row_chunk (put_mid (i * row_len size) (row_len size) chunks part) size j k ≡ row_chunk chunks size j k
 unfolding row_chunk
-row_chunk-other chunks part size i j k fits same inside apart =
-    part-outside chunks part (i * row_len size) (row_len size) (j * row_len size + k) fits same
-    (offset_apart i j k (row_len size) inside apart)
+row_chunk-other chunks part size i j k fits same inside apart = search (rules, part-outside, offset_apart)
 
 -- If a part that is row i was written, the shard in row i is the shard of the part.
 pub put-here : (chunks part : Chunks) (size i start n : ℕ) → start ≡ i * row_len size → n ≡ row_len size
     → start + n ≤ length chunks → length part ≡ n
     → shard_laid_out (put_mid start n chunks part) size i ≡ laid_out size (λ k. chunk part k)
-put-here chunks part size i start n at width fits same =
-    laid_out-same size (row_chunk (put_mid start n chunks part) size i) (λ k. chunk part k)
-    (λ k inside.
-    ap₂ (λ a w. row_chunk (put_mid a w chunks part) size i k) at width
-    ∙ row_chunk-here chunks part size i k (omega arith) (omega arith) inside)
+put-here chunks part size i start n at width fits same = search (rules, laid_out-same, row_chunk-here)
 
 -- If a part that is row i was written, the shards in the other rows are unchanged.
 pub put-other : (chunks part : Chunks) (size i j start n : ℕ) → start ≡ i * row_len size → n ≡ row_len size
     → start + n ≤ length chunks → length part ≡ n → j ≢ i
     → shard_laid_out (put_mid start n chunks part) size j ≡ shard_laid_out chunks size j
-put-other chunks part size i j start n at width fits same apart =
-    laid_out-same size (row_chunk (put_mid start n chunks part) size j) (row_chunk chunks size j)
-    (λ k inside.
-    ap₂ (λ a w. row_chunk (put_mid a w chunks part) size j k) at width
-    ∙ row_chunk-other chunks part size i j k (omega arith) (omega arith) inside apart)
+put-other chunks part size i j start n at width fits same apart = search (rules, laid_out-same, row_chunk-other)
 
 -- Chunk k of a part that begins at `start` is chunk `start + k` of the rows.
 pub part-read : (chunks : Chunks) (start n k : ℕ) → start + n ≤ length chunks → k < n
@@ -125,10 +98,7 @@ pub moved-read : (chunks : Chunks) (size i start n m : ℕ) → start ≡ i * ro
     → start + n ≤ length chunks
     → in_order size (λ k. chunk (take m (drop start chunks)) k) ≡ shard_in_order chunks size i
 unfolding row_chunk
-moved-read chunks size i start n m at width same fits =
-    in_order-same size (λ k. chunk (take m (drop start chunks)) k) (row_chunk chunks size i)
-    (λ k inside. ap (λ w. chunk (take w (drop start chunks)) k) same ∙ part-read chunks start n k fits (omega arith)
-    ∙ ap (λ a. chunk chunks (a + k)) at)
+moved-read chunks size i start n m at width same fits = search (rules, in_order-same, part-read)
 
 -- A part that was written has the length of the chunks that it replaced.
 pub part_length : (chunks part : Chunks) (start n : ℕ) → start + n ≤ length chunks
@@ -142,20 +112,13 @@ pub moved-here : (chunks part : Chunks) (size i start n : ℕ) → start ≡ i *
     → shard_in_order (put_mid start n chunks part) size i ≡ shard_laid_out chunks size i
 unfolding row_chunk
 moved-here chunks part size i start n at width fits same moved =
-    in_order-same size (row_chunk (put_mid start n chunks part) size i) (λ k. chunk part k)
-    (λ k inside. ap₂ (λ a w. row_chunk (put_mid a w chunks part) size i k) at width
-    ∙ row_chunk-here chunks part size i k (omega arith) (omega arith) inside)
-    ∙ moved
-    ∙ laid_out-same size (λ k. chunk (take n (drop start chunks)) k) (row_chunk chunks size i)
-    (λ k inside. part-read chunks start n k fits (omega arith) ∙ ap (λ a. chunk chunks (a + k)) at)
+    search (rules, in_order-same, row_chunk-here, laid_out-same, part-read)
 
 -- If a part that is row i was written, the chunks of the other rows are unchanged.
 pub row_chunk-apart : (chunks part : Chunks) (size i j k start n : ℕ) → start ≡ i * row_len size → n ≡ row_len size
     → start + n ≤ length chunks → length part ≡ n → k < row_len size → j ≢ i
     → row_chunk (put_mid start n chunks part) size j k ≡ row_chunk chunks size j k
-row_chunk-apart chunks part size i j k start n at width fits same inside apart =
-    ap₂ (λ a w. row_chunk (put_mid a w chunks part) size j k) at width
-    ∙ row_chunk-other chunks part size i j k (omega arith) (omega arith) inside apart
+row_chunk-apart chunks part size i j k start n at width fits same inside apart = search (rules, row_chunk-other)
 
 -- Column j of the shard in row i has the words of row i.
 pub column-put : (chunks : Chunks) (size i j : ℕ) → size % 2 ≡ 0 → j < size / 2
@@ -170,9 +133,4 @@ pub row-fits : (chunks : Chunks) (bytes : List ℕ) (size rows i k b : ℕ) → 
     → k < row_len size → b < 64
     → slice_index (row_chunk chunks size i k) b < 256
 unfolding row_chunk
-row-fits chunks bytes size rows i k b whole fits wide few room inside small =
-    let end = row_end i size in
-    let within = chunk_count-within i rows size (length chunks) few room in
-    let place : i * row_len size + k < length chunks = omega (arith, end, within, inside) in
-    byte_fits chunks bytes whole fits (i * row_len size + k) b place
-    (let all = wide (i * row_len size + k) place in omega (arith, all, small))
+row-fits chunks bytes size rows i k b whole fits wide few room inside small = grind (arith, common_steps, byte_fits)

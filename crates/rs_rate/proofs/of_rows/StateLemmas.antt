@@ -1,27 +1,22 @@
 -- Outcomes of setting up an encoder and of the calls on it.
-use Rattle.std.proofs.Common.{◌≡◌, ℕ, ◌<◌, ◌≤◌, ◌*◌, ◌^◌, ◌%◌, ◌++◌, ◌∷◌, [], length, refl, sym, ap, ap₂, ◌∙◌, subst}
-use Rattle.std.proofs.Common.{Bool, true, false, cond}
-use Rattle.std.specs.Prelude.{Result, Ok, Err, OnOk, OnErr, not, ◌||◌, ◌==◌, List, nat_lt, is_ok, IsOkAnd}
-use Rattle.std.specs.Prelude.{MatchResult}
-use Rattle.std.proofs.lemmas.Bool.{lt-leb, eq-eqb, ltb-false}
+use Rattle.std.proofs.Common.{rules, ◌≡◌, ℕ, ◌<◌, ◌≤◌, ◌*◌, ◌^◌, ◌++◌, ◌∷◌, [], length, refl, sym, ap, ◌∙◌, subst, Bool}
+use Rattle.std.proofs.Common.{true, cond}
+use Rattle.std.specs.Prelude.{Result, Ok, Err, OnOk, OnErr, not, ◌||◌, List, is_ok, IsOkAnd, MatchResult}
+use Rattle.std.proofs.lemmas.Bool.{lt-leb, eq-eqb}
 use Rattle.rs_field.specs.declared.code.error.Error.{Error}
 use Rattle.rs_field.specs.declared.code.error.Error.TheVariants.{OutOfMemory, UnsupportedShardCount, InvalidShardSize}
-use Rattle.rs_field.specs.declared.code.error.Error.TheVariants.{TooFewOriginalShards}
 use Rattle.rs_field.specs.code.Column.{Shard}
 use Rattle.rs_field.specs.code.Counts.{Rate, supports}
 use Rattle.rs_field.specs.code.Outcome.{answer_of, state_after}
-use Rattle.rs_field.specs.code.Configuration.{Configuration as AsDefined, validation_outcome}
-use Rattle.rs_field.specs.code.Configuration.{start_outcome}
+use Rattle.rs_field.specs.code.Configuration.{Configuration as AsDefined, validation_outcome, start_outcome}
 use Rattle.rs_field.specs.code.Encoder.{EncoderState, fresh_encoder, with_shard, message_of, EncodeAnswers}
 use Rattle.rs_field.specs.code.Encoder.{after_encode}
 use Rattle.rs_field.specs.code.Code.{AreRecovery}
-use Rattle.rs_field.specs.words.UpTo.{up_to}
 use Rattle.rs_rate.specs.declared.rows.encoder_work.EncoderRows.{EncoderRows}
 use Rattle.rs_rate.specs.declared.values.configuration.Configuration.{Configuration}
 use Rattle.rs_rate.specs.values.Configured.{configuration_at}
 use Rattle.rs_rate.specs.rows.EncoderView.{encoder_state}
 use Rattle.rs_rate.specs.values.ChunkCounts.{memory_outcome, chunk_count}
-use Rattle.rs_rate.specs.rows.ShardRows.{shard_laid_out}
 use Rattle.rs_rate.proofs.of_values.ConfiguredLemmas.{start_outcome-by}
 
 -- If an encoder has room, a shard of the size is added.
@@ -69,20 +64,11 @@ tested c supported none odd =
 -- A valid configuration has counts that its rate supports.
 pub valid-supported : (c : AsDefined) → validation_outcome c ≡ Ok tt
     → supports c.rate c.original_count c.recovery_count ≡ true
-valid-supported c valid = by_support (supports c.rate c.original_count c.recovery_count) valid
-  where
-    by_support : (b : Bool) → tested c b (c.shard_bytes == 0) (c.shard_bytes % 2 == 1) ≡ Ok tt → b ≡ true
-    by_support true h = refl
-    by_support false h = absurd (let no : ⊥ = cc in no)
+valid-supported c valid = search rules
 
 -- If originals are missing, encoding does not change the state of the encoder.
 pub after_encode-refused : (s : EncoderState) (e : Error) → Err e ≡ answer_of (message_of s) → s ≡ after_encode s
-after_encode-refused s e refused = by_message (message_of s) refused
-  where
-    by_message : (m : Result (List Shard) Error) → Err e ≡ answer_of m
-        → s ≡ cond (is_ok m) (fresh_encoder s.configuration) s
-    by_message (Ok message) h = absurd (let no : ⊥ = cc in no)
-    by_message (Err f) h = refl
+after_encode-refused s e refused = search rules
 
 -- The result of `encode` for the message that an encoder holds.
 abbrev AnswersOf : EncoderState → Result (List Shard) Error → Result (List Shard) Error → Type 0
@@ -91,25 +77,12 @@ AnswersOf s m result =
 
 -- If originals are missing, `encode` returns the error of `message_of`.
 pub encode_answers-refused : (s : EncoderState) (e : Error) → Err e ≡ answer_of (message_of s) → EncodeAnswers s (Err e)
-encode_answers-refused s e refused = by_message (message_of s) refused
-  where
-    by_message : (m : Result (List Shard) Error) → Err e ≡ answer_of m
-        → AnswersOf s m (Err e)
-    by_message (Ok message) h = absurd (let no : ⊥ = cc in no)
-    by_message (Err f) h = let same : e ≡ f = cc in ap Err same
+encode_answers-refused s e refused = search rules
 
 -- An encoder that can encode holds a whole message.
 pub message-whole : (s : EncoderState) → Ok tt ≡ answer_of (message_of s)
     → (s.configuration.original_count ≤ length s.given) × (message_of s ≡ Ok s.given)
-message-whole s made = by_test (nat_lt (length s.given) s.configuration.original_count) refl made
-  where
-    tests : Bool → Result (List Shard) Error
-    tests b = cond b (Err (TooFewOriginalShards s.configuration.original_count (length s.given))) (Ok s.given)
-
-    by_test : (b : Bool) → nat_lt (length s.given) s.configuration.original_count ≡ b → Ok tt ≡ answer_of (tests b)
-        → (s.configuration.original_count ≤ length s.given) × (tests b ≡ Ok s.given)
-    by_test true e h = absurd (let no : ⊥ = cc in no)
-    by_test false e h = (ltb-false (length s.given) s.configuration.original_count e, refl)
+message-whole s made = search rules
 
 -- After a round, an encoder holds no shards.
 pub after_encode-made : (s : EncoderState) → Ok tt ≡ answer_of (message_of s)
@@ -127,7 +100,4 @@ encode_answers-made s recovery made right =
 -- An encoder to whose rows no original was added is a fresh encoder.
 pub encoder_state-fresh : (rate : Rate) (rows : EncoderRows) (c : Configuration) → rows.configuration ≡ c
     → rows.originals_given ≡ 0 → encoder_state rate rows ≡ fresh_encoder (configuration_at rate c)
-encoder_state-fresh rate rows c same none =
-    let F : Configuration → List Shard → EncoderState = λ x given.
-    record { configuration = configuration_at rate x; given = given } in
-    ap₂ F same (ap (λ n. up_to n (shard_laid_out rows.chunks.items rows.configuration.shard_bytes)) none)
+encoder_state-fresh rate rows c same none = search rules

@@ -1,20 +1,16 @@
 -- Facts about the configuration of an object that was set up: it uses the low or the high rate, and its rows and its
 -- frame have room for its shards.
-use Rattle.std.proofs.Common.{◌^◌, ◌≡◌, ℕ, ◌+◌, ◌%◌, ◌<◌, ◌≤◌, Bool, true, false, refl, sym, ap, ◌∙◌, subst, arith}
-use Rattle.std.specs.Prelude.{cond, nat_le, Result, Ok, Err, OnOk, OnErr, if◌then◌else◌}
+use Rattle.std.proofs.Common.{rules, ◌^◌, ◌≡◌, ℕ, ◌+◌, ◌%◌, ◌<◌, ◌≤◌, Bool, true, false, sym, subst, arith}
+use Rattle.std.specs.Prelude.{cond, Result, Ok, Err, OnOk, OnErr}
 use Rattle.rs_field.specs.declared.code.error.Error.{Error}
-use Rattle.rs_field.specs.declared.code.error.Error.TheVariants.{OutOfMemory}
 use Rattle.rs_field.specs.declared.code.frame.Frame.{Frame}
 use Rattle.rs_field.specs.code.Configuration.{Configuration as AsDefined, validation_outcome, start_outcome}
-use Rattle.rs_field.specs.code.Configuration.{bytes_of_rows}
 use Rattle.rs_field.specs.code.Counts.{Rate, next_power, supports}
-use Rattle.rs_field.specs.code.Outcome.{result_and_then}
-use Rattle.rs_field.specs.code.Frame.{encoder_rows, frame_of, frame_at, next_multiple, row_count}
+use Rattle.rs_field.specs.code.Frame.{encoder_rows, next_multiple, row_count}
 use Rattle.rs_field.proofs.of_code.Frame.{HasDistinctRows}
 use Rattle.rs_field.proofs.of_code.RateFrames.{distinct_rows}
 use Rattle.rs_rate.specs.declared.values.configuration.Configuration.{Configuration}
-use Rattle.rs_rate.specs.values.Configured.{with_frame, low_or_high, block_of, rows_to_encode}
-use Rattle.rs_rate.specs.values.Configured.{rate_of, IsConfigured}
+use Rattle.rs_rate.specs.values.Configured.{with_frame, low_or_high, block_of, rows_to_encode, rate_of, IsConfigured}
 use Rattle.rs_rate.specs.values.ChunkCounts.{memory_outcome, chunk_count}
 use Rattle.rs_rate.specs.values.SetUp.{IsSetUp, IsMadeFor, rows_of}
 use Rattle.rs_rate.proofs.of_values.HighCounts.{rows-fit}
@@ -30,27 +26,7 @@ coded-fit false k r is = let rows = rows-fit false k r is in (rows.enough, omega
 -- The configuration of a rate, for supported counts and a positive even size, is valid.
 pub with_frame-is : (asked : AsDefined) → supports asked.rate asked.original_count asked.recovery_count ≡ true
     → 0 < asked.shard_bytes → asked.shard_bytes % 2 ≡ 0 → IsConfigured (with_frame asked)
-with_frame-is asked is some even =
-    let rate = asked.rate in
-    let k = asked.original_count in
-    let r = asked.recovery_count in
-    let low = (frame_at asked).is_low in
-    let supported = chosen rate k r low is (sym (frame-low rate k r)) in
-    let framed = frame_alike rate (low_or_high low) k r (sym (frame-low rate k r) ∙ sym (chooses low k r)) in
-    let places = distinct_rows rate k r is in
-    let fit = coded-fit low k r supported in
-    record {
-      positive = some;
-      even = even;
-      supported = supported;
-      framed = framed;
-      rows = ap row_count framed;
-      few = places.few;
-      own_rows = places.originals;
-      other_rows = places.recovery;
-      originals = fit.0;
-      recovery = fit.1;
-    }
+with_frame-is asked is some even = search (rules, chosen, frame-low, frame_alike, chooses, distinct_rows, coded-fit)
 
 -- The frame of a valid configuration has the facts of a frame.
 pub places-known : {c : Configuration} → IsConfigured c → HasDistinctRows c.frame c.original_count c.recovery_count
@@ -62,12 +38,7 @@ places-known {c} is = subst (λ (f : Frame). HasDistinctRows f c.original_count 
 pub configuration-by : {c : Configuration} {low : Bool} → IsConfigured c → c.frame.is_low ≡ low
     → (supports (low_or_high low) c.original_count c.recovery_count ≡ true)
     × (block_of c ≡ next_power (cond low c.original_count c.recovery_count))
-configuration-by {c} {low} is choice = (
-  rw choice at is.supported,
-  ap (λ (f : Frame). if f.is_low then f.recovery_from else f.originals_from)
-      (is.framed ∙ ap (λ (b : Bool). frame_of (low_or_high b) c.original_count c.recovery_count) choice)
-      ∙ frame_block-is low c.original_count c.recovery_count,
-)
+configuration-by {c} {low} is choice = search (rules, frame_block-is)
 
 -- The blocks that an encoder codes have places for all shards and fit the field.
 pub record HasBlocks (c : Configuration) (coded : ℕ) : Type 0 where
@@ -77,24 +48,13 @@ pub record HasBlocks (c : Configuration) (coded : ℕ) : Type 0 where
 
 pub blocks-known : {c : Configuration} {low : Bool} → IsConfigured c → c.frame.is_low ≡ low
     → HasBlocks c (cond low c.recovery_count c.original_count)
-blocks-known {c} {low} is choice =
-    let known = configuration-by is choice in
-    let fit = rows-fit low c.original_count c.recovery_count known.0 in
-    record {
-      power = (fit.power.0, known.1 ∙ fit.power.1);
-      few = omega (arith, fit.points, fit.enough, known.1);
-      rows = ap (next_multiple (cond low c.recovery_count c.original_count)) known.1
-          ∙ next_multiple-by low c.original_count c.recovery_count
-          ∙ ap (λ (b : Bool). encoder_rows (low_or_high b) c.original_count c.recovery_count) (sym choice);
-    }
+blocks-known {c} {low} is choice = search (rules, configuration-by, rows-fit, next_multiple-by)
 
 -- The outcome of setting up a valid configuration is the outcome of allocating its chunks.
 pub start_outcome-by : (rows : ℕ) (c : AsDefined) (chunks : ℕ) → validation_outcome c ≡ Ok tt
     → chunks ≡ chunk_count rows c.shard_bytes → start_outcome rows c ≡ memory_outcome chunks
 unfolding chunk_count
-start_outcome-by rows c chunks valid is =
-    ap (result_and_then (λ _. cond (nat_le (2 ^ 64) (bytes_of_rows rows c.shard_bytes)) (Err OutOfMemory) (Ok tt)))
-    valid ∙ ap memory_outcome (sym is)
+start_outcome-by rows c chunks valid is = search rules
 
 -- The rows of a configuration that was made, and the outcome of allocating them, are those of the configuration that
 -- was asked for.
@@ -108,13 +68,7 @@ pub asked_rows : (row_count : Rate → ℕ → ℕ → ℕ)
     → ((rate : Rate) (c : Configuration) → IsSetUp rate c
     → rows_of row_count c ≡ row_count rate c.original_count c.recovery_count)
     → {asked : AsDefined} {c : Configuration} → IsMadeFor asked c → HasAskedRows row_count asked c
-asked_rows row_count rows {asked} {c} made = record {
-  count = rows asked.rate c made.set_up
-      ∙ ap (λ (x : AsDefined). row_count asked.rate x.original_count x.recovery_count) made.same;
-  bytes = ap (λ (x : AsDefined). x.shard_bytes) made.same;
-  answer = start_outcome-by (row_count asked.rate asked.original_count asked.recovery_count) asked _
-      (subst (λ (x : AsDefined). validation_outcome x ≡ Ok tt) made.same made.set_up.valid) refl;
-}
+asked_rows row_count rows {asked} {c} made = search (rules, start_outcome-by)
 
 -- A property that holds after a success and after an error always holds.
 pub either_way : {Made Kept P : Type 0} (result : Result (Unit {0}) Error) → OnOk result Made → OnErr result Kept

@@ -1,8 +1,8 @@
 -- The frame of a rate for two counts: whether the rate supports them, and which of the two rates it uses.
-use Rattle.std.proofs.Common.{◌≡◌, ℕ, ◌+◌, ◌^◌, ◌<◌, ◌≤◌, Bool, true, false, min, max, refl, sym, ap, ◌∙◌}
-use Rattle.std.proofs.Common.{true≢false, arith, inl, inr, pow_mono}
+use Rattle.std.proofs.Common.{rules, ◌≡◌, ℕ, ◌+◌, ◌^◌, ◌<◌, ◌≤◌, Bool, true, false, min, max, refl, sym, ap, ◌∙◌, arith}
+use Rattle.std.proofs.Common.{inl, inr}
 use Rattle.std.specs.Prelude.{nat_le, nat_lt, ◌&&◌, Some, None, cond}
-use Rattle.std.proofs.lemmas.Bool.{cases_lt, lt-ltb, le-leb, lt-leb, false_from_ne_true}
+use Rattle.std.proofs.lemmas.Bool.{cases_lt, lt-ltb, le-leb, lt-leb}
 use Rattle.rs_field.specs.declared.code.frame.Frame.{Frame}
 use Rattle.rs_field.specs.code.Counts.{Rate, next_power, supports, is_low, low_rate, high_rate, default_rate}
 use Rattle.rs_field.specs.code.Frame.{frame_of, low_frame, high_frame}
@@ -51,19 +51,7 @@ power-more k r less small =
 -- If the smaller power is that of k, the larger count is r, or it makes no difference for the sum of the two.
 same_sum : (k r p q d : ℕ) → d ≤ 16 → p ≡ 2 ^ d → 0 < k → k ≤ p → 0 < r → r ≤ q → p ≤ q → (p < q → k ≤ r)
     → nat_le (min p q + max k r) 65536 ≡ nat_le (p + r) 65536
-same_sum k r p q d few power some_k most_k some_r most_r order more =
-    elim (cases_lt p q) [
-      | inl less ↦ let larger = more less in
-          ap (λ n. nat_le n 65536) (let e : min p q + max k r ≡ p + r = omega arith in e)
-      | inr equal ↦ elim (cases_lt d 16) [
-        | inl small ↦
-            let half : 2 ^ d ≤ 2 ^ 15 = pow_mono {i = d} {j = 15} (omega arith) in
-            le-leb (min p q + max k r) 65536 (omega arith) ∙ sym (le-leb (p + r) 65536 (omega arith))
-        | inr large ↦
-            let whole : 2 ^ 16 ≤ 2 ^ d = pow_mono {i = 16} {j = d} large in
-            lt-leb (min p q + max k r) 65536 (omega arith) ∙ sym (lt-leb (p + r) 65536 (omega arith))
-      ]
-    ]
+same_sum k r p q d few power some_k most_k some_r most_r order more = search rules
 
 -- The default rate supports counts exactly if the rate that it uses supports them.
 default-supports : (k r : ℕ) (low : Bool) → 0 < k → k ≤ 65536 → 0 < r → r ≤ 65536
@@ -96,11 +84,7 @@ default-supports k r false some_k few_k some_r few_r choice =
 -- The frame of the default rate is that of the rate that it uses.
 pub default-frame : (k r : ℕ) (low : Bool) → 0 < k → k ≤ 65536 → 0 < r → r ≤ 65536
     → is_low default_rate k r ≡ low → frame_if default_rate k r ≡ frame_if (low_or_high low) k r
-default-frame k r low some_k few_k some_r few_r choice =
-    rw (
-      default-supports k r low some_k few_k some_r few_r choice,
-      frame_alike default_rate (low_or_high low) k r (choice ∙ sym (chooses low k r)),
-    ) refl
+default-frame k r low some_k few_k some_r few_r choice = search (rules, default-supports, frame_alike, chooses)
 
 -- Counts that a rate supports are positive and at most 65536.
 pub supported-in_field : (rate : Rate) (k r : ℕ) → supports rate k r ≡ true → (0 < k) × (k ≤ 65536) × (0 < r)
@@ -115,16 +99,9 @@ supported-in_field default_rate k r is =
 -- If there is a frame, the counts are supported, and it is the frame of the rate.
 pub frame-some : (rate : Rate) (k r : ℕ) (x : Frame) → Some x ≡ frame_if rate k r
     → (supports rate k r ≡ true) × (x ≡ frame_of rate k r)
-frame-some rate k r x some = by_support (supports rate k r) some
-  where
-    by_support : (b : Bool) → Some x ≡ cond b (Some (frame_of rate k r)) None → (b ≡ true) × (x ≡ frame_of rate k r)
-    by_support true h = (refl, cc)
-    by_support false h = absurd (let no : ⊥ = cc in no)
+frame-some rate k r x some = search rules
 
 -- If the counts are not in the field, there is no frame.
 pub frame-outside : (rate : Rate) (k r : ℕ) (inside : Bool)
     → ((0 < k) × (k ≤ 65536) × (0 < r) × (r ≤ 65536) → inside ≡ true) → inside ≡ false → None ≡ frame_if rate k r
-frame-outside rate k r inside test out =
-    let not_supported = false_from_ne_true (supports rate k r)
-    (λ is. true≢false (sym (test (supported-in_field rate k r is)) ∙ out)) in
-    rw not_supported refl
+frame-outside rate k r inside test out = search (rules, supported-in_field)

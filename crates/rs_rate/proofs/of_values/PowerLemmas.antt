@@ -1,9 +1,10 @@
 -- Powers of two, and counts that a rate supports.
-use Rattle.std.proofs.Common.{◌≡◌, ℕ, ◌+◌, ◌-◌, ◌*◌, ◌/◌, ◌%◌, ◌^◌, ◌<◌, ◌≤◌, Bool, true, false, cond, refl, sym, ap}
-use Rattle.std.proofs.Common.{◌∙◌, arith, inl, inr}
-use Rattle.std.proofs.lemmas.Bool.{cases_lt, le-leb, lt-ltb}
-use Rattle.std.proofs.lemmas.Nat.{pow-add, div-add-mod'}
-use Rattle.std.proofs.Math.Nat.{div-eq_of_lt-le, zero-mod, mul-mod_left, mul-le-mul_right}
+use Rattle.std.proofs.Common.{rules, ◌≡◌, ℕ, ◌+◌, ◌-◌, ◌*◌, ◌%◌, ◌^◌, ◌<◌, ◌≤◌, Bool, true, false, cond, refl, sym, ap}
+use Rattle.std.proofs.Common.{◌∙◌, arith}
+use Rattle.std.proofs.lemmas.Grind.{common_steps}
+use Rattle.std.proofs.lemmas.Bool.{le-leb, lt-ltb}
+use Rattle.std.proofs.lemmas.Nat.{pow-add}
+use Rattle.std.proofs.Math.Nat.{zero-mod, mul-mod_left}
 use Rattle.rs_field.proofs.of_code.NextPower.{next_power-large}
 use Rattle.rs_field.specs.code.Counts.{next_power, supports, is_low, low_rate}
 use Rattle.rs_field.specs.code.Frame.{next_multiple, encoder_rows}
@@ -18,13 +19,7 @@ low_supported k r some_k some_r fit =
 -- The multiple of m that is at least n and below n + m is n rounded up to a multiple of m.
 pub next_multiple-is : (n m result : ℕ) → 0 < m → n ≤ result → result < n + m → result % m ≡ 0
     → result ≡ next_multiple n m
-next_multiple-is n m result some low high multiple =
-    let whole : result / m * m + result % m ≡ result = div-add-mod' result m in
-    let below : result / m * m ≤ n + m - 1 = omega arith in
-    let above : n + m - 1 < (result / m + 1) * m = omega arith in
-    let quotient : (n + m - 1) / m ≡ result / m = div-eq_of_lt-le m below above in
-    let product : result ≡ result / m * m = omega arith in
-    product ∙ ap (λ q. q * m) (sym quotient)
+next_multiple-is n m result some low high multiple = grind (arith, common_steps)
 
 -- The number of rows of an encoder of the low rate or of the high rate.
 pub next_multiple-by : (low : Bool) (k r : ℕ)
@@ -35,25 +30,11 @@ next_multiple-by false k r = refl
 
 -- If the low rate supports k and r, k is at most 65536.
 pub low_small : (k r : ℕ) → supports low_rate k r ≡ true → k ≤ 65536
-low_small k r is =
-    let fits = low_fits k r is in
-    elim (cases_lt 65536 k) [
-      | inl many ↦ let large : 65536 < next_power k = next_power-large k many in absurd (omega arith)
-      | inr small ↦
-          small
-    ]
+low_small k r is = search (rules, low_fits, next_power-large)
 
 -- If one multiple of m is below another, one more block of m fits between them.
 pub next_block : (start rows m : ℕ) → start < rows → start % m ≡ 0 → rows % m ≡ 0 → start + m ≤ rows
-next_block start rows m below from to =
-    let a : start / m * m + start % m ≡ start = div-add-mod' start m in
-    let b : rows / m * m + rows % m ≡ rows = div-add-mod' rows m in
-    elim (cases_lt (start / m) (rows / m)) [
-      | inl less ↦ let more : start / m + 1 ≤ rows / m = omega arith in let rise : (start / m + 1) * m ≤ rows / m * m =
-          mul-le-mul_right m more in omega arith
-      | inr more ↦ let rise : rows / m * m ≤ start / m * m = mul-le-mul_right m more in
-          absurd (let no : ⊥ = omega arith in no)
-    ]
+next_block start rows m below from to = grind (arith, common_steps)
 
 -- A positive multiple of m is at least m.
 pub multiple_least : (n m : ℕ) → 0 < n → n % m ≡ 0 → m ≤ n

@@ -1,11 +1,9 @@
 -- A rate uses the low or the high rate for two supported counts, and has the rows, the frame and the recovery shards of
 -- this rate.
-use Rattle.std.proofs.Common.{◌≡◌, ℕ, ◌+◌, ◌<◌, ◌≤◌, Bool, true, false, cond, List, refl, sym, ap, ◌∙◌, subst}
-use Rattle.std.proofs.Common.{true≢false, arith}
-use Rattle.std.specs.Prelude.{slice_index, if◌then◌else◌}
+use Rattle.std.proofs.Common.{rules, ◌≡◌, ℕ, ◌+◌, Bool, true, false, cond, List, refl, sym, ap, ◌∙◌, true≢false, arith}
+use Rattle.std.specs.Prelude.{if◌then◌else◌}
 use Rattle.rs_field.specs.code.Counts.{Rate, next_power, supports, is_low, low_rate, high_rate, default_rate}
-use Rattle.rs_field.specs.code.Frame.{frame_of, low_frame, high_frame, degree_bound, block_rows}
-use Rattle.rs_field.specs.declared.code.frame.Frame.{Frame}
+use Rattle.rs_field.specs.code.Frame.{frame_of, low_frame, high_frame, block_rows}
 use Rattle.rs_field.specs.words.Polynomial.{value}
 use Rattle.rs_field.specs.code.Column.{Shard, columns}
 use Rattle.rs_field.specs.code.Configuration.{configuration}
@@ -65,11 +63,7 @@ block-is false k r = refl
 -- A frame is that of the low rate exactly if the rate uses the low rate.
 pub frame-low : (rate : Rate) (k r : ℕ) → (frame_of rate k r).is_low ≡ is_low rate k r
 unfolding frame_of low_frame high_frame
-frame-low rate k r = by_choice (is_low rate k r)
-  where
-    by_choice : (b : Bool) → (cond b (low_frame k r) (high_frame k r)).is_low ≡ b
-    by_choice true = refl
-    by_choice false = refl
+frame-low rate k r = search rules
 
 -- The number of rows of a block of a frame, written out.
 pub frame_block-is : (low : Bool) (k r : ℕ)
@@ -81,17 +75,7 @@ frame_block-is false k r = refl
 
 codes_alike : (one other : Rate) (k r : ℕ) (words polynomial : List ℕ) → is_low one k r ≡ is_low other k r
     → Codes one k r words polynomial → Codes other k r words polynomial
-codes_alike one other k r words polynomial alike codes =
-    let same = frame_alike one other k r alike in
-    record {
-      degree = codes.degree ∙ ap degree_bound same;
-      coefficients = codes.coefficients;
-      originals = λ j h. subst (λ (p : Frame). value polynomial (p.originals_from + j) ≡ slice_index words j) same
-          (codes.originals j h);
-      zeros = λ x from to.
-          codes.zeros x (subst (λ (p : Frame). p.zeros_from ≤ x) (sym same) from)
-          (subst (λ (p : Frame). x < p.zeros_to) (sym same) to);
-    }
+codes_alike one other k r words polynomial alike codes = search (rules, frame_alike)
 
 recovery_alike : (one other : Rate) (k r : ℕ) (words recovery : List ℕ) → is_low one k r ≡ is_low other k r
     → AreRecoveryWords one k r words recovery → AreRecoveryWords other k r words recovery

@@ -1,5 +1,5 @@
 -- The laws of the traits, proved from the invariants of the rows.
-use Rattle.std.specs.Prelude.{◌≡◌, ◌+◌, ◌*◌, ◌^◌, ◌<◌, ◌≤◌, ℕ, All, Bool, true, false, Some, None, is_some}
+use Rattle.std.specs.Prelude.{◌≡◌, ◌+◌, ◌*◌, ◌^◌, ◌<◌, ◌≤◌, ℕ, Bool, true, false, Some, None, is_some}
 use Rattle.std.specs.Prelude.{nat_lt, if◌then◌else◌, refl}
 use Rattle.std.proofs.Common.{sym, ap, ◌∙◌, subst, true≢false}
 use Rattle.std.proofs.lemmas.Bool.{le-ltb}
@@ -9,7 +9,6 @@ use Rattle.rs_field.specs.code.Counts.{Rate}
 use Rattle.rs_field.specs.code.Encoder.{IsEncoder}
 use Rattle.rs_field.specs.code.Decoder.{IsDecoder}
 use Rattle.rs_field.specs.code.Given.{AreWithin, Shards}
-use Rattle.rs_field.specs.words.UpTo.{up_to}
 use Rattle.rs_field.specs.code.Frame.{encoder_rows, decoder_rows}
 use Rattle.rs_field.proofs.of_words.UpTo.{length-up_to, all-up_to}
 use Rattle.rs_rate.specs.declared.rows.encoder_work.EncoderRows.{EncoderRows}

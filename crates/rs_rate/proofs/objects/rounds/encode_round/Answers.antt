@@ -1,15 +1,13 @@
-use Rattle.std.proofs.Common.{ℕ, sym, ◌∙◌, subst, arith}
+use Rattle.std.proofs.Common.{rules, sym, ◌∙◌, arith}
 use Rattle.std.proofs.lemmas.Result.{err_from_is_err_and}
 use Rattle.rs_field.proofs.of_words.UpTo.{length-up_to}
-use Rattle.rs_field.specs.words.StepBounds.{CountsUpTo}
 use Rattle.rs_rate.specs.values.Configured.{rate_of}
 use Rattle.rs_rate.specs.rows.EncoderView.{encoder_state, given_originals, lent_shards}
 use Rattle.rs_rate.proofs.of_passes.EncodeCounting.{steps_alike}
 use Rattle.rs_rate.proofs.of_values.RateLemmas.{shards_alike}
 use Rattle.rs_rate.specs.rows.ShardRows.{shard_laid_out}
 use Rattle.rs_rate.proofs.of_rows.StateLemmas.{after_encode-refused, encode_answers-refused, message-whole}
-use Rattle.rs_rate.proofs.of_rows.StateLemmas.{after_encode-made}
-use Rattle.rs_rate.proofs.of_rows.StateLemmas.{encode_answers-made, encoder_state-fresh}
+use Rattle.rs_rate.proofs.of_rows.StateLemmas.{after_encode-made, encode_answers-made, encoder_state-fresh}
 use Rattle.rs_rate.proofs.objects.rounds.encode_round.Goals as goal
 
 pub returns-in_err-check_all_given-clause-answer : goal.returns-in_err-check_all_given-clause-answer
@@ -43,12 +41,7 @@ returns-clause-answer g c =
     c.encode_rows.ensures.recovery)
 
 pub returns-clause-counts : goal.returns-clause-counts
-returns-clause-counts g c =
-    let rows = c.args.encoder.now.rows in
-    let own = rows.configuration in
-    subst (λ (n : ℕ). CountsUpTo n 0 0 c.args.steps.now c.encode_rows.new.steps)
-    (steps_alike (rate_of own) g.C.RateMarker.rate own.original_count own.recovery_count
-    c.args.encoder.now.set_up.alike) c.encode_rows.ensures.counts
+returns-clause-counts g c = search (rules, steps_alike)
 
 pub returns-clause-state : goal.returns-clause-state
 returns-clause-state g c =

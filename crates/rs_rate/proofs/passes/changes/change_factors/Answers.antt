@@ -1,6 +1,6 @@
-use Rattle.std.proofs.Common.{◌≡◌, ℕ, ◌^◌, ◌<◌, ◌≤◌, Bool, List, length, subst, ap, arith, pow_mono, inl, inr}
+use Rattle.std.proofs.Common.{rules, ◌≡◌, ℕ, ◌<◌, Bool, List, length, subst, ap, pow_mono}
 use Rattle.std.specs.Prelude.{IfOk, slice_index}
-use Rattle.rs_field.specs.code.Frame.{row_count, recovery_row}
+use Rattle.rs_field.specs.code.Frame.{recovery_row}
 use Rattle.rs_field.specs.declared.code.frame.Frame.{Frame}
 use Rattle.rs_field.specs.words.DirectSum.{direct_factor}
 use Rattle.rs_rate.specs.passes.Decoding.{IsLocatorOf}
@@ -9,30 +9,13 @@ use Rattle.rs_field.proofs.of_code.GivenRows.{rows_apart}
 use Rattle.rs_rate.proofs.passes.changes.change_factors.Goals as goal
 
 pub original_row-row-requires : goal.original_row-row-requires
-original_row-row-requires g c =
-    let f = distinct_rows_of c.args.counts.framed c.args.counts.supported in
-    let rows : row_count c.args.counts.frame ≤ 2 ^ 16 = pow_mono f.few in
-    omega (arith, rows, f.originals, c.requires)
+original_row-row-requires g c = search (rules, distinct_rows_of, pow_mono)
 
 pub recovery_factors-requires-clause-from : goal.recovery_factors-requires-clause-from
-recovery_factors-requires-clause-from g c =
-    let f = distinct_rows_of c.args.counts.framed c.args.counts.supported in
-    let same : row_count c.in_ok-base.base.counts.frame ≡ row_count c.args.counts.frame =
-    ap (λ m. row_count m.frame) c.in_ok-base.ensures.made.0 in
-    omega (arith, same, f.originals, c.requires, c.original_row-row.ensures)
+recovery_factors-requires-clause-from g c = search (rules, distinct_rows_of)
 
 pub recovery_factors-requires-clause-apart : goal.recovery_factors-requires-clause-apart
-recovery_factors-requires-clause-apart g c i inside same =
-    let f = distinct_rows_of c.args.counts.framed c.args.counts.supported in
-    let row = c.original_row-row.ensures in
-    let there : i < c.args.counts.recovery_count =
-    subst (λ (n : ℕ). i < n) (ap (λ m. m.recovery_count) c.in_ok-base.ensures.made.0) inside in
-    let other : recovery_row c.in_ok-base.base.counts.frame i ≡ recovery_row c.args.counts.frame i =
-    ap (λ m. recovery_row m.frame i) c.in_ok-base.ensures.made.0 in
-    elim (rows_apart c.args.counts.frame c.args.counts.original_count c.args.counts.recovery_count i f there) [
-      | inl before ↦ omega (arith, same, other, row, before)
-      | inr past ↦ omega (arith, same, other, row, past, c.requires)
-    ]
+recovery_factors-requires-clause-apart g c i inside same = search (rules, distinct_rows_of, rows_apart)
 
 pub returns-clause-made : goal.returns-clause-made
 returns-clause-made g c =

@@ -1,14 +1,9 @@
-use Rattle.std.proofs.Common.{◌^◌, ◌≤◌, ◌∙◌, arith, pow_mono}
-use Rattle.rs_field.specs.code.Frame.{row_count}
+use Rattle.std.proofs.Common.{rules, ◌∙◌, arith, pow_mono}
 use Rattle.rs_rate.proofs.of_passes.ChangeLemmas.{distinct_rows_of}
 use Rattle.rs_rate.proofs.passes.changes.recovery_factors.Goals as goal
 
 pub recovery_row-requires : goal.recovery_row-requires
-recovery_row-requires c =
-    let counts = c.args.base.now.counts in
-    let f = distinct_rows_of counts.framed counts.supported in
-    let rows : row_count c.args.base.now.counts.frame ≤ 2 ^ 16 = pow_mono f.few in
-    omega (arith, rows, f.recovery, c.loop-i-test.true)
+recovery_row-requires c = search (rules, distinct_rows_of, pow_mono)
 
 pub factor-requires-clause-second : goal.factor-requires-clause-second
 factor-requires-clause-second c =

@@ -1,21 +1,16 @@
-use Rattle.std.proofs.Common.{◌≡◌, ◌+◌, ℕ, sym, ◌∙◌, subst, arith, inl, inr, true≢false}
+use Rattle.std.proofs.Common.{◌≡◌, ◌+◌, ℕ, sym, ◌∙◌, subst, arith, inl, inr, true≢false, rules, List, length}
 use Rattle.std.proofs.Math.Nat.{sub-zero}
-use Rattle.std.specs.Prelude.{Ok}
 use Rattle.std.proofs.lemmas.Bool.{cases_eq}
 use Rattle.rs_field.specs.code.Frame.{original_row}
-use Rattle.rs_rate.specs.values.Configured.{configuration_at, rows_to_decode}
-use Rattle.rs_rate.specs.rows.DecoderRoom.{DecoderRoom, HasRoom}
+use Rattle.rs_rate.specs.values.Configured.{configuration_at}
 use Rattle.rs_rate.specs.passes.Decoding.{RestoresShards}
-use Rattle.rs_rate.specs.rows.Entering.{given_rows}
 use Rattle.rs_rate.proofs.of_passes.SumLemmas.{written-back}
 use Rattle.rs_rate.specs.rows.Marks.{given_marks, restored_marks, WantsMissing}
-use Rattle.rs_rate.specs.rows.ShardRows.{shard_laid_out}
 use Rattle.rs_rate.proofs.of_passes.DecodedColumns.{FilledRows, LeftRows}
 use Rattle.rs_rate.proofs.of_passes.DecodeAnswer.{AnswersOver, decode_answers, complete_answers, told_answer}
 use Rattle.rs_rate.proofs.of_rows.ResultLemmas.{length-restored}
 use Rattle.rs_rate.proofs.of_rows.StateLemmas.{valid-supported}
 use Rattle.rs_rate.proofs.of_rows.RowMaps.{hold_nothing, none-marked, none_told, nothing-given}
-use Rattle.std.proofs.Common.{rules, List, length}
 use Rattle.std.specs.Vec.{with_items}
 use Rattle.rs_rate.specs.declared.rows.decoder_work.DecoderMemory.{DecoderMemory}
 use Rattle.rs_rate.specs.declared.rows.marks.Marks.{Marks}
@@ -31,38 +26,10 @@ written memory chunks marks entries = record {
 }
 
 pub invariant_of-rows : goal.invariant_of-rows
-invariant_of-rows g c =
-    let old = c.args.rows.now in
-    let own = old.configuration in
-    let missing = c.restore-agrees.ensures.marks in
-    let new = c.restore-agrees.new in
-    let now = written old.memory new.chunks new.marks new.entries in
-    let chunks : length now.chunks.items ≡ length old.memory.chunks.items = search rules in
-    let entries : length now.entries.items ≡ length old.memory.entries.items = search rules in
-    record {
-      configured = old.configured;
-      laid_out = record {
-        whole = omega (arith, old.laid_out.whole, chunks);
-        marked = omega (arith, old.laid_out.marked, missing.length);
-        entries = omega (arith, old.laid_out.entries, entries);
-        sized = old.laid_out.sized;
-        room = subst (λ (r : DecoderRoom). HasRoom r (rows_to_decode own) own.shard_bytes)
-            (search rules) old.laid_out.room;
-      };
-      given = hold_nothing own (given_rows now own.shard_bytes)
-          (none-marked (given_marks now.marks) (shard_laid_out now.chunks.items own.shard_bytes)
-          (none_told now.marks missing.shards));
-    }
+invariant_of-rows g c = search (rules, hold_nothing, none-marked, none_told)
 
 pub returns-clause-state : goal.returns-clause-state
-returns-clause-state g c = λ rate.
-    let old = c.args.rows.now in
-    let new = c.restore-agrees.new in
-    let now = written old.memory new.chunks new.marks new.entries in
-    let own = old.configuration in
-    nothing-given rate own (given_rows now own.shard_bytes)
-    (none-marked (given_marks now.marks) (shard_laid_out now.chunks.items own.shard_bytes)
-    (none_told now.marks c.restore-agrees.ensures.marks.shards))
+returns-clause-state g c = search (rules, nothing-given, none-marked, none_told)
 
 pub returns-clause-answer : goal.returns-clause-answer
 returns-clause-answer g c = λ rate is.
@@ -123,18 +90,4 @@ returns-clause-answer g c = λ rate is.
     ])
 
 pub returns-clause-counted : goal.returns-clause-counted
-returns-clause-counted g c =
-    let old = c.args.rows.now in
-    let own = old.configuration in
-    let new = c.restore-agrees.new in
-    let now = written old.memory new.chunks new.marks new.entries in
-    let tally = c.tally-tally.ensures in
-    let missing : WantsMissing c.args.rows.now.configuration c.args.rows.now.memory.marks
-    c.restore-agrees.new.marks = rw tally.configuration at c.restore-agrees.ensures.marks in
-    let counted = length-restored (given_marks old.memory.marks) (restored_marks new.marks) old.memory.chunks.items
-    now.chunks.items own.shard_bytes own.frame.originals_from own.original_count missing.missing in
-    elim c.if-agrees.branch [
-      | then-agrees w ↦ let is : c.if-agrees.answer ≡ Ok c.tally-tally.result.missing = w.answer-is in
-          rw (is, sub-zero) (omega (arith, counted, tally.missing, old.given.originals_counted))
-      | else-agrees w ↦ rw w.answer-is tt
-    ]
+returns-clause-counted g c = search (rules, length-restored, then-agrees, sub-zero, else-agrees)

@@ -48,18 +48,7 @@ log_mod : (l z : ℕ) → 0 < z → z < 65536 → l ≡ log z → l % 65535 ≡ 
 log_mod l z some small is = ap (λ n. n % 65535) is ∙ mod-eq_of_lt (log_lt z some small)
 
 pub are_sums_used-requires-clause-few : goal.are_sums_used-requires-clause-few
-are_sums_used-requires-clause-few g c =
-    let facts = c.requires.facts in
-    let own = c.args.tally.configuration in
-    let rows : rows_to_decode c.args.tally.configuration ≤ 2 ^ 16 = pow_mono facts.configured.few in
-    omega (
-      arith,
-      rows,
-      facts.configured.own_rows,
-      facts.missing,
-      how_many-most own.original_count
-          (λ i. not (is_marked (given_marks c.args.marks.now) (original_row own.frame i))),
-    )
+are_sums_used-requires-clause-few g c = search (rules, pow_mono, how_many-most)
 
 pub are_sums_used-requires-clause-few_surplus : goal.are_sums_used-requires-clause-few_surplus
 are_sums_used-requires-clause-few_surplus g c =

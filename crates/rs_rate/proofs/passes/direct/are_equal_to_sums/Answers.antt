@@ -1,4 +1,5 @@
-use Rattle.std.proofs.Common.{◌≡◌, ℕ, ◌+◌, Bool, true, sym, ap, ap₂, ◌∙◌, arith, subst, true≢false, inl}
+use Rattle.std.proofs.Common.{rules, ◌≡◌, ℕ, ◌+◌, Bool, true, sym, ap, ap₂, ◌∙◌, arith, subst, true≢false, inl}
+use Rattle.std.proofs.lemmas.Grind.{common_steps}
 use Rattle.std.specs.Prelude.{slice_index, not, ◌&&◌, ◌↔◌}
 use Rattle.rs_field.specs.rows.MarkedRows.{is_marked}
 use Rattle.rs_field.specs.declared.rows.shards.ShardsRefMut.{ShardsRefMut}
@@ -19,16 +20,10 @@ now : (given base : ℕ → Bool) (locator : ℕ → ℕ) (w size n : ℕ) (old 
     → RowsTested given base locator w size n old rows first steps
     → RowsTested given base locator w size n old rows_now first steps_now
 now given base locator w size n old first rows steps rows_now steps_now same_rows same_steps tested =
-    subst (λ (r : ShardsRefMut). RowsTested given base locator w size n old r first steps_now) (sym same_rows)
-    (subst (λ (s : Steps). RowsTested given base locator w size n old rows first s) (sym same_steps) tested)
+    grind (arith, common_steps)
 
 pub loop-y-init : goal.loop-y-init
-loop-y-init g c = record {
-  tested = none_tested (is_marked c.args.given.now) (is_marked c.args.base.now)
-      (λ z. slice_index c.args.logarithms.now.locator.now z) c.args.rows.now.shard_count c.args.shard_bytes
-      c.args.rows.now c.args.steps.now c.requires.fits;
-  equal = λ p h. absurd (let no : ⊥ = omega arith in no);
-}
+loop-y-init g c = search (rules, none_tested)
 
 pub loop-y-preserved : goal.loop-y-preserved
 loop-y-preserved g c =

@@ -1,5 +1,5 @@
-use Rattle.std.proofs.Common.{◌≡◌, ℕ, ◌+◌, ◌<◌, Bool, true, false, refl, sym, ap, ◌∙◌, arith}
-use Rattle.std.proofs.Common.{inl, inr, add-one, true≢false, subst, zero-add, set, length}
+use Rattle.std.proofs.Common.{rules, ◌≡◌, ℕ, ◌+◌, ◌<◌, Bool, true, false, sym, ap, ◌∙◌, arith, inl, inr, add-one}
+use Rattle.std.proofs.Common.{true≢false, subst, zero-add, set}
 use Rattle.std.proofs.lemmas.Bool.{cases_eq, cases_Bool, cases_lt, lt-ltb, ltb-true}
 use Rattle.std.proofs.lemmas.List.{get_or-set_same, get_or-set_other, get_or_past, length-set}
 use Rattle.rs_field.specs.rows.MarkedRows.{is_marked}
@@ -50,12 +50,7 @@ one_more given old new count n left rest same found none begun =
     ])
 
 pub loop-row-init : goal.loop-row-init
-loop-row-init c = record {
-  length = refl;
-  given = λ p h. absurd (let no : ⊥ = omega arith in no);
-  counted = ap (λ n. n + c.args.count) (how_many-zero (is_marked c.args.base.now)) ∙ zero-add c.args.count;
-  all = λ _. how_many-zero (is_marked c.args.base.now) ∙ sym (how_many-zero (is_marked c.args.given.now));
-}
+loop-row-init c = search (rules, how_many-zero, zero-add)
 
 pub loop-row-preserved : goal.loop-row-preserved
 loop-row-preserved c =
@@ -101,22 +96,7 @@ loop-row-preserved c =
     }
 
 pub returns-clause-given : goal.returns-clause-given
-returns-clause-given c = λ p marked.
-    let before = c.loop-row.invariant in
-    elim (cases_lt p c.loop-row.row) [
-      | inl below ↦ before.given p below marked
-      | inr past ↦
-          absurd (true≢false (sym marked ∙ get_or_past c.loop-row.base p false
-          (omega (arith, past, c.loop-row-test.false, before.length))))
-    ]
+returns-clause-given c = search (rules, cases_lt, true≢false, get_or_past)
 
 pub returns-clause-counted : goal.returns-clause-counted
-returns-clause-counted c =
-    let before = c.loop-row.invariant in
-    let end : c.loop-row.row ≡ length c.args.given.now =
-    omega (arith, c.loop-row-test.false, c.loop-row.auto.row-end, c.requires.marked) in
-    let counted = rw end at before.counted in
-    elim (cases_lt 0 c.loop-row.left) [
-      | inl some ↦ let all = rw end at (before.all some) in omega (arith, all, counted, c.requires.enough, some)
-      | inr none ↦ omega (arith, counted, none)
-    ]
+returns-clause-counted c = search (rules, cases_lt)

@@ -1,8 +1,6 @@
-use Rattle.std.proofs.Common.{◌≡◌, ℕ, ◌/◌, ◌%◌, ◌<◌, true, sym, ap, ◌∙◌, arith, subst, true≢false}
+use Rattle.std.proofs.Common.{rules, ◌≡◌, ℕ, ◌/◌, ◌%◌, ◌<◌, true, sym, ◌∙◌, true≢false}
 use Rattle.std.specs.Prelude.{slice_index, ◌↔◌}
-use Rattle.rs_field.specs.code.Frame.{original_row}
 use Rattle.rs_field.specs.rows.MarkedRows.{is_marked}
-use Rattle.rs_field.specs.rows.Rows.{symbol}
 use Rattle.rs_field.specs.rows.View.{word}
 use Rattle.rs_field.specs.words.DirectSum.{direct_sum}
 use Rattle.rs_field.proofs.of_words.DirectSum.{direct_sum-same}
@@ -14,28 +12,10 @@ use Rattle.rs_rate.proofs.passes.direct.sum_rows.Goals as goal
 all_rows : (n w size : ℕ) (equal : ℕ → ℕ → ℕ → Type 0) (outside : ℕ → Type 0) (agrees : Type 0) → n ≡ w
     → ((p j : ℕ) → p < n → outside p → j < size / 2 → equal n p j) ↔ agrees
     → ((p j : ℕ) → p < w → outside p → j < size / 2 → equal w p j) ↔ agrees
-all_rows n w size equal outside agrees same both =
-    subst (λ (m : ℕ). ((p j : ℕ) → p < m → outside p → j < size / 2 → equal m p j) ↔ agrees) same both
+all_rows n w size equal outside agrees same both = search rules
 
 pub returns-then-agrees-clause-words : goal.returns-then-agrees-clause-words
-returns-then-agrees-clause-words g c =
-    let own = c.args.configuration in
-    let old = c.args.rows.now in
-    let mid = c.are_equal_to_sums-agrees.new.rows in
-    let base = is_marked c.args.base.now in
-    let locator : ℕ → ℕ = λ x. slice_index c.args.logarithms.now.locator.now x in
-    let tested = c.are_equal_to_sums-agrees.ensures in
-    record {
-      checked = all_rows old.shard_count (rows_to_decode own) own.shard_bytes
-          (λ n p j. word old (j / 32) (j % 32) p ≡ direct_sum n base locator (word old (j / 32) (j % 32)) p)
-          (λ p. is_outside c.args.given.now c.args.base.now p ≡ true) (c.are_equal_to_sums-agrees.result ≡ true)
-          c.requires.rows.count tested.equal;
-      summed = λ _ k s i hk hs hi none.
-          c.sum_missing.ensures.words k s i (omega (arith, hk, tested.extent.len_64, c.requires.rows.len)) hs hi none
-          ∙ direct_sum-same (rows_to_decode own) base locator (word mid k s) (word old k s)
-          (original_row own.frame i)
-          (λ x hx is. ap (λ z. symbol z s) (tested.kept k x (omega (arith, hk, c.requires.rows.len)) is));
-    }
+returns-then-agrees-clause-words g c = search (rules, all_rows, direct_sum-same)
 
 pub returns-else-agrees-clause-words : goal.returns-else-agrees-clause-words
 returns-else-agrees-clause-words g c =

@@ -1,4 +1,4 @@
-use Rattle.std.proofs.Common.{ℕ, ◌/◌, ◌%◌, ap, sym, subst, ◌∙◌, arith}
+use Rattle.std.proofs.Common.{rules, ℕ, ◌/◌, ◌%◌, ap, sym, subst, ◌∙◌, arith}
 use Rattle.std.proofs.lemmas.List.{with_items_is}
 use Rattle.rs_field.specs.code.Code.{AreRecovery}
 use Rattle.rs_field.specs.code.Column.{IsShard, column}
@@ -15,12 +15,7 @@ use Rattle.rs_rate.proofs.of_passes.EncodeCounting.{counts_both, tails_within}
 use Rattle.rs_rate.proofs.passes.encoding.encode_rows.Goals as goal
 
 pub rows_are_bytes-requires : goal.rows_are_bytes-requires
-rows_are_bytes-requires g c =
-    let w = c.args.rows.now in
-    let rise = chunk_count-more w.configuration.recovery_count (rows_to_encode w.configuration)
-    w.configuration.shard_bytes
-    w.configured.recovery in
-    record { room = omega (arith, rise, w.whole, c.code_chunks.auto.chunks, c.as_mut_slice-chunks.ensures.len) }
+rows_are_bytes-requires g c = search (rules, chunk_count-more)
 
 pub move_tails-requires-clause-room : goal.move_tails-requires-clause-room
 move_tails-requires-clause-room g c =
@@ -65,12 +60,4 @@ returns-clause-recovery g c =
     c.as_mut_slice-chunks.ensures.value coded))
 
 pub returns-clause-counts : goal.returns-clause-counts
-returns-clause-counts g c =
-    let own = c.args.rows.now.configuration in
-    let rate = rate_of own in
-    let k = own.original_count in
-    let r = own.recovery_count in
-    let room = tails_within rate k r c.args.rows.now.configured.supported in
-    counts_both (omega (arith, room))
-    c.code_chunks.ensures.counts
-    (counts_rows c.move_tails.ensures.counts)
+returns-clause-counts g c = search (rules, tails_within, counts_both, counts_rows)

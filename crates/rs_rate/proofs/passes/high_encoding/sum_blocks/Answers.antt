@@ -1,4 +1,4 @@
-use Rattle.std.proofs.Common.{◌≡◌, ℕ, ◌+◌, ◌*◌, ◌/◌, ◌%◌, ◌<◌, ap, ◌∙◌, inl, inr, arith}
+use Rattle.std.proofs.Common.{rules, ◌≡◌, ℕ, ◌+◌, ◌*◌, ◌/◌, ◌%◌, ◌<◌, ap, ◌∙◌, inl, inr, arith}
 use Rattle.std.proofs.Math.Nat.{mod_self, add-mod_right}
 use Rattle.std.proofs.lemmas.Nat.{pow_pos, div-add-mod'}
 use Rattle.rs_field.specs.rows.Rows.{symbol}
@@ -38,11 +38,7 @@ pass_block-requires-in-loop-start-clause-within g c =
     omega (arith, next, loop.extent.count)
 
 pub xor_within-requires-clause-y_in : goal.xor_within-requires-clause-y_in
-xor_within-requires-clause-y_in g c =
-    let loop = c.loop-start.invariant in
-    let next = next_block c.loop-start.start c.args.rows.now.shard_count c.args.block
-    (omega (arith, c.requires.enough)) loop.whole c.requires.whole in
-    omega (arith, next, loop.extent.count, c.pass_block-in-loop-start.ensures.extent.count)
+xor_within-requires-clause-y_in g c = search (rules, next_block)
 
 pub loop-start-preserved : goal.loop-start-preserved
 loop-start-preserved g c =
@@ -90,9 +86,4 @@ returns-clause-sums g c =
     (c.loop-start.start / c.args.block, omega (arith, loop.whole), omega (arith, loop.whole), loop.sums)
 
 pub returns-clause-counts : goal.returns-clause-counts
-returns-clause-counts g c =
-    let loop = c.loop-start.invariant in
-    let some : 0 < c.args.block = (let p = pow_pos c.requires.power.0 in omega (arith, c.requires.power.1)) in
-    let less = further-within c.loop-start.start c.args.rows.now.shard_count c.args.block
-    (2 * c.args.block + transform_steps c.args.block) some (omega (arith, loop.within)) in
-    counts_within (omega (arith, less)) loop.counts
+returns-clause-counts g c = search (rules, pow_pos, further-within, counts_within)

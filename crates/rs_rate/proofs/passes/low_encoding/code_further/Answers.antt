@@ -1,4 +1,4 @@
-use Rattle.std.proofs.Common.{◌≡◌, ℕ, ◌+◌, ◌<◌, arith, ap, ◌∙◌, inl, zero-add}
+use Rattle.std.proofs.Common.{rules, ◌≡◌, ℕ, ◌+◌, ◌<◌, arith, ap, ◌∙◌, inl, zero-add}
 use Rattle.std.proofs.Math.Nat.{add-mod_right}
 use Rattle.std.proofs.lemmas.Nat.{pow_pos}
 use Rattle.rs_field.specs.words.StepBounds.{transform_steps}
@@ -13,25 +13,13 @@ use Rattle.rs_rate.proofs.of_passes.LowCoding.{further-more}
 use Rattle.rs_rate.proofs.passes.low_encoding.code_further.Goals as goal
 
 pub copy_rows-requires-clause-within : goal.copy_rows-requires-clause-within
-copy_rows-requires-clause-within g c =
-    let loop = c.loop-start.invariant in
-    let next = next_block c.loop-start.start c.args.rows.now.shard_count c.args.block
-    (omega (arith, c.requires.enough)) loop.whole c.requires.whole in
-    omega (arith, next, loop.extent.count)
+copy_rows-requires-clause-within g c = search (rules, next_block)
 
 pub fft-requires-clause-within : goal.fft-requires-clause-within
-fft-requires-clause-within g c =
-    let loop = c.loop-start.invariant in
-    let next = next_block c.loop-start.start c.args.rows.now.shard_count c.args.block
-    (omega (arith, c.requires.enough)) loop.whole c.requires.whole in
-    omega (arith, next, loop.extent.count, c.copy_rows.ensures.extent.count)
+fft-requires-clause-within g c = search (rules, next_block)
 
 pub fft-requires-clause-points : goal.fft-requires-clause-points
-fft-requires-clause-points g c =
-    let loop = c.loop-start.invariant in
-    let next = next_block c.loop-start.start c.args.rows.now.shard_count c.args.block
-    (omega (arith, c.requires.enough)) loop.whole c.requires.whole in
-    omega (arith, next, c.requires.points)
+fft-requires-clause-points g c = search (rules, next_block)
 
 pub fft-requires-clause-shift : goal.fft-requires-clause-shift
 fft-requires-clause-shift g c = add-mod_right c.loop-start.start c.args.block ∙ c.loop-start.invariant.whole
@@ -87,10 +75,4 @@ loop-start-preserved g c =
     }
 
 pub returns-clause-counts : goal.returns-clause-counts
-returns-clause-counts g c =
-    let block : ℕ = c.args.block in
-    let rows : ℕ = c.args.rows.now.shard_count in
-    let step : ℕ = c.args.block + transform_steps c.args.block in
-    let loop = c.loop-start.invariant in
-    let some : 0 < c.args.block = (let p = pow_pos c.requires.power.0 in omega (arith, c.requires.power.1)) in
-    counts_within (further-within c.loop-start.start rows block step some loop.within) loop.counts
+returns-clause-counts g c = search (rules, pow_pos, counts_within, further-within)

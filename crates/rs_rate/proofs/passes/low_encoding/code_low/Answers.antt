@@ -1,4 +1,4 @@
-use Rattle.std.proofs.Common.{◌≡◌, ℕ, ◌≤◌, ◌∙◌, true, sym, ap, arith, inl, inr}
+use Rattle.std.proofs.Common.{rules, ◌≡◌, ℕ, ◌≤◌, ◌∙◌, true, sym, ap, arith, inl, inr}
 use Rattle.std.proofs.Math.Nat.{zero-mod, mod_self}
 use Rattle.rs_field.specs.rows.Rows.{symbol}
 use Rattle.rs_field.specs.code.Counts.{next_power}
@@ -112,11 +112,4 @@ returns-clause-words g c = λ k s inside symbols.
     (outside_cell c.fft.ensures.extent c.fft.ensures.others i k (omega arith) (inr (omega arith))))
 
 pub returns-clause-counts : goal.returns-clause-counts
-returns-clause-counts g c =
-    let all = low_total c.args.original_count c.args.recovery_count
-    c.args.block c.ifft.new.data.shard_count c.requires.supported c.requires.block
-    (c.ifft.ensures.extent.count ∙ c.clear_rows.ensures.extent.count ∙ c.requires.rows) in
-    counts_both (omega (arith, all))
-    (counts_then (counts_then (counts_rows c.clear_rows.ensures.counts) c.ifft.ensures.counts)
-    c.code_further.ensures.counts)
-    c.fft.ensures.counts
+returns-clause-counts g c = search (rules, low_total, counts_both, counts_then, counts_rows)

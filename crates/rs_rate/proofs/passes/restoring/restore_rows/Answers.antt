@@ -1,4 +1,4 @@
-use Rattle.std.proofs.Common.{ℕ, ◌+◌, ◌-◌, List, Bool, sym, ap, ◌∙◌, subst, arith, true≢false}
+use Rattle.std.proofs.Common.{rules, ℕ, ◌+◌, ◌-◌, List, Bool, ap, ◌∙◌, subst, arith, true≢false}
 use Rattle.std.specs.Prelude.{not, slice_index}
 use Rattle.rs_field.specs.rows.MarkedRows.{is_marked}
 use Rattle.rs_field.specs.words.Field.{product, power}
@@ -56,13 +56,4 @@ returns-then-tally-gt0-clause-words g c =
 
 pub returns-else-agrees-clause-words : goal.returns-else-agrees-clause-words
 returns-else-agrees-clause-words g c =
-    record {
-      coefficients = word c.interpolate-agrees.new.rows;
-      found = c.interpolate-agrees.ensures.coefficients;
-      revealed = λ agreed k t hk ht i hi none. elim c.else-agrees.branch [
-        | else-agrees-via-then-agrees+else-tally-gt0 w ↦
-            absurd (true≢false (sym
-            (c.requires.facts.none_missing (omega (arith, w.if-tally-gt0.false)) i hi) ∙ none))
-        | else-agrees-via-else-agrees w ↦ absurd (true≢false (sym agreed ∙ w.if-agrees.false))
-      ];
-    }
+    search (rules, else-agrees-via-then-agrees+else-tally-gt0, true≢false, else-agrees-via-else-agrees)

@@ -1,6 +1,6 @@
-use Rattle.std.proofs.Common.{rules, ◌≡◌, ℕ, ◌+◌, ◌-◌, ◌*◌, ◌/◌, ◌%◌, ◌<◌, ◌≤◌, ◌++◌, length, take, drop, bit_xor}
-use Rattle.std.proofs.Common.{sym, ap, ap₂, ◌∙◌}
-use Rattle.std.proofs.Common.{inl, inr, arith}
+use Rattle.std.proofs.lemmas.Grind.{common_steps}
+use Rattle.std.proofs.Common.{rules, ◌≡◌, ℕ, ◌+◌, ◌-◌, ◌*◌, ◌/◌, ◌<◌, ◌≤◌, ◌++◌, length, take, drop, bit_xor, sym, ap}
+use Rattle.std.proofs.Common.{ap₂, ◌∙◌, inl, inr, arith}
 use Rattle.std.proofs.lemmas.Bool.{cases_lt}
 use Rattle.std.proofs.lemmas.List.{take-append-drop, length-take-le}
 use Rattle.std.specs.Simd.{first_chunks}
@@ -26,15 +26,7 @@ module _ (n log_m : ℕ) (factor : log_m < 65535) (piece : Shard) (sum : Chunks)
       → (j : ℕ) → j / 32 < n
       → sum_word (now ++ rest) j ≡ bit_xor (sum_word sum j) (product (column j piece) (power log_m))
   whole now rest front chunks long is_front are sums j inside =
-      words-first n j now rest long inside
-      ∙ sums (j / 32) (j % 32) inside (omega arith)
-      ∙ ap₂ bit_xor
-      (ap (λ (c : Chunks). sum_word c j) is_front
-      ∙ sym (words-first n j (take n sum) (drop n sum) first inside)
-      ∙ ap (λ (c : Chunks). sum_word c j) (take-append-drop n sum))
-      (times_known log_m (sum_word chunks j) factor
-      ∙ ap (λ w. product w (power log_m))
-      (ap (λ (c : Chunks). sum_word c j) are ∙ symbol_of_chunk n j piece inside within))
+      grind (arith, common_steps, words-first, first, take-append-drop, times_known, symbol_of_chunk)
 
   tail : (now last back : Chunks) (end : Shard) → length now ≡ n → back ≡ drop n sum → end ≡ drop (n * 64) piece
       → ((j : ℕ) → j < length end / 2

@@ -1,4 +1,4 @@
-use Rattle.std.proofs.Common.{◌+◌, List, ℕ, subst, sym, ap, ◌∙◌}
+use Rattle.std.proofs.Common.{rules, List, ℕ, subst, sym}
 use Rattle.rs_rate.specs.passes.Sums.{ListsMarked}
 use Rattle.rs_rate.proofs.of_passes.SumLemmas.{listed-none, listed-more, listed-passed}
 use Rattle.rs_rate.proofs.passes.sums.marked_rows.Goals.{then-marks-row+in_ok-push, else-marks-row}
@@ -10,13 +10,4 @@ loop-row-init c =
     (listed-none c.args.marks.now)
 
 pub loop-row-preserved : goal.loop-row-preserved
-loop-row-preserved c = elim c.if-marks-row.branch [
-  | then-marks-row+in_ok-push w ↦
-      subst (λ (rows : List ℕ). ListsMarked c.args.marks.now (c.loop-row.row + 1) rows)
-      (sym (ap (λ v. v.items) w.rows-is ∙ w.in_ok-push.ensures.items))
-      (listed-more c.args.marks.now c.loop-row.row c.loop-row.rows.items w.if-marks-row.true c.loop-row.invariant)
-  | else-marks-row w ↦
-      subst (λ (rows : List ℕ). ListsMarked c.args.marks.now (c.loop-row.row + 1) rows)
-      (sym (ap (λ v. v.items) w.rows-is))
-      (listed-passed c.args.marks.now c.loop-row.row c.loop-row.rows.items w.if-marks-row.false c.loop-row.invariant)
-]
+loop-row-preserved c = search (rules, then-marks-row+in_ok-push, listed-more, else-marks-row, listed-passed)

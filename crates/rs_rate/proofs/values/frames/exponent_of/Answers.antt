@@ -1,10 +1,9 @@
-use Rattle.std.proofs.Common.{◌≡◌, ℕ, ◌^◌, ◌<◌, ◌≤◌, ap, ◌∙◌, arith, inl, inr, pow_mono}
+use Rattle.std.proofs.Common.{rules, ◌≡◌, ℕ, ◌^◌, ◌<◌, arith, inl, inr, pow_mono}
 use Rattle.std.specs.Int.{w64}
 use Rattle.std.specs.Int.Count.{count_trailing_zeros}
 use Rattle.std.proofs.lemmas.Bool.{cases_eq}
 use Rattle.std.proofs.lemmas.Nat.{pow_pos}
 use Rattle.std.proofs.lemmas.Nat.Bits.{bit_at-trailing_zeros, bit_at-pow_other}
-use Rattle.rs_field.specs.code.Counts.{exponent_of}
 use Rattle.rs_field.proofs.of_code.NextPower.{exponent-small, next_power-exponent}
 use Rattle.rs_rate.proofs.values.frames.exponent_of.Goals as goal
 
@@ -19,8 +18,4 @@ zeros_of_power d fits =
     ]
 
 pub returns : goal.returns
-returns c =
-    let small = exponent-small c.args.n c.requires in
-    let most : 2 ^ exponent_of c.args.n ≤ 2 ^ 16 = pow_mono small.0 in
-    ap (count_trailing_zeros 64) (c.power_of_two.ensures.value ∙ next_power-exponent c.args.n)
-    ∙ zeros_of_power _ (omega (arith, most))
+returns c = search (rules, exponent-small, pow_mono, next_power-exponent, zeros_of_power)

@@ -1,4 +1,4 @@
-use Rattle.std.proofs.Common.{length, sym, ap, ◌∙◌, arith}
+use Rattle.std.proofs.Common.{rules, sym, ◌∙◌, arith}
 use Rattle.rs_rate.proofs.of_rows.ResultLemmas.{left-past, lends_next, recovery_count-few}
 use Rattle.rs_rate.proofs.objects.encoder_result.RecoveryIterator.next.Goals as goal
 
@@ -16,8 +16,4 @@ returns-clause-steps c =
     c.in_ok-shard.ensures.1
 
 pub returns-clause-goes : goal.returns-clause-goes
-returns-clause-goes c =
-    let next = lends_next c.self.inside.rows.now c.self.inside.next_index _ c.in_ok-shard.ensures.0
-    c.in_ok-shard.ensures.1 in
-    let fewer = ap length (sym c.self.view_is ∙ next) in
-    record { on = λ _. (tt, tt, omega arith); keeps = tt; rests = λ _. tt }
+returns-clause-goes c = search (rules, lends_next)

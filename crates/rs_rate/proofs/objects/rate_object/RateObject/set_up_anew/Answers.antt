@@ -1,5 +1,4 @@
-use Rattle.std.proofs.Common.{ap₂, sym, ◌∙◌, refl}
-use Rattle.rs_rate.specs.values.SetUp.{IsSetUp}
+use Rattle.std.proofs.Common.{rules, ap₂, sym, ◌∙◌, refl}
 use Rattle.rs_rate.proofs.of_values.ConfiguredLemmas.{asked_rows, either_way}
 use Rattle.rs_rate.proofs.of_rows.StateLemmas.{memory_outcome-made, on_ok-at, on_err-at}
 use Rattle.rs_rate.proofs.objects.rate_object.RateObject.set_up_anew.Goals as goal
@@ -28,8 +27,4 @@ returns g c =
     }
 
 pub invariant_of-self : goal.invariant_of-self
-invariant_of-self g c =
-    let own : IsSetUp g.C.RateMarker.rate (g.R.ObjectRows.configuration_of c.reset.new.self) =
-    either_way c.reset.result c.reset.ensures.configuration c.reset.ensures.kept
-    (λ same. rw same c.in_ok-configuration.ensures.set_up) (λ kept. rw kept c.args.self.now.set_up) in
-    record { set_up = own }
+invariant_of-self g c = search (rules, either_way)

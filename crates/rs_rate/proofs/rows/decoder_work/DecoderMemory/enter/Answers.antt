@@ -1,6 +1,4 @@
-use Rattle.std.proofs.Common.{◌≡◌, length, sym, ap, ◌∙◌, subst}
-use Rattle.rs_rate.specs.values.Configured.{rows_to_decode}
-use Rattle.rs_rate.specs.rows.DecoderRoom.{HasRoom}
+use Rattle.std.proofs.Common.{rules, ◌≡◌, length, sym, ap, ◌∙◌}
 use Rattle.rs_field.specs.code.Outcome.{state_after}
 use Rattle.rs_rate.specs.rows.Entering.{given_rows}
 use Rattle.rs_rate.specs.rows.Marks.{given_marks}
@@ -24,10 +22,4 @@ returns-clause-rows c =
     ∙ sym (ap (state_after rows) (entry-free rows c.args.row size c.args.repeated c.args.shard.now free same))
 
 pub returns-clause-laid : goal.returns-clause-laid
-returns-clause-laid c = λ own laid. record {
-  whole = c.put.ensures.chunks ∙ laid.whole;
-  marked = c.put.ensures.marks ∙ laid.marked;
-  entries = c.put.ensures.entries ∙ laid.entries;
-  sized = laid.sized;
-  room = subst (λ r. HasRoom r (rows_to_decode own) own.shard_bytes) (sym c.put.ensures.grown) laid.room;
-}
+returns-clause-laid c = search rules

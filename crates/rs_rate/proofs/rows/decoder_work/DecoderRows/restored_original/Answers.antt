@@ -1,10 +1,6 @@
-use Rattle.std.proofs.Common.{◌<◌, true, false, length, sym, ap, ◌∙◌, arith}
-use Rattle.std.specs.Prelude.{Some}
-use Rattle.rs_field.specs.rows.MarkedRows.{is_marked}
-use Rattle.rs_field.specs.rows.Rows.{Chunks}
+use Rattle.std.proofs.Common.{rules, ◌<◌, length, sym, ap, arith}
 use Rattle.rs_rate.specs.values.Configured.{rows_to_decode}
 use Rattle.rs_rate.specs.rows.Marks.{restored_marks, restored_by_row}
-use Rattle.rs_rate.specs.rows.ShardRows.{shard_in_order}
 use Rattle.rs_rate.proofs.of_rows.RowMaps.{marked-at, part-in, part-out}
 use Rattle.rs_rate.proofs.of_rows.ShardRowsLemmas.{chunk_count-within}
 use Rattle.rs_rate.proofs.rows.decoder_work.DecoderRows.restored_original.Goals as goal
@@ -16,15 +12,7 @@ returns-then-index-self c =
     w.configuration.frame.originals_from w.configuration.original_count c.args.index c.if-index-self.true)
 
 pub returns-then-not-is_restored : goal.returns-then-not-is_restored
-returns-then-not-is_restored c =
-    let w = c.args.self.now in
-    let marks = restored_marks w.memory.marks in
-    let size = w.configuration.shard_bytes in
-    let marked = ap (is_marked marks) (sym c.original_row-row.ensures) in
-    sym (part-in (restored_by_row marks w.memory.chunks.items size) w.configuration.frame.originals_from
-    w.configuration.original_count c.args.index c.if-index-self.false
-    ∙ marked-at marks (shard_in_order w.memory.chunks.items size) _ false
-    (marked ∙ sym c.if-not-is_restored.ensures))
+returns-then-not-is_restored c = search (rules, part-in, marked-at)
 
 pub shard_at-requires : goal.shard_at-requires
 shard_at-requires c =
@@ -37,15 +25,4 @@ shard_at-requires c =
     omega (arith, slice, within)
 
 pub returns : goal.returns
-returns c =
-    let w = c.args.self.now in
-    let marks = restored_marks w.memory.marks in
-    let size = w.configuration.shard_bytes in
-    let marked = ap (is_marked marks) (sym c.original_row-row.ensures) in
-    ap Some (c.shard_at.ensures
-    ∙ ap (λ (xs : Chunks). shard_in_order xs size c.original_row-row.result) c.as_slice.ensures.value
-    ∙ ap (shard_in_order w.memory.chunks.items size) c.original_row-row.ensures)
-    ∙ sym (part-in (restored_by_row marks w.memory.chunks.items size) w.configuration.frame.originals_from
-    w.configuration.original_count c.args.index c.if-index-self.false
-    ∙ marked-at marks (shard_in_order w.memory.chunks.items size) _ true
-    (marked ∙ sym c.if-not-is_restored.ensures))
+returns c = search (rules, part-in, marked-at)
