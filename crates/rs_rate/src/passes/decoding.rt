@@ -130,7 +130,8 @@ pub(crate) fn make_locator<E: Engine>(
     are_words(entries);
 }
 
-// Sets the entries of the erased rows to 1 and all other entries to 0.
+// Sets the entries of the erased rows to 1 and all other entries to 0. A row is erased if it is not known to be zero and its
+// shard is not given.
 fn mark_erased(entries: &mut [GfElement], given: &[bool], frame: Frame)
     requires marked { length entries.old ≤ length given.now }
     ensures rows { (row : ℕ) → row < length entries.old
@@ -138,17 +139,9 @@ fn mark_erased(entries: &mut [GfElement], given: &[bool], frame: Frame)
     ensures length { length entries.new ≡ length entries.old }
 {
     for row in 0..entries.len() {
-        entries[row] = erased_at(given, frame, row);
+        let is_zero = frame.zeros_from <= row && row < frame.zeros_to;
+        entries[row] = if is_zero || given[row] { 0 } else { 1 };
     }
-}
-
-// Returns the entry of a row: 0 if the row is known to be zero or its shard is given, else 1.
-fn erased_at(given: &[bool], frame: Frame, row: usize) -> GfElement
-    requires marked { row < length given.now }
-    ensures { result ≡ erasure frame given.now row }
-{
-    let is_zero = frame.zeros_from <= row && row < frame.zeros_to;
-    if is_zero || given[row] { 0 } else { 1 }
 }
 
 // Restores the words of the missing originals if some message agrees with all given shards, and returns whether one does.
