@@ -3,24 +3,22 @@
 use Rattle.std.proofs.Common.{◌≡◌, ℕ, ◌+◌, ◌-◌, ◌<◌, ◌≤◌, Bool, List, [], ◌∷◌, ◌++◌, length, take, drop, get_or, map}
 use Rattle.std.proofs.Common.{All, Ok, suc, true, cond, ◌&&◌, refl, sym, ap, ap₂, ◌∙◌, subst, arith}
 use Rattle.std.specs.Prelude.{Option, Some, None, is_some, not}
-use Rattle.std.specs.List.{list_any}
+use Rattle.std.specs.List.{list_any, between}
 use Rattle.std.specs.Option.{option_map}
 use Rattle.std.proofs.lemmas.Bool.{lt-ltb}
-use Rattle.std.specs.List.{between}
 use Rattle.std.proofs.Math.Seq.{take-add, take-append-add, take-append_seam}
 use Rattle.std.proofs.lemmas.List.{get_or-map, get_or_default, length-map, length-take-le, take_all, ext_get_or}
 use Rattle.std.proofs.lemmas.List.Elements.{All-map}
 use Rattle.rs_field.specs.code.Code.{AreRecovery}
 use Rattle.rs_field.specs.code.Column.{Shard, shard_at}
 use Rattle.rs_field.specs.code.Counts.{default_rate}
-use Rattle.rs_field.specs.code.Decoder.{DecoderState, IsDecoder, IsAgreeing, enough_given, missing_of}
-use Rattle.rs_field.specs.code.Decoder.{Restored}
+use Rattle.rs_field.specs.code.Decoder.{DecoderState, IsDecoder, IsAgreeing, enough_given, missing_of, Restored}
 use Rattle.rs_field.specs.code.Given.{Shards}
 use Rattle.rs_field.specs.code.Pieces.{pieces, IsStrip, ArePut, room_length}
 use Rattle.rs_field.specs.code.PieceStates.{state_of_pieces}
 use Rattle.rs_field.proofs.of_code.Agreement.{one_message}
 use Rattle.rs_field.proofs.of_code.Pieces.{put-length, room-from, room-further, room-whole}
-use Rattle.rs_field.proofs.of_code.PieceStates.{shard_at-pieces, agrees-cut, recovery-cut}
+use Rattle.rs_field.proofs.of_code.PieceStates.{shard_at-pieces, agrees-cut, recovery-cut, AreConsistentBelow}
 use Rattle.rs_field.proofs.of_code.Unique.{recovery_unique}
 use Rattle.rs_rate.proofs.of_rows.DecoderRows.{enough-least}
 use Rattle.rs_rate.proofs.of_rows.StateLemmas.{valid-supported}
@@ -28,7 +26,6 @@ use Rattle.reed_solomon_simd.specs.declared.shard_index.ShardIndex.{ShardIndex}
 use Rattle.reed_solomon_simd.specs.declared.shard_index.ShardIndex.TheVariants.{Original, Recovery}
 use Rattle.reed_solomon_simd.specs.Reconstructed.{AreReconstructed, CanBeRebuilt, lent_at}
 use Rattle.reed_solomon_simd.specs.ShardNames.{shard_named, is_recovery}
-use Rattle.rs_field.proofs.of_code.PieceStates.{AreConsistentBelow}
 use Rattle.reed_solomon_simd.proofs.ConsistentStrips.{checked-none, checked-further, checked-all}
 use Rattle.reed_solomon_simd.proofs.ConsistentStrips.{even-strip, few-originals}
 use Rattle.reed_solomon_simd.proofs.SetUp.{valid-even}

@@ -2,7 +2,7 @@
 use Rattle.std.proofs.Common.{◌≡◌, ℕ, ◌+◌, ◌-◌, ◌*◌, ◌/◌, ◌%◌, ◌<◌, ◌≤◌, ◌⊎◌, List, [], ◌++◌, length, take, drop}
 use Rattle.std.proofs.Common.{min, bit_xor}
 use Rattle.std.proofs.Common.{All, MutBor, get_or, set, append_assoc, refl, sym, ap, ap₂, subst, ◌∙◌, inl, inr, arith}
-use Rattle.std.specs.Prelude.{slice_index}
+use Rattle.std.specs.Prelude.{slice_index, Result, Ok, Err, MatchResult, true, false}
 use borrow.Rule.Slice.PartMut.{put_mid}
 use Rattle.std.specs.List.{between}
 use Rattle.std.proofs.lemmas.Slice.{take-put_mid, drop-put_mid}
@@ -16,7 +16,6 @@ use Rattle.rs_field.specs.code.Pieces.{IsStrip}
 use Rattle.rs_field.proofs.of_code.Columns.{column-at, columns-at, byte_lt, shards_from_columns}
 use Rattle.rs_field.proofs.of_code.Pieces.{column-head, column-rest, column-piece, is_strip}
 use Rattle.rs_field.proofs.of_words.Packed.{sum_of_bytes}
-use Rattle.std.specs.Prelude.{Result, Ok, Err, MatchResult, true, false}
 use Rattle.std.specs.Result.{result_map_both}
 use Rattle.std.proofs.lemmas.List.{get_or_default}
 use Rattle.rs_field.specs.declared.code.error.Error.{Error}

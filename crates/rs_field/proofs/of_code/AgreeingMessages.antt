@@ -6,7 +6,7 @@ use Rattle.std.proofs.lemmas.Bool.{cases_eq}
 use Rattle.std.proofs.Math.Nat.{mod-eq_of_lt}
 use Rattle.rs_field.specs.words.Polynomial.{value}
 use Rattle.rs_field.specs.code.Column.{Shard, AreShards, shard_at, column, columns}
-use Rattle.rs_field.specs.code.Frame.{original_row, recovery_row}
+use Rattle.rs_field.specs.code.Frame.{original_row, recovery_row, frame_at}
 use Rattle.rs_field.specs.code.Given.{Shards}
 use Rattle.rs_field.specs.code.Code.{Codes}
 use Rattle.rs_field.specs.code.Decoder.{DecoderState, IsAgreeing, IsConsistent}
@@ -14,7 +14,6 @@ use Rattle.rs_field.proofs.of_words.Roots.{value_lt, words_from}
 use Rattle.rs_field.proofs.of_code.Columns.{columns-at, shard_from_columns}
 use Rattle.rs_field.proofs.of_code.DecodedColumn.{TakesGiven, IsTaken}
 use Rattle.rs_field.proofs.of_code.GivenRows.{AreGiven, AreSized}
-use Rattle.rs_field.specs.code.Frame.{frame_at}
 use Rattle.rs_field.proofs.of_code.MadeShards.{shards_of}
 
 -- The polynomial of each column of a message that agrees has the given words as values.

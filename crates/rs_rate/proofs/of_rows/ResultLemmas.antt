@@ -7,7 +7,7 @@ use Rattle.std.proofs.lemmas.List.{length-drop, drop_all}
 use Rattle.std.specs.Borrow.{Bor}
 use Rattle.std.specs.Prelude.{Option, Some, None, is_some, not, option_copied}
 use Rattle.rs_field.specs.code.Column.{Shard}
-use Rattle.rs_field.specs.code.Given.{Lists, items_below, items_from, count_below}
+use Rattle.rs_field.specs.code.Given.{Lists, items_below, items_from, count_below, Shards}
 use Rattle.rs_field.specs.rows.Rows.{Chunks}
 use Rattle.rs_field.specs.rows.MarkedRows.{is_marked}
 use Rattle.rs_field.proofs.of_code.Given.{count_below-zero, count_below-suc}
@@ -17,7 +17,6 @@ use Rattle.rs_rate.specs.declared.rows.decoder_work.DecoderRows.{DecoderRows}
 use Rattle.rs_rate.specs.declared.rows.encoder_work.EncoderRows.{EncoderRows}
 use Rattle.rs_rate.specs.rows.DecoderView.{restored_by_rows, restored_from}
 use Rattle.rs_rate.specs.rows.EncoderView.{lent_shards}
-use Rattle.rs_field.specs.code.Given.{Shards}
 use Rattle.rs_field.proofs.of_code.Entries.{count_most}
 use Rattle.rs_rate.specs.values.Configured.{rows_to_encode}
 use Rattle.rs_rate.specs.rows.Marks.{restored_marks, part, shards_by_row, restored_by_row}

@@ -1,4 +1,4 @@
-use Rattle.std.proofs.Common.{◌≡◌, ◌+◌, ℕ, sym, ◌∙◌, subst, arith, inl, inr, true≢false}
+use Rattle.std.proofs.Common.{◌≡◌, ◌+◌, ℕ, sym, ◌∙◌, subst, arith, inl, inr, true≢false, rules, List, length}
 use Rattle.std.proofs.Math.Nat.{sub-zero}
 use Rattle.std.specs.Prelude.{Ok}
 use Rattle.std.proofs.lemmas.Bool.{cases_eq}
@@ -14,7 +14,6 @@ use Rattle.rs_rate.proofs.of_passes.DecodedColumns.{GivenRows}
 use Rattle.rs_rate.proofs.of_passes.DecodeAnswer.{AnswersOver, decode_answers, complete_answers, told_answer}
 use Rattle.rs_rate.proofs.of_rows.ResultLemmas.{length-restored}
 use Rattle.rs_rate.proofs.of_rows.RowMaps.{hold_nothing, none-marked, none_told, nothing-given}
-use Rattle.std.proofs.Common.{rules, List, length}
 use Rattle.std.specs.Vec.{with_items}
 use Rattle.rs_rate.specs.declared.rows.decoder_work.DecoderMemory.{DecoderMemory}
 use Rattle.rs_rate.specs.declared.rows.marks.Marks.{Marks}

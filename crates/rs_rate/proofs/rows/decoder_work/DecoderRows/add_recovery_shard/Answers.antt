@@ -3,14 +3,12 @@ use Rattle.std.specs.Prelude.{Err, length}
 use Rattle.rs_field.specs.declared.code.error.Error.TheVariants.{DuplicateRecoveryShardIndex}
 use Rattle.rs_field.specs.code.Outcome.{state_after}
 use Rattle.rs_rate.specs.values.Configured.{rows_to_decode}
-use Rattle.rs_rate.specs.rows.DecoderView.{state_over}
-use Rattle.rs_rate.specs.rows.Entering.{given_rows}
+use Rattle.rs_rate.specs.rows.DecoderView.{state_over, decoder_state}
+use Rattle.rs_rate.specs.rows.Entering.{given_rows, entry_outcome}
 use Rattle.rs_rate.specs.rows.Marks.{HoldGiven}
 use Rattle.rs_rate.proofs.of_rows.AddedShards.{IsEntered, recovery-added, entry-made, entry-refused}
 use Rattle.rs_field.specs.code.Counts.{Rate}
 use Rattle.rs_field.specs.code.Decoder.{with_recovery}
-use Rattle.rs_rate.specs.rows.DecoderView.{decoder_state}
-use Rattle.rs_rate.specs.rows.Entering.{entry_outcome}
 use Rattle.rs_rate.proofs.of_values.ConfiguredLemmas.{places-known}
 use Rattle.rs_rate.proofs.of_rows.RowMaps.{hold-most, hold-recovery}
 use Rattle.rs_rate.proofs.of_rows.ShardRowsLemmas.{chunk_count-within}

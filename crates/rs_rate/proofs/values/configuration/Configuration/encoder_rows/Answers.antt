@@ -4,8 +4,7 @@ use Rattle.rs_rate.specs.values.Configured.{block_of}
 use Rattle.rs_rate.proofs.of_values.ConfiguredLemmas.{HasBlocks, blocks-known}
 use Rattle.rs_rate.proofs.of_values.PowerLemmas.{next_multiple-is}
 use Rattle.rs_rate.proofs.values.configuration.Configuration.encoder_rows.Goals as goal
-use Rattle.rs_rate.proofs.values.configuration.Configuration.encoder_rows.Goals.{After-block_rows}
-use Rattle.rs_rate.proofs.values.configuration.Configuration.encoder_rows.Goals.{then-self, else-self}
+use Rattle.rs_rate.proofs.values.configuration.Configuration.encoder_rows.Goals.{After-block_rows, then-self, else-self}
 
 -- The blocks of the rows that are coded.
 blocks : (c : After-block_rows) → HasBlocks c.args.self c.if-self.coded
