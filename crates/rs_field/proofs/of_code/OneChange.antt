@@ -10,7 +10,7 @@ use Rattle.rs_field.specs.words.DirectSum.{direct_factor, direct_sum}
 use Rattle.rs_field.specs.code.Column.{Shard, IsShard, AreShards, shard_at, column}
 use Rattle.rs_field.specs.code.Counts.{supports}
 use Rattle.rs_field.specs.code.Decoder.{DecoderState, IsAgreeing}
-use Rattle.rs_field.specs.code.Frame.{row_count, original_row, recovery_row}
+use Rattle.rs_field.specs.code.Frame.{row_count, original_row, recovery_row, frame_at}
 use Rattle.rs_field.specs.code.Configuration.{Configuration}
 use Rattle.rs_field.specs.code.Code.{AreRecovery}
 use Rattle.rs_field.specs.code.Given.{Shards, nothing, count_below}
@@ -20,9 +20,9 @@ use Rattle.rs_field.proofs.of_code.Columns.{shard_in}
 use Rattle.rs_field.proofs.of_code.DirectColumn.{IsLocated, direct_recovery}
 use Rattle.rs_field.proofs.of_code.Given.{count_below-zero, count_below-suc, nothing_among}
 use Rattle.rs_field.proofs.of_code.GivenRows.{state_with, words_in, kind_of_row, rows_apart}
-use Rattle.rs_field.specs.code.Frame.{frame_at}
 use Rattle.rs_field.specs.code.DirectLaws.{shard_in_row}
-use Rattle.rs_field.proofs.of_code.GivenRows.{given_at-own, given_at-coded, given_at-other, word-given, word-none}
+use Rattle.rs_field.proofs.of_code.GivenRows.{shard_in_row-own, shard_in_row-coded, shard_in_row-other, word-given}
+use Rattle.rs_field.proofs.of_code.GivenRows.{word-none}
 use Rattle.rs_field.proofs.of_code.RateFrames.{distinct_rows}
 
 -- The map with the first k shards of a list.
@@ -75,13 +75,11 @@ module _ (c : Configuration) (supported : supports c.rate c.original_count c.rec
             subst (λ (y : ℕ). (y < (frame_at c).originals_from) ⊎ (original_row (frame_at c) c.original_count ≤ y))
                 (sym coded.2) (rows_apart (frame_at c) c.original_count c.recovery_count coded.0 f coded.1),
             λ message. ap (shard_in_row (with_message c message)) coded.2
-                ∙ given_at-coded (frame_at c) c.original_count c.recovery_count (all_of c.original_count message)
-                nothing coded.0 f coded.1,
+                ∙ shard_in_row-coded (with_message c message) coded.0 f coded.1,
           )
           | inr neither ↦ (
             neither.0,
-            λ message. given_at-other (frame_at c) c.original_count c.recovery_count (all_of c.original_count message)
-                nothing x neither.0 neither.1,
+            λ message. shard_in_row-other (with_message c message) x neither.0 neither.1,
           )
         ])
       ]
@@ -89,7 +87,7 @@ module _ (c : Configuration) (supported : supports c.rate c.original_count c.rec
   own-given : (message : List Shard) (i : ℕ) → i < c.original_count
       → shard_in_row (with_message c message) (original_row (frame_at c) i) ≡ Some (shard_at message i)
   own-given message i hi =
-      given_at-own (frame_at c) c.original_count c.recovery_count (all_of c.original_count message) nothing i hi
+      shard_in_row-own (with_message c message) i hi
       ∙ all_of-in c.original_count i message hi
 
   own-word : (message : List Shard) (j i : ℕ) → i < c.original_count

@@ -25,7 +25,7 @@ use Rattle.rs_field.proofs.of_code.AnyShards.{any_consistent}
 use Rattle.rs_field.proofs.of_code.Columns.{shard_from_columns, shard_in}
 use Rattle.rs_field.proofs.of_code.Entries.{all_some}
 use Rattle.rs_field.proofs.of_code.Given.{count_below-suc}
-use Rattle.rs_field.proofs.of_code.GivenRows.{erased_in, rows_of, erasures}
+use Rattle.rs_field.proofs.of_code.GivenRows.{erased_in, row_count_of, erasures}
 use Rattle.rs_field.proofs.of_code.MadeShards.{has_recovery}
 use Rattle.rs_field.proofs.of_code.RestoredBelow.{missing-past}
 use Rattle.rs_rate.specs.declared.values.configuration.Configuration.{Configuration}
@@ -170,7 +170,8 @@ module _ (rate : Rate) (k r size : ℕ) (supported : supports rate k r ≡ true)
     restored_word agreed message i j a inside hj none =
         let p = original_row (frame_of rate k r) i in
         let given = are_given rate supported g in
-        let below : original_row (frame_of rate k r) i < rows_of state = omega (arith, g.configured.own_rows, inside) in
+        let below : original_row (frame_of rate k r) i < row_count_of state =
+        omega (arith, g.configured.own_rows, inside) in
         let empty : is_some (originals_in (rate_configuration rate k r size) (shards_by_row g.marks g.chunks size) i)
         ≡ false = given-marked g.marks g.chunks size (frame_of rate k r).originals_from k i inside ∙ none in
         let (added, step, is) = restored.revealed agreed (j / 32) (j % 32) (omega (arith, hj)) (omega arith) i inside
@@ -179,7 +180,7 @@ module _ (rate : Rate) (k r size : ℕ) (supported : supports rate k r ≡ true)
         (omega (arith, count)) a inside hj step
         ((erasures given).own i inside ∙ ap (λ (b : Bool). cond b 0 1) empty)
         (let word = is_locator.are_words (original_row (frame_of rate k r) i) in omega (arith, word))
-        (same_residue (slice_index locator p) (log_sum (rows_of state) (erased_in state) p)
+        (same_residue (slice_index locator p) (log_sum (row_count_of state) (erased_in state) p)
         ((rows_located rate supported g is_locator).logarithms p below))
 
   module _ (base : List Bool) (locator : List ℕ) (is_base : IsBaseOf (rate_configuration rate k r size) g.marks base)

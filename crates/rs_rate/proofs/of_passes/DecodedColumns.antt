@@ -16,9 +16,9 @@ use Rattle.rs_field.specs.rows.MarkedRows.{is_marked}
 use Rattle.rs_field.proofs.of_words.LocatorProduct.{same_residue}
 use Rattle.rs_field.proofs.of_code.Agreement.{AreColumns}
 use Rattle.rs_field.proofs.of_code.DirectColumn.{IsLocated}
-use Rattle.rs_field.proofs.of_code.GivenRows.{AreGiven, AreSized, erased_in, rows_of, kind_of_row}
+use Rattle.rs_field.proofs.of_code.GivenRows.{AreGiven, AreSized, erased_in, row_count_of, kind_of_row}
 use Rattle.rs_field.specs.code.DirectLaws.{shard_in_row}
-use Rattle.rs_field.proofs.of_code.GivenRows.{given_at-own, given_at-coded, given_at-other}
+use Rattle.rs_field.proofs.of_code.GivenRows.{shard_in_row-own, shard_in_row-coded, shard_in_row-other}
 use Rattle.rs_rate.specs.declared.values.configuration.Configuration.{Configuration}
 use Rattle.rs_rate.specs.values.Configured.{IsConfigured, rate_configuration}
 use Rattle.rs_rate.specs.passes.Decoding.{IsLocatorOf, RestoresWords, RestoresShards, located_word}
@@ -109,20 +109,17 @@ module _ (rate : Rate) {k r size : ℕ} (supported : supports rate k r ≡ true)
   pub row-given : (x : ℕ) → shard_in_row state x ≡ shards_by_row g.marks g.chunks size x
   row-given x =
       let rows = shards_by_row g.marks g.chunks size in
-      let own = originals_in (rate_configuration rate k r size) (shards_by_row g.marks g.chunks size) in
-      let coded = recovery_in (rate_configuration rate k r size) (shards_by_row g.marks g.chunks size) in
       elim (kind_of_row (frame_of rate k r) k r x) [
         | inl here ↦
-            ap (shard_in_row state) here.2 ∙ given_at-own (frame_of rate k r) k r own coded here.0 here.1
+            ap (shard_in_row state) here.2 ∙ shard_in_row-own state here.0 here.1
             ∙ part-in rows (frame_of rate k r).originals_from k here.0 here.1 ∙ sym (ap rows here.2)
         | inr rest ↦ elim rest [
           | inl there ↦
               ap (shard_in_row state) there.2
-              ∙ given_at-coded (frame_of rate k r) k r own coded there.0
-              (places-known g.configured) there.1
+              ∙ shard_in_row-coded state there.0 (places-known g.configured) there.1
               ∙ part-in rows (frame_of rate k r).recovery_from r there.0 there.1 ∙ sym (ap rows there.2)
           | inr neither ↦
-              given_at-other (frame_of rate k r) k r own coded x neither.0 neither.1
+              shard_in_row-other state x neither.0 neither.1
               ∙ sym (g.given.placed x neither.0 neither.1)
         ]
       ]
@@ -158,7 +155,8 @@ module _ (rate : Rate) {k r size : ℕ} (supported : supports rate k r ≡ true)
           given = λ x shard hx is.
               let (mark, word) = row_words j x shard hj is in
               located_word-at g.marks locator column_words x true mark
-              ∙ ap₂ product word (same_residue (slice_index locator x) (log_sum (rows_of state) (erased_in state) x)
+              ∙ ap₂ product word (same_residue (slice_index locator x)
+              (log_sum (row_count_of state) (erased_in state) x)
               (rows_located.logarithms x hx));
           none = λ x hx is.
               located_word-at g.marks locator column_words x false (are_marks x hx ∙ ap is_some is);
