@@ -139,5 +139,5 @@ module _ (s : DecoderState) (is : IsDecoder default_rate s)
             subst (λ (m : List Shard). AreRecovery (state_of_pieces start end s).configuration m agrees.coded.0) same
             agrees.coded.1 in
             subst (AreAmong (pieces_of start end s.recovery))
-            (recovery_unique c listed_pieces agrees.coded.0 made (few-originals s is) (even-strip s is start end strip)
+            (recovery_unique (few-originals s is) (even-strip s is start end strip)
             recovered coded) agrees.coded.2

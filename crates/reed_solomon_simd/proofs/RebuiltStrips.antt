@@ -124,8 +124,7 @@ module _ (s : DecoderState) (is : IsDecoder default_rate s) (wanted : List Shard
       (pieces start end agrees.coded.0) =
       subst (λ (m : List Shard). AreRecovery (state_of_pieces start end s).configuration m
       (pieces start end agrees.coded.0)) same coded in
-      let all = recovery_unique (state_of_pieces start end s).configuration rebuilt.message rebuilt.agrees.coded.0
-      (pieces start end agrees.coded.0) (few-originals s is) (even-strip s is start end strip) rebuilt.agrees.coded.1
+      let all = recovery_unique (few-originals s is) (even-strip s is start end strip) rebuilt.agrees.coded.1
       recovered in
       rebuilt.named
       ∙ ap₂ (λ (m r : List Shard). named_shards m r wanted) (sym same) all

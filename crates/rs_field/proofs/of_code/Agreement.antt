@@ -68,5 +68,5 @@ one_message {c} {originals} {recovery} {one} {other} is even enough a b =
     (record { below = λ i h. are.below i (omega arith); once = λ i j h k. are.once i j (omega arith) (omega arith) })
     (λ i h.
     let s = some_of (by_place c.original_count originals recovery (place i)) (some i (omega arith)) in
-    codeword_given c originals recovery one a (place i) s.0 s.1
-    ∙ sym (codeword_given c originals recovery other b (place i) s.0 s.1))
+    codeword_given a (place i) s.0 s.1
+    ∙ sym (codeword_given b (place i) s.0 s.1))

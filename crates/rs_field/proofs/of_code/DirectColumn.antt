@@ -72,6 +72,6 @@ module _ {s : DecoderState} (g : AreGiven s) {received : ℕ → Bool} {locator 
       (omega (arith, f.recovery, hi))
       ((erasures g).coded i hi ∙ ap (λ (b : Bool). cond b 0 1) missing)
       ∙ ap (λ (q : List ℕ). value q (recovery_row (frame_at s.configuration) i))
-      (codes_unique c.rate c.original_count c.recovery_count (columns j message) p o
+      (codes_unique
       (omega (arith, f.originals, room)) codes codes_o)
       ∙ sym (at i hi) ∙ columns-at j agrees.coded.0 i

@@ -109,7 +109,7 @@ equal_powers k r words low high some same fit (p, hp, at_low) (o, ho, at_high) i
     let (q, m) = moved_codes k r d words o some hd power (same ∙ power) (omega arith) (omega arith) fit ho in
     cc (
       at_low i hi,
-      codes_unique low_rate k r words p q
+      codes_unique
           (omega arith) hp m.codes,
       m.recovery i hi,
       zero-add i,
