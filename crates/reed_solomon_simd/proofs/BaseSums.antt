@@ -204,16 +204,16 @@ module _ (s : DecoderState) (is : IsDecoder default_rate s) (start end : ℕ)
         → piece ≡ shard_named message agrees.coded.0 w
     wanted-piece message agrees (Original i) piece can sum =
         let t = state_of_pieces start end s in
-        shard_from_columns (end - start) piece (shard_at message i) sum.is_shard
-        (shard_in s.configuration.original_count (end - start) message agrees.shards i can.0)
+        shard_from_columns sum.is_shard
+        (shard_in agrees.shards i can.0)
         (even-strip s is start end strip)
         (λ j inside. sum.words j inside ∙ (summed-words message agrees i j inside).0 can.0
         (part-missing marks (frame_at s.configuration).originals_from i t.originals
         (ap (option_map (λ x. between start end x)) can.1)))
     wanted-piece message agrees (Recovery i) piece can sum =
         let t = state_of_pieces start end s in
-        shard_from_columns (end - start) piece (shard_at agrees.coded.0 i) sum.is_shard
-        (shard_in s.configuration.recovery_count (end - start) agrees.coded.0 agrees.coded.1.shards i can.0)
+        shard_from_columns sum.is_shard
+        (shard_in agrees.coded.1.shards i can.0)
         (even-strip s is start end strip)
         (λ j inside. sum.words j inside ∙ (summed-words message agrees i j inside).1 can.0
         (part-missing marks (frame_at s.configuration).recovery_from i t.recovery
@@ -223,7 +223,7 @@ module _ (s : DecoderState) (is : IsDecoder default_rate s) (start end : ℕ)
     pub sums-same : (x : ℕ) (one other : Shard) → IsBaseSum marks (state_of_pieces start end s) x one
         → IsBaseSum marks (state_of_pieces start end s) x other → one ≡ other
     sums-same x one other first second =
-        shard_from_columns (end - start) one other first.is_shard second.is_shard (even-strip s is start end strip)
+        shard_from_columns first.is_shard second.is_shard (even-strip s is start end strip)
         (λ j inside. first.words j inside ∙ sym (second.words j inside))
 
     -- A row outside of the base has no mark, if no shard was received in it.

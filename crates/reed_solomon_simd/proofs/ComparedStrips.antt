@@ -88,7 +88,7 @@ module _ (s : DecoderState) (is : IsDecoder default_rate s)
     listed-are : AreShards s.configuration.original_count (end - start) listed_pieces
     listed-are =
         subst (AreShards s.configuration.original_count (end - start)) (sym pieces-are)
-        (shards-cut start end s.configuration.original_count s.configuration.shard_bytes own_message strip own-are)
+        (shards-cut strip own-are)
 
     -- There are as many listed pieces as originals, and each has the length of the strip.
     pub listed-number : length listed_pieces ≡ s.configuration.original_count

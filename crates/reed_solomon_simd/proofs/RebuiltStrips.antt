@@ -115,10 +115,8 @@ module _ (s : DecoderState) (is : IsDecoder default_rate s) (wanted : List Shard
       → made ≡ pieces start end (named_shards message agrees.coded.0 wanted)
   made-cut message agrees =
       let c = s.configuration in
-      let cut = agrees-cut start end c.rate c.original_count c.recovery_count c.shard_bytes s.originals s.recovery
-      message strip agrees in
-      let coded = recovery-cut start end c.rate c.original_count c.recovery_count c.shard_bytes message
-      agrees.coded.0 strip agrees.shards agrees.coded.1 in
+      let cut = agrees-cut strip agrees in
+      let coded = recovery-cut strip agrees.shards agrees.coded.1 in
       let same : pieces start end message ≡ rebuilt.message = rebuilt.only (pieces start end message) cut in
       let recovered : AreRecovery (state_of_pieces start end s).configuration rebuilt.message
       (pieces start end agrees.coded.0) =

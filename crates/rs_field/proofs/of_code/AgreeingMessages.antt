@@ -68,7 +68,7 @@ module _ {s : DecoderState} (g : AreGiven s) (even : s.configuration.shard_bytes
         → (i : ℕ) (shard : Shard) → given i ≡ Some shard → shard_at shards i ≡ shard
     taken n from given shards sized are is own i shard e =
         let here = sized.each i shard e in
-        shard_from_columns s.configuration.shard_bytes (shard_at shards i) shard
+        shard_from_columns
         (are.each i [] (subst (λ (k : ℕ). i < k) (sym are.length_is) here.0)) here.1 even
         (λ j hj. sym (columns-at j shards i) ∙ is i j here.0 hj ∙ same_word j (from + i) hj ∙ own j i shard hj here.0 e)
 

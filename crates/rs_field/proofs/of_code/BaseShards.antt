@@ -138,8 +138,8 @@ module _ {s : DecoderState} (g : AreGiven s) {base_originals base_recovery : Sha
                 let (same, e) = some_of (base_originals i) some in
                 a.own i same e ∙ one_shard (s.originals i) same shard (own_part.entries i same e) given
             | inr missing ↦
-                shard_from_columns s.configuration.shard_bytes (shard_at message i) shard
-                (shard_in s.configuration.original_count s.configuration.shard_bytes message a.shards i hi) sized even
+                shard_from_columns
+                (shard_in a.shards i hi) sized even
                 (λ j hj.
                 sym (own_sum i j hj hi (own-received i hi ∙ missing))
                 ∙ equal (original_row (frame_at s.configuration) i) j shard (given-own s i shard hi given)
@@ -154,8 +154,8 @@ module _ {s : DecoderState} (g : AreGiven s) {base_originals base_recovery : Sha
                 let (same, e) = some_of (base_recovery i) some in
                 a.coded.2 i same e ∙ one_shard (s.recovery i) same shard (coded_part.entries i same e) given
             | inr missing ↦
-                shard_from_columns s.configuration.shard_bytes (shard_at a.coded.0 i) shard
-                (shard_in s.configuration.recovery_count s.configuration.shard_bytes a.coded.0 a.coded.1.shards i hi)
+                shard_from_columns
+                (shard_in a.coded.1.shards i hi)
                 sized even
                 (λ j hj.
                 sym (coded_sum i j hj hi (coded-received i hi ∙ missing))

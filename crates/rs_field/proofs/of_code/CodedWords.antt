@@ -57,13 +57,13 @@ pub coded : (rate : Rate) (k r : ℕ) (words : List ℕ) → supports rate k r �
 coded rate k r words is are_words =
     let f = distinct_rows rate k r is in
     let q = coded_in (frame_of rate k r) k r words f are_words in
-    let p = unframed rate k r f words q.0 q.1 in
+    let p = unframed rate f words q.0 q.1 in
     (p.0, p.1)
 
 -- The words that a polynomial codes are below 65536.
-pub coded_lt : (rate : Rate) (k r : ℕ) (words p : List ℕ) → Codes rate k r words p → (j : ℕ) → j < k
+pub coded_lt : {rate : Rate} {k r : ℕ} {words p : List ℕ} → Codes rate k r words p → (j : ℕ) → j < k
     → slice_index words j < 65536
-coded_lt rate k r words p codes j hj = search (rules, value_lt, words_from)
+coded_lt codes j hj = search (rules, value_lt, words_from)
 
 -- The first n values of a function.
 unfoldable pub values_of : ℕ → (ℕ → ℕ) → List ℕ

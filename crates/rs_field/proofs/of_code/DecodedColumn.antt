@@ -72,7 +72,7 @@ module _ {s : DecoderState} (g : AreGiven s) {j : ℕ} where
   taken_from p (message, codes, takes) =
       let c = s.configuration in
       let f = distinct g in
-      let (q, in_frame, same) = framed c.rate c.original_count c.recovery_count f message p codes in
+      let (q, in_frame, same) = framed f codes in
       let takes_q : TakesGiven s j q = record {
         own = λ i shard hi is.
             same (original_row (frame_at c) i) (omega (arith, f.originals, hi)) ∙ takes.own i shard hi is;
@@ -97,7 +97,7 @@ module _ {s : DecoderState} (g : AreGiven s) {j : ℕ} where
       let c = s.configuration in
       let f = distinct g in
       let message = values_of c.original_count (λ i. value q (original_row (frame_at c) i)) in
-      let (p, codes, same) = unframed c.rate c.original_count c.recovery_count f
+      let (p, codes, same) = unframed c.rate f
       (values_of c.original_count (λ i. value q (original_row (frame_at c) i))) q (record {
         degree = takes.degree;
         coefficients = takes.coefficients;

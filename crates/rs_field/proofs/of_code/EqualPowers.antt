@@ -80,7 +80,7 @@ moved_codes k r d words p some hd power_r power_k most_k most_r fit codes =
     let e = exponent_of (2 ^ exponent_of r + k) in
     let rows : 2 ^ exponent_of (2 ^ exponent_of r + k) ≡ 2 ^ d + 2 ^ d =
     rows_double k r d (exponent_of (2 ^ exponent_of r + k)) some hd power_r most_k refl f.originals in
-    let q = framed high_rate k r f words p codes in
+    let q = framed f codes in
     let at : (j : ℕ) → j < 2 ^ d → value (moved (2 ^ d) q.0) j ≡ value q.0 (2 ^ d + j) = λ j hj.
     value-moved (2 ^ d) q.0 j ∙ ap (value q.0) (up d j hj) in (
       moved (2 ^ d) q.0,
@@ -122,7 +122,7 @@ to_high : (k r : ℕ) (words recovery : List ℕ) → supports low_rate k r ≡ 
     → AreRecoveryWords low_rate k r words recovery → AreRecoveryWords high_rate k r words recovery
 to_high k r words recovery low high same own =
     let f = high_fits k r high in
-    let (other, _, (o, codes, at)) = recovered high_rate k r words high (coded_lt low_rate k r words own.0 own.1) in
+    let (other, _, (o, codes, at)) = recovered high_rate k r words high (coded_lt own.1) in
     (o, codes, λ i hi. equal_powers k r words recovery other f.0 same f.2 own (o, codes, at) i hi ∙ at i hi)
 
 to_low : (k r : ℕ) (words recovery : List ℕ) → supports low_rate k r ≡ true → supports high_rate k r ≡ true
@@ -130,7 +130,7 @@ to_low : (k r : ℕ) (words recovery : List ℕ) → supports low_rate k r ≡ t
     → AreRecoveryWords high_rate k r words recovery → AreRecoveryWords low_rate k r words recovery
 to_low k r words recovery low high same own =
     let f = high_fits k r high in
-    let (other, _, (o, codes, at)) = recovered low_rate k r words low (coded_lt high_rate k r words own.0 own.1) in
+    let (other, _, (o, codes, at)) = recovered low_rate k r words low (coded_lt own.1) in
     (o, codes, λ i hi. sym (equal_powers k r words other recovery f.0 same f.2 (o, codes, at) own i hi) ∙ at i hi)
 
 -- If both counts have one power, the recovery shards of both rates are equal.

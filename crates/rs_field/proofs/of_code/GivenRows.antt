@@ -323,7 +323,7 @@ module _ {s : DecoderState} (g : AreGiven s) where
   word_lt j x = elim (cases_given s x) [
     | inl some ↦
         subst (λ (w : ℕ). w < 65536) (sym (word-given s j x some.0 some.1))
-        (column_lt s.configuration.shard_bytes some.0 j
+        (column_lt j
         (elim (given-either x some.0 some.1) [
           | inl own ↦ (g.own_sized.each own.0 some.0 own.3).1
           | inr coded ↦ (g.coded_sized.each coded.0 some.0 coded.3).1

@@ -59,14 +59,14 @@ byte-xor size s t i d hs ht inside =
           (omega arith) (omega arith),
     )
 
-shard-xor : (size : ℕ) (s t : Shard) → IsShard size s → IsShard size t → IsShard size (xor_bytes s t)
-shard-xor size s t hs ht =
+shard-xor : {size : ℕ} {s t : Shard} → IsShard size s → IsShard size t → IsShard size (xor_bytes s t)
+shard-xor {size} {s} {t} hs ht =
     let same : length (xor_bytes s t) ≡ size = length-xor_bytes size s t hs.length_is ht.length_is in
     record {
       length_is = same;
       bytes = λ i d h.
           subst (λ (b : ℕ). b < 256) (sym (byte-xor size s t i d hs.length_is ht.length_is (omega arith)))
-          (xor_lt 8 (slice_index s i) (slice_index t i) (byte_lt size s hs i) (byte_lt size t ht i));
+          (xor_lt 8 (slice_index s i) (slice_index t i) (byte_lt hs i) (byte_lt ht i));
     }
 
 -- Shard i of the XOR of two lists is the XOR of shard i of each list.
@@ -81,15 +81,15 @@ shard_at-xor count i a b d ha hb h =
           (omega arith) (omega arith),
     )
 
-shards-xor : (count size : ℕ) (a b : List Shard) → AreShards count size a → AreShards count size b
+shards-xor : {count size : ℕ} {a b : List Shard} → AreShards count size a → AreShards count size b
     → AreShards count size (xor_shards a b)
 unfolding xor_shards
-shards-xor count size a b ha hb = search (rules, length-map, length-zip, shard_at-xor, shard-xor, shard_in)
+shards-xor ha hb = search (rules, length-map, length-zip, shard_at-xor, shard-xor, shard_in)
 
-columns-xor : (count size j : ℕ) (a b : List Shard) → AreShards count size a → AreShards count size b
+columns-xor : {count size : ℕ} (j : ℕ) {a b : List Shard} → AreShards count size a → AreShards count size b
     → AreSums count (columns j a) (columns j b) (columns j (xor_shards a b))
 unfolding column
-columns-xor count size j a b ha hb i below =
+columns-xor j ha hb i below =
     search (
       rules,
       columns-at,
@@ -109,12 +109,12 @@ pub recovery-xor : (c : Configuration) (one other one_recovery other_recovery : 
     → AreRecovery c one one_recovery → AreRecovery c other other_recovery
     → AreRecovery c (xor_shards one other) (xor_shards one_recovery other_recovery)
 recovery-xor c one other one_recovery other_recovery a b recovery_a recovery_b = record {
-  shards = shards-xor c.recovery_count c.shard_bytes one_recovery other_recovery recovery_a.shards recovery_b.shards;
+  shards = shards-xor recovery_a.shards recovery_b.shards;
   words = λ j hj.
       recovery_sums c.rate c.original_count c.recovery_count (columns j one) (columns j other)
       (columns j (xor_shards one other))
       (columns j one_recovery) (columns j other_recovery) (columns j (xor_shards one_recovery other_recovery))
-      (columns-xor c.original_count c.shard_bytes j one other a b)
-      (columns-xor c.recovery_count c.shard_bytes j one_recovery other_recovery recovery_a.shards recovery_b.shards)
+      (columns-xor j a b)
+      (columns-xor j recovery_a.shards recovery_b.shards)
       (recovery_a.words j hj) (recovery_b.words j hj);
 }

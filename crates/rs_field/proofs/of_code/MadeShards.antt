@@ -80,7 +80,7 @@ pub has_recovery : (c : Configuration) (message : List Shard) → supports c.rat
 has_recovery c message is even h =
     let words = λ (j : ℕ).
     recovered c.rate c.original_count c.recovery_count (columns j message) is
-    (columns_lt c.original_count c.shard_bytes message h j) in
+    (columns_lt h j) in
     let (shards, are, at) = shards_of c.recovery_count c.shard_bytes (λ i j. slice_index (words j).0 i) even
     (λ i j. recovery_lt c.rate c.original_count c.recovery_count (columns j message) (words j).0 (words j).1
     (words j).2 i) in (

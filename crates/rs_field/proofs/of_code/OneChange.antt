@@ -128,7 +128,7 @@ module _ (c : Configuration) (supported : supports c.rate c.original_count c.rec
           own_sized = record {
             each = λ m shard is.
                 let s = all_of-some c.original_count m message shard is in
-                (s.0, subst (IsShard c.shard_bytes) s.1 (shard_in c.original_count c.shard_bytes message shards m s.0));
+                (s.0, subst (IsShard c.shard_bytes) s.1 (shard_in shards m s.0));
           };
           coded_sized = record { each = λ m shard is. absurd (none-some shard is) };
         }) (located message) (omega (arith, all)) agrees i j hj hi refl

@@ -186,7 +186,7 @@ pub fixed_by_places : (c : Configuration) (one other one_recovery other_recovery
     → ((i : ℕ) → i < c.original_count
     → shard_at (one ++ one_recovery) (place i) ≡ shard_at (other ++ other_recovery) (place i)) → one ≡ other
 fixed_by_places c one other one_recovery other_recovery place is even a b recovery_a recovery_b are same =
-    shards_from_columns c.original_count c.shard_bytes one other a b even
+    shards_from_columns a b even
     (λ i j hi hj. in_column i j hi (recovery_a.words j hj) (recovery_b.words j hj))
   where
     in_column : (i j : ℕ) → i < c.original_count

@@ -62,8 +62,7 @@ module _ (start end : ℕ) where
         surplus = omega (arith, none.surplus, own, other);
         none = λ some. none.none (
           pieces start end some.0,
-          agrees-cut start end c.rate c.original_count c.recovery_count c.shard_bytes s.originals s.recovery some.0
-              strip some.1,
+          agrees-cut strip some.1,
         );
       }
 
@@ -194,7 +193,7 @@ module _ (s : DecoderState) (grows : Bool) (start end : ℕ) (out : Shards) (ite
   items-cut message agrees =
       let k = s.configuration.original_count in
       let same : out ≡ (λ i. option_map (λ x. between start end x) (missing_of s message i)) =
-      fun_ext (restored-cut start end s message out strip agrees restored) in
+      fun_ext (restored-cut strip agrees restored) in
       ap shards_listed (lists-same (missing_of (state_of_pieces start end s) restored.message) items
       (items_below k (missing_of (state_of_pieces start end s) restored.message))
       (subst (λ (g : Shards). Lists g items) (fun_ext restored.missing) listing)
@@ -261,7 +260,7 @@ pub restored-all : (s : DecoderState) (grows : Bool) (rooms : List Shard)
 restored-all s grows rooms supported even own_within coded_within enough done =
     let c = s.configuration in
     let (message, agrees) =
-    consistent-whole s (given_within c s.originals s.recovery supported own_within coded_within) even done.consistent in
+    consistent-whole (given_within c s.originals s.recovery supported own_within coded_within) even done.consistent in
     let number = missing-number s message in
     let sized = missing-sized s message agrees in
     record {

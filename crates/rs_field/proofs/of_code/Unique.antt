@@ -61,7 +61,7 @@ recovery_words-unique rate k r words a b most (p, codes_p, at_p) (o, codes_o, at
 pub recovery_unique : {c : Configuration} {message a b : List Shard} → c.original_count ≤ 65536 → c.shard_bytes % 2 ≡ 0
     → AreRecovery c message a → AreRecovery c message b → a ≡ b
 recovery_unique {c} {message} {a} {b} most even ha hb =
-    shards_from_columns c.recovery_count c.shard_bytes a b ha.shards hb.shards even
+    shards_from_columns ha.shards hb.shards even
     (λ i j below hj. recovery_words-unique c.rate c.original_count c.recovery_count (columns j message) (columns j a)
     (columns j b) most (ha.words j hj) (hb.words j hj) i below)
 

@@ -109,8 +109,8 @@ module _ (rate : Rate) (k r size : ℕ) (supported : supports rate k r ≡ true)
       → d.restores.words (j / 32) (j % 32) (original_row (frame_of rate k r) i) ≡ column j (shard_at message i))
       → shard_in_order after size (original_row (frame_of rate k r) i) ≡ shard_at message i
   restored_from agreed message i a inside none words =
-      shard_from_columns size (shard_in_order after size (original_row (frame_of rate k r) i)) (shard_at message i)
-      (d.sized i inside) (shard_in k size message a.shards i inside) g.configured.even
+      shard_from_columns
+      (d.sized i inside) (shard_in a.shards i inside) g.configured.even
       (λ j hj. d.restores.shards agreed i j inside hj none ∙ words j hj)
 
   -- The result of a decode whose answer says whether some message agrees, and which then restores the words of the
