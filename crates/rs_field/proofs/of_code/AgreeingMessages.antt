@@ -17,12 +17,12 @@ use Rattle.rs_field.proofs.of_code.GivenRows.{AreGiven, AreSized}
 use Rattle.rs_field.proofs.of_code.MadeShards.{shards_of}
 
 -- The polynomial of each column of a message that agrees has the given words as values.
-pub column_taken : (s : DecoderState) (message : List Shard) (j : ℕ) → j < s.configuration.shard_bytes / 2
+pub column_taken : (s : DecoderState) {message : List Shard} (j : ℕ) → j < s.configuration.shard_bytes / 2
     → IsAgreeing s message
     → (p : List ℕ)
     × Codes s.configuration.rate s.configuration.original_count s.configuration.recovery_count (columns j message) p
     × TakesGiven s j p
-column_taken s message j hj a =
+column_taken s {message} j hj a =
     let (p, codes, at) = a.coded.1.words j hj in (
       p,
       codes,

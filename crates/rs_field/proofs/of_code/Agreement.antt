@@ -32,7 +32,7 @@ module _ {s : DecoderState} (g : AreGiven s) {located rows : ℕ → ℕ → ℕ
       ↔ ((j i : ℕ) → j < s.configuration.shard_bytes / 2 → row_count_of s ≤ i + t → i < row_count_of s → rows j i ≡ 0)
   consistent_exactly t even count = (
     λ some j i hj.
-        let (p, codes, takes) = column_taken s some.0 j hj some.1 in
+        let (p, codes, takes) = column_taken s j hj some.1 in
         surplus_rows g (h j hj) p (columns j some.0, codes, takes) t count i,
     λ none. consistent g even (λ j hj. some_message g (h j hj) t count (λ i. none j i hj)),
   )
@@ -49,7 +49,7 @@ module _ {s : DecoderState} (g : AreGiven s) {located rows : ℕ → ℕ → ℕ
       → product (forward (row_count_of s) 0 added (original_row (frame_at s.configuration) i)) (power (65535 - l))
       ≡ column j (shard_at message i)
   restored_column message added i j l enough agrees hi hj step one hl same =
-      let (p, codes, takes) = column_taken s message j hj agrees in
+      let (p, codes, takes) = column_taken s j hj agrees in
       restored_word g (h j hj) p (columns j message, codes, takes) added
       (original_row (frame_at s.configuration) i) l enough step
       (omega (arith, (distinct g).originals, hi)) one hl same

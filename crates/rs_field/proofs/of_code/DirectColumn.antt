@@ -52,7 +52,7 @@ module _ {s : DecoderState} (g : AreGiven s) {received : ℕ → Bool} {locator 
       → direct_sum (row_count_of s) received locator (words_in s j) (original_row (frame_at s.configuration) i)
       ≡ column j (shard_at message i)
   direct_original hi missing =
-      let (p, codes, takes) = column_taken s message j hj agrees in
+      let (p, codes, takes) = column_taken s j hj agrees in
       direct_word p (columns j message, codes, takes) (original_row (frame_at s.configuration) i)
       (omega (arith, (distinct g).originals, hi))
       ((erasures g).own i hi ∙ ap (λ (b : Bool). cond b 0 1) missing)
@@ -64,7 +64,7 @@ module _ {s : DecoderState} (g : AreGiven s) {received : ℕ → Bool} {locator 
       ≡ column j (shard_at agrees.coded.0 i)
   direct_recovery hi missing =
       let c = s.configuration in
-      let (p, codes, takes) = column_taken s message j hj agrees in
+      let (p, codes, takes) = column_taken s j hj agrees in
       let (o, codes_o, at) = agrees.coded.1.words j hj in
       let f = distinct g in
       let room : row_count_of s ≤ 2 ^ 16 = pow_mono f.few in

@@ -136,7 +136,7 @@ module _ {start end : ℕ} where
       → j < (end - start) / 2 → IsConsistent (state_of_pieces start end s)
       → (p : List ℕ) × IsTaken s (start / 2 + j) p
   taken-whole {s} g j strip inside (message, agrees) =
-      let (p, codes, takes) = column_taken (state_of_pieces start end s) message j inside agrees in (
+      let (p, codes, takes) = column_taken (state_of_pieces start end s) j inside agrees in (
         p,
         (
           columns j message,
