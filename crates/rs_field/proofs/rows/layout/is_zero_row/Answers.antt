@@ -29,8 +29,7 @@ returns-then-half-eq0 c =
     let bytes = c.as_flattened-bytes.result.now in
     let is = is_row (goal.at.returns-then-half-eq0 c).After-as_flattened-bytes in
     let fits = first-fits size c.args.row.now bytes is in (
-      λ yes. zero_columns size c.args.row.now bytes is
-          (zero-from bytes 0 _ fits (c.are_zero_bytes.ensures.0 c.if-are_zero_bytes.true))
+      λ yes. zero_columns is (zero-from bytes 0 _ fits (c.are_zero_bytes.ensures.0 c.if-are_zero_bytes.true))
           (λ b h. absurd (omega (arith, h, c.if-half-eq0.true))),
       λ zeros. ap (λ n. nat_eq n 0) c.if-half-eq0.true,
     )
@@ -44,13 +43,11 @@ returns-else-half-eq0 c =
     let part = λ (n : ℕ). AreZero (take n (drop start bytes)) in
     let half : start + size % 64 / 2 - start ≡ size % 64 / 2 = omega arith in
     let fits = second-fits size c.args.row.now bytes is c.if-half-eq0.false in (
-      λ yes. zero_columns size c.args.row.now bytes is
-          (zero-from bytes 0 _ (first-fits size c.args.row.now bytes is)
+      λ yes. zero_columns is (zero-from bytes 0 _ (first-fits size c.args.row.now bytes is)
           (c.are_zero_bytes.ensures.0 c.if-are_zero_bytes.true))
           (zero-from bytes start (size % 64 / 2) fits (subst part half (c.are_zero_bytes-else-half-eq0.ensures.0 yes))),
       λ zeros. c.are_zero_bytes-else-half-eq0.ensures.1
-          (subst part (sym half)
-          (zero-part bytes start (size % 64 / 2) fits (zero-second size c.args.row.now bytes is zeros))),
+          (subst part (sym half) (zero-part bytes start (size % 64 / 2) fits (zero-second is zeros))),
     )
 
 pub returns-else-are_zero_bytes : goal.returns-else-are_zero_bytes
@@ -61,6 +58,5 @@ returns-else-are_zero_bytes c =
       λ yes. absurd (true≢false (sym yes ∙ c.if-are_zero_bytes.false)),
       λ zeros.
           c.are_zero_bytes.ensures.1
-          (zero-part bytes 0 _ (first-fits size c.args.row.now bytes is)
-          (zero-first size c.args.row.now bytes is zeros)),
+          (zero-part bytes 0 _ (first-fits size c.args.row.now bytes is) (zero-first is zeros)),
     )

@@ -106,8 +106,8 @@ transform_parts-transform-requires g t c κs within =
     let part = part_found block n c.part_rows-part.ensures c.requires.large in
     let done = c.loop-j.invariant.done in
     let smaller = part.smaller in
-    let begins = part_begins block.size n c.loop-j.j part c.loop-j-test.true in
-    let inside = part_within block.size n c.loop-j.j part begins in
+    let begins = part_begins c.loop-j.j part c.loop-j-test.true in
+    let inside = part_within c.loop-j.j part begins in
     let extent = done.extent in let count = extent.count in
     let rows = c.part.ensures.rows in let size = c.part.ensures.size in
     let marks = subst (HasMarks c.part-in-loop-j.result) (sym size) c.part-in-loop-j.ensures.marks in
@@ -129,7 +129,7 @@ transform_parts-loop-j-preserved g t c =
     let n = c.part_rows-part.result in
     let j = c.loop-j.j in
     let part = part_found block n c.part_rows-part.ensures c.requires.large in
-    let begins = part_begins block.size n j part c.loop-j-test.true in
+    let begins = part_begins j part c.loop-j-test.true in
     let rows = c.part.ensures.rows in let size = c.part.ensures.size in let shift = c.part.ensures.shift in
     record {
       done =
@@ -154,7 +154,7 @@ transform_parts-returns-clause-parts g t c k s m hk hs hm =
     let part = part_found block n is c.requires.large in
     let last : c.loop-j.j ≡ block.size / n = let end = c.loop-j.auto.j-end in let past = c.loop-j-test.false in
     omega arith in
-    let all = parts_whole block.size n c.loop-j.j part last in
+    let all = parts_whole c.loop-j.j part last in
     let within : m * n < block.size = subst (λ (v : ℕ). m * v < block.size) (sym is) hm in
     subst (λ (v : ℕ). AreTransformed c.args.direction (λ i. is_used c.args.used (m * v + i)) v
     (block.skew_delta + m * v)
@@ -168,5 +168,4 @@ transform_parts-returns-clause-counts g t c =
     let n = c.part_rows-part.result in
     let part = part_found block n c.part_rows-part.ensures c.requires.large in
     let end = c.loop-j.auto.j-end in
-    counts_of_parts part
-    (omega (arith, parts_number block.size n part, end)) c.loop-j.invariant.counts
+    counts_of_parts part (omega (arith, parts_number part, end)) c.loop-j.invariant.counts
