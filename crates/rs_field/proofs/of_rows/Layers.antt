@@ -70,8 +70,8 @@ layer_low {n} {shift} i {f} {g} b hi l =
     let (e, is, part) = half_power (n + n) b.large b.power in
     let half : n ≡ 2 ^ e = omega (arith, part) in
     ap (λ m. forward m shift g i) half
-    ∙ lower_half e shift f g i (few_halves (n + n) e shift is b.points) (subst (λ (m : ℕ). shift % m ≡ 0) is b.aligned)
-    (subst (λ (m : ℕ). shift + m ≤ 65536) is b.points) (subst (λ (m : ℕ). i < m) half hi) (made e b is half l)
+    ∙ lower_half e shift (few_halves (n + n) e shift is b.points) (subst (λ (m : ℕ). shift % m ≡ 0) is b.aligned)
+    (subst (λ (m : ℕ). shift + m ≤ 65536) is b.points) f g i (subst (λ (m : ℕ). i < m) half hi) (made e b is half l)
     ∙ ap (λ m. forward m shift f i) (sym is)
 
 -- Transforming the second half of the words after one layer gives the second half of the transform of the whole.
@@ -82,9 +82,10 @@ layer_high {n} {shift} i {f} {g} b hi l =
     let (e, is, part) = half_power (n + n) b.large b.power in
     let half : n ≡ 2 ^ e = omega (arith, part) in
     ap (λ m. forward m (shift + m) (λ q. g (n + q)) i) half
-    ∙ upper_half e shift f g (λ q. g (n + q)) i (few_halves (n + n) e shift is b.points)
+    ∙ upper_half e shift (few_halves (n + n) e shift is b.points)
     (subst (λ (m : ℕ). shift % m ≡ 0) is b.aligned)
-    (subst (λ (m : ℕ). shift + m ≤ 65536) is b.points) (subst (λ (m : ℕ). i < m) half hi) (made e b is half l)
+    (subst (λ (m : ℕ). shift + m ≤ 65536) is b.points) f g i (subst (λ (m : ℕ). i < m) half hi) (made e b is half l)
+    (λ q. g (n + q))
     (λ q hq. l.second q (subst (λ (m : ℕ). q < m) (sym half) hq) ∙ ap (λ m. bit_xor (f (m + q)) (g q)) half)
     ∙ ap₂ (λ m o. forward m shift f (o + i)) (sym is) (sym half)
 
