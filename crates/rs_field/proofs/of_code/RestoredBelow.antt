@@ -114,6 +114,14 @@ missing-lists : (s : DecoderState) (message : List Shard)
 missing-lists s message =
     record { count = s.configuration.original_count; none_past = missing-past s message; in_order = refl }
 
+-- If a map has the missing shards of a message, its list of shards is the list of the missing shards.
+listed-missing : (s : DecoderState) (message : List Shard) {out : Shards} {items : Items}
+    → ((i : ℕ) → out i ≡ missing_of s message i) → Lists out items → shards_listed items ≡ missing_shards s message
+listed-missing s message {items} missing listing =
+    let here : Lists (missing_of s message) items =
+    subst (λ (g : Shards). Lists g items) (fun_ext missing) listing in
+    ap shards_listed (lists-same here (missing-lists s message))
+
 -- The missing shards of a message are as many as originals are missing.
 missing-number : (s : DecoderState) (message : List Shard)
     → length (missing_shards s message) + originals_given s ≡ s.configuration.original_count
@@ -166,10 +174,7 @@ module _ (s : DecoderState) (start end : ℕ) {out : Shards} {items : Items}
     (restored : Restored (state_of_pieces start end s) out) (listing : Lists out items) where
   -- The listed items are the missing pieces.
   items-are : shards_listed items ≡ missing_shards (state_of_pieces start end s) restored.message
-  items-are =
-      ap shards_listed (lists-same (missing_of (state_of_pieces start end s) restored.message) items _
-      (subst (λ (g : Shards). Lists g items) (fun_ext restored.missing) listing)
-      (missing-lists (state_of_pieces start end s) restored.message))
+  items-are = listed-missing (state_of_pieces start end s) restored.message restored.missing listing
 
   -- The listed items are as many as originals are missing.
   pub pieces-number : length items + originals_given s ≡ s.configuration.original_count
@@ -272,11 +277,7 @@ restored-all {s} {grows} {rooms} supported even own_within coded_within enough d
 
 module _ {s : DecoderState} {rooms : List Shard} (holds : HoldRestored s rooms) where
   held-are : rooms ≡ missing_shards s holds.restored.message
-  held-are =
-      holds.held
-      ∙ ap shards_listed (lists-same (missing_of s holds.restored.message) holds.items _
-      (subst (λ (g : Shards). Lists g holds.items) (fun_ext holds.restored.missing) holds.listed)
-      (missing-lists s holds.restored.message))
+  held-are = holds.held ∙ listed-missing s holds.restored.message holds.restored.missing holds.listed
 
   -- Rooms that hold the restored originals are as many as originals are missing.
   pub held-number : length rooms + originals_given s ≡ s.configuration.original_count

@@ -62,32 +62,29 @@ made : {skew : List ℕ} {n : ℕ} (e : ℕ) {shift : ℕ} {f g : ℕ → ℕ} �
     → (q : ℕ) → q < 2 ^ e → g q ≡ bit_xor (f q) (product (f (2 ^ e + q)) (subspace e shift))
 made e b is half l q hq = grind (arith, common_steps, table_factor)
 
--- Transforming the first half of the words after one layer gives the first half of the transform of the whole.
-layer_low : {skew : List ℕ} {n shift : ℕ} (i : ℕ) {f g : ℕ → ℕ} → IsBlock skew (n + n) shift → i < n
-    → IsLayer skew n shift f g
-    → forward n shift g i ≡ forward (n + n) shift f i
-layer_low {n} {shift} i {f} {g} b hi l =
-    let (e, is, part) = half_power (n + n) b.large b.power in
-    let half : n ≡ 2 ^ e = omega (arith, part) in
-    ap (λ m. forward m shift g i) half
-    ∙ lower_half e shift (few_halves (n + n) e shift is b.points) (subst (λ (m : ℕ). shift % m ≡ 0) is b.aligned)
-    (subst (λ (m : ℕ). shift + m ≤ 65536) is b.points) f g i (subst (λ (m : ℕ). i < m) half hi) (made e b is half l)
-    ∙ ap (λ m. forward m shift f i) (sym is)
+module _ {skew : List ℕ} {n shift : ℕ} (i : ℕ) {f g : ℕ → ℕ} (b : IsBlock skew (n + n) shift) (hi : i < n)
+    (l : IsLayer skew n shift f g) where
+  -- Transforming the first half of the words after one layer gives the first half of the transform of the whole.
+  layer_low : forward n shift g i ≡ forward (n + n) shift f i
+  layer_low =
+      let (e, is, part) = half_power (n + n) b.large b.power in
+      let half : n ≡ 2 ^ e = omega (arith, part) in
+      ap (λ m. forward m shift g i) half
+      ∙ lower_half e shift (few_halves (n + n) e shift is b.points) (subst (λ (m : ℕ). shift % m ≡ 0) is b.aligned)
+      (subst (λ (m : ℕ). shift + m ≤ 65536) is b.points) f g i (subst (λ (m : ℕ). i < m) half hi) (made e b is half l)
+      ∙ ap (λ m. forward m shift f i) (sym is)
 
--- Transforming the second half of the words after one layer gives the second half of the transform of the whole.
-layer_high : {skew : List ℕ} {n shift : ℕ} (i : ℕ) {f g : ℕ → ℕ} → IsBlock skew (n + n) shift → i < n
-    → IsLayer skew n shift f g
-    → forward n (shift + n) (λ q. g (n + q)) i ≡ forward (n + n) shift f (n + i)
-layer_high {n} {shift} i {f} {g} b hi l =
-    let (e, is, part) = half_power (n + n) b.large b.power in
-    let half : n ≡ 2 ^ e = omega (arith, part) in
-    ap (λ m. forward m (shift + m) (λ q. g (n + q)) i) half
-    ∙ upper_half e shift (few_halves (n + n) e shift is b.points)
-    (subst (λ (m : ℕ). shift % m ≡ 0) is b.aligned)
-    (subst (λ (m : ℕ). shift + m ≤ 65536) is b.points) f g i (subst (λ (m : ℕ). i < m) half hi) (made e b is half l)
-    (λ q. g (n + q))
-    (λ q hq. l.second q (subst (λ (m : ℕ). q < m) (sym half) hq) ∙ ap (λ m. bit_xor (f (m + q)) (g q)) half)
-    ∙ ap₂ (λ m o. forward m shift f (o + i)) (sym is) (sym half)
+  -- Transforming the second half of the words after one layer gives the second half of the transform of the whole.
+  layer_high : forward n (shift + n) (λ q. g (n + q)) i ≡ forward (n + n) shift f (n + i)
+  layer_high =
+      let (e, is, part) = half_power (n + n) b.large b.power in
+      let half : n ≡ 2 ^ e = omega (arith, part) in
+      ap (λ m. forward m (shift + m) (λ q. g (n + q)) i) half
+      ∙ upper_half e shift (few_halves (n + n) e shift is b.points) (subst (λ (m : ℕ). shift % m ≡ 0) is b.aligned)
+      (subst (λ (m : ℕ). shift + m ≤ 65536) is b.points) f g i (subst (λ (m : ℕ). i < m) half hi) (made e b is half l)
+      (λ q. g (n + q))
+      (λ q hq. l.second q (subst (λ (m : ℕ). q < m) (sym half) hq) ∙ ap (λ m. bit_xor (f (m + q)) (g q)) half)
+      ∙ ap₂ (λ m o. forward m shift f (o + i)) (sym is) (sym half)
 
 -- The transform of part j, with another name for the place where the part begins.
 as_part : (size n shift j i to at : ℕ) (f g : ℕ → ℕ) (place : ℕ → ℕ) → shift + j * n ≡ to → j * n + i ≡ at

@@ -1,8 +1,8 @@
 -- The places of the bytes of a shard in a row, and the proof that the columns of the shard are the symbols of the row's
 -- chunks.
 use Rattle.std.proofs.Common.{rules, ◌≡◌, ℕ, zero, suc, ◌+◌, ◌-◌, ◌*◌, ◌/◌, ◌%◌, ◌<◌, ◌≤◌, List, [], ◌∷◌, length}
-use Rattle.std.proofs.Common.{get_or, min}
-use Rattle.std.proofs.Common.{take, drop, All, sym, ap, ap₂, ◌∙◌, refl, subst, arith, inl, inr, length-append}
+use Rattle.std.proofs.Common.{get_or, min, take, drop, All, sym, ap, ap₂, ◌∙◌, refl, subst, arith, inl, inr}
+use Rattle.std.proofs.Common.{length-append}
 use Rattle.std.specs.Prelude.{slice_index}
 use Rattle.std.specs.Simd.{first_chunks}
 use Rattle.std.proofs.Math.Nat.{min-eq_left, min-eq_right}
@@ -79,25 +79,19 @@ byte_offset_lt : (size b : ℕ) → b < size → byte_offset size b < 64
 byte_offset_lt size b h =
     grind (arith, common_steps, cases_lt, byte_offset-whole, byte_offset-tail_low, byte_offset-tail_high)
 
-pub bytes-laid_out : (size : ℕ) (chunks : ℕ → List ℕ)
-    → ((k b : ℕ) → k < row_len size → b < 64 → slice_index (chunks k) b < 256)
-    → All (λ b. b < 256) (laid_out size chunks)
-unfolding laid_out
-bytes-laid_out size chunks small i d h =
-    grind (arith, common_steps, length-laid_out, get-up_to, chunk_of, byte_offset_lt)
+module _ (size : ℕ) (chunks : ℕ → List ℕ)
+    (small : (k b : ℕ) → k < row_len size → b < 64 → slice_index (chunks k) b < 256) where
+  bytes-laid_out : All (λ b. b < 256) (laid_out size chunks)
+  unfolding laid_out
+  bytes-laid_out i d h = grind (arith, common_steps, length-laid_out, get-up_to, chunk_of, byte_offset_lt)
 
-pub shard-laid_out : (size : ℕ) (chunks : ℕ → List ℕ)
-    → ((k b : ℕ) → k < row_len size → b < 64 → slice_index (chunks k) b < 256)
-    → IsShard size (laid_out size chunks)
-shard-laid_out size chunks small =
-    record { length_is = length-laid_out size chunks; bytes = bytes-laid_out size chunks small }
+  pub shard-laid_out : IsShard size (laid_out size chunks)
+  shard-laid_out = record { length_is = length-laid_out size chunks; bytes = bytes-laid_out }
 
--- A shard whose tail was moved is a shard of the size.
-pub shard-in_order : (size : ℕ) (chunks : ℕ → List ℕ)
-    → ((k b : ℕ) → k < row_len size → b < 64 → slice_index (chunks k) b < 256)
-    → IsShard size (in_order size chunks)
-unfolding in_order
-shard-in_order size chunks small = grind (arith, common_steps, length-in_order, get-up_to, chunk_of)
+  -- A shard whose tail was moved is a shard of the size.
+  pub shard-in_order : IsShard size (in_order size chunks)
+  unfolding in_order
+  shard-in_order = grind (arith, common_steps, length-in_order, get-up_to, chunk_of)
 
 -- Word i of chunk q has its low byte in the first half and its high byte in the second half.
 word-laid_out : (size q i half : ℕ) (chunks : ℕ → List ℕ) → min 64 (size - q * 64) / 2 ≡ half → i < half → half ≤ 32
