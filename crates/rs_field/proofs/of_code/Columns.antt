@@ -26,8 +26,8 @@ pub column-tail : (q i : ℕ) (s : Shard) → i < 32 → q ≡ length s / 64
 column-tail q i s h last = grind (arith, common_steps, column-at, min-eq_right)
 
 -- Equal words have equal low bytes and equal high bytes.
-halves : (a b c d : ℕ) → a < 256 → c < 256 → a + 256 * b ≡ c + 256 * d → (a ≡ c) × (b ≡ d)
-halves a b c d ha hc e = (omega arith, omega arith)
+halves : (a : ℕ) {b : ℕ} (c : ℕ) {d : ℕ} → a < 256 → c < 256 → a + 256 * b ≡ c + 256 * d → (a ≡ c) × (b ≡ d)
+halves a c ha hc e = (omega arith, omega arith)
 
 -- Each entry of a shard is a byte, and so is the zero past its end.
 pub byte_lt : {size : ℕ} {s : Shard} → IsShard size s → (i : ℕ) → slice_index s i < 256
@@ -46,7 +46,7 @@ shard_from_columns {size} {s} {t} hs ht even same =
         × (slice_index s (q * 64 + i + w) ≡ slice_index t (q * 64 + i + w))
     both q i w hi hw fits ws wt =
         let place : q * 32 + i < size / 2 = omega arith in
-        halves (slice_index s (q * 64 + i)) _ (slice_index t (q * 64 + i)) _ (byte_lt hs (q * 64 + i))
+        halves (slice_index s (q * 64 + i)) (slice_index t (q * 64 + i)) (byte_lt hs (q * 64 + i))
         (byte_lt ht (q * 64 + i))
         (ap (λ v. slice_index s (q * 64 + i) + 256 * slice_index s (q * 64 + i + v)) (sym ws)
         ∙ sym (column-at q i s (omega arith)) ∙ same (q * 32 + i) place

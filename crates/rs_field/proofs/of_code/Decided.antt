@@ -65,9 +65,9 @@ abbrev pub codes : Rate → ℕ → ℕ → List ℕ → List ℕ → Bool
 codes rate k r words polynomial = codes_at (frame_of rate k r) k words polynomial
 
 -- A polynomial that passes `codes` codes the words.
-pub codes_from : (rate : Rate) (k r : ℕ) (words polynomial : List ℕ) → codes rate k r words polynomial ≡ true
+pub codes_from : {rate : Rate} {k r : ℕ} {words polynomial : List ℕ} → codes rate k r words polynomial ≡ true
     → Codes rate k r words polynomial
-codes_from rate k r words P h =
+codes_from {rate} {k} {r} {words} {polynomial = P} h =
     let one : (nat_eq (length P) (degree_bound (frame_of rate k r)) ≡ true) × _ = and_parts _ _ h in
     let two : (all_below 65536 P ≡ true) × _ = and_parts _ _ one.1 in
     let three : (same_below k (λ j. value P (original_row (frame_of rate k r) j)) (slice_index words) ≡ true)
@@ -99,9 +99,9 @@ recovers c message recovery polynomials =
     (slice_index_or polynomials j []))
 
 -- Shards that pass `recovers` are the recovery shards.
-pub recovery_from : (c : Configuration) (message recovery : List Shard) (polynomials : List (List ℕ))
+pub recovery_from : {c : Configuration} {message recovery : List Shard} (polynomials : List (List ℕ))
     → recovers c message recovery polynomials ≡ true → AreRecovery c message recovery
-recovery_from c message recovery polynomials h =
+recovery_from {c} {message} {recovery} polynomials h =
     let P : ℕ → List ℕ = λ j. slice_index_or polynomials j [] in
     let test : ℕ → Bool = λ j.
     recovers_words c.rate c.original_count c.recovery_count (columns j message) (columns j recovery) (P j) in
@@ -113,7 +113,7 @@ recovery_from c message recovery polynomials h =
           let column : (codes c.rate c.original_count c.recovery_count (columns j message) (P j) ≡ true) × _ =
           and_parts _ _ (from_passes_below (c.shard_bytes / 2) test parts.1 j below) in (
             P j,
-            codes_from c.rate c.original_count c.recovery_count (columns j message) (P j) column.0,
+            codes_from column.0,
             same_from c.recovery_count (slice_index (columns j recovery))
                 (λ i. value (P j) (recovery_row (frame_of c.rate c.original_count c.recovery_count) i)) column.1,
           );
@@ -179,9 +179,9 @@ words_high d rate k r words recovery P lie join =
     )
 
 -- Shards that pass `recovers_high` are the recovery shards.
-pub recovery_from_high : (d : ℕ) (c : Configuration) (message recovery : List Shard) (polynomials : List (List ℕ))
+pub recovery_from_high : (d : ℕ) {c : Configuration} {message recovery : List Shard} (polynomials : List (List ℕ))
     → recovers_high d c message recovery polynomials ≡ true → AreRecovery c message recovery
-recovery_from_high d c message recovery polynomials h =
+recovery_from_high d {c} {message} {recovery} polynomials h =
     let P : ℕ → List ℕ = λ j. slice_index_or polynomials j [] in
     let test : ℕ → Bool = λ j.
     joins d c.original_count c.recovery_count (next_power c.recovery_count) (columns j message) (columns j recovery)

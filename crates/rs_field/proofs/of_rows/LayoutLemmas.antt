@@ -142,14 +142,14 @@ laid_out-is size chunks s len even whole low high =
         ]
 
 -- Moving the second half of the tail puts the bytes in order.
-pub in_order-is : (size : ℕ) (new old : ℕ → List ℕ) → size % 2 ≡ 0
+pub in_order-is : (size : ℕ) {new old : ℕ → List ℕ} → size % 2 ≡ 0
     → ((k : ℕ) → k < size / 64 → new k ≡ old k)
     → ((b : ℕ) → b < size % 64 / 2 → slice_index (new (size / 64)) b ≡ slice_index (old (size / 64)) b)
     → ((b : ℕ) → b < size % 64 / 2
     → slice_index (new (size / 64)) (size % 64 / 2 + b) ≡ slice_index (old (size / 64)) (32 + b))
     → in_order size new ≡ laid_out size old
 unfolding in_order laid_out
-in_order-is size new old even whole low high = up_to-same size _ _ byte
+in_order-is size {new} {old} even whole low high = up_to-same size _ _ byte
   where
     byte : (b : ℕ) → b < size → slice_index (new (b / 64)) (b % 64) ≡ slice_index (old (b / 64)) (byte_offset size b)
     byte b h =

@@ -211,7 +211,7 @@ pub counts_of_layers : (block : Block) {from to : Steps} → 1 < block.size → 
     → TransformCounts block.size from to
 counts_of_layers block {from} {to} large c =
     let size = block.size in
-    let whole = (part_found block (rows_of_part size) refl large).steps in
+    let whole = (part_found block refl large).steps in
     counts_within (omega arith) (counts_rows c)
 
 -- Transforming one more part adds the bound of one part.

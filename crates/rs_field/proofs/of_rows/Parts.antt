@@ -58,8 +58,8 @@ block_quarters block large more =
     (quarter_power block.size (omega (arith, large, ne)) (block_power block)).3
 
 -- The number of rows of a part of a block of more than one row satisfies `IsPart`.
-pub part_found : (block : Block) (n : ℕ) → n ≡ rows_of_part block.size → 1 < block.size → IsPart block.size n
-part_found block n is large =
+pub part_found : (block : Block) {n : ℕ} → n ≡ rows_of_part block.size → 1 < block.size → IsPart block.size n
+part_found block is large =
     let size = block.size in
     let points = block.points in
     elim (cases_Bool (is_halved size)) [

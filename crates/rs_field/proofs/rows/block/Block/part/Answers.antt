@@ -6,7 +6,7 @@ use Rattle.rs_field.proofs.rows.block.Block.part.Goals as goal
 pub invariant_of-result : goal.invariant_of-result
 invariant_of-result c =
     let self = c.args.self in
-    let part = part_found self c.args.rows c.requires.rows c.requires.large in
+    let part = part_found self c.requires.rows c.requires.large in
     let inside = part_within c.args.j part c.requires.begins in
     let points = self.points in
     record {
