@@ -71,11 +71,12 @@ record IsMoved (k r d : ℕ) (words p q : List ℕ) : Type 0 where
   codes : Codes low_rate k r words q
   recovery : (i : ℕ) → i < r → value q (2 ^ d + i) ≡ value p i
 
-moved_codes : (k r d : ℕ) (words p : List ℕ) → 0 < k → d ≤ 16 → next_power r ≡ 2 ^ d → next_power k ≡ 2 ^ d → k ≤ 2 ^ d
+moved_codes : {k r : ℕ} (d : ℕ) {words p : List ℕ} → 0 < k → d ≤ 16 → next_power r ≡ 2 ^ d → next_power k ≡ 2 ^ d
+    → k ≤ 2 ^ d
     → r ≤ 2 ^ d → next_power r + k ≤ 65536
     → Codes high_rate k r words p → (q : List ℕ) × IsMoved k r d words p q
 unfolding frame_of low_frame high_frame is_low next_power zeros_end coefficient_count
-moved_codes k r d words p some hd power_r power_k most_k most_r fit codes =
+moved_codes {k} {r} d some hd power_r power_k most_k most_r fit codes =
     let f = high_distinct k r fit (omega arith) in
     let e = exponent_of (2 ^ exponent_of r + k) in
     let rows : 2 ^ exponent_of (2 ^ exponent_of r + k) ≡ 2 ^ d + 2 ^ d =
@@ -106,7 +107,7 @@ equal_powers k r words low high some same fit (p, hp, at_low) (o, ho, at_high) i
     let least_r : r ≤ next_power r = next_power-above r (omega arith) in
     let least_k : k ≤ next_power k = next_power-above k (omega arith) in
     let (d, hd, power, _) = next_power-small r (omega arith) in
-    let (q, m) = moved_codes k r d words o some hd power (same ∙ power) (omega arith) (omega arith) fit ho in
+    let (q, m) = moved_codes d some hd power (same ∙ power) (omega arith) (omega arith) fit ho in
     cc (
       at_low i hi,
       codes_unique

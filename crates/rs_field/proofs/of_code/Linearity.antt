@@ -23,9 +23,10 @@ abbrev AreSums : ℕ → List ℕ → List ℕ → List ℕ → Type 0
 AreSums n one other sums = (i : ℕ) → i < n → slice_index sums i ≡ bit_xor (slice_index one i) (slice_index other i)
 
 -- If two polynomials code, their sum codes the sums of the words.
-codes_sums : (rate : Rate) (k r : ℕ) (one other sums p q : List ℕ) → AreSums k one other sums → Codes rate k r one p
+codes_sums : {rate : Rate} {k r : ℕ} {one other : List ℕ} (sums : List ℕ) {p q : List ℕ} → AreSums k one other sums
+    → Codes rate k r one p
     → Codes rate k r other q → Codes rate k r sums (add p q)
-codes_sums rate k r one other sums p q are hp hq =
+codes_sums sums are hp hq =
     search (rules, length-add, all_words, words_add, words_from, value_add)
 
 -- The sums of the recovery words are the recovery words of the sums.
@@ -36,7 +37,7 @@ recovery_sums : (rate : Rate) (k r : ℕ) (one other sums one_recovery other_rec
 recovery_sums rate k r one other sums one_recovery other_recovery recovery are are_recovery (p, codes_p, at_p)
     (q, codes_q, at_q) = (
       add p q,
-      codes_sums rate k r one other sums p q are codes_p codes_q,
+      codes_sums sums are codes_p codes_q,
       λ i hi. are_recovery i hi ∙ ap₂ bit_xor (at_p i hi) (at_q i hi)
           ∙ sym (value_add p q (recovery_row (frame_of rate k r) i)),
     )

@@ -5,4 +5,4 @@ use Rattle.rs_field.proofs.words.mul16.nibble_sums.Goals as goal
 
 pub returns : goal.returns
 returns c n f ea eb ec ed =
-    record { entries = sixteen (λ (i : ℕ). product (i * 16 ^ n) f) (nibble_additive n f) ea eb ec ed }
+    record { entries = sixteen (nibble_additive n f) ea eb ec ed }
