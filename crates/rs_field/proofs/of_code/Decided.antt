@@ -68,20 +68,20 @@ codes rate k r words polynomial = codes_at (frame_of rate k r) k words polynomia
 pub codes_from : {rate : Rate} {k r : ℕ} {words polynomial : List ℕ} → codes rate k r words polynomial ≡ true
     → Codes rate k r words polynomial
 codes_from {rate} {k} {r} {words} {polynomial = P} h =
-    let one : (nat_eq (length P) (degree_bound (frame_of rate k r)) ≡ true) × _ = and_parts _ _ h in
+    let at = frame_of rate k r in
+    let one : (nat_eq (length P) (degree_bound at) ≡ true) × _ = and_parts _ _ h in
     let two : (all_below 65536 P ≡ true) × _ = and_parts _ _ one.1 in
-    let three : (same_below k (λ j. value P (original_row (frame_of rate k r) j)) (slice_index words) ≡ true)
-    × (same_below ((frame_of rate k r).zeros_to - (frame_of rate k r).zeros_from)
-    (λ x. value P ((frame_of rate k r).zeros_from + x)) (λ x. 0) ≡ true) = and_parts _ _ two.1 in
+    let three : (same_below k (λ j. value P (original_row at j)) (slice_index words) ≡ true)
+    × (same_below (at.zeros_to - at.zeros_from) (λ x. value P (at.zeros_from + x)) (λ x. 0) ≡ true) =
+    and_parts _ _ two.1 in
     record {
       degree = eqb-true _ _ one.0;
       coefficients = all_from (λ w. nat_lt w 65536) (λ w. w < 65536) (λ w. ltb-true w 65536) P two.0;
-      originals = same_from k (λ j. value P (original_row (frame_of rate k r) j)) (slice_index words) three.0;
+      originals = same_from k (λ j. value P (original_row at j)) (slice_index words) three.0;
       zeros = λ x from to.
           ap (value P) (sym (omega arith))
-          ∙ same_from ((frame_of rate k r).zeros_to - (frame_of rate k r).zeros_from)
-          (λ x. value P ((frame_of rate k r).zeros_from + x)) (λ x. 0) three.1
-          (x - (frame_of rate k r).zeros_from) (omega arith);
+          ∙ same_from (at.zeros_to - at.zeros_from) (λ x. value P (at.zeros_from + x)) (λ x. 0) three.1
+          (x - at.zeros_from) (omega arith);
     }
 
 -- The test of `AreRecoveryWords`, with the polynomial.
