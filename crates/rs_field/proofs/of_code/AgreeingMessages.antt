@@ -78,10 +78,10 @@ module _ {s : DecoderState} (g : AreGiven s) (even : s.configuration.shard_bytes
         let c = s.configuration in
         let frame = frame_at s.configuration in
         let (message, are, is) = shards_of c.original_count c.shard_bytes
-        (λ i j. value (f j) (original_row (frame_at s.configuration) i) % 65536) even
+        (λ i j. value (f j) (original_row (frame_at s.configuration) i) % 65536)
         (λ i j. small (value (f j) (original_row (frame_at s.configuration) i))) in
         let (coded, are_coded, is_coded) = shards_of c.recovery_count c.shard_bytes
-        (λ i j. value (f j) (recovery_row (frame_at s.configuration) i) % 65536) even
+        (λ i j. value (f j) (recovery_row (frame_at s.configuration) i) % 65536)
         (λ i j. small (value (f j) (recovery_row (frame_at s.configuration) i))) in (
           message,
           record {

@@ -118,10 +118,9 @@ equal_powers k r words low high some same fit (p, hp, at_low) (o, ho, at_high) i
     )
 
 -- If both counts have one power, the recovery words of the low rate are recovery words of the high rate.
-to_high : (k r : ℕ) (words recovery : List ℕ) → supports low_rate k r ≡ true → supports high_rate k r ≡ true
-    → next_power k ≡ next_power r
+to_high : (k r : ℕ) (words recovery : List ℕ) → supports high_rate k r ≡ true → next_power k ≡ next_power r
     → AreRecoveryWords low_rate k r words recovery → AreRecoveryWords high_rate k r words recovery
-to_high k r words recovery low high same own =
+to_high k r words recovery high same own =
     let f = high_fits k r high in
     let (other, _, (o, codes, at)) = recovered high_rate k r words high (coded_lt own.1) in
     (o, codes, λ i hi. equal_powers k r words recovery other f.0 same f.2 own (o, codes, at) i hi ∙ at i hi)

@@ -101,10 +101,10 @@ word-laid_out : (size q i half : ℕ) (chunks : ℕ → List ℕ) → min 64 (si
 word-laid_out size q i half chunks e low most fits = search (rules, byte_offset-low, byte_offset-high, get-laid_out)
 
 -- Column j of the shard is a symbol of a chunk of the row.
-pub column-laid_out : (size j : ℕ) (chunks : ℕ → List ℕ) → size % 2 ≡ 0 → j < size / 2
+pub column-laid_out : (size j : ℕ) (chunks : ℕ → List ℕ) → j < size / 2
     → column j (laid_out size chunks) ≡ symbol (chunks (j / 32)) (j % 32)
 unfolding column
-column-laid_out size j chunks even h =
+column-laid_out size j chunks h =
     grind (arith, common_steps, length-laid_out, word-laid_out, cases_lt, min-eq_right, min-eq_left)
 
 -- If the whole chunks of a row are those of the shard, and the last chunk holds the halves of the tail, the row holds
