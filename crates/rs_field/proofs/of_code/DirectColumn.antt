@@ -27,12 +27,11 @@ pub record IsLocated (s : DecoderState) (received : ℕ → Bool) (locator : ℕ
 
 module _ {s : DecoderState} (g : AreGiven s) {received : ℕ → Bool} {locator : ℕ → ℕ}
     (l : IsLocated s received locator)
-    (enough : s.configuration.original_count ≤ originals_given s + recovery_given s) {message : List Shard}
-    (agrees : IsAgreeing s message) (i j : ℕ) (hj : j < s.configuration.shard_bytes / 2) where
+    (enough : s.configuration.original_count ≤ originals_given s + recovery_given s) where
   -- The direct sum at an erased point is the value of the polynomial of the column.
-  direct_word : (p : List ℕ) → IsTaken s j p → (x : ℕ) → x < row_count_of s → erased_in s x ≡ 1
+  direct_word : (j : ℕ) (p : List ℕ) → IsTaken s j p → (x : ℕ) → x < row_count_of s → erased_in s x ≡ 1
       → direct_sum (row_count_of s) received locator (words_in s j) x ≡ value p x
-  direct_word p taken x hx one =
+  direct_word j p taken x hx one =
       let (q, takes, same) = taken_from g p taken in
       direct_value (frame_at s.configuration).exponent x locator (distinct g).few (erasures g).are_marks
       (omega (arith, counted g, enough)) takes (record {
@@ -47,31 +46,29 @@ module _ {s : DecoderState} (g : AreGiven s) {received : ℕ → Bool} {locator 
       }) l.logarithms (l.most x hx) hx one
       ∙ same x hx
 
-  -- The direct sum at the point of an original that is not given is the word of this original.
-  pub direct_original : i < s.configuration.original_count → is_some (s.originals i) ≡ false
-      → direct_sum (row_count_of s) received locator (words_in s j) (original_row (frame_at s.configuration) i)
-      ≡ column j (shard_at message i)
-  direct_original hi missing =
-      let (p, codes, takes) = column_taken s j hj agrees in
-      direct_word p (columns j message, codes, takes) (original_row (frame_at s.configuration) i)
-      (omega (arith, (distinct g).originals, hi))
-      ((erasures g).own i hi ∙ ap (λ (b : Bool). cond b 0 1) missing)
-      ∙ codes.originals i hi ∙ columns-at j message i
+  module _ {message : List Shard} (agrees : IsAgreeing s message) (i j : ℕ)
+      (hj : j < s.configuration.shard_bytes / 2) where
+    -- The direct sum at the point of an original that is not given is the word of this original.
+    pub direct_original : i < s.configuration.original_count → is_some (s.originals i) ≡ false
+        → direct_sum (row_count_of s) received locator (words_in s j) (original_row (frame_at s.configuration) i)
+        ≡ column j (shard_at message i)
+    direct_original hi missing =
+        let (p, codes, takes) = column_taken s j hj agrees in
+        direct_word j p (columns j message, codes, takes) (original_row (frame_at s.configuration) i)
+        (omega (arith, (distinct g).originals, hi)) ((erasures g).own i hi ∙ ap (λ (b : Bool). cond b 0 1) missing)
+        ∙ codes.originals i hi ∙ columns-at j message i
 
-  -- The direct sum at the point of a recovery shard that is not given is the word of this recovery shard.
-  pub direct_recovery : i < s.configuration.recovery_count → is_some (s.recovery i) ≡ false
-      → direct_sum (row_count_of s) received locator (words_in s j) (recovery_row (frame_at s.configuration) i)
-      ≡ column j (shard_at agrees.coded.0 i)
-  direct_recovery hi missing =
-      let c = s.configuration in
-      let (p, codes, takes) = column_taken s j hj agrees in
-      let (o, codes_o, at) = agrees.coded.1.words j hj in
-      let f = distinct g in
-      let room : row_count_of s ≤ 2 ^ 16 = pow_mono f.few in
-      direct_word p (columns j message, codes, takes) (recovery_row (frame_at s.configuration) i)
-      (omega (arith, f.recovery, hi))
-      ((erasures g).coded i hi ∙ ap (λ (b : Bool). cond b 0 1) missing)
-      ∙ ap (λ (q : List ℕ). value q (recovery_row (frame_at s.configuration) i))
-      (codes_unique
-      (omega (arith, f.originals, room)) codes codes_o)
-      ∙ sym (at i hi) ∙ columns-at j agrees.coded.0 i
+    -- The direct sum at the point of a recovery shard that is not given is the word of this recovery shard.
+    pub direct_recovery : i < s.configuration.recovery_count → is_some (s.recovery i) ≡ false
+        → direct_sum (row_count_of s) received locator (words_in s j) (recovery_row (frame_at s.configuration) i)
+        ≡ column j (shard_at agrees.coded.0 i)
+    direct_recovery hi missing =
+        let c = s.configuration in
+        let (p, codes, takes) = column_taken s j hj agrees in
+        let (o, codes_o, at) = agrees.coded.1.words j hj in
+        let f = distinct g in
+        let room : row_count_of s ≤ 2 ^ 16 = pow_mono f.few in
+        direct_word j p (columns j message, codes, takes) (recovery_row (frame_at s.configuration) i)
+        (omega (arith, f.recovery, hi)) ((erasures g).coded i hi ∙ ap (λ (b : Bool). cond b 0 1) missing)
+        ∙ ap (λ (q : List ℕ). value q (recovery_row (frame_at s.configuration) i)) (codes_unique
+        (omega (arith, f.originals, room)) codes codes_o) ∙ sym (at i hi) ∙ columns-at j agrees.coded.0 i
