@@ -56,11 +56,10 @@ pub record IsLayer (skew : List ℕ) (half shift : ℕ) (f g : ℕ → ℕ) : Ty
   pub first : (q : ℕ) → q < half → g q ≡ bit_xor (f q) (times_factor (factor skew half shift) (f (half + q)))
   pub second : (q : ℕ) → q < half → g (half + q) ≡ bit_xor (f (half + q)) (g q)
 
-made : {skew : List ℕ} {n : ℕ} (e : ℕ) {shift : ℕ} {f g : ℕ → ℕ} → IsBlock skew (n + n) shift → n + n ≡ 2 ^ suc e
-    → n ≡ 2 ^ e
+made : {skew : List ℕ} {n : ℕ} (e : ℕ) {shift : ℕ} {f g : ℕ → ℕ} → IsBlock skew (n + n) shift → n ≡ 2 ^ e
     → IsLayer skew n shift f g
     → (q : ℕ) → q < 2 ^ e → g q ≡ bit_xor (f q) (product (f (2 ^ e + q)) (subspace e shift))
-made e b is half l q hq = grind (arith, common_steps, table_factor)
+made e b half l q hq = grind (arith, common_steps, table_factor)
 
 module _ {skew : List ℕ} {n shift : ℕ} (i : ℕ) {f g : ℕ → ℕ} (b : IsBlock skew (n + n) shift) (hi : i < n)
     (l : IsLayer skew n shift f g) where
@@ -71,7 +70,7 @@ module _ {skew : List ℕ} {n shift : ℕ} (i : ℕ) {f g : ℕ → ℕ} (b : Is
       let half : n ≡ 2 ^ e = omega (arith, part) in
       ap (λ m. forward m shift g i) half
       ∙ lower_half e shift (few_halves (n + n) e shift is b.points) (subst (λ (m : ℕ). shift % m ≡ 0) is b.aligned)
-      (subst (λ (m : ℕ). shift + m ≤ 65536) is b.points) f g i (subst (λ (m : ℕ). i < m) half hi) (made e b is half l)
+      (subst (λ (m : ℕ). shift + m ≤ 65536) is b.points) f g i (subst (λ (m : ℕ). i < m) half hi) (made e b half l)
       ∙ ap (λ m. forward m shift f i) (sym is)
 
   -- Transforming the second half of the words after one layer gives the second half of the transform of the whole.
@@ -81,7 +80,7 @@ module _ {skew : List ℕ} {n shift : ℕ} (i : ℕ) {f g : ℕ → ℕ} (b : Is
       let half : n ≡ 2 ^ e = omega (arith, part) in
       ap (λ m. forward m (shift + m) (λ q. g (n + q)) i) half
       ∙ upper_half e shift (few_halves (n + n) e shift is b.points) (subst (λ (m : ℕ). shift % m ≡ 0) is b.aligned)
-      (subst (λ (m : ℕ). shift + m ≤ 65536) is b.points) f g i (subst (λ (m : ℕ). i < m) half hi) (made e b is half l)
+      (subst (λ (m : ℕ). shift + m ≤ 65536) is b.points) f g i (subst (λ (m : ℕ). i < m) half hi) (made e b half l)
       (λ q. g (n + q))
       (λ q hq. l.second q (subst (λ (m : ℕ). q < m) (sym half) hq) ∙ ap (λ m. bit_xor (f (m + q)) (g q)) half)
       ∙ ap₂ (λ m o. forward m shift f (o + i)) (sym is) (sym half)

@@ -48,20 +48,18 @@ zero-part bytes a n within zeros i h =
     let lt : i < n = subst (λ m. i < m) (part-length bytes a n within) h in part-at bytes a n i lt ∙ zeros i lt
 
 module _ {size : ℕ} {row : Chunks} {bytes : List ℕ} (is : IsRow size row bytes) where
-  byte-of : (q b : ℕ) → b < 64 → q < row_len size
-      → slice_index (chunk row q) b ≡ slice_index bytes (q * 64 + b)
-  byte-of q b low within = grind (arith, common_steps, get-flat)
+  byte-of : (q b : ℕ) → b < 64 → slice_index (chunk row q) b ≡ slice_index bytes (q * 64 + b)
+  byte-of q b low = grind (arith, common_steps, get-flat)
 
   -- A symbol is made of its low and its high byte.
-  symbol-bytes : (q i : ℕ) → i < 32 → q < row_len size
+  symbol-bytes : (q i : ℕ) → i < 32
       → symbol (chunk row q) i ≡ slice_index bytes (q * 64 + i) + 256 * slice_index bytes (q * 64 + (i + 32))
-  symbol-bytes q i low within =
-      ap₂ (λ u v. u + 256 * v) (byte-of q i (omega arith) within) (byte-of q (i + 32) (omega arith) within)
+  symbol-bytes q i low = ap₂ (λ u v. u + 256 * v) (byte-of q i (omega arith)) (byte-of q (i + 32) (omega arith))
 
   pub zero_columns : ZeroFrom bytes 0 (tail size + half size) → ZeroFrom bytes (tail size + 32) (half size)
       → HasZeroColumns size (λ k. chunk row k)
   zero_columns first second j h =
-      symbol-bytes (j / 32) (j % 32) (omega arith) (omega arith)
+      symbol-bytes (j / 32) (j % 32) (omega arith)
       ∙ ap₂ (λ u v. u + 256 * v) (before (j / 32 * 64 + j % 32) (omega arith)) high
     where
       before : (b : ℕ) → b < tail size + half size → slice_index bytes b ≡ 0
@@ -86,7 +84,7 @@ module _ {size : ℕ} {row : Chunks} {bytes : List ℕ} (is : IsRow size row byt
       let word : symbol (chunk row q) i ≡ 0 = sym (ap₂ (λ n m. symbol (chunk row n) m) k s)
       ∙ zeros (q * 32 + i) within in
       let sum : slice_index bytes (q * 64 + i) + 256 * slice_index bytes (q * 64 + (i + 32)) ≡ 0
-      = sym (symbol-bytes q i low (omega arith)) ∙ word in
+      = sym (symbol-bytes q i low) ∙ word in
       (omega arith, omega arith)
 
   pub zero-first : HasZeroColumns size (λ k. chunk row k)
