@@ -167,8 +167,8 @@ module _ {s : DecoderState} (g : AreGiven s) {j : ℕ} where
 
       module _ (added : ℕ → ℕ) (x l : ℕ)
           (enough : s.configuration.original_count ≤ originals_given s + recovery_given s)
-          (step : IsDerivativeAdded (row_count_of s) rows added) (hx : x < row_count_of s) (one : erased_in s x ≡ 1)
-          where
+          (step : IsDerivativeAdded (row_count_of s) rows added) (hx : x < row_count_of s)
+          (one : erased_in s x ≡ 1) where
         -- After the derivative step the value at an erased row is the wanted word times the locator's power.
         restored_product : forward (row_count_of s) 0 added x
             ≡ product (power (log_sum (row_count_of s) (erased_in s) x)) (value p x)

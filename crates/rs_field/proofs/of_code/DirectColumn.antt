@@ -11,7 +11,6 @@ use Rattle.rs_field.specs.code.Decoder.{DecoderState, IsAgreeing, originals_give
 use Rattle.rs_field.proofs.of_words.DirectSum.{direct_value}
 use Rattle.rs_field.proofs.of_code.Columns.{columns-at}
 use Rattle.rs_field.proofs.of_code.Unique.{codes_unique}
-use Rattle.rs_field.proofs.of_code.Frame.{coefficient_count}
 use Rattle.rs_field.proofs.of_code.GivenRows.{AreGiven, erased_in, words_in, row_count_of, distinct}
 use Rattle.rs_field.specs.code.DirectLaws.{shard_in_row}
 use Rattle.rs_field.proofs.of_code.GivenRows.{erasures, cases_given, erased-given, word-none}

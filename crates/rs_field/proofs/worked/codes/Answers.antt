@@ -21,18 +21,22 @@ unfolding passes_below frame_of low_frame high_frame is_low next_power exponent_
     bits
     from_bits cantor_basis monomials carryless reduce column xor_bytes xor_shards
 low = (
-  ( (codes_from refl, recovery_from ((2311 ∷ []) ∷ []) refl),
+  (
+    (codes_from refl, recovery_from ((2311 ∷ []) ∷ []) refl),
     (codes_from refl, recovery_from ((0 ∷ 1 ∷ []) ∷ []) refl),
-    ( (codes_from refl, recovery_from ((1 ∷ 0 ∷ []) ∷ []) refl),
+    (
+      (codes_from refl, recovery_from ((1 ∷ 0 ∷ []) ∷ []) refl),
       refl,
       (codes_from refl, recovery_from ((1 ∷ 1 ∷ []) ∷ []) refl),
       refl,
     ),
     (codes_from refl, recovery_from ((0 ∷ 3 ∷ 2 ∷ 1 ∷ []) ∷ []) refl),
   ),
-  ( (codes_from refl, recovery_from ((2311 ∷ []) ∷ []) refl),
+  (
+    (codes_from refl, recovery_from ((2311 ∷ []) ∷ []) refl),
     (codes_from refl, recovery_from ((0 ∷ 1 ∷ []) ∷ []) refl),
-    ( (codes_from refl, recovery_from ((1 ∷ 0 ∷ []) ∷ []) refl),
+    (
+      (codes_from refl, recovery_from ((1 ∷ 0 ∷ []) ∷ []) refl),
       refl,
       (codes_from refl, recovery_from ((1 ∷ 1 ∷ []) ∷ []) refl),
       refl,

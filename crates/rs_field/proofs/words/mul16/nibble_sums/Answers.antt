@@ -1,5 +1,3 @@
-use Rattle.std.proofs.Common.{ℕ, ◌*◌, ◌^◌}
-use Rattle.rs_field.specs.words.Field.{product}
 use Rattle.rs_field.proofs.of_words.Sums.{sixteen, nibble_additive}
 use Rattle.rs_field.proofs.words.mul16.nibble_sums.Goals as goal
 
