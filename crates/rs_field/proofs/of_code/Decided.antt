@@ -166,7 +166,7 @@ words_high d rate k r words recovery P lie join =
     let room : r ≤ 2 ^ d = leb-true r (2 ^ d) c.1 in
     let each = words_from P (all_from (λ w. nat_lt w 65536) (λ w. w < 65536) (λ w. ltb-true w 65536) P f.0) in (
       times (points (2 ^ d) (65536 - 2 ^ d)) P,
-      high_codes rate k r d words P high depth top (leb-true _ _ b.0) (eqb-true _ _ e.0) each
+      high_codes rate k r d words P high depth (leb-true _ _ b.0) (eqb-true _ _ e.0) each
           (same_from k (λ j. value P (m + j)) (slice_index words) g.0)
           (λ x from to.
           let place : x ≡ m + k + (x - (m + k)) = omega arith in

@@ -94,11 +94,11 @@ module _ (size : ℕ) (chunks : ℕ → List ℕ)
   shard-in_order = grind (arith, common_steps, length-in_order, get-up_to, chunk_of)
 
 -- Word i of chunk q has its low byte in the first half and its high byte in the second half.
-word-laid_out : (size q i half : ℕ) (chunks : ℕ → List ℕ) → min 64 (size - q * 64) / 2 ≡ half → i < half → half ≤ 32
+word-laid_out : (size q i half : ℕ) (chunks : ℕ → List ℕ) → min 64 (size - q * 64) / 2 ≡ half → i < half
     → q * 64 + 2 * half ≤ size
     → slice_index (laid_out size chunks) (q * 64 + i) + 256 * slice_index (laid_out size chunks) (q * 64 + i + half)
     ≡ symbol (chunks q) i
-word-laid_out size q i half chunks e low most fits = search (rules, byte_offset-low, byte_offset-high, get-laid_out)
+word-laid_out size q i half chunks e low fits = search (rules, byte_offset-low, byte_offset-high, get-laid_out)
 
 -- Column j of the shard is a symbol of a chunk of the row.
 pub column-laid_out : (size j : ℕ) (chunks : ℕ → List ℕ) → j < size / 2
