@@ -41,7 +41,7 @@ pub gives-back : (c : Configuration) (shards recovery : List Shard) (lost recove
     → with_recoveries half (kept_of recovery recovery_lost) ≡ Ok decoder → DecodeAnswers decoder result
     → GivesBack shards (kept_of shards lost) (kept_of recovery recovery_lost) result
 gives-back c shards recovery lost recovery_lost new_decoder half decoder result all start_outcome own coded answers =
-    taken_gives_back decoder result all.0 all.1
+    taken_gives_back c shards recovery (kept_of shards lost) (kept_of recovery recovery_lost) decoder result all.0 all.1
     (kept-left shards lost) (kept-left recovery recovery_lost)
     (
     ap (λ s. result_and_then (λ now. with_recoveries now (kept_of recovery recovery_lost))
@@ -135,7 +135,7 @@ module _ (c : Configuration) (shards recovery : List Shard) (lost recovery_lost 
       let refused = reached-err (with_originals new_decoder (kept_of shards lost)) P e reached in
       let both = ap (λ s. with_originals s (kept_of shards lost)) (sym fresh) ∙ refused in
       let taken = sym (ap (result_and_then (λ now. with_recoveries now (kept_of recovery recovery_lost))) both)
-      ∙ all_taken all.0 all.1
+      ∙ all_taken c shards recovery (kept_of shards lost) (kept_of recovery recovery_lost) all.0 all.1
       (kept-left shards lost) (kept-left recovery recovery_lost) in
       cc
 
@@ -148,7 +148,7 @@ module _ (c : Configuration) (shards recovery : List Shard) (lost recovery_lost 
       let both = ap (λ s. with_originals s (kept_of shards lost)) (sym fresh) ∙ given in
       let taken = sym (ap (result_and_then (λ now. with_recoveries now (kept_of recovery recovery_lost))) both
       ∙ refused)
-      ∙ all_taken all.0 all.1
+      ∙ all_taken c shards recovery (kept_of shards lost) (kept_of recovery recovery_lost) all.0 all.1
       (kept-left shards lost) (kept-left recovery recovery_lost) in
       cc
 

@@ -307,7 +307,7 @@ left_with c kept received =
 if_ok-refused : (result : Result Shards Error) (e : Error) (P : Shards → Type 0) → result ≡ Err e → IfOk result P
 if_ok-refused result e P is = subst (λ (r : Result Shards Error). IfOk r P) (sym is) tt
 
-module _ {c : Configuration} {message recovery : List Shard} {kept received : Items}
+module _ (c : Configuration) (message recovery : List Shard) (kept received : Items)
     (are : AreShards c.original_count c.shard_bytes message) (coded : AreRecovery c message recovery)
     (left : AreLeft message kept) (got : AreLeft recovery received) where
   -- A decoder takes all shards that are left.
@@ -326,16 +326,16 @@ module _ {c : Configuration} {message recovery : List Shard} {kept received : It
   restores_left = search (rules, all_taken, gives_back)
 
 -- A decoder that took all shards that are left restores the lost originals.
-pub taken_gives_back : {c : Configuration} {message recovery : List Shard} {kept received : Items} (s : DecoderState)
+pub taken_gives_back : (c : Configuration) (message recovery : List Shard) (kept received : Items) (s : DecoderState)
     (result : Result Shards Error)
     → AreShards c.original_count c.shard_bytes message → AreRecovery c message recovery → AreLeft message kept
     → AreLeft recovery received
     → with_both (fresh_decoder c) kept received ≡ Ok s → DecodeAnswers s result → GivesBack message kept received result
-taken_gives_back {message} {kept} {received} s result are coded left got is answers =
+taken_gives_back c message recovery kept received s result are coded left got is answers =
     subst (λ (o : Result DecoderState Error).
     IsOkAnd o (λ s. (result : Result Shards Error) → DecodeAnswers s result
     → GivesBack message kept received result)) is
-    (restores_left are coded left got) result answers
+    (restores_left c message recovery kept received are coded left got) result answers
 
 module _ {k r : ℕ} {originals recovery : List Shard} {kept : Items} (was : AreCoded k r originals recovery)
     (left : AreLeft originals kept) where
@@ -360,8 +360,9 @@ module _ {k r : ℕ} {originals recovery : List Shard} {kept : Items} (was : Are
           → OneBringsBack originals kept received result
       by_bytes true h = record { answer = inr h; restored = if_ok-refused result OutOfMemory _ h }
       by_bytes false h =
-          let all = all_taken was.shards was.coded left got in
-          let back = gives_back was.shards was.coded left got result
+          let c = default_of k r was.size in
+          let all = all_taken c originals recovery kept received was.shards was.coded left got in
+          let back = gives_back c originals recovery kept received was.shards was.coded left got result
           (subst (λ (o : Result DecoderState Error). MatchResult o (λ s. DecodeAnswers s result) (λ e. result ≡ Err e))
           all h) in
           record { answer = inl back.answer; restored = back.restored }

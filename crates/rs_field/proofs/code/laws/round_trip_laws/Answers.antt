@@ -7,7 +7,7 @@ pub returns : goal.returns
 returns c = record {
   lost = restores_lost;
   encoded = restores_encoded;
-  left = λ c message recovery kept received. restores_left;
+  left = restores_left;
   one_encode =
       codes_in_one_call;
   one_encode_whole = encodes_in_one_call;
