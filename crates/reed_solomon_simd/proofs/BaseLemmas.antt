@@ -9,8 +9,8 @@ use mathlib.Core.Path.{fun_ext}
 use Rattle.rs_field.specs.code.Column.{Shard, column}
 use Rattle.rs_field.specs.code.Counts.{default_rate}
 use Rattle.rs_field.specs.code.Decoder.{DecoderState, IsDecoder, originals_given, recovery_given}
-use Rattle.rs_field.specs.code.DirectLaws.{entry_in, given_at, word_of, word_at, locator_at, summed_word}
-use Rattle.rs_field.specs.code.Frame.{frame_of, row_count}
+use Rattle.rs_field.specs.code.DirectLaws.{entry_in, given_at, word_of, word_at, locator_at, summed_word, shard_in_row}
+use Rattle.rs_field.specs.code.Frame.{frame_of, row_count, frame_at}
 use Rattle.rs_field.specs.declared.code.frame.Frame.{Frame}
 use Rattle.rs_field.specs.code.Given.{Shards, count_below}
 use Rattle.rs_field.specs.code.PieceStates.{pieces_of, state_of_pieces}
@@ -28,10 +28,7 @@ use Rattle.rs_field.proofs.of_words.Combination.{sum_below-same}
 use Rattle.rs_rate.specs.declared.passes.sums.SumBase.{SumBase}
 use Rattle.rs_rate.specs.passes.Sums.{AreMarksOf, ListsMarked}
 use Rattle.rs_rate.proofs.of_rows.StateLemmas.{valid-supported}
-use Rattle.reed_solomon_simd.specs.Base.{row_of, marked_part, marked_state, MarkBase, CanSum}
-use Rattle.rs_field.specs.code.Frame.{frame_at}
-use Rattle.rs_field.specs.code.DirectLaws.{shard_in_row}
-use Rattle.reed_solomon_simd.specs.Base.{base_sum}
+use Rattle.reed_solomon_simd.specs.Base.{row_of, marked_part, marked_state, MarkBase, CanSum, base_sum}
 use Rattle.reed_solomon_simd.specs.declared.shard_index.ShardIndex.{ShardIndex}
 
 -- ---- the shards in rows

@@ -9,14 +9,13 @@ use Rattle.std.proofs.lemmas.List.{get_or-set_same, get_or-set_other, get_or-rep
 use Rattle.rs_field.specs.code.Column.{Shard}
 use Rattle.rs_field.specs.code.Counts.{default_rate}
 use Rattle.rs_field.specs.code.Decoder.{DecoderState, IsDecoder, originals_given, recovery_given}
-use Rattle.rs_field.specs.code.Frame.{row_count, original_row, recovery_row}
+use Rattle.rs_field.specs.code.Frame.{row_count, original_row, recovery_row, frame_at}
 use Rattle.rs_field.specs.rows.MarkedRows.{is_marked}
 use Rattle.rs_field.proofs.of_code.Frame.{HasDistinctRows}
-use Rattle.rs_field.proofs.of_code.GivenRows.{given_at-own, given_at-coded, given_at-other}
+use Rattle.rs_field.proofs.of_code.GivenRows.{shard_in_row-own, shard_in_row-coded, shard_in_row-other}
 use Rattle.rs_rate.specs.rows.Marks.{how_many}
 use Rattle.rs_rate.proofs.of_rows.HowMany.{how_many-suc, how_many-same, count_below-many, many_in_frame}
 use Rattle.reed_solomon_simd.specs.Base.{marked_state}
-use Rattle.rs_field.specs.code.Frame.{frame_at}
 use Rattle.rs_field.specs.code.DirectLaws.{shard_in_row}
 use Rattle.reed_solomon_simd.proofs.BaseLemmas.{decoder_frame, in_row-marked}
 
@@ -33,15 +32,15 @@ rows-count s f =
     let k = s.configuration.original_count in let r = s.configuration.recovery_count in
     many_in_frame (frame_at s.configuration) k r f (λ x. is_some (shard_in_row s x))
     (λ p not_own not_coded.
-    ap is_some (given_at-other (frame_at s.configuration) k r s.originals s.recovery p not_own not_coded))
+    ap is_some (shard_in_row-other s p not_own not_coded))
     ∙ ap₂ (λ (a b : ℕ). a + b)
     (how_many-same k (λ i. is_some (shard_in_row s (original_row (frame_at s.configuration) i)))
     (λ i. is_some (s.originals i))
-    (λ i inside. ap is_some (given_at-own (frame_at s.configuration) k r s.originals s.recovery i inside))
+    (λ i inside. ap is_some (shard_in_row-own s i inside))
     ∙ count_below-many k s.originals)
     (how_many-same r (λ i. is_some (shard_in_row s (recovery_row (frame_at s.configuration) i)))
     (λ i. is_some (s.recovery i))
-    (λ i inside. ap is_some (given_at-coded (frame_at s.configuration) k r s.originals s.recovery i f inside))
+    (λ i inside. ap is_some (shard_in_row-coded s i f inside))
     ∙ count_below-many r s.recovery)
 
 module _ (s : DecoderState) (is : IsDecoder default_rate s) where

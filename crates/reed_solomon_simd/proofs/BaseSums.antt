@@ -13,8 +13,8 @@ use Rattle.rs_field.specs.code.Column.{Shard, IsShard, column, shard_at}
 use Rattle.rs_field.specs.code.Counts.{default_rate, supports}
 use Rattle.rs_field.specs.code.Decoder.{DecoderState, IsDecoder, IsAgreeing, IsConsistent, originals_given}
 use Rattle.rs_field.specs.code.Decoder.{recovery_given}
-use Rattle.rs_field.specs.code.DirectLaws.{IsPartOf, summed_word}
-use Rattle.rs_field.specs.code.Frame.{row_count, original_row, recovery_row}
+use Rattle.rs_field.specs.code.DirectLaws.{IsPartOf, summed_word, shard_in_row}
+use Rattle.rs_field.specs.code.Frame.{row_count, original_row, recovery_row, frame_at}
 use Rattle.rs_field.specs.code.Given.{Shards, AreWithin}
 use Rattle.rs_field.specs.code.Pieces.{IsStrip}
 use Rattle.rs_field.specs.code.PieceStates.{pieces_of, state_of_pieces}
@@ -22,17 +22,13 @@ use Rattle.rs_field.specs.rows.MarkedRows.{is_marked}
 use Rattle.rs_field.proofs.of_code.Agreement.{one_message}
 use Rattle.rs_field.proofs.of_code.DirectColumn.{direct_original, direct_recovery}
 use Rattle.rs_field.proofs.of_code.GivenRows.{AreGiven, given_within, given-either, given-below}
-use Rattle.rs_field.proofs.of_code.GivenRows.{given_at-own, given_at-coded}
-use Rattle.rs_field.proofs.of_code.BaseShards.{AreSums, all_located, base_given, agrees_with_part}
-use Rattle.rs_field.proofs.of_code.BaseShards.{consistent_by_sums}
+use Rattle.rs_field.proofs.of_code.GivenRows.{shard_in_row-own, shard_in_row-coded}
+use Rattle.rs_field.proofs.of_code.BaseShards.{AreSums, all_located, base_given, agrees_with_part, consistent_by_sums}
 use Rattle.rs_field.proofs.of_code.Columns.{shard_from_columns, shard_in}
 use Rattle.rs_rate.proofs.of_rows.StateLemmas.{valid-supported}
 use Rattle.reed_solomon_simd.specs.declared.shard_index.ShardIndex.{ShardIndex}
 use Rattle.reed_solomon_simd.specs.declared.shard_index.ShardIndex.TheVariants.{Original, Recovery}
-use Rattle.reed_solomon_simd.specs.Base.{row_of, marked_part, marked_state, MarkBase}
-use Rattle.rs_field.specs.code.Frame.{frame_at}
-use Rattle.rs_field.specs.code.DirectLaws.{shard_in_row}
-use Rattle.reed_solomon_simd.specs.Base.{base_sum, IsBaseSum, AgreesInRow}
+use Rattle.reed_solomon_simd.specs.Base.{row_of, marked_part, marked_state, MarkBase, base_sum, IsBaseSum, AgreesInRow}
 use Rattle.reed_solomon_simd.specs.Reconstructed.{CanBeRebuilt}
 use Rattle.reed_solomon_simd.specs.ShardNames.{shard_named}
 use Rattle.reed_solomon_simd.proofs.BaseLemmas.{decoder_frame, marked_part-at, base_marks, base-pieces}
@@ -196,14 +192,10 @@ module _ (s : DecoderState) (is : IsDecoder default_rate s) (start end : ℕ)
         → shard_in_row (state_of_pieces start end s) (row_of (frame_at s.configuration) w) ≡ None
     wanted-missing (Original i) can =
         let t = state_of_pieces start end s in
-        given_at-own (frame_at s.configuration) s.configuration.original_count s.configuration.recovery_count
-        t.originals t.recovery i
-        can.0 ∙ ap (option_map (λ x. between start end x)) can.1
+        shard_in_row-own t i can.0 ∙ ap (option_map (λ x. between start end x)) can.1
     wanted-missing (Recovery i) can =
         let t = state_of_pieces start end s in
-        given_at-coded (frame_at s.configuration) s.configuration.original_count s.configuration.recovery_count
-        t.originals
-        t.recovery i (decoder_frame s is) can.0 ∙ ap (option_map (λ x. between start end x)) can.1
+        shard_in_row-coded t i (decoder_frame s is) can.0 ∙ ap (option_map (λ x. between start end x)) can.1
 
     -- The direct sum is the piece of a wanted shard.
     pub wanted-piece : (message : List Shard) (agrees : IsAgreeing (state_of_pieces start end s) message)
@@ -212,16 +204,16 @@ module _ (s : DecoderState) (is : IsDecoder default_rate s) (start end : ℕ)
         → piece ≡ shard_named message agrees.coded.0 w
     wanted-piece message agrees (Original i) piece can sum =
         let t = state_of_pieces start end s in
-        shard_from_columns (end - start) piece (shard_at message i) sum.is_shard
-        (shard_in s.configuration.original_count (end - start) message agrees.shards i can.0)
+        shard_from_columns sum.is_shard
+        (shard_in agrees.shards i can.0)
         (even-strip s is start end strip)
         (λ j inside. sum.words j inside ∙ (summed-words message agrees i j inside).0 can.0
         (part-missing marks (frame_at s.configuration).originals_from i t.originals
         (ap (option_map (λ x. between start end x)) can.1)))
     wanted-piece message agrees (Recovery i) piece can sum =
         let t = state_of_pieces start end s in
-        shard_from_columns (end - start) piece (shard_at agrees.coded.0 i) sum.is_shard
-        (shard_in s.configuration.recovery_count (end - start) agrees.coded.0 agrees.coded.1.shards i can.0)
+        shard_from_columns sum.is_shard
+        (shard_in agrees.coded.1.shards i can.0)
         (even-strip s is start end strip)
         (λ j inside. sum.words j inside ∙ (summed-words message agrees i j inside).1 can.0
         (part-missing marks (frame_at s.configuration).recovery_from i t.recovery
@@ -231,7 +223,7 @@ module _ (s : DecoderState) (is : IsDecoder default_rate s) (start end : ℕ)
     pub sums-same : (x : ℕ) (one other : Shard) → IsBaseSum marks (state_of_pieces start end s) x one
         → IsBaseSum marks (state_of_pieces start end s) x other → one ≡ other
     sums-same x one other first second =
-        shard_from_columns (end - start) one other first.is_shard second.is_shard (even-strip s is start end strip)
+        shard_from_columns first.is_shard second.is_shard (even-strip s is start end strip)
         (λ j inside. first.words j inside ∙ sym (second.words j inside))
 
     -- A row outside of the base has no mark, if no shard was received in it.

@@ -32,8 +32,7 @@ entered-none s rooms left vectors holds is empty =
     let here : Lists holds.out (items_below s.configuration.original_count holds.out) =
     record { count = k; none_past = λ i past. holds.restored.missing i ∙ missing-past s m i past; in_order = refl } in
     let items : holds.items ≡ items_from 0 (s.configuration.original_count - 0) holds.out =
-    lists-same holds.out holds.items (items_below k holds.out) holds.listed here
-    ∙ ap (λ (n : ℕ). items_from 0 n holds.out) (let e : k ≡ k - 0 = omega arith in e) in
+    lists-same holds.listed here ∙ ap (λ (n : ℕ). items_from 0 n holds.out) (let e : k ≡ k - 0 = omega arith in e) in
     record {
       out = holds.out;
       restored = holds.restored;

@@ -88,7 +88,7 @@ module _ (s : DecoderState) (is : IsDecoder default_rate s)
     listed-are : AreShards s.configuration.original_count (end - start) listed_pieces
     listed-are =
         subst (AreShards s.configuration.original_count (end - start)) (sym pieces-are)
-        (shards-cut start end s.configuration.original_count s.configuration.shard_bytes own_message strip own-are)
+        (shards-cut strip own-are)
 
     -- There are as many listed pieces as originals, and each has the length of the strip.
     pub listed-number : length listed_pieces ≡ s.configuration.original_count
@@ -139,5 +139,5 @@ module _ (s : DecoderState) (is : IsDecoder default_rate s)
             subst (λ (m : List Shard). AreRecovery (state_of_pieces start end s).configuration m agrees.coded.0) same
             agrees.coded.1 in
             subst (AreAmong (pieces_of start end s.recovery))
-            (recovery_unique c listed_pieces agrees.coded.0 made (few-originals s is) (even-strip s is start end strip)
+            (recovery_unique (few-originals s is) (even-strip s is start end strip)
             recovered coded) agrees.coded.2

@@ -53,7 +53,7 @@ module _ (s : DecoderState) (is : IsDecoder default_rate s) where
 
   -- If the pieces of all strips are consistent, the shards are consistent.
   pub checked-all : AreConsistentBelow s s.configuration.shard_bytes → IsConsistent s
-  checked-all = consistent-whole s given even
+  checked-all = consistent-whole given even
 
   -- As many shards as originals are consistent.
   pub exact-consistent : originals_given s + recovery_given s ≡ s.configuration.original_count → IsConsistent s
@@ -65,6 +65,5 @@ pub consistent-cut : (s : DecoderState) (start end : ℕ) → IsStrip start end 
 consistent-cut s start end strip (message, agrees) =
     let c = s.configuration in (
       pieces start end message,
-      agrees-cut start end c.rate c.original_count c.recovery_count c.shard_bytes s.originals s.recovery message strip
-          agrees,
+      agrees-cut strip agrees,
     )

@@ -1,6 +1,5 @@
 -- Gathered originals: the encoder state that they represent, and the result of encoding them.
-use Rattle.std.proofs.Common.{◌≡◌, ℕ, List, Bor, Ok, Err}
-use Rattle.std.proofs.Common.{Result, MatchResult, IfOk, inr, refl, ap, arith}
+use Rattle.std.proofs.Common.{◌≡◌, ℕ, List, Bor, Ok, Err, Result, MatchResult, IfOk, inr, refl, ap, arith}
 use Rattle.std.proofs.lemmas.List.{length-map}
 use Rattle.rs_field.specs.declared.code.error.Error.{Error}
 use Rattle.rs_field.specs.declared.code.error.Error.TheVariants.{OutOfMemory}

@@ -3,24 +3,22 @@
 use Rattle.std.proofs.Common.{◌≡◌, ℕ, ◌+◌, ◌-◌, ◌<◌, ◌≤◌, Bool, List, [], ◌∷◌, ◌++◌, length, take, drop, get_or, map}
 use Rattle.std.proofs.Common.{All, Ok, suc, true, cond, ◌&&◌, refl, sym, ap, ap₂, ◌∙◌, subst, arith}
 use Rattle.std.specs.Prelude.{Option, Some, None, is_some, not}
-use Rattle.std.specs.List.{list_any}
+use Rattle.std.specs.List.{list_any, between}
 use Rattle.std.specs.Option.{option_map}
 use Rattle.std.proofs.lemmas.Bool.{lt-ltb}
-use Rattle.std.specs.List.{between}
 use Rattle.std.proofs.Math.Seq.{take-add, take-append-add, take-append_seam}
-use Rattle.std.proofs.lemmas.List.{get_or-map, get_or_default, length-map, length-take-le, take_all, ext_get_or}
+use Rattle.std.proofs.lemmas.List.{get_or-map, length-map, length-take-le, take_all, ext_get_or}
 use Rattle.std.proofs.lemmas.List.Elements.{All-map}
 use Rattle.rs_field.specs.code.Code.{AreRecovery}
 use Rattle.rs_field.specs.code.Column.{Shard, shard_at}
 use Rattle.rs_field.specs.code.Counts.{default_rate}
-use Rattle.rs_field.specs.code.Decoder.{DecoderState, IsDecoder, IsAgreeing, enough_given, missing_of}
-use Rattle.rs_field.specs.code.Decoder.{Restored}
+use Rattle.rs_field.specs.code.Decoder.{DecoderState, IsDecoder, IsAgreeing, enough_given, missing_of, Restored}
 use Rattle.rs_field.specs.code.Given.{Shards}
 use Rattle.rs_field.specs.code.Pieces.{pieces, IsStrip, ArePut, room_length}
 use Rattle.rs_field.specs.code.PieceStates.{state_of_pieces}
 use Rattle.rs_field.proofs.of_code.Agreement.{one_message}
-use Rattle.rs_field.proofs.of_code.Pieces.{put-length, room-from, room-further, room-whole}
-use Rattle.rs_field.proofs.of_code.PieceStates.{shard_at-pieces, agrees-cut, recovery-cut}
+use Rattle.rs_field.proofs.of_code.Pieces.{AreStripPut, put-inside, put-fit, room-whole}
+use Rattle.rs_field.proofs.of_code.PieceStates.{shard_at-pieces, agrees-cut, recovery-cut, AreConsistentBelow}
 use Rattle.rs_field.proofs.of_code.Unique.{recovery_unique}
 use Rattle.rs_rate.proofs.of_rows.DecoderRows.{enough-least}
 use Rattle.rs_rate.proofs.of_rows.StateLemmas.{valid-supported}
@@ -28,7 +26,6 @@ use Rattle.reed_solomon_simd.specs.declared.shard_index.ShardIndex.{ShardIndex}
 use Rattle.reed_solomon_simd.specs.declared.shard_index.ShardIndex.TheVariants.{Original, Recovery}
 use Rattle.reed_solomon_simd.specs.Reconstructed.{AreReconstructed, CanBeRebuilt, lent_at}
 use Rattle.reed_solomon_simd.specs.ShardNames.{shard_named, is_recovery}
-use Rattle.rs_field.proofs.of_code.PieceStates.{AreConsistentBelow}
 use Rattle.reed_solomon_simd.proofs.ConsistentStrips.{checked-none, checked-further, checked-all}
 use Rattle.reed_solomon_simd.proofs.ConsistentStrips.{even-strip, few-originals}
 use Rattle.reed_solomon_simd.proofs.SetUp.{valid-even}
@@ -118,17 +115,14 @@ module _ (s : DecoderState) (is : IsDecoder default_rate s) (wanted : List Shard
       → made ≡ pieces start end (named_shards message agrees.coded.0 wanted)
   made-cut message agrees =
       let c = s.configuration in
-      let cut = agrees-cut start end c.rate c.original_count c.recovery_count c.shard_bytes s.originals s.recovery
-      message strip agrees in
-      let coded = recovery-cut start end c.rate c.original_count c.recovery_count c.shard_bytes message
-      agrees.coded.0 strip agrees.shards agrees.coded.1 in
+      let cut = agrees-cut strip agrees in
+      let coded = recovery-cut strip agrees.shards agrees.coded.1 in
       let same : pieces start end message ≡ rebuilt.message = rebuilt.only (pieces start end message) cut in
       let recovered : AreRecovery (state_of_pieces start end s).configuration rebuilt.message
       (pieces start end agrees.coded.0) =
       subst (λ (m : List Shard). AreRecovery (state_of_pieces start end s).configuration m
       (pieces start end agrees.coded.0)) same coded in
-      let all = recovery_unique (state_of_pieces start end s).configuration rebuilt.message rebuilt.agrees.coded.0
-      (pieces start end agrees.coded.0) (few-originals s is) (even-strip s is start end strip) rebuilt.agrees.coded.1
+      let all = recovery_unique (few-originals s is) (even-strip s is start end strip) rebuilt.agrees.coded.1
       recovered in
       rebuilt.named
       ∙ ap₂ (λ (m r : List Shard). named_shards m r wanted) (sym same) all
@@ -145,24 +139,19 @@ module _ (s : DecoderState) (is : IsDecoder default_rate s) (wanted : List Shard
   pub rebuilt-further : (old new : List Shard) → ArePut start end made old new
       → IsRebuiltBelow s wanted grows start old → IsRebuiltBelow s wanted grows end new
   rebuilt-further old new put before =
-      let size : ℕ = s.configuration.shard_bytes in
-      let inside : All (λ x. start ≤ length x) old = (λ i d h.
-      let n = before.fit i d h in
-      let from = room-from grows start size
-      (let le : start ≤ s.configuration.shard_bytes = omega (arith, strip.order, strip.inside) in le) in
-      omega (arith, n, from)) in
-      let as_many : length made ≡ length old = made-number ∙ sym before.number in
+      let p : AreStripPut grows s.configuration.shard_bytes start end made old new = record {
+        strip = strip;
+        put = put;
+        number = made-number ∙ sym before.number;
+        sized = made-sized;
+        fit = before.fit;
+      } in
       let ends : (i : ℕ) → i < length old → start + length (get_or made i []) ≡ end = (λ i h.
-      let piece = made-sized i [] (omega (arith, as_many, h)) in omega (arith, piece, strip.order)) in
+      let piece = made-sized i [] (omega (arith, p.number, h)) in omega (arith, piece, strip.order)) in
       record {
         checked = checked-further s start end strip (rebuilt.message, rebuilt.agrees) before.checked;
         number = put.0 ∙ before.number;
-        fit = λ i d h.
-            let here : i < length old = omega (arith, h, put.0) in
-            ap length (get_or_default new i d [] h)
-            ∙ put-length start end made old new put strip.order inside as_many made-sized i here
-            ∙ ap (λ (n : ℕ). end + (n - end)) (before.fit i [] here)
-            ∙ room-further grows start end size strip.order strip.inside;
+        fit = put-fit p;
         held = λ message agrees i h.
             let here : i < length old = omega (arith, h, put.0) in
             let named : List Shard = named_shards message agrees.coded.0 wanted in
@@ -172,7 +161,8 @@ module _ (s : DecoderState) (is : IsDecoder default_rate s) (wanted : List Shard
             ap (λ (l : List Shard). get_or l i []) (made-cut message agrees)
             ∙ get_or-map (λ x. between start end x) named i [] [] (omega (arith, here, before.number, long)) in
             ap₂ (λ (n : ℕ) (x : Shard). take n x) (sym (ends i here)) (put.1 i here)
-            ∙ take-joined start (get_or old i []) (get_or made i []) (drop end (get_or old i [])) (inside i [] here)
+            ∙ take-joined start (get_or old i []) (get_or made i []) (drop end (get_or old i []))
+            (put-inside p i [] here)
             ∙ ap₂ (λ (a b : Shard). a ++ b) (before.held message agrees i here) cut
             ∙ sym (take-add start (end - start) (get_or named i []))
             ∙ ap (λ (n : ℕ). take n (get_or (named_shards message agrees.coded.0 wanted) i []))

@@ -14,5 +14,5 @@ pub strips-restored : (s : DecoderState) (grows : Bool) (rooms : List Shard) →
     → enough_given s ≡ Ok tt
     → IsRestoredBelow s grows s.configuration.shard_bytes rooms → HoldRestored s rooms
 strips-restored s grows rooms is enough done =
-    restored-all s grows rooms (valid-supported s.configuration is.valid) (valid-even s.configuration is.valid)
+    restored-all (valid-supported s.configuration is.valid) (valid-even s.configuration is.valid)
     is.originals_within is.recovery_within (enough-least s (sym enough)) done

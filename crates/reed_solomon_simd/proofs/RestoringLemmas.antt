@@ -100,9 +100,9 @@ pub restored-fit : (s : DecoderState) (made old : List Shard) → HoldRestored s
     → length old + originals_given s ≡ s.configuration.original_count
     → All (λ x. length x ≡ s.configuration.shard_bytes) old → rooms_fit made old ≡ Ok tt
 restored-fit s made old holds number fit =
-    let many = held-number s made holds in
+    let many = held-number holds in
     fits-many made old (omega (arith, many, number))
-    ∙ fits-all s.configuration.shard_bytes made old (held-sized s made holds) (λ i h. fit i [] h)
+    ∙ fits-all s.configuration.shard_bytes made old (held-sized holds) (λ i h. fit i [] h)
 
 -- ---- one call
 

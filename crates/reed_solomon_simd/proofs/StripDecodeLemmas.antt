@@ -194,7 +194,7 @@ module _ (start end : ℕ) (x now : DecoderState) (grows : Bool) (same : now ≡
   pub strip-refused : (e : Error) → NoneAgrees (state_of_pieces start end now) e ⊎ ((grows ≡ true) × (e ≡ OutOfMemory))
       → NoneAgrees x e ⊎ (e ≡ OutOfMemory)
   strip-refused e (inl none) =
-      inl (none-pieces start end x e strip
+      inl (none-pieces x strip
       (subst (λ (s : DecoderState). NoneAgrees (state_of_pieces start end s) e) same none))
   strip-refused e (inr short) = inr short.1
 
@@ -209,4 +209,4 @@ module _ (start end : ℕ) (x now : DecoderState) (grows : Bool) (same : now ≡
       → IsRestoredBelow x grows end new
   strip-restored old new made done =
       let (out, restored, items, listing, put) = subst (λ (s : DecoderState). ArePiecesPut s old new) same made in
-      restored-further x grows start end out items strip restored listing old new put done
+      restored-further strip restored listing put done

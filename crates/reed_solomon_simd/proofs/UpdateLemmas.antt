@@ -2,7 +2,7 @@
 use Rattle.std.proofs.Common.{◌≡◌, ℕ, ◌+◌, ◌-◌, ◌*◌, ◌/◌, ◌%◌, ◌<◌, ◌≤◌, ◌⊎◌, List, [], ◌++◌, length, take, drop}
 use Rattle.std.proofs.Common.{min, bit_xor}
 use Rattle.std.proofs.Common.{All, MutBor, get_or, set, append_assoc, refl, sym, ap, ap₂, subst, ◌∙◌, inl, inr, arith}
-use Rattle.std.specs.Prelude.{slice_index}
+use Rattle.std.specs.Prelude.{slice_index, Result, Ok, Err, MatchResult, true, false}
 use borrow.Rule.Slice.PartMut.{put_mid}
 use Rattle.std.specs.List.{between}
 use Rattle.std.proofs.lemmas.Slice.{take-put_mid, drop-put_mid}
@@ -16,7 +16,6 @@ use Rattle.rs_field.specs.code.Pieces.{IsStrip}
 use Rattle.rs_field.proofs.of_code.Columns.{column-at, columns-at, byte_lt, shards_from_columns}
 use Rattle.rs_field.proofs.of_code.Pieces.{column-head, column-rest, column-piece, is_strip}
 use Rattle.rs_field.proofs.of_words.Packed.{sum_of_bytes}
-use Rattle.std.specs.Prelude.{Result, Ok, Err, MatchResult, true, false}
 use Rattle.std.specs.Result.{result_map_both}
 use Rattle.std.proofs.lemmas.List.{get_or_default}
 use Rattle.rs_field.specs.declared.code.error.Error.{Error}
@@ -52,7 +51,7 @@ column-xor size j s t u hs ht hu bytes =
     ∙ column-at q i u (omega arith)
     ∙ ap₂ (λ (x y : ℕ). x + 256 * y) (each (q * 64 + i)) (each high)
     ∙ sum_of_bytes (slice_index s (q * 64 + i)) (slice_index s high) (slice_index t (q * 64 + i)) (slice_index t high)
-    (byte_lt size s hs (q * 64 + i)) (byte_lt size t ht (q * 64 + i))
+    (byte_lt hs (q * 64 + i)) (byte_lt ht (q * 64 + i))
     ∙ ap₂ bit_xor
     (ap (λ (w : ℕ). slice_index s (q * 64 + i) + 256 * slice_index s (q * 64 + i + w)) words_s
     ∙ sym (column-at q i s (omega arith)) ∙ ap (λ (c : ℕ). column c s) (sym parts))
@@ -247,7 +246,7 @@ updates-changed k r index old new factors before after supported even are number
     let each : (i : ℕ) → i < r → IsShard (length old) (shard_at after i) =
     λ i h. record { length_is = (changes i h).length_is ∙ sized i h; bytes = (changes i h).bytes } in
     let same : after ≡ all =
-    shards_from_columns r size after all
+    shards_from_columns
     (record {
       length_is = number;
       each = λ i d h. subst (IsShard (length old)) (sym (get_or_default after i d [] h))

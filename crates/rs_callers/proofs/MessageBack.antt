@@ -29,10 +29,9 @@ use Rattle.reed_solomon_simd.specs.declared.Error.TheVariants.{OutOfMemory, Unsu
 use Rattle.reed_solomon_simd.specs.Column.{Shard}
 use Rattle.reed_solomon_simd.specs.Configuration.{UpToMemory, validation_outcome}
 use Rattle.reed_solomon_simd.specs.Counts.{default_rate, supports}
-use Rattle.reed_solomon_simd.specs.Messages.{AreShardsOf, join_outcome, collected_bytes}
+use Rattle.reed_solomon_simd.specs.Messages.{AreShardsOf, join_outcome, collected_bytes, Completes}
 use Rattle.reed_solomon_simd.specs.OneCall.{counts_outcome, default_of}
 use Rattle.reed_solomon_simd.specs.Given.{Shards}
-use Rattle.reed_solomon_simd.specs.Messages.{Completes}
 use Rattle.reed_solomon_simd.proofs.CallerLemmas.{valid-some}
 use Rattle.reed_solomon_simd.proofs.Left.{kept_of, kept-left, lost-kept}
 use Rattle.reed_solomon_simd.proofs.MessageLaws.{completes_all}

@@ -52,7 +52,7 @@ module _ (k r : ℕ) (originals recovery : List Shard) (kept received : Items) (
       let other : AreRecovery (default_of k r was.size) originals are.agrees.coded.0 =
       subst (λ (m : List Shard). AreRecovery (default_of k r was.size) m are.agrees.coded.0) (sym same)
       are.agrees.coded.1 in
-      let coded = recovery_unique (default_of k r was.size) originals are.agrees.coded.0 recovery
+      let coded = recovery_unique
       (let n : k ≤ 65536 = omega (arith, fits.2) in n) (valid-even (default_of k r was.size) was.valid) other was.coded
       in
       are.named ∙ ap₂ (λ (m c : List Shard). map (shard_named m c) wanted) (sym same) coded

@@ -113,7 +113,7 @@ module _ (k r size : ℕ) (own originals other recovery new : List ℕ) (own_num
       ∙ ap (λ (n : ℕ). cond (get_or own j 0 == 0) (Some (shard_at holds.restored.message n)) None) (sym same)) in
       let all : map (λ i. shard_place size new i) (lost_indexes 0 own)
       ≡ map (λ n. shard_at holds.restored.message n) (lost_indexes 0 own) =
-      holds.held ∙ ap shards_listed (lists-same holds.out holds.items (items_below k holds.out) holds.listed lists)
+      holds.held ∙ ap shards_listed (lists-same holds.listed lists)
       ∙ ap (λ (n : ℕ). shards_listed (items_below n holds.out)) (sym own_number) ∙ listed in
       with-placed holds.out 0 size k originals new (long ∙ own_whole) (λ j inside.
       let same : 0 + j ≡ j = omega arith in

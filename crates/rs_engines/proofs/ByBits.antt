@@ -83,7 +83,7 @@ at_power b1 b2 b4 b8 f e1 e2 e4 e8 (suc (suc (suc (suc i)))) h = absurd (omega a
 pub byte_by_bits : (t : ℕ) → HasAdditiveBytes t → (i : ℕ) → i < 16
     → by_bits (byte_at t 1) (byte_at t 2) (byte_at t 4) (byte_at t 8) i ≡ byte_at t i
 byte_by_bits t additive i h =
-    agree_below 4 (by_bits (byte_at t 1) (byte_at t 2) (byte_at t 4) (byte_at t 8)) (byte_at t)
+    agree_below {g = byte_at t}
     (by_bits_additive (byte_at t 1) (byte_at t 2) (byte_at t 4) (byte_at t 8)) (record { xor = additive.sums })
     (at_power (byte_at t 1) (byte_at t 2) (byte_at t 4) (byte_at t 8) (byte_at t) refl refl refl refl) 4 (omega arith)
     i h

@@ -3,7 +3,7 @@ use Rattle.std.proofs.Common.{◌≡◌, ◌≢◌, ℕ, suc, ◌+◌, ◌-◌, 
 use Rattle.std.proofs.Common.{List, [], ◌∷◌, ◌++◌, length, get_or, take, drop, drop-cons, Ok, Err, refl}
 use Rattle.std.proofs.Common.{sym, ap, ◌∙◌, add-one, arith, inl, inr}
 use Rattle.std.specs.List.{between}
-use Rattle.std.proofs.lemmas.Bool.{ne_eqb, eq-eqb, lt-ltb, le-ltb, cases_lt}
+use Rattle.std.proofs.lemmas.Bool.{ne_eqb, eq-eqb, lt-ltb, le-ltb, cases_lt, le-leb, lt-leb}
 use Rattle.std.proofs.lemmas.List.{take_more, get_or-drop, length-drop, drop_all}
 use Rattle.std.proofs.lemmas.List.Edits.{between_none}
 use Rattle.std.proofs.lemmas.Str.{IsUtf8-from_is_utf8}
@@ -12,7 +12,6 @@ use Rattle.std.proofs.lemmas.Bool.Decides.{eqb_tells}
 use Rattle.rs_volumes.specs.Description.{SetFile, file_of, files_of}
 use Rattle.rs_volumes.specs.declared.description.FileEntry.{FileEntry}
 use Rattle.rs_volumes.specs.declared.fault.Fault.TheVariants.{Length, Name, Order}
-use Rattle.std.proofs.lemmas.Bool.{le-leb, lt-leb}
 use Rattle.rs_volumes.specs.Sound.{is_part, has_parts, is_before, is_name, blocks_of, blocks_in, files_outcome}
 
 -- ---- the parts of a name

@@ -185,8 +185,8 @@ module _ (shape : Shape) (plan : Plan) (known now after : Shards) (originals rec
             let l = length-map qs view in omega (arith, n, m, l, some))
       ] in
       back (end - start) (pieces start end originals) (pieces start end recovery)
-      (shards-cut start end k size originals strip set.shards)
-      (recovery-cut start end default_rate k shape.recovery_count size originals recovery strip set.shards set.coded)
+      (shards-cut strip set.shards)
+      (recovery-cut strip set.shards set.coded)
       left got i (take start (shard_at originals i)) is given held
       ∙ ap (λ (p : Shard). Some (take start (shard_at originals i) ++ p)) (shard_at-pieces start end i originals)
       ∙ ap Some (take-further start end (shard_at originals i) strip.order)

@@ -6,7 +6,7 @@ use Rattle.std.proofs.lemmas.Bool.{cases_eq}
 use Rattle.std.proofs.Math.Nat.{mod-eq_of_lt}
 use Rattle.rs_field.specs.words.Polynomial.{value}
 use Rattle.rs_field.specs.code.Column.{Shard, AreShards, shard_at, column, columns}
-use Rattle.rs_field.specs.code.Frame.{original_row, recovery_row}
+use Rattle.rs_field.specs.code.Frame.{original_row, recovery_row, frame_at}
 use Rattle.rs_field.specs.code.Given.{Shards}
 use Rattle.rs_field.specs.code.Code.{Codes}
 use Rattle.rs_field.specs.code.Decoder.{DecoderState, IsAgreeing, IsConsistent}
@@ -14,16 +14,15 @@ use Rattle.rs_field.proofs.of_words.Roots.{value_lt, words_from}
 use Rattle.rs_field.proofs.of_code.Columns.{columns-at, shard_from_columns}
 use Rattle.rs_field.proofs.of_code.DecodedColumn.{TakesGiven, IsTaken}
 use Rattle.rs_field.proofs.of_code.GivenRows.{AreGiven, AreSized}
-use Rattle.rs_field.specs.code.Frame.{frame_at}
 use Rattle.rs_field.proofs.of_code.MadeShards.{shards_of}
 
 -- The polynomial of each column of a message that agrees has the given words as values.
-pub column_taken : (s : DecoderState) (message : List Shard) (j : ℕ) → j < s.configuration.shard_bytes / 2
+pub column_taken : (s : DecoderState) {message : List Shard} (j : ℕ) → j < s.configuration.shard_bytes / 2
     → IsAgreeing s message
     → (p : List ℕ)
     × Codes s.configuration.rate s.configuration.original_count s.configuration.recovery_count (columns j message) p
     × TakesGiven s j p
-column_taken s message j hj a =
+column_taken s {message} j hj a =
     let (p, codes, at) = a.coded.1.words j hj in (
       p,
       codes,
@@ -69,7 +68,7 @@ module _ {s : DecoderState} (g : AreGiven s) (even : s.configuration.shard_bytes
         → (i : ℕ) (shard : Shard) → given i ≡ Some shard → shard_at shards i ≡ shard
     taken n from given shards sized are is own i shard e =
         let here = sized.each i shard e in
-        shard_from_columns s.configuration.shard_bytes (shard_at shards i) shard
+        shard_from_columns
         (are.each i [] (subst (λ (k : ℕ). i < k) (sym are.length_is) here.0)) here.1 even
         (λ j hj. sym (columns-at j shards i) ∙ is i j here.0 hj ∙ same_word j (from + i) hj ∙ own j i shard hj here.0 e)
 
@@ -79,10 +78,10 @@ module _ {s : DecoderState} (g : AreGiven s) (even : s.configuration.shard_bytes
         let c = s.configuration in
         let frame = frame_at s.configuration in
         let (message, are, is) = shards_of c.original_count c.shard_bytes
-        (λ i j. value (f j) (original_row (frame_at s.configuration) i) % 65536) even
+        (λ i j. value (f j) (original_row (frame_at s.configuration) i) % 65536)
         (λ i j. small (value (f j) (original_row (frame_at s.configuration) i))) in
         let (coded, are_coded, is_coded) = shards_of c.recovery_count c.shard_bytes
-        (λ i j. value (f j) (recovery_row (frame_at s.configuration) i) % 65536) even
+        (λ i j. value (f j) (recovery_row (frame_at s.configuration) i) % 65536)
         (λ i j. small (value (f j) (recovery_row (frame_at s.configuration) i))) in (
           message,
           record {

@@ -7,7 +7,7 @@ use Rattle.rs_field.specs.words.Locator.{log_sum}
 use Rattle.rs_field.specs.words.Derivative.{IsDerivativeAdded}
 use Rattle.rs_field.specs.code.Counts.{supports}
 use Rattle.rs_field.specs.code.Column.{Shard, shard_at, column, columns}
-use Rattle.rs_field.specs.code.Frame.{original_row}
+use Rattle.rs_field.specs.code.Frame.{original_row, frame_at}
 use Rattle.rs_field.specs.code.Configuration.{Configuration}
 use Rattle.rs_field.specs.code.Decoder.{DecoderState, IsAgreeing, IsConsistent, originals_given, recovery_given}
 use Rattle.rs_field.specs.code.Given.{Shards, count_below, Agrees}
@@ -15,8 +15,7 @@ use Rattle.rs_field.proofs.of_code.Columns.{columns-at}
 use Rattle.rs_field.proofs.of_code.Given.{some_of}
 use Rattle.rs_field.proofs.of_code.Places.{fixed_by_places, places_given, by_place, count-by_place, codeword_given}
 use Rattle.rs_field.proofs.of_code.DecodedColumn.{IsColumnOf, surplus_rows, some_message, restored_word}
-use Rattle.rs_field.proofs.of_code.GivenRows.{AreGiven, erased_in, rows_of, distinct}
-use Rattle.rs_field.specs.code.Frame.{frame_at}
+use Rattle.rs_field.proofs.of_code.GivenRows.{AreGiven, erased_in, row_count_of, distinct}
 use Rattle.rs_field.proofs.of_code.AgreeingMessages.{column_taken, consistent}
 
 -- The columns of a decode: in each column, the located words of the given shards, and the coefficients of the
@@ -30,10 +29,10 @@ module _ {s : DecoderState} (g : AreGiven s) {located rows : ℕ → ℕ → ℕ
   pub consistent_exactly : (t : ℕ) → s.configuration.shard_bytes % 2 ≡ 0
       → originals_given s + recovery_given s ≡ s.configuration.original_count + t
       → IsConsistent s
-      ↔ ((j i : ℕ) → j < s.configuration.shard_bytes / 2 → rows_of s ≤ i + t → i < rows_of s → rows j i ≡ 0)
+      ↔ ((j i : ℕ) → j < s.configuration.shard_bytes / 2 → row_count_of s ≤ i + t → i < row_count_of s → rows j i ≡ 0)
   consistent_exactly t even count = (
     λ some j i hj.
-        let (p, codes, takes) = column_taken s some.0 j hj some.1 in
+        let (p, codes, takes) = column_taken s j hj some.1 in
         surplus_rows g (h j hj) p (columns j some.0, codes, takes) t count i,
     λ none. consistent g even (λ j hj. some_message g (h j hj) t count (λ i. none j i hj)),
   )
@@ -43,14 +42,14 @@ module _ {s : DecoderState} (g : AreGiven s) {located rows : ℕ → ℕ → ℕ
   pub restored_column : (message : List Shard) (added : ℕ → ℕ) (i j l : ℕ)
       → s.configuration.original_count ≤ originals_given s + recovery_given s
       → IsAgreeing s message → i < s.configuration.original_count → j < s.configuration.shard_bytes / 2
-      → IsDerivativeAdded (rows_of s) (rows j) added
+      → IsDerivativeAdded (row_count_of s) (rows j) added
       → erased_in s (original_row (frame_at s.configuration) i) ≡ 1
       → l ≤ 65535
-      → power l ≡ power (log_sum (rows_of s) (erased_in s) (original_row (frame_at s.configuration) i))
-      → product (forward (rows_of s) 0 added (original_row (frame_at s.configuration) i)) (power (65535 - l))
+      → power l ≡ power (log_sum (row_count_of s) (erased_in s) (original_row (frame_at s.configuration) i))
+      → product (forward (row_count_of s) 0 added (original_row (frame_at s.configuration) i)) (power (65535 - l))
       ≡ column j (shard_at message i)
   restored_column message added i j l enough agrees hi hj step one hl same =
-      let (p, codes, takes) = column_taken s message j hj agrees in
+      let (p, codes, takes) = column_taken s j hj agrees in
       restored_word g (h j hj) p (columns j message, codes, takes) added
       (original_row (frame_at s.configuration) i) l enough step
       (omega (arith, (distinct g).originals, hi)) one hl same
@@ -69,5 +68,5 @@ one_message {c} {originals} {recovery} {one} {other} is even enough a b =
     (record { below = λ i h. are.below i (omega arith); once = λ i j h k. are.once i j (omega arith) (omega arith) })
     (λ i h.
     let s = some_of (by_place c.original_count originals recovery (place i)) (some i (omega arith)) in
-    codeword_given c originals recovery one a (place i) s.0 s.1
-    ∙ sym (codeword_given c originals recovery other b (place i) s.0 s.1))
+    codeword_given a (place i) s.0 s.1
+    ∙ sym (codeword_given b (place i) s.0 s.1))

@@ -5,21 +5,20 @@ use Rattle.std.proofs.lemmas.Grind.{common_steps}
 use Rattle.rs_field.specs.words.Field.{product, power}
 use Rattle.rs_field.specs.words.Locator.{log_sum}
 use Rattle.rs_field.specs.code.Decoder.{DecoderState, IsConsistent, originals_given, recovery_given}
-use Rattle.rs_field.specs.code.DirectLaws.{HasOneMessage}
+use Rattle.rs_field.specs.code.DirectLaws.{HasOneMessage, shard_in_row}
 use Rattle.rs_field.proofs.of_words.Product.{product_lt}
 use Rattle.rs_field.proofs.of_words.PointValues.{coefficients_of}
 use Rattle.rs_field.proofs.of_code.DecodedColumn.{IsColumnOf, some_message}
 use Rattle.rs_field.proofs.of_code.GivenRows.{AreGiven, given_within}
 use Rattle.rs_field.specs.code.Frame.{frame_at}
-use Rattle.rs_field.specs.code.DirectLaws.{shard_in_row}
-use Rattle.rs_field.proofs.of_code.GivenRows.{erased_in, words_in, rows_of, distinct, word-given}
+use Rattle.rs_field.proofs.of_code.GivenRows.{erased_in, words_in, row_count_of, distinct, word-given}
 use Rattle.rs_field.proofs.of_code.AgreeingMessages.{consistent}
 use Rattle.rs_field.proofs.of_code.Agreement.{one_message}
 
 -- The located word of a row: the word times the power of the locator if a shard is given, else 0.
 located_at : DecoderState → ℕ → ℕ → ℕ
 located_at s j x =
-    cond (is_some (shard_in_row s x)) (product (words_in s j x) (power (log_sum (rows_of s) (erased_in s) x))) 0
+    cond (is_some (shard_in_row s x)) (product (words_in s j x) (power (log_sum (row_count_of s) (erased_in s) x))) 0
 
 located_at_lt : (s : DecoderState) (j x : ℕ) → located_at s j x < 2 ^ 16
 unfolding located_at
@@ -35,10 +34,12 @@ is_column s g j =
       coefficients,
       record {
         given = λ x shard hx is.
-            ap (λ o. cond (is_some o) (product (words_in s j x) (power (log_sum (rows_of s) (erased_in s) x))) 0) is
-            ∙ ap (λ w. product w (power (log_sum (rows_of s) (erased_in s) x))) (word-given s j x shard is);
+            ap (λ o. cond (is_some o) (product (words_in s j x) (power (log_sum (row_count_of s) (erased_in s) x))) 0)
+            is
+            ∙ ap (λ w. product w (power (log_sum (row_count_of s) (erased_in s) x))) (word-given s j x shard is);
         none = λ x hx is.
-            ap (λ o. cond (is_some o) (product (words_in s j x) (power (log_sum (rows_of s) (erased_in s) x))) 0) is;
+            ap (λ o. cond (is_some o) (product (words_in s j x) (power (log_sum (row_count_of s) (erased_in s) x))) 0)
+            is;
         are_words = λ x hx. are.word x;
         back = are.at;
       },

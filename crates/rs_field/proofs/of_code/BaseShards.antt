@@ -1,6 +1,5 @@
 -- Any k of the given shards, the base, decide whether some message agrees with all given shards.
-use Rattle.std.proofs.Common.{◌≡◌, ℕ, ◌+◌, ◌/◌, ◌%◌, ◌<◌, Bool, false, List, refl, sym, ap, ◌∙◌}
-use Rattle.std.proofs.Common.{subst, arith, inl, inr}
+use Rattle.std.proofs.Common.{◌≡◌, ℕ, ◌+◌, ◌/◌, ◌%◌, ◌<◌, Bool, false, List, refl, sym, ap, ◌∙◌, subst, arith, inl, inr}
 use Rattle.std.proofs.Math.Nat.{mod-eq_of_lt, mod-lt}
 use Rattle.std.specs.Prelude.{Option, Some, is_some, ◌↔◌}
 use Rattle.std.proofs.lemmas.Bool.{cases_Bool}
@@ -10,15 +9,14 @@ use Rattle.rs_field.specs.code.Column.{Shard, shard_at, column}
 use Rattle.rs_field.specs.code.Configuration.{Configuration}
 use Rattle.rs_field.specs.code.Decoder.{DecoderState, IsAgreeing, IsConsistent, originals_given, recovery_given}
 use Rattle.rs_field.specs.code.DirectLaws.{locator_at, summed_word, IsPartOf, IsSummedDirectly, IsDecidedByBase}
-use Rattle.rs_field.specs.code.Frame.{original_row, recovery_row}
+use Rattle.rs_field.specs.code.Frame.{original_row, recovery_row, frame_at}
 use Rattle.rs_field.specs.code.Given.{Shards, AreAmong, Agrees}
 use Rattle.rs_field.proofs.of_code.Given.{some_of}
 use Rattle.rs_field.proofs.of_code.Columns.{shard_from_columns, shard_in}
 use Rattle.rs_field.proofs.of_code.GivenRows.{AreGiven, state_with, given_within, erased_in}
-use Rattle.rs_field.specs.code.Frame.{frame_at}
 use Rattle.rs_field.specs.code.DirectLaws.{shard_in_row}
-use Rattle.rs_field.proofs.of_code.GivenRows.{words_in, rows_of, distinct, given_at-own, given_at-coded, given-own}
-use Rattle.rs_field.proofs.of_code.GivenRows.{given-coded, given-either}
+use Rattle.rs_field.proofs.of_code.GivenRows.{words_in, row_count_of, distinct, shard_in_row-own, shard_in_row-coded}
+use Rattle.rs_field.proofs.of_code.GivenRows.{given-own, given-coded, given-either}
 use Rattle.rs_field.proofs.of_code.DirectColumn.{IsLocated, direct_original, direct_recovery}
 use Rattle.rs_field.proofs.of_code.AnyShards.{any_consistent}
 
@@ -50,7 +48,7 @@ pub all_located : (s : DecoderState) → IsLocated s (λ x. is_some (shard_in_ro
 unfolding locator_at
 all_located s = record {
   rows = λ x hx. refl;
-  logarithms = λ x hx. mod-eq_of_lt (mod-lt (log_sum (rows_of s) (erased_in s) x) (omega arith));
+  logarithms = λ x hx. mod-eq_of_lt (mod-lt (log_sum (row_count_of s) (erased_in s) x) (omega arith));
   most = λ x hx. omega arith;
 }
 
@@ -90,7 +88,7 @@ module _ {s : DecoderState} (g : AreGiven s) {base_originals base_recovery : Sha
 
   -- The sum over the base at a point.
   abbrev base_sum : ℕ → ℕ → ℕ
-  base_sum j = direct_sum (rows_of s) received locator
+  base_sum j = direct_sum (row_count_of s) received locator
       (words_in (state_with s.configuration base_originals base_recovery) j)
 
   -- The row of an original or of a recovery shard is received exactly if the base has this shard.
@@ -98,15 +96,13 @@ module _ {s : DecoderState} (g : AreGiven s) {base_originals base_recovery : Sha
       → received (original_row (frame_at s.configuration) i) ≡ is_some (base_originals i)
   own-received i hi =
       l.rows (original_row (frame_at s.configuration) i) (omega (arith, (distinct g).originals, hi))
-      ∙ ap is_some (given_at-own (frame_at s.configuration) s.configuration.original_count
-      s.configuration.recovery_count base_originals base_recovery i hi)
+      ∙ ap is_some (shard_in_row-own base i hi)
 
   pub coded-received : (i : ℕ) → i < s.configuration.recovery_count
       → received (recovery_row (frame_at s.configuration) i) ≡ is_some (base_recovery i)
   coded-received i hi =
       l.rows (recovery_row (frame_at s.configuration) i) (omega (arith, (distinct g).recovery, hi))
-      ∙ ap is_some (given_at-coded (frame_at s.configuration) s.configuration.original_count
-      s.configuration.recovery_count base_originals base_recovery i (distinct g) hi)
+      ∙ ap is_some (shard_in_row-coded base i (distinct g) hi)
 
   module _ (even : s.configuration.shard_bytes % 2 ≡ 0)
       (count : originals_given base + recovery_given base ≡ s.configuration.original_count) where
@@ -142,11 +138,11 @@ module _ {s : DecoderState} (g : AreGiven s) {base_originals base_recovery : Sha
                 let (same, e) = some_of (base_originals i) some in
                 a.own i same e ∙ one_shard (s.originals i) same shard (own_part.entries i same e) given
             | inr missing ↦
-                shard_from_columns s.configuration.shard_bytes (shard_at message i) shard
-                (shard_in s.configuration.original_count s.configuration.shard_bytes message a.shards i hi) sized even
+                shard_from_columns
+                (shard_in a.shards i hi) sized even
                 (λ j hj.
                 sym (own_sum i j hj hi (own-received i hi ∙ missing))
-                ∙ equal (original_row (frame_at s.configuration) i) j shard (given-own g i shard hi given)
+                ∙ equal (original_row (frame_at s.configuration) i) j shard (given-own s i shard hi given)
                 (own-received i hi ∙ missing) hj)
           ]
 
@@ -158,8 +154,8 @@ module _ {s : DecoderState} (g : AreGiven s) {base_originals base_recovery : Sha
                 let (same, e) = some_of (base_recovery i) some in
                 a.coded.2 i same e ∙ one_shard (s.recovery i) same shard (coded_part.entries i same e) given
             | inr missing ↦
-                shard_from_columns s.configuration.shard_bytes (shard_at a.coded.0 i) shard
-                (shard_in s.configuration.recovery_count s.configuration.shard_bytes a.coded.0 a.coded.1.shards i hi)
+                shard_from_columns
+                (shard_in a.coded.1.shards i hi)
                 sized even
                 (λ j hj.
                 sym (coded_sum i j hj hi (coded-received i hi ∙ missing))
@@ -201,7 +197,8 @@ consistent_by_base c originals recovery base_originals base_recovery is even own
           record {
             own = λ i shard j given missing hj.
                 let hi = (g.own_sized.each i shard given).0 in
-                equal (original_row (frame_at c) i) j shard (given-own g i shard hi given) (own_is i hi ∙ missing) hj;
+                equal (original_row (frame_at c) i) j shard
+                (given-own (state_with c originals recovery) i shard hi given) (own_is i hi ∙ missing) hj;
             coded = λ i shard j given missing hj.
                 let hi = (g.coded_sized.each i shard given).0 in
                 equal (recovery_row (frame_at c) i) j shard (given-coded g i shard hi given) (coded_is i hi ∙ missing)

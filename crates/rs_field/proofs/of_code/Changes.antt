@@ -68,7 +68,7 @@ changes_noticed c message all originals recovery is even are own some few (other
     let same : message ≡ other =
     one_message is even (omega arith) here there in
     let same_recovery : all ≡ a.coded.0 =
-    recovery_unique c message all a.coded.0 (few_originals c.rate c.original_count c.recovery_count is) even own
+    recovery_unique (few_originals c.rate c.original_count c.recovery_count is) even own
     (subst (λ (m : List Shard). AreRecovery c m a.coded.0) (sym same) a.coded.1) in
     let none_own = none_changed c.original_count originals message
     (λ i s e. ap (λ (m : List Shard). shard_at m i) same ∙ a.own i s e) in

@@ -30,10 +30,10 @@ first-word : (k : ℕ) (f : ℕ → ℕ) → ((i : ℕ) → i < k → f i < 2 ^ 
 first-word k f words i = grind (arith, common_steps, cases_lt, first-below, first-past)
 
 -- In a frame, any k words are coded by a polynomial.
-coded_in : (frame : Frame) (k r : ℕ) (words : List ℕ) → HasDistinctRows frame k r
+coded_in : {frame : Frame} {k r : ℕ} (words : List ℕ) → HasDistinctRows frame k r
     → ((j : ℕ) → j < k → slice_index words j < 65536)
     → (q : List ℕ) × CodesIn frame k words q
-coded_in frame k r words f are_words =
+coded_in {frame} {k} words f are_words =
     let room : row_count frame ≤ 2 ^ 16 = pow_mono f.few in
     let zeros = f.zeros in
     let q = interpolated frame.originals_from (coefficient_count frame) (first k (λ j. slice_index words j))
@@ -56,14 +56,14 @@ pub coded : (rate : Rate) (k r : ℕ) (words : List ℕ) → supports rate k r �
     → (p : List ℕ) × Codes rate k r words p
 coded rate k r words is are_words =
     let f = distinct_rows rate k r is in
-    let q = coded_in (frame_of rate k r) k r words f are_words in
-    let p = unframed rate k r f words q.0 q.1 in
+    let q = coded_in words f are_words in
+    let p = unframed rate f words q.0 q.1 in
     (p.0, p.1)
 
 -- The words that a polynomial codes are below 65536.
-pub coded_lt : (rate : Rate) (k r : ℕ) (words p : List ℕ) → Codes rate k r words p → (j : ℕ) → j < k
+pub coded_lt : {rate : Rate} {k r : ℕ} {words p : List ℕ} → Codes rate k r words p → (j : ℕ) → j < k
     → slice_index words j < 65536
-coded_lt rate k r words p codes j hj = search (rules, value_lt, words_from)
+coded_lt codes j hj = search (rules, value_lt, words_from)
 
 -- The first n values of a function.
 unfoldable pub values_of : ℕ → (ℕ → ℕ) → List ℕ

@@ -26,17 +26,17 @@ pub column-tail : (q i : ℕ) (s : Shard) → i < 32 → q ≡ length s / 64
 column-tail q i s h last = grind (arith, common_steps, column-at, min-eq_right)
 
 -- Equal words have equal low bytes and equal high bytes.
-halves : (a b c d : ℕ) → a < 256 → c < 256 → a + 256 * b ≡ c + 256 * d → (a ≡ c) × (b ≡ d)
-halves a b c d ha hc e = (omega arith, omega arith)
+halves : (a : ℕ) {b : ℕ} (c : ℕ) {d : ℕ} → a < 256 → c < 256 → a + 256 * b ≡ c + 256 * d → (a ≡ c) × (b ≡ d)
+halves a c ha hc e = (omega arith, omega arith)
 
 -- Each entry of a shard is a byte, and so is the zero past its end.
-pub byte_lt : (size : ℕ) (s : Shard) → IsShard size s → (i : ℕ) → slice_index s i < 256
-byte_lt size s h i = grind (arith, common_steps)
+pub byte_lt : {size : ℕ} {s : Shard} → IsShard size s → (i : ℕ) → slice_index s i < 256
+byte_lt h i = grind (arith, common_steps)
 
 -- Shards of one size with the same columns are equal.
-pub shard_from_columns : (size : ℕ) (s t : Shard) → IsShard size s → IsShard size t → size % 2 ≡ 0
+pub shard_from_columns : {size : ℕ} {s t : Shard} → IsShard size s → IsShard size t → size % 2 ≡ 0
     → ((j : ℕ) → j < size / 2 → column j s ≡ column j t) → s ≡ t
-shard_from_columns size s t hs ht even same =
+shard_from_columns {size} {s} {t} hs ht even same =
     ext_get_or 0 s t (hs.length_is ∙ sym ht.length_is) (λ b hb. byte b (subst (λ (n : ℕ). b < n) hs.length_is hb))
   where
     -- If the columns are equal, both bytes of word i of a chunk of w words are equal.
@@ -46,8 +46,8 @@ shard_from_columns size s t hs ht even same =
         × (slice_index s (q * 64 + i + w) ≡ slice_index t (q * 64 + i + w))
     both q i w hi hw fits ws wt =
         let place : q * 32 + i < size / 2 = omega arith in
-        halves (slice_index s (q * 64 + i)) _ (slice_index t (q * 64 + i)) _ (byte_lt size s hs (q * 64 + i))
-        (byte_lt size t ht (q * 64 + i))
+        halves (slice_index s (q * 64 + i)) (slice_index t (q * 64 + i)) (byte_lt hs (q * 64 + i))
+        (byte_lt ht (q * 64 + i))
         (ap (λ v. slice_index s (q * 64 + i) + 256 * slice_index s (q * 64 + i + v)) (sym ws)
         ∙ sym (column-at q i s (omega arith)) ∙ same (q * 32 + i) place
         ∙ column-at q i t (omega arith)
@@ -95,26 +95,26 @@ pub columns-at : (j : ℕ) (xs : List Shard) (i : ℕ) → slice_index (columns 
 columns-at j xs i = ap (λ d. get_or (columns j xs) i d) (sym (column-none j)) ∙ get_or-map (column j) xs i []
 
 -- Each element of a list of n shards is a shard.
-pub shard_in : (count size : ℕ) (shards : List Shard) → AreShards count size shards → (i : ℕ) → i < count
+pub shard_in : {count size : ℕ} {shards : List Shard} → AreShards count size shards → (i : ℕ) → i < count
     → IsShard size (shard_at shards i)
-shard_in count size shards h i hi = h.each i [] (subst (λ (n : ℕ). i < n) (sym h.length_is) hi)
+shard_in h i hi = h.each i [] (subst (λ (n : ℕ). i < n) (sym h.length_is) hi)
 
 -- Each column of a shard is a word.
-pub column_lt : (size : ℕ) (s : Shard) (j : ℕ) → IsShard size s → column j s < 65536
+pub column_lt : {size : ℕ} {s : Shard} (j : ℕ) → IsShard size s → column j s < 65536
 unfolding column
-column_lt size s j h = grind (arith, common_steps)
+column_lt j h = grind (arith, common_steps)
 
-pub columns_lt : (n size : ℕ) (shards : List Shard) → AreShards n size shards → (j i : ℕ) → i < n
+pub columns_lt : {n size : ℕ} {shards : List Shard} → AreShards n size shards → (j i : ℕ) → i < n
     → slice_index (columns j shards) i < 65536
-columns_lt n size shards h j i hi = search (rules, columns-at, column_lt, shard_in)
+columns_lt h j i hi = search (rules, columns-at, column_lt, shard_in)
 
 -- Two lists of n shards of one even size are equal if they have the same columns.
-pub shards_from_columns : (count size : ℕ) (a b : List Shard) → AreShards count size a → AreShards count size b
+pub shards_from_columns : {count size : ℕ} {a b : List Shard} → AreShards count size a → AreShards count size b
     → size % 2 ≡ 0
     → ((i j : ℕ) → i < count → j < size / 2 → slice_index (columns j a) i ≡ slice_index (columns j b) i) → a ≡ b
-shards_from_columns count size a b ha hb even same =
+shards_from_columns {count} {a} {b} ha hb even same =
     ext_get_or [] a b (ha.length_is ∙ sym hb.length_is) (λ i h.
     let below : i < count = subst (λ (n : ℕ). i < n) ha.length_is h in
-    shard_from_columns size (shard_at a i) (shard_at b i) (ha.each i [] h)
+    shard_from_columns (ha.each i [] h)
     (hb.each i [] (subst (λ (n : ℕ). i < n) (sym hb.length_is) below)) even
     (λ j hj. sym (columns-at j a i) ∙ same i j below hj ∙ columns-at j b i))

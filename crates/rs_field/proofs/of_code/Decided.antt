@@ -65,23 +65,23 @@ abbrev pub codes : Rate → ℕ → ℕ → List ℕ → List ℕ → Bool
 codes rate k r words polynomial = codes_at (frame_of rate k r) k words polynomial
 
 -- A polynomial that passes `codes` codes the words.
-pub codes_from : (rate : Rate) (k r : ℕ) (words polynomial : List ℕ) → codes rate k r words polynomial ≡ true
+pub codes_from : {rate : Rate} {k r : ℕ} {words polynomial : List ℕ} → codes rate k r words polynomial ≡ true
     → Codes rate k r words polynomial
-codes_from rate k r words P h =
-    let one : (nat_eq (length P) (degree_bound (frame_of rate k r)) ≡ true) × _ = and_parts _ _ h in
+codes_from {rate} {k} {r} {words} {polynomial = P} h =
+    let at = frame_of rate k r in
+    let one : (nat_eq (length P) (degree_bound at) ≡ true) × _ = and_parts _ _ h in
     let two : (all_below 65536 P ≡ true) × _ = and_parts _ _ one.1 in
-    let three : (same_below k (λ j. value P (original_row (frame_of rate k r) j)) (slice_index words) ≡ true)
-    × (same_below ((frame_of rate k r).zeros_to - (frame_of rate k r).zeros_from)
-    (λ x. value P ((frame_of rate k r).zeros_from + x)) (λ x. 0) ≡ true) = and_parts _ _ two.1 in
+    let three : (same_below k (λ j. value P (original_row at j)) (slice_index words) ≡ true)
+    × (same_below (at.zeros_to - at.zeros_from) (λ x. value P (at.zeros_from + x)) (λ x. 0) ≡ true) =
+    and_parts _ _ two.1 in
     record {
       degree = eqb-true _ _ one.0;
       coefficients = all_from (λ w. nat_lt w 65536) (λ w. w < 65536) (λ w. ltb-true w 65536) P two.0;
-      originals = same_from k (λ j. value P (original_row (frame_of rate k r) j)) (slice_index words) three.0;
+      originals = same_from k (λ j. value P (original_row at j)) (slice_index words) three.0;
       zeros = λ x from to.
           ap (value P) (sym (omega arith))
-          ∙ same_from ((frame_of rate k r).zeros_to - (frame_of rate k r).zeros_from)
-          (λ x. value P ((frame_of rate k r).zeros_from + x)) (λ x. 0) three.1
-          (x - (frame_of rate k r).zeros_from) (omega arith);
+          ∙ same_from (at.zeros_to - at.zeros_from) (λ x. value P (at.zeros_from + x)) (λ x. 0) three.1
+          (x - at.zeros_from) (omega arith);
     }
 
 -- The test of `AreRecoveryWords`, with the polynomial.
@@ -99,9 +99,9 @@ recovers c message recovery polynomials =
     (slice_index_or polynomials j []))
 
 -- Shards that pass `recovers` are the recovery shards.
-pub recovery_from : (c : Configuration) (message recovery : List Shard) (polynomials : List (List ℕ))
+pub recovery_from : {c : Configuration} {message recovery : List Shard} (polynomials : List (List ℕ))
     → recovers c message recovery polynomials ≡ true → AreRecovery c message recovery
-recovery_from c message recovery polynomials h =
+recovery_from {c} {message} {recovery} polynomials h =
     let P : ℕ → List ℕ = λ j. slice_index_or polynomials j [] in
     let test : ℕ → Bool = λ j.
     recovers_words c.rate c.original_count c.recovery_count (columns j message) (columns j recovery) (P j) in
@@ -113,7 +113,7 @@ recovery_from c message recovery polynomials h =
           let column : (codes c.rate c.original_count c.recovery_count (columns j message) (P j) ≡ true) × _ =
           and_parts _ _ (from_passes_below (c.shard_bytes / 2) test parts.1 j below) in (
             P j,
-            codes_from c.rate c.original_count c.recovery_count (columns j message) (P j) column.0,
+            codes_from column.0,
             same_from c.recovery_count (slice_index (columns j recovery))
                 (λ i. value (P j) (recovery_row (frame_of c.rate c.original_count c.recovery_count) i)) column.1,
           );
@@ -166,7 +166,7 @@ words_high d rate k r words recovery P lie join =
     let room : r ≤ 2 ^ d = leb-true r (2 ^ d) c.1 in
     let each = words_from P (all_from (λ w. nat_lt w 65536) (λ w. w < 65536) (λ w. ltb-true w 65536) P f.0) in (
       times (points (2 ^ d) (65536 - 2 ^ d)) P,
-      high_codes rate k r d words P high depth top (leb-true _ _ b.0) (eqb-true _ _ e.0) each
+      high_codes rate k r d words P high depth (leb-true _ _ b.0) (eqb-true _ _ e.0) each
           (same_from k (λ j. value P (m + j)) (slice_index words) g.0)
           (λ x from to.
           let place : x ≡ m + k + (x - (m + k)) = omega arith in
@@ -179,9 +179,9 @@ words_high d rate k r words recovery P lie join =
     )
 
 -- Shards that pass `recovers_high` are the recovery shards.
-pub recovery_from_high : (d : ℕ) (c : Configuration) (message recovery : List Shard) (polynomials : List (List ℕ))
+pub recovery_from_high : (d : ℕ) {c : Configuration} {message recovery : List Shard} (polynomials : List (List ℕ))
     → recovers_high d c message recovery polynomials ≡ true → AreRecovery c message recovery
-recovery_from_high d c message recovery polynomials h =
+recovery_from_high d {c} {message} {recovery} polynomials h =
     let P : ℕ → List ℕ = λ j. slice_index_or polynomials j [] in
     let test : ℕ → Bool = λ j.
     joins d c.original_count c.recovery_count (next_power c.recovery_count) (columns j message) (columns j recovery)

@@ -71,16 +71,17 @@ record IsMoved (k r d : ℕ) (words p q : List ℕ) : Type 0 where
   codes : Codes low_rate k r words q
   recovery : (i : ℕ) → i < r → value q (2 ^ d + i) ≡ value p i
 
-moved_codes : (k r d : ℕ) (words p : List ℕ) → 0 < k → d ≤ 16 → next_power r ≡ 2 ^ d → next_power k ≡ 2 ^ d → k ≤ 2 ^ d
+moved_codes : {k r : ℕ} (d : ℕ) {words p : List ℕ} → 0 < k → d ≤ 16 → next_power r ≡ 2 ^ d → next_power k ≡ 2 ^ d
+    → k ≤ 2 ^ d
     → r ≤ 2 ^ d → next_power r + k ≤ 65536
     → Codes high_rate k r words p → (q : List ℕ) × IsMoved k r d words p q
 unfolding frame_of low_frame high_frame is_low next_power zeros_end coefficient_count
-moved_codes k r d words p some hd power_r power_k most_k most_r fit codes =
+moved_codes {k} {r} d some hd power_r power_k most_k most_r fit codes =
     let f = high_distinct k r fit (omega arith) in
     let e = exponent_of (2 ^ exponent_of r + k) in
     let rows : 2 ^ exponent_of (2 ^ exponent_of r + k) ≡ 2 ^ d + 2 ^ d =
     rows_double k r d (exponent_of (2 ^ exponent_of r + k)) some hd power_r most_k refl f.originals in
-    let q = framed high_rate k r f words p codes in
+    let q = framed f codes in
     let at : (j : ℕ) → j < 2 ^ d → value (moved (2 ^ d) q.0) j ≡ value q.0 (2 ^ d + j) = λ j hj.
     value-moved (2 ^ d) q.0 j ∙ ap (value q.0) (up d j hj) in (
       moved (2 ^ d) q.0,
@@ -106,10 +107,10 @@ equal_powers k r words low high some same fit (p, hp, at_low) (o, ho, at_high) i
     let least_r : r ≤ next_power r = next_power-above r (omega arith) in
     let least_k : k ≤ next_power k = next_power-above k (omega arith) in
     let (d, hd, power, _) = next_power-small r (omega arith) in
-    let (q, m) = moved_codes k r d words o some hd power (same ∙ power) (omega arith) (omega arith) fit ho in
+    let (q, m) = moved_codes d some hd power (same ∙ power) (omega arith) (omega arith) fit ho in
     cc (
       at_low i hi,
-      codes_unique low_rate k r words p q
+      codes_unique
           (omega arith) hp m.codes,
       m.recovery i hi,
       zero-add i,
@@ -117,12 +118,11 @@ equal_powers k r words low high some same fit (p, hp, at_low) (o, ho, at_high) i
     )
 
 -- If both counts have one power, the recovery words of the low rate are recovery words of the high rate.
-to_high : (k r : ℕ) (words recovery : List ℕ) → supports low_rate k r ≡ true → supports high_rate k r ≡ true
-    → next_power k ≡ next_power r
+to_high : (k r : ℕ) (words recovery : List ℕ) → supports high_rate k r ≡ true → next_power k ≡ next_power r
     → AreRecoveryWords low_rate k r words recovery → AreRecoveryWords high_rate k r words recovery
-to_high k r words recovery low high same own =
+to_high k r words recovery high same own =
     let f = high_fits k r high in
-    let (other, _, (o, codes, at)) = recovered high_rate k r words high (coded_lt low_rate k r words own.0 own.1) in
+    let (other, _, (o, codes, at)) = recovered high_rate k r words high (coded_lt own.1) in
     (o, codes, λ i hi. equal_powers k r words recovery other f.0 same f.2 own (o, codes, at) i hi ∙ at i hi)
 
 to_low : (k r : ℕ) (words recovery : List ℕ) → supports low_rate k r ≡ true → supports high_rate k r ≡ true
@@ -130,7 +130,7 @@ to_low : (k r : ℕ) (words recovery : List ℕ) → supports low_rate k r ≡ t
     → AreRecoveryWords high_rate k r words recovery → AreRecoveryWords low_rate k r words recovery
 to_low k r words recovery low high same own =
     let f = high_fits k r high in
-    let (other, _, (o, codes, at)) = recovered low_rate k r words low (coded_lt high_rate k r words own.0 own.1) in
+    let (other, _, (o, codes, at)) = recovered low_rate k r words low (coded_lt own.1) in
     (o, codes, λ i hi. sym (equal_powers k r words other recovery f.0 same f.2 (o, codes, at) own i hi) ∙ at i hi)
 
 -- If both counts have one power, the recovery shards of both rates are equal.

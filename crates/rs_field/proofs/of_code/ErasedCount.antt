@@ -1,27 +1,18 @@
 -- The erased points, the given shards and the known zeros are together as many as the rows.
-use Rattle.std.proofs.Common.{rules, ◌≡◌, ℕ, zero, suc, ◌+◌, ◌-◌, ◌*◌, ◌<◌, ◌≤◌, ◌⊎◌, Bool, cond, length, refl}
+use Rattle.std.proofs.Common.{rules, ◌≡◌, ℕ, zero, suc, ◌+◌, ◌-◌, ◌*◌, ◌<◌, ◌≤◌, Bool, cond, length, refl}
 use Rattle.std.proofs.Common.{sym, ap, ◌∙◌, arith, inl, inr, add-zero, add-suc}
 use Rattle.std.specs.Prelude.{is_some}
 use Rattle.std.proofs.lemmas.Bool.{cases_eq}
 use Rattle.std.proofs.lemmas.Grind.{common_steps}
 use Rattle.rs_field.specs.code.Given.{Shards, count_below}
-use Rattle.rs_field.specs.declared.code.frame.Frame.{Frame}
-use Rattle.rs_field.specs.code.Frame.{row_count, original_row, recovery_row}
+use Rattle.rs_field.specs.code.Decoder.{DecoderState, originals_given, recovery_given}
+use Rattle.rs_field.specs.code.Frame.{frame_at, original_row, recovery_row}
 use Rattle.rs_field.specs.words.Walsh.{total}
 use Rattle.rs_field.proofs.of_words.Totals.{total-zero, total-suc}
 use Rattle.rs_field.proofs.of_code.Given.{count_below-zero, count_below-suc}
 use Rattle.rs_field.proofs.of_words.LocatorProduct.{marked, marked-more, marked-same, AreMarks}
-use Rattle.rs_field.proofs.of_code.Frame.{HasDistinctRows, coefficient_count, zeros_end}
-
--- The marks of the rows: each row is marked except the known zeros and the places of given shards.
-pub record AreErasures (frame : Frame) (k r : ℕ) (originals recovery : Shards) (marks : ℕ → ℕ) : Type 0 where
-  pub are_marks : AreMarks (row_count frame) marks
-  pub own : (i : ℕ) → i < k → marks (original_row frame i) ≡ cond (is_some (originals i)) 0 1
-  pub coded : (i : ℕ) → i < r → marks (recovery_row frame i) ≡ cond (is_some (recovery i)) 0 1
-  pub known : (x : ℕ) → frame.zeros_from ≤ x → x < zeros_end frame → marks x ≡ 0
-  pub other : (x : ℕ) → x < row_count frame → (x < frame.originals_from) ⊎ (original_row frame k ≤ x)
-      → (x < frame.recovery_from) ⊎ (recovery_row frame r ≤ x)
-      → (x < frame.zeros_from) ⊎ (zeros_end frame ≤ x) → marks x ≡ 1
+use Rattle.rs_field.proofs.of_code.Frame.{coefficient_count, zeros_end}
+use Rattle.rs_field.proofs.of_code.GivenRows.{AreGiven, erased_in, row_count_of, distinct, erasures}
 
 total-marked : (n : ℕ) (marks : ℕ → ℕ) → AreMarks n marks → length (marked n marks) ≡ total n marks
 unfolding total marked
@@ -66,30 +57,35 @@ past_given a (suc n) f g is =
       one_of_two (is_some (g n)),
     )
 
--- In a frame, the erased points, the coefficients and the given shards are together as many as the rows and the
--- originals.
-pub erased_count : (frame : Frame) (k r : ℕ) (originals recovery : Shards) (marks : ℕ → ℕ) → HasDistinctRows frame k r
-    → AreErasures frame k r originals recovery marks
-    → length (marked (row_count frame) marks) + coefficient_count frame
-    + (count_below k originals + count_below r recovery) ≡ row_count frame + k
-erased_count frame k r originals recovery marks f h =
-    let end = zeros_end frame in let rows = row_count frame in
-    let erased = total-marked (row_count frame) marks h.are_marks in
-    let own = past_given frame.originals_from k marks originals h.own in
-    let coded = past_given frame.recovery_from r marks recovery h.coded in
-    let none = past_same 0 (original_row frame k) (end - original_row frame k) end marks (omega arith)
-    (λ x above below. h.known x (omega arith) below) in
+-- The erased rows, the coefficients and the given shards are together as many as the rows and the originals.
+pub counted : {s : DecoderState} → AreGiven s
+    → length (marked (row_count_of s) (erased_in s)) + coefficient_count (frame_at s.configuration)
+    + (originals_given s + recovery_given s) ≡ row_count_of s + s.configuration.original_count
+counted {s} g =
+    let c = s.configuration in
+    let at = frame_at s.configuration in
+    let marks = erased_in s in
+    let end = zeros_end (frame_at s.configuration) in
+    let rows = row_count_of s in
+    let f = distinct g in
+    let h = erasures g in
+    let erased = total-marked (row_count_of s) (erased_in s) h.are_marks in
+    let own = past_given at.originals_from c.original_count (erased_in s) s.originals h.own in
+    let coded = past_given at.recovery_from c.recovery_count (erased_in s) s.recovery h.coded in
+    let none = past_same 0 (original_row at c.original_count) (end - original_row at c.original_count) end marks
+    (omega arith) (λ x above below. h.known x (omega arith) below) in
     elim f.order [
       | inl low ↦
-          let start : total frame.originals_from marks ≡ 0 = ap (λ n. total n marks) low.0 ∙ total-zero marks in
-          let rest = past_same 1 (recovery_row frame r) (rows - recovery_row frame r) rows marks (omega arith)
+          let start : total at.originals_from marks ≡ 0 = ap (λ n. total n marks) low.0 ∙ total-zero marks in
+          let rest = past_same 1 (recovery_row at c.recovery_count) (rows - recovery_row at c.recovery_count) rows marks
+          (omega arith)
           (λ x above below. h.other x below (inr (omega (arith, low.1))) (inr above) (inr (omega (arith, low.1)))) in
           omega (arith, erased, own, coded, none, start, (ap (λ n. total n marks) low.1), rest, low.0, low.1)
       | inr high ↦
-          let gap = past_same 1 (recovery_row frame r) (frame.originals_from - recovery_row frame r)
-          frame.originals_from marks (omega (arith, high.0, high.1))
+          let gap = past_same 1 (recovery_row at c.recovery_count)
+          (at.originals_from - recovery_row at c.recovery_count) at.originals_from marks (omega (arith, high.0, high.1))
           (λ x above below. h.other x (omega arith) (inl below) (inr above) (inl (omega arith))) in
-          let start : total frame.recovery_from marks ≡ 0 = ap (λ n. total n marks) high.0 ∙ total-zero marks in
+          let start : total at.recovery_from marks ≡ 0 = ap (λ n. total n marks) high.0 ∙ total-zero marks in
           let last : total rows marks ≡ total end marks = ap (λ n. total n marks) (sym high.2) in
           omega (arith, erased, own, coded, none, start, gap, last, high.0, high.1, high.2)
     ]

@@ -44,7 +44,7 @@ pub record CodesIn (frame : Frame) (k : ℕ) (words q : List ℕ) : Type 0 where
   pub originals : (j : ℕ) → j < k → value q (original_row frame j) ≡ slice_index words j
   pub zeros : (x : ℕ) → frame.zeros_from ≤ x → x < zeros_end frame → value q x ≡ 0
 
-module _ (rate : Rate) (k r : ℕ) (f : HasDistinctRows (frame_of rate k r) k r) (words p : List ℕ) where
+module _ {rate : Rate} {k r : ℕ} (f : HasDistinctRows (frame_of rate k r) k r) {words p : List ℕ} where
   -- A polynomial that codes words has, at each row, the value of a polynomial of the frame.
   pub framed : Codes rate k r words p
       → (q : List ℕ) × CodesIn (frame_of rate k r) k words q
@@ -79,6 +79,7 @@ module _ (rate : Rate) (k r : ℕ) (f : HasDistinctRows (frame_of rate k r) k r)
             )
       ]
 
+module _ (rate : Rate) {k r : ℕ} (f : HasDistinctRows (frame_of rate k r) k r) (words p : List ℕ) where
   -- A polynomial of the frame has, at each row, the value of a polynomial that codes.
   pub unframed : CodesIn (frame_of rate k r) k words p
       → (q : List ℕ) × Codes rate k r words q

@@ -13,8 +13,8 @@ use Rattle.rs_field.specs.code.DirectLaws.{entry_in, given_at, shard_in_row, wor
 use Rattle.rs_field.specs.code.Frame.{frame_at, row_count, original_row, recovery_row}
 use Rattle.rs_field.specs.code.Given.{Shards, AreWithin}
 use Rattle.rs_field.specs.declared.code.frame.Frame.{Frame}
+use Rattle.rs_field.proofs.of_words.LocatorProduct.{AreMarks}
 use Rattle.rs_field.proofs.of_code.Columns.{column_lt}
-use Rattle.rs_field.proofs.of_code.ErasedCount.{AreErasures}
 use Rattle.rs_field.proofs.of_code.Frame.{HasDistinctRows, zeros_end}
 use Rattle.rs_field.proofs.of_code.RateFrames.{distinct_rows}
 
@@ -102,83 +102,6 @@ pub entry_in-other : (from n x : ℕ) (given : Shards) (other : Option Shard) �
 unfolding entry_in
 entry_in-other from n x given other outside = grind (arith, common_steps)
 
-module _ (frame : Frame) (k r : ℕ) (originals recovery : Shards) where
-  pub given_at-own : (i : ℕ) → i < k → given_at frame k r originals recovery (original_row frame i) ≡ originals i
-  unfolding given_at
-  given_at-own i hi = entry_in-at frame.originals_from k i originals _ hi
-
-  pub given_at-coded : (i : ℕ) → HasDistinctRows frame k r → i < r
-      → given_at frame k r originals recovery (recovery_row frame i) ≡ recovery i
-  unfolding given_at
-  given_at-coded i f hi =
-      entry_in-other frame.originals_from k (recovery_row frame i) originals _ (rows_apart frame k r i f hi)
-      ∙ entry_in-at frame.recovery_from r i recovery None hi
-
-  pub given_at-other : (x : ℕ) → (x < frame.originals_from) ⊎ (original_row frame k ≤ x)
-      → (x < frame.recovery_from) ⊎ (recovery_row frame r ≤ x)
-      → given_at frame k r originals recovery x ≡ None
-  unfolding given_at
-  given_at-other x not_own not_coded =
-      entry_in-other frame.originals_from k x originals _ not_own
-      ∙ entry_in-other frame.recovery_from r x recovery None not_coded
-
-  -- ---- the erased rows
-
-  mark_at-most : (x : ℕ) → mark_at frame k r originals recovery x ≤ 1
-  unfolding mark_at
-  mark_at-most x = grind (arith, common_steps)
-
-  mark_at-known : (x : ℕ) → frame.zeros_from ≤ x → x < frame.zeros_to → mark_at frame k r originals recovery x ≡ 0
-  unfolding mark_at
-  mark_at-known x above below = grind (arith, common_steps)
-
-  mark_at-row : (x : ℕ) (o : Option Shard) → (x < frame.zeros_from) ⊎ (frame.zeros_to ≤ x)
-      → given_at frame k r originals recovery x ≡ o
-      → mark_at frame k r originals recovery x ≡ cond (is_some o) 0 1
-  unfolding mark_at
-  mark_at-row x o outside is = grind (arith, common_steps)
-
-  mark_at-given : (x : ℕ) (shard : Shard) → given_at frame k r originals recovery x ≡ Some shard
-      → mark_at frame k r originals recovery x ≡ 0
-  unfolding mark_at
-  mark_at-given x shard is = grind (arith, common_steps)
-
-  -- Below the last row, the zero points among the rows are all zero points.
-  zeros_among : (x : ℕ) → HasDistinctRows frame k r
-      → (x < zeros_end frame → x < frame.zeros_to) × (x < row_count frame → zeros_end frame ≤ x → frame.zeros_to ≤ x)
-  zeros_among x f =
-      let room : row_count frame ≤ 2 ^ 16 = pow_mono f.few in
-      let end = f.zeros in
-      elim f.whole [
-        | inl same ↦ (λ below. omega (arith, same.1), λ row past. omega (arith, same.1))
-        | inr all ↦ (λ below. omega (arith, all.1), λ row past. omega (arith, all.1, all.2))
-      ]
-
-  -- These entries mark the erased rows of a frame.
-  pub are_erasures : HasDistinctRows frame k r
-      → AreErasures frame k r originals recovery (mark_at frame k r originals recovery)
-  are_erasures f =
-      let follow = f.follow in
-      record {
-        are_marks = record { mark = λ y hy. mark_at-most y };
-        own = λ i hi.
-            mark_at-row (original_row frame i) (originals i) (inl (omega (arith, follow, hi))) (given_at-own i hi);
-        coded = λ i hi.
-            mark_at-row (recovery_row frame i) (recovery i)
-            (let below = f.recovery in
-            elim f.order [
-              | inl low ↦ inr ((zeros_among (recovery_row frame i) f).1 (omega (arith, below, hi))
-                  (omega (arith, low.1)))
-              | inr high ↦ inl (omega (arith, high.0, high.1, follow, hi))
-            ])
-            (given_at-coded i f hi);
-        known = λ x above below. mark_at-known x above ((zeros_among x f).0 below);
-        other = λ x hx not_own not_coded not_zero.
-            mark_at-row x None
-            (elim not_zero [ inl before ↦ inl before | inr past ↦ inr ((zeros_among x f).1 hx past) ])
-            (given_at-other x not_own not_coded);
-      }
-
 -- ---- the rows of a decoder
 
 -- 1 if a row is erased, else 0.
@@ -192,8 +115,18 @@ words_in s j x = word_at (frame_at s.configuration) s.configuration.original_cou
     s.originals s.recovery j x
 
 -- The number of rows of a decoder.
-abbrev pub rows_of : DecoderState → ℕ
-rows_of s = row_count (frame_at s.configuration)
+abbrev pub row_count_of : DecoderState → ℕ
+row_count_of s = row_count (frame_at s.configuration)
+
+-- There is a shard in a row, or none.
+pub cases_given : (s : DecoderState) (x : ℕ)
+    → ((shard : Shard) × (shard_in_row s x ≡ Some shard)) ⊎ (shard_in_row s x ≡ None)
+cases_given s x = by_entry (shard_in_row s x) refl
+  where
+    by_entry : (o : Option Shard) → shard_in_row s x ≡ o
+        → ((shard : Shard) × (shard_in_row s x ≡ Some shard)) ⊎ (shard_in_row s x ≡ None)
+    by_entry None is = inr is
+    by_entry (Some shard) is = inl (shard, is)
 
 module _ (s : DecoderState) (j x : ℕ) where
   pub word-given : (shard : Shard) → shard_in_row s x ≡ Some shard → words_in s j x ≡ column j shard
@@ -204,14 +137,87 @@ module _ (s : DecoderState) (j x : ℕ) where
   unfolding word_at word_of
   word-none is = ap (word_of j) is
 
-  -- There is a shard in a row, or none.
-  pub cases_given : ((shard : Shard) × (shard_in_row s x ≡ Some shard)) ⊎ (shard_in_row s x ≡ None)
-  cases_given = by_entry (shard_in_row s x) refl
-    where
-      by_entry : (o : Option Shard) → shard_in_row s x ≡ o
-          → ((shard : Shard) × (shard_in_row s x ≡ Some shard)) ⊎ (shard_in_row s x ≡ None)
-      by_entry None is = inr is
-      by_entry (Some shard) is = inl (shard, is)
+module _ (s : DecoderState) where
+  pub shard_in_row-own : (i : ℕ) → i < s.configuration.original_count
+      → shard_in_row s (original_row (frame_at s.configuration) i) ≡ s.originals i
+  unfolding given_at
+  shard_in_row-own i hi =
+      entry_in-at (frame_at s.configuration).originals_from s.configuration.original_count i s.originals _ hi
+
+  pub shard_in_row-coded : (i : ℕ)
+      → HasDistinctRows (frame_at s.configuration) s.configuration.original_count s.configuration.recovery_count
+      → i < s.configuration.recovery_count
+      → shard_in_row s (recovery_row (frame_at s.configuration) i) ≡ s.recovery i
+  unfolding given_at
+  shard_in_row-coded i f hi =
+      let at = frame_at s.configuration in
+      entry_in-other at.originals_from s.configuration.original_count (recovery_row at i) s.originals _
+      (rows_apart at s.configuration.original_count s.configuration.recovery_count i f hi)
+      ∙ entry_in-at at.recovery_from s.configuration.recovery_count i s.recovery None hi
+
+  pub shard_in_row-other : (x : ℕ)
+      → (x < (frame_at s.configuration).originals_from)
+      ⊎ (original_row (frame_at s.configuration) s.configuration.original_count ≤ x)
+      → (x < (frame_at s.configuration).recovery_from)
+      ⊎ (recovery_row (frame_at s.configuration) s.configuration.recovery_count ≤ x)
+      → shard_in_row s x ≡ None
+  unfolding given_at
+  shard_in_row-other x not_own not_coded =
+      let at = frame_at s.configuration in
+      entry_in-other at.originals_from s.configuration.original_count x s.originals _ not_own
+      ∙ entry_in-other at.recovery_from s.configuration.recovery_count x s.recovery None not_coded
+
+  -- A given original is in its row.
+  pub given-own : (i : ℕ) (shard : Shard) → i < s.configuration.original_count → s.originals i ≡ Some shard
+      → shard_in_row s (original_row (frame_at s.configuration) i) ≡ Some shard
+  given-own i shard hi is = shard_in_row-own i hi ∙ is
+
+  -- A row with a given shard is not erased.
+  pub erased-given : (x : ℕ) (shard : Shard) → shard_in_row s x ≡ Some shard → erased_in s x ≡ 0
+  unfolding mark_at
+  erased-given x shard is = grind (arith, common_steps)
+
+  erased_in-most : (x : ℕ) → erased_in s x ≤ 1
+  unfolding mark_at
+  erased_in-most x = grind (arith, common_steps)
+
+  erased_in-known : (x : ℕ) → (frame_at s.configuration).zeros_from ≤ x → x < (frame_at s.configuration).zeros_to
+      → erased_in s x ≡ 0
+  unfolding mark_at
+  erased_in-known x above below = grind (arith, common_steps)
+
+  erased_in-row : (x : ℕ) (o : Option Shard)
+      → (x < (frame_at s.configuration).zeros_from) ⊎ ((frame_at s.configuration).zeros_to ≤ x)
+      → shard_in_row s x ≡ o → erased_in s x ≡ cond (is_some o) 0 1
+  unfolding mark_at
+  erased_in-row x o outside is = grind (arith, common_steps)
+
+-- The erased rows of a decoder: each row is erased except the zero points and the rows of given shards.
+pub record AreErasures (s : DecoderState) : Type 0 where
+  pub are_marks : AreMarks (row_count_of s) (erased_in s)
+  pub own : (i : ℕ) → i < s.configuration.original_count
+      → erased_in s (original_row (frame_at s.configuration) i) ≡ cond (is_some (s.originals i)) 0 1
+  pub coded : (i : ℕ) → i < s.configuration.recovery_count
+      → erased_in s (recovery_row (frame_at s.configuration) i) ≡ cond (is_some (s.recovery i)) 0 1
+  pub known : (x : ℕ) → (frame_at s.configuration).zeros_from ≤ x → x < zeros_end (frame_at s.configuration)
+      → erased_in s x ≡ 0
+  pub other : (x : ℕ) → x < row_count_of s
+      → (x < (frame_at s.configuration).originals_from)
+      ⊎ (original_row (frame_at s.configuration) s.configuration.original_count ≤ x)
+      → (x < (frame_at s.configuration).recovery_from)
+      ⊎ (recovery_row (frame_at s.configuration) s.configuration.recovery_count ≤ x)
+      → (x < (frame_at s.configuration).zeros_from) ⊎ (zeros_end (frame_at s.configuration) ≤ x) → erased_in s x ≡ 1
+
+-- Below the last row, the zero points among the rows are all zero points.
+zeros_among : (frame : Frame) (k r x : ℕ) → HasDistinctRows frame k r
+    → (x < zeros_end frame → x < frame.zeros_to) × (x < row_count frame → zeros_end frame ≤ x → frame.zeros_to ≤ x)
+zeros_among frame k r x f =
+    let room : row_count frame ≤ 2 ^ 16 = pow_mono f.few in
+    let end = f.zeros in
+    elim f.whole [
+      | inl same ↦ (λ below. omega (arith, same.1), λ row past. omega (arith, same.1))
+      | inr all ↦ (λ below. omega (arith, all.1), λ row past. omega (arith, all.1, all.2))
+    ]
 
 module _ {s : DecoderState} (g : AreGiven s) where
   pub distinct : HasDistinctRows (frame_at s.configuration) s.configuration.original_count
@@ -219,23 +225,38 @@ module _ {s : DecoderState} (g : AreGiven s) where
   distinct = distinct_rows s.configuration.rate s.configuration.original_count s.configuration.recovery_count
       g.supported
 
-  pub erasures : AreErasures (frame_at s.configuration) s.configuration.original_count s.configuration.recovery_count
-      s.originals s.recovery (erased_in s)
-  erasures = are_erasures (frame_at s.configuration) s.configuration.original_count s.configuration.recovery_count
-      s.originals s.recovery distinct
+  among : (x : ℕ) → (x < zeros_end (frame_at s.configuration) → x < (frame_at s.configuration).zeros_to)
+      × (x < row_count_of s → zeros_end (frame_at s.configuration) ≤ x → (frame_at s.configuration).zeros_to ≤ x)
+  among x = zeros_among _ _ _ x distinct
 
-  -- A given original is in its row, and so is a given recovery shard.
-  pub given-own : (i : ℕ) (shard : Shard) → i < s.configuration.original_count → s.originals i ≡ Some shard
-      → shard_in_row s (original_row (frame_at s.configuration) i) ≡ Some shard
-  given-own i shard hi is =
-      given_at-own (frame_at s.configuration) s.configuration.original_count s.configuration.recovery_count s.originals
-      s.recovery i hi ∙ is
+  pub erasures : AreErasures s
+  erasures =
+      let at = frame_at s.configuration in
+      let f = distinct in
+      let follow = distinct.follow in
+      record {
+        are_marks = record { mark = λ y hy. erased_in-most s y };
+        own = λ i hi.
+            erased_in-row s (original_row at i) (s.originals i) (inl (omega (arith, follow, hi)))
+            (shard_in_row-own s i hi);
+        coded = λ i hi.
+            erased_in-row s (recovery_row at i) (s.recovery i)
+            (let below = distinct.recovery in
+            elim distinct.order [
+              | inl low ↦ inr ((among (recovery_row at i)).1 (omega (arith, below, hi)) (omega (arith, low.1)))
+              | inr high ↦ inl (omega (arith, high.0, high.1, follow, hi))
+            ])
+            (shard_in_row-coded s i distinct hi);
+        known = λ x above below. erased_in-known s x above ((among x).0 below);
+        other = λ x hx not_own not_coded not_zero.
+            erased_in-row s x None (elim not_zero [ inl before ↦ inl before | inr past ↦ inr ((among x).1 hx past) ])
+            (shard_in_row-other s x not_own not_coded);
+      }
 
+  -- A given recovery shard is in its row.
   pub given-coded : (i : ℕ) (shard : Shard) → i < s.configuration.recovery_count → s.recovery i ≡ Some shard
       → shard_in_row s (recovery_row (frame_at s.configuration) i) ≡ Some shard
-  given-coded i shard hi is =
-      given_at-coded (frame_at s.configuration) s.configuration.original_count s.configuration.recovery_count
-      s.originals s.recovery i distinct hi ∙ is
+  given-coded i shard hi is = shard_in_row-coded s i distinct hi ∙ is
 
   -- A shard in a row is a given original or a given recovery shard.
   pub given-either : (x : ℕ) (shard : Shard) → shard_in_row s x ≡ Some shard
@@ -244,31 +265,27 @@ module _ {s : DecoderState} (g : AreGiven s) where
       ⊎ ((i : ℕ) × (i < s.configuration.recovery_count) × (x ≡ recovery_row (frame_at s.configuration) i)
       × (s.recovery i ≡ Some shard))
   given-either x shard is =
-      let f = frame_at s.configuration in
-      let k = s.configuration.original_count in
-      let r = s.configuration.recovery_count in
-      elim (kind_of_row f k r x) [
+      let c = s.configuration in
+      elim (kind_of_row (frame_at s.configuration) c.original_count c.recovery_count x) [
         | inl own ↦ inl (
           own.0,
           own.1,
           own.2,
-          sym (ap (shard_in_row s) own.2 ∙ given_at-own f k r s.originals s.recovery own.0 own.1) ∙ is,
+          sym (ap (shard_in_row s) own.2 ∙ shard_in_row-own s own.0 own.1) ∙ is,
         )
         | inr rest ↦ elim rest [
           | inl coded ↦ inr (
             coded.0,
             coded.1,
             coded.2,
-            sym (ap (shard_in_row s) coded.2 ∙ given_at-coded f k r s.originals s.recovery coded.0 distinct coded.1)
-                ∙ is,
+            sym (ap (shard_in_row s) coded.2 ∙ shard_in_row-coded s coded.0 distinct coded.1) ∙ is,
           )
-          | inr neither ↦
-              absurd (none-some shard (sym (given_at-other f k r s.originals s.recovery x neither.0 neither.1) ∙ is))
+          | inr neither ↦ absurd (none-some shard (sym (shard_in_row-other s x neither.0 neither.1) ∙ is))
         ]
       ]
 
   -- A shard is given in one of the rows of the frame.
-  pub given-below : (x : ℕ) (shard : Shard) → shard_in_row s x ≡ Some shard → x < rows_of s
+  pub given-below : (x : ℕ) (shard : Shard) → shard_in_row s x ≡ Some shard → x < row_count_of s
   given-below x shard is =
       let f = distinct in
       elim (given-either x shard is) [
@@ -281,19 +298,12 @@ module _ {s : DecoderState} (g : AreGiven s) where
       → shard_in_row s x ≡ None
   given-zero x above below =
       let follow = distinct.follow in
-      given_at-other (frame_at s.configuration) s.configuration.original_count s.configuration.recovery_count
-      s.originals s.recovery x (inr (omega (arith, follow, above)))
+      shard_in_row-other s x (inr (omega (arith, follow, above)))
       (elim distinct.order
       [ inl low ↦ inl (omega (arith, low.1, below)) | inr high ↦ inr (omega (arith, high.0, high.1, follow, above)) ])
 
-  -- A row with a given shard is not erased.
-  pub erased-given : (x : ℕ) (shard : Shard) → shard_in_row s x ≡ Some shard → erased_in s x ≡ 0
-  erased-given x shard is =
-      mark_at-given (frame_at s.configuration) s.configuration.original_count s.configuration.recovery_count s.originals
-      s.recovery x shard is
-
   -- A row without a given shard is erased, or is the row of a zero point.
-  pub erased-none : (x : ℕ) → x < rows_of s → shard_in_row s x ≡ None → erased_in s x ≡ 0
+  pub erased-none : (x : ℕ) → x < row_count_of s → shard_in_row s x ≡ None → erased_in s x ≡ 0
       → ((frame_at s.configuration).zeros_from ≤ x) × (x < zeros_end (frame_at s.configuration))
   erased-none x hx none is =
       let f = frame_at s.configuration in
@@ -301,23 +311,19 @@ module _ {s : DecoderState} (g : AreGiven s) where
         | inl before ↦ absurd (not_erased (inl before))
         | inr above ↦ elim (cases_lt x (zeros_end f)) [
           | inl below ↦ (above, below)
-          | inr past ↦ absurd (not_erased (inr ((zeros_among f s.configuration.original_count
-              s.configuration.recovery_count s.originals s.recovery x distinct).1 hx past)))
+          | inr past ↦ absurd (not_erased (inr ((among x).1 hx past)))
         ]
       ]
     where
       not_erased : (x < (frame_at s.configuration).zeros_from) ⊎ ((frame_at s.configuration).zeros_to ≤ x) → ⊥
-      not_erased outside =
-          let one = mark_at-row (frame_at s.configuration) s.configuration.original_count
-          s.configuration.recovery_count s.originals s.recovery x None outside none in
-          omega (arith, one, is)
+      not_erased outside = let one = erased_in-row s x None outside none in omega (arith, one, is)
 
   -- Each word is below 65536.
   pub word_lt : (j x : ℕ) → words_in s j x < 65536
-  word_lt j x = elim (cases_given s j x) [
+  word_lt j x = elim (cases_given s x) [
     | inl some ↦
         subst (λ (w : ℕ). w < 65536) (sym (word-given s j x some.0 some.1))
-        (column_lt s.configuration.shard_bytes some.0 j
+        (column_lt j
         (elim (given-either x some.0 some.1) [
           | inl own ↦ (g.own_sized.each own.0 some.0 own.3).1
           | inr coded ↦ (g.coded_sized.each coded.0 some.0 coded.3).1

@@ -13,11 +13,10 @@ use Rattle.rs_field.proofs.of_words.ZerosPast.{value-inside, zero_outside}
 -- If the originals of the high rate are below 2 ^ d, a polynomial that codes them below 2 ^ d codes them after it is
 -- made zero at the other points.
 pub high_codes : (rate : Rate) (k r d : ℕ) (words p : List ℕ) → frame_of rate k r ≡ high_frame k r → d ≤ 16
-    → 2 ^ d ≤ 65536
     → next_power r + k ≤ 2 ^ d → length p ≡ 2 ^ d - next_power r → WordsOneByOne p
     → ((j : ℕ) → j < k → value p (next_power r + j) ≡ slice_index words j)
     → ((x : ℕ) → next_power r + k ≤ x → x < 2 ^ d → value p x ≡ 0)
     → Codes rate k r words (times (points (2 ^ d) (65536 - 2 ^ d)) p)
 unfolding high_frame
-high_codes rate k r d words p is hd top within size w at zero_at =
+high_codes rate k r d words p is hd within size w at zero_at =
     search (rules, length-times, all_words, words_times, value-inside, cases_lt, zero_outside)

@@ -23,9 +23,10 @@ abbrev AreSums : ℕ → List ℕ → List ℕ → List ℕ → Type 0
 AreSums n one other sums = (i : ℕ) → i < n → slice_index sums i ≡ bit_xor (slice_index one i) (slice_index other i)
 
 -- If two polynomials code, their sum codes the sums of the words.
-codes_sums : (rate : Rate) (k r : ℕ) (one other sums p q : List ℕ) → AreSums k one other sums → Codes rate k r one p
+codes_sums : {rate : Rate} {k r : ℕ} {one other : List ℕ} (sums : List ℕ) {p q : List ℕ} → AreSums k one other sums
+    → Codes rate k r one p
     → Codes rate k r other q → Codes rate k r sums (add p q)
-codes_sums rate k r one other sums p q are hp hq =
+codes_sums sums are hp hq =
     search (rules, length-add, all_words, words_add, words_from, value_add)
 
 -- The sums of the recovery words are the recovery words of the sums.
@@ -36,7 +37,7 @@ recovery_sums : (rate : Rate) (k r : ℕ) (one other sums one_recovery other_rec
 recovery_sums rate k r one other sums one_recovery other_recovery recovery are are_recovery (p, codes_p, at_p)
     (q, codes_q, at_q) = (
       add p q,
-      codes_sums rate k r one other sums p q are codes_p codes_q,
+      codes_sums sums are codes_p codes_q,
       λ i hi. are_recovery i hi ∙ ap₂ bit_xor (at_p i hi) (at_q i hi)
           ∙ sym (value_add p q (recovery_row (frame_of rate k r) i)),
     )
@@ -59,14 +60,14 @@ byte-xor size s t i d hs ht inside =
           (omega arith) (omega arith),
     )
 
-shard-xor : (size : ℕ) (s t : Shard) → IsShard size s → IsShard size t → IsShard size (xor_bytes s t)
-shard-xor size s t hs ht =
+shard-xor : {size : ℕ} {s t : Shard} → IsShard size s → IsShard size t → IsShard size (xor_bytes s t)
+shard-xor {size} {s} {t} hs ht =
     let same : length (xor_bytes s t) ≡ size = length-xor_bytes size s t hs.length_is ht.length_is in
     record {
       length_is = same;
       bytes = λ i d h.
           subst (λ (b : ℕ). b < 256) (sym (byte-xor size s t i d hs.length_is ht.length_is (omega arith)))
-          (xor_lt 8 (slice_index s i) (slice_index t i) (byte_lt size s hs i) (byte_lt size t ht i));
+          (xor_lt 8 (slice_index s i) (slice_index t i) (byte_lt hs i) (byte_lt ht i));
     }
 
 -- Shard i of the XOR of two lists is the XOR of shard i of each list.
@@ -81,15 +82,15 @@ shard_at-xor count i a b d ha hb h =
           (omega arith) (omega arith),
     )
 
-shards-xor : (count size : ℕ) (a b : List Shard) → AreShards count size a → AreShards count size b
+shards-xor : {count size : ℕ} {a b : List Shard} → AreShards count size a → AreShards count size b
     → AreShards count size (xor_shards a b)
 unfolding xor_shards
-shards-xor count size a b ha hb = search (rules, length-map, length-zip, shard_at-xor, shard-xor, shard_in)
+shards-xor ha hb = search (rules, length-map, length-zip, shard_at-xor, shard-xor, shard_in)
 
-columns-xor : (count size j : ℕ) (a b : List Shard) → AreShards count size a → AreShards count size b
+columns-xor : {count size : ℕ} (j : ℕ) {a b : List Shard} → AreShards count size a → AreShards count size b
     → AreSums count (columns j a) (columns j b) (columns j (xor_shards a b))
 unfolding column
-columns-xor count size j a b ha hb i below =
+columns-xor j ha hb i below =
     search (
       rules,
       columns-at,
@@ -109,12 +110,12 @@ pub recovery-xor : (c : Configuration) (one other one_recovery other_recovery : 
     → AreRecovery c one one_recovery → AreRecovery c other other_recovery
     → AreRecovery c (xor_shards one other) (xor_shards one_recovery other_recovery)
 recovery-xor c one other one_recovery other_recovery a b recovery_a recovery_b = record {
-  shards = shards-xor c.recovery_count c.shard_bytes one_recovery other_recovery recovery_a.shards recovery_b.shards;
+  shards = shards-xor recovery_a.shards recovery_b.shards;
   words = λ j hj.
       recovery_sums c.rate c.original_count c.recovery_count (columns j one) (columns j other)
       (columns j (xor_shards one other))
       (columns j one_recovery) (columns j other_recovery) (columns j (xor_shards one_recovery other_recovery))
-      (columns-xor c.original_count c.shard_bytes j one other a b)
-      (columns-xor c.recovery_count c.shard_bytes j one_recovery other_recovery recovery_a.shards recovery_b.shards)
+      (columns-xor j a b)
+      (columns-xor j recovery_a.shards recovery_b.shards)
       (recovery_a.words j hj) (recovery_b.words j hj);
 }

@@ -32,8 +32,8 @@ items_below-longer (suc n) m from given none =
     ∙ sym (items_from-suc from n given)
 
 -- A map has at most one list of its shards.
-pub lists-same : (given : Shards) (one other : Items) → Lists given one → Lists given other → one ≡ other
-lists-same given one other first second = elim (cases_lt first.count second.count) [
+pub lists-same : {given : Shards} {one other : Items} → Lists given one → Lists given other → one ≡ other
+lists-same {given} first second = elim (cases_lt first.count second.count) [
   | inl less ↦ first.in_order ∙ sym (longer first.count second.count (omega arith) first.none_past)
       ∙ sym second.in_order
   | inr more ↦ first.in_order ∙ longer second.count first.count more second.none_past ∙ sym second.in_order

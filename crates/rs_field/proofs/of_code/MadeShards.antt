@@ -44,15 +44,15 @@ is_shard_of : (size : ℕ) (w : ℕ → ℕ) → ((j : ℕ) → w j < 65536) →
 unfolding shard_of
 is_shard_of size w words = grind (arith, common_steps, length-up_to, get-up_to, byte_of_lt)
 
-column-shard_of : (size j : ℕ) (w : ℕ → ℕ) → size % 2 ≡ 0 → j < size / 2 → column j (shard_of size w) ≡ w j
+column-shard_of : (size j : ℕ) (w : ℕ → ℕ) → j < size / 2 → column j (shard_of size w) ≡ w j
 unfolding shard_of column
-column-shard_of size j w even h = grind (arith, common_steps, length-up_to, get-up_to, low_byte, high_byte)
+column-shard_of size j w h = grind (arith, common_steps, length-up_to, get-up_to, low_byte, high_byte)
 
--- For given words there are n shards of an even size with word j of shard i as column j.
-pub shards_of : (n size : ℕ) (w : ℕ → ℕ → ℕ) → size % 2 ≡ 0 → ((i j : ℕ) → w i j < 65536)
+-- For given words there are n shards of a size with word j of shard i as column j.
+pub shards_of : (n size : ℕ) (w : ℕ → ℕ → ℕ) → ((i j : ℕ) → w i j < 65536)
     → (shards : List Shard) × AreShards n size shards
     × ((i j : ℕ) → i < n → j < size / 2 → slice_index (columns j shards) i ≡ w i j)
-shards_of n size w even words = (
+shards_of n size w words = (
   up_to n (λ i. shard_of size (w i)),
   record {
     length_is = length-up_to n (λ i. shard_of size (w i));
@@ -64,8 +64,7 @@ shards_of n size w even words = (
   },
   λ i j hi hj.
       columns-at j (up_to n (λ k. shard_of size (w k))) i
-      ∙ ap (column j) (get-up_to n (λ k. shard_of size (w k)) i [] hi)
-      ∙ column-shard_of size j (w i) even hj,
+      ∙ ap (column j) (get-up_to n (λ k. shard_of size (w k)) i [] hi) ∙ column-shard_of size j (w i) hj,
 )
 
 recovery_lt : (rate : Rate) (k r : ℕ) (words recovery : List ℕ) → length recovery ≡ r
@@ -80,8 +79,8 @@ pub has_recovery : (c : Configuration) (message : List Shard) → supports c.rat
 has_recovery c message is even h =
     let words = λ (j : ℕ).
     recovered c.rate c.original_count c.recovery_count (columns j message) is
-    (columns_lt c.original_count c.shard_bytes message h j) in
-    let (shards, are, at) = shards_of c.recovery_count c.shard_bytes (λ i j. slice_index (words j).0 i) even
+    (columns_lt h j) in
+    let (shards, are, at) = shards_of c.recovery_count c.shard_bytes (λ i j. slice_index (words j).0 i)
     (λ i j. recovery_lt c.rate c.original_count c.recovery_count (columns j message) (words j).0 (words j).1
     (words j).2 i) in (
       shards,

@@ -337,7 +337,7 @@ taken_gives_back c message recovery kept received s result are coded left got is
     → GivesBack message kept received result)) is
     (restores_left c message recovery kept received are coded left got) result answers
 
-module _ (k r : ℕ) (originals recovery : List Shard) (kept : Items) (was : AreCoded k r originals recovery)
+module _ {k r : ℕ} {originals recovery : List Shard} {kept : Items} (was : AreCoded k r originals recovery)
     (left : AreLeft originals kept) where
   -- The property of a result, for each outcome of setting up a decoder.
   abbrev Begun : Items → Result Shards Error → Result (Unit {0}) Error → Type 0
@@ -360,10 +360,9 @@ module _ (k r : ℕ) (originals recovery : List Shard) (kept : Items) (was : Are
           → OneBringsBack originals kept received result
       by_bytes true h = record { answer = inr h; restored = if_ok-refused result OutOfMemory _ h }
       by_bytes false h =
-          let all = all_taken (default_of k r was.size) originals recovery kept received was.shards was.coded left got
-          in
-          let back = gives_back
-          (default_of k r was.size) originals recovery kept received was.shards was.coded left got result
+          let c = default_of k r was.size in
+          let all = all_taken c originals recovery kept received was.shards was.coded left got in
+          let back = gives_back c originals recovery kept received was.shards was.coded left got result
           (subst (λ (o : Result DecoderState Error). MatchResult o (λ s. DecodeAnswers s result) (λ e. result ≡ Err e))
           all h) in
           record { answer = inl back.answer; restored = back.restored }
@@ -392,4 +391,4 @@ pub restores_in_one_call : (k r : ℕ) (originals recovery : List Shard) (kept r
     → AreCoded k r originals recovery → AreLeft originals kept → AreLeft recovery received
     → OneDecodeAnswers k r kept received result → OneBringsBack originals kept received result
 restores_in_one_call k r originals recovery kept received result was left got answers =
-    by_answer k r originals recovery kept was left received result got answers
+    by_answer was left received result got answers

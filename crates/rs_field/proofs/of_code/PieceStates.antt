@@ -9,8 +9,7 @@ use Rattle.std.proofs.lemmas.Bool.{cases_lt}
 use Rattle.std.proofs.lemmas.List.{get_or-map, get_or_past, length-map, length-drop, length-take-le, take_all, drop_all}
 use Rattle.std.proofs.lemmas.List.Elements.{All-map, All-take, All-drop}
 use Rattle.rs_field.specs.code.Column.{Shard, IsShard, AreShards, shard_at, column, columns}
-use Rattle.rs_field.specs.code.Configuration.{configuration}
-use Rattle.rs_field.specs.code.Counts.{Rate}
+use Rattle.rs_field.specs.code.Configuration.{Configuration}
 use Rattle.rs_field.specs.code.Code.{AreRecovery, AreRecoveryWords}
 use Rattle.rs_field.specs.code.Decoder.{DecoderState, IsConsistent, missing_of, Restored}
 use Rattle.rs_field.specs.code.Given.{Shards, Agrees}
@@ -35,68 +34,11 @@ module _ (start end : ℕ) where
             ∙ sym (ap (λ (s : Shard). between start end s) (get_or_past xs i [] past) ∙ none)
       ]
 
-  -- Pieces of shards are shards.
-  pub shards-cut : (count size : ℕ) (xs : List Shard) → IsStrip start end size → AreShards count size xs
-      → AreShards count (end - start) (pieces start end xs)
-  shards-cut count size xs strip are =
-      record {
-        length_is = length-map xs (λ (s : Shard). between start end s) ∙ are.length_is;
-        each = All-map (IsShard (end - start)) (λ s. between start end s) xs (λ i d h.
-            let s = are.each i d h in
-            let left = length-drop start (get_or xs i d) in
-            record {
-              length_is = length-take-le (end - start) (drop start (get_or xs i d))
-                  (omega (arith, left, s.length_is, strip.inside));
-              bytes = All-take (λ b. b < 256) (end - start) (drop start (get_or xs i d))
-                  (All-drop (λ b. b < 256) start (get_or xs i d) s.bytes);
-            });
-      }
-
-  -- The pieces of recovery shards are the recovery shards of the message's pieces.
-  pub recovery-cut : (rate : Rate) (k r size : ℕ) (message all : List Shard) → IsStrip start end size
-      → AreShards k size message
-      → AreRecovery (configuration rate k r size) message all
-      → AreRecovery (configuration rate k r (end - start)) (pieces start end message) (pieces start end all)
-  recovery-cut rate k r size message all strip are coded =
-      record {
-        shards = shards-cut r size all strip coded.shards;
-        words = λ j inside.
-            subst (λ (words : List ℕ). AreRecoveryWords rate k r words (columns j (pieces start end all)))
-            (sym (columns-pieces start end j message
-            (λ i d h. subst (λ (n : ℕ). IsStrip start end n) (sym (are.each i d h).length_is) strip) inside))
-            (subst (λ (words : List ℕ). AreRecoveryWords rate k r (columns (start / 2 + j) message) words)
-            (sym (columns-pieces start end j all
-            (λ i d h. subst (λ (n : ℕ). IsStrip start end n) (sym (coded.shards.each i d h).length_is) strip)
-            inside))
-            (coded.words (start / 2 + j) (omega (arith, inside, strip.order, strip.inside, strip.begins))));
-      }
-
   -- Each piece in a map is a piece of a shard in the map.
   whole_of : (o : Option Shard) (p : Shard) → option_map (λ s. between start end s) o ≡ Some p → (s : Shard)
       × (o ≡ Some s) × (between start end s ≡ p)
   whole_of (Some s) p is = (s, refl, ap (λ o. unwrap_or o p) is)
   whole_of None p is = absurd (let no : ⊥ = cc in no)
-
-  -- If a message agrees with shards, its pieces agree with the pieces of the shards.
-  pub agrees-cut : (rate : Rate) (k r size : ℕ) (originals recovery : Shards) (message : List Shard)
-      → IsStrip start end size → Agrees (configuration rate k r size) originals recovery message
-      → Agrees (configuration rate k r (end - start)) (pieces_of start end originals) (pieces_of start end recovery)
-      (pieces start end message)
-  agrees-cut rate k r size originals recovery message strip agrees =
-      record {
-        shards = shards-cut k size message strip agrees.shards;
-        own = λ i p is.
-            let s = whole_of (originals i) p is in
-            shard_at-pieces i message ∙ ap (λ (x : Shard). between start end x) (agrees.own i s.0 s.1) ∙ s.2;
-        coded = (
-          pieces start end agrees.coded.0,
-          recovery-cut rate k r size message agrees.coded.0 strip agrees.shards agrees.coded.1,
-          λ i p is.
-              let s = whole_of (recovery i) p is in
-              shard_at-pieces i agrees.coded.0 ∙ ap (λ (x : Shard). between start end x) (agrees.coded.2 i s.0 s.1)
-              ∙ s.2,
-        );
-      }
 
   pub is_some-map : (o : Option Shard) → is_some (option_map (λ s. between start end s) o) ≡ is_some o
   is_some-map (Some s) = refl
@@ -118,25 +60,83 @@ module _ (start end : ℕ) where
       by_test true = refl
       by_test false = refl
 
+-- ---- strips
+
+module _ {start end : ℕ} where
+  -- Pieces of shards are shards.
+  pub shards-cut : {count size : ℕ} {xs : List Shard} → IsStrip start end size → AreShards count size xs
+      → AreShards count (end - start) (pieces start end xs)
+  shards-cut {xs} strip are =
+      record {
+        length_is = length-map xs (λ (s : Shard). between start end s) ∙ are.length_is;
+        each = All-map (IsShard (end - start)) (λ s. between start end s) xs (λ i d h.
+            let s = are.each i d h in
+            let left = length-drop start (get_or xs i d) in
+            record {
+              length_is = length-take-le (end - start) (drop start (get_or xs i d))
+                  (omega (arith, left, s.length_is, strip.inside));
+              bytes = All-take (λ b. b < 256) (end - start) (drop start (get_or xs i d))
+                  (All-drop (λ b. b < 256) start (get_or xs i d) s.bytes);
+            });
+      }
+
+  -- The pieces of recovery shards are the recovery shards of the message's pieces.
+  pub recovery-cut : {c : Configuration} {message all : List Shard} → IsStrip start end c.shard_bytes
+      → AreShards c.original_count c.shard_bytes message
+      → AreRecovery c message all
+      → AreRecovery (record c { shard_bytes = end - start }) (pieces start end message) (pieces start end all)
+  recovery-cut {c} {message} {all} strip are coded =
+      record {
+        shards = shards-cut strip coded.shards;
+        words = λ j inside.
+            subst (λ words. AreRecoveryWords c.rate c.original_count c.recovery_count words
+            (columns j (pieces start end all)))
+            (sym (columns-pieces start end j message
+            (λ i d h. subst (λ (n : ℕ). IsStrip start end n) (sym (are.each i d h).length_is) strip) inside))
+            (subst (AreRecoveryWords c.rate c.original_count c.recovery_count (columns (start / 2 + j) message))
+            (sym (columns-pieces start end j all
+            (λ i d h. subst (λ (n : ℕ). IsStrip start end n) (sym (coded.shards.each i d h).length_is) strip)
+            inside))
+            (coded.words (start / 2 + j) (omega (arith, inside, strip.order, strip.inside, strip.begins))));
+      }
+
+  -- If a message agrees with shards, its pieces agree with the pieces of the shards.
+  pub agrees-cut : {c : Configuration} {originals recovery : Shards} {message : List Shard}
+      → IsStrip start end c.shard_bytes → Agrees c originals recovery message
+      → Agrees (record c { shard_bytes = end - start }) (pieces_of start end originals) (pieces_of start end recovery)
+      (pieces start end message)
+  agrees-cut {originals} {recovery} {message} strip agrees =
+      record {
+        shards = shards-cut strip agrees.shards;
+        own = λ i p is.
+            let s = whole_of start end (originals i) p is in
+            shard_at-pieces start end i message ∙ ap (λ (x : Shard). between start end x) (agrees.own i s.0 s.1) ∙ s.2;
+        coded = (
+          pieces start end agrees.coded.0,
+          recovery-cut strip agrees.shards agrees.coded.1,
+          λ i p is.
+              let s = whole_of start end (recovery i) p is in
+              shard_at-pieces start end i agrees.coded.0
+              ∙ ap (λ (x : Shard). between start end x) (agrees.coded.2 i s.0 s.1) ∙ s.2,
+        );
+      }
+
   -- The restored pieces are the pieces of the missing shards of any message that agrees.
-  pub restored-cut : (s : DecoderState) (message : List Shard) (out : Shards)
+  pub restored-cut : {s : DecoderState} {message : List Shard} {out : Shards}
       → IsStrip start end s.configuration.shard_bytes
       → Agrees s.configuration s.originals s.recovery message → Restored (state_of_pieces start end s) out
       → (i : ℕ) → out i ≡ option_map (λ x. between start end x) (missing_of s message i)
-  restored-cut s message out strip agrees restored i =
-      let c = s.configuration in
-      let cut = agrees-cut c.rate c.original_count c.recovery_count c.shard_bytes s.originals s.recovery message strip
-      agrees in
+  restored-cut {s} {message} strip agrees restored i =
       restored.missing i ∙ ap (λ (m : List Shard). missing_of (state_of_pieces start end s) m i)
-      (sym (restored.only (pieces start end message) cut)) ∙ missing-cut s message i
+      (sym (restored.only (pieces start end message) (agrees-cut strip agrees))) ∙ missing-cut start end s message i
 
   -- If the pieces of a strip are consistent, a polynomial has the words of the given shards in each column of the
   -- strip.
-  pub taken-whole : (s : DecoderState) (g : AreGiven s) (j : ℕ) → IsStrip start end s.configuration.shard_bytes
+  pub taken-whole : {s : DecoderState} (g : AreGiven s) (j : ℕ) → IsStrip start end s.configuration.shard_bytes
       → j < (end - start) / 2 → IsConsistent (state_of_pieces start end s)
       → (p : List ℕ) × IsTaken s (start / 2 + j) p
-  taken-whole s g j strip inside (message, agrees) =
-      let (p, codes, takes) = column_taken (state_of_pieces start end s) message j inside agrees in (
+  taken-whole {s} g j strip inside (message, agrees) =
+      let (p, codes, takes) = column_taken (state_of_pieces start end s) j inside agrees in (
         p,
         (
           columns j message,
@@ -164,12 +164,12 @@ AreConsistentBelow s bound =
     × (j < end / 2) × IsConsistent (state_of_pieces start end s)
 
 -- If each column is in a strip whose pieces are consistent, the shards are consistent.
-pub consistent-whole : (s : DecoderState) → AreGiven s → s.configuration.shard_bytes % 2 ≡ 0
+pub consistent-whole : {s : DecoderState} → AreGiven s → s.configuration.shard_bytes % 2 ≡ 0
     → AreConsistentBelow s s.configuration.shard_bytes → IsConsistent s
-consistent-whole s g even each =
+consistent-whole {s} g even each =
     consistent g even (λ j inside.
     let (start, end, strip, from, to, pieces_agree) = each j inside in
     let place : start / 2 + (j - start / 2) ≡ j = omega (arith, from) in
     let here : j - start / 2 < (end - start) / 2 = omega (arith, from, to, strip.begins, strip.order) in
     subst (λ (i : ℕ). (p : List ℕ) × IsTaken s i p) place
-    (taken-whole start end s g (j - start / 2) strip here pieces_agree))
+    (taken-whole g (j - start / 2) strip here pieces_agree))

@@ -156,45 +156,90 @@ strips-join c message all own made strips =
 
 -- ---- rooms
 
-module _ (start end : ℕ) (made old new : List Shard) (put : ArePut start end made old new) (order : start ≤ end)
-    (inside : All (λ s. start ≤ length s) old)
-    (number : length made ≡ length old) (sized : All (λ s. length s ≡ end - start) made) where
+-- A room has at least the length of the bytes that were written.
+pub room-from : (grows : Bool) (written size : ℕ) → written ≤ size → written ≤ room_length grows written size
+room-from true written size inside = omega arith
+room-from false written size inside = inside
+
+-- After a strip is put into a room, the room has the length for the end of the strip.
+pub room-further : (grows : Bool) (start end size : ℕ) → start ≤ end → end ≤ size
+    → end + (room_length grows start size - end) ≡ room_length grows end size
+room-further true start end size order inside = omega (arith, order)
+room-further false start end size order inside = omega (arith, inside)
+
+-- A strip of a shard is a strip of a room with the length for the end of the strip.
+pub room-strip : (grows : Bool) (start end size : ℕ) → IsStrip start end size
+    → IsStrip start end (room_length grows end size)
+room-strip true start end size strip =
+    record { order = strip.order; inside = omega arith; begins = strip.begins; ends = inr refl }
+room-strip false start end size strip = strip
+
+-- After the last strip, a room is as long as its shard.
+pub room-whole : (grows : Bool) (size : ℕ) → room_length grows size size ≡ size
+room-whole true size = refl
+room-whole false size = refl
+
+-- The pieces of a strip were put into rooms of one length.
+pub record AreStripPut (grows : Bool) (size start end : ℕ) (made old new : List Shard) : Type 0 where
+  pub strip : IsStrip start end size
+  pub put : ArePut start end made old new
+  pub number : length made ≡ length old
+  pub sized : All (λ s. length s ≡ end - start) made
+  pub fit : All (λ s. length s ≡ room_length grows start size) old
+
+module _ {grows : Bool} {size start end : ℕ} {made old new : List Shard}
+    (p : AreStripPut grows size start end made old new) where
+  -- Each room had the bytes before the piece.
+  pub put-inside : All (λ s. start ≤ length s) old
+  put-inside i d h =
+      let n = p.fit i d h in
+      let order = p.strip.order in
+      let from = room-from grows start size (let le : start ≤ size = omega (arith, order, p.strip.inside) in le) in
+      omega (arith, n, from)
+
   at : (i : ℕ) → i < length old
       → get_or new i [] ≡ take start (get_or old i []) ++ (get_or made i [] ++ drop end (get_or old i []))
-  at = put.1
+  at = p.put.1
 
   long : (i : ℕ) → i < length old → length (get_or made i []) ≡ end - start
-  long i h = sized i [] (omega (arith, number, h))
+  long i h = p.sized i [] (omega (arith, p.number, h))
 
   front : (i : ℕ) → i < length old → length (take start (get_or old i [])) ≡ start
-  front i h = length-take-le start (get_or old i []) (inside i [] h)
+  front i h = length-take-le start (get_or old i []) (put-inside i [] h)
 
   -- After a piece is put, each room ends at the end of the piece, or where it ended before.
-  pub put-length : (i : ℕ) → i < length old → length (get_or new i []) ≡ end + (length (get_or old i []) - end)
+  put-length : (i : ℕ) → i < length old → length (get_or new i []) ≡ end + (length (get_or old i []) - end)
   put-length i h =
       let first = front i h in
       let piece = long i h in
       let back = length-drop end (get_or old i []) in
       let all = simp length-append at (ap length (at i h)) in
-      omega (arith, all, first, piece, back, order)
+      omega (arith, all, first, piece, back, p.strip.order)
+
+  -- After a piece is put, each room has the length for the end of the strip.
+  pub put-fit : All (λ s. length s ≡ room_length grows end size) new
+  put-fit i d h =
+      let here : i < length old = omega (arith, h, p.put.0) in
+      ap length (get_or_default new i d [] h) ∙ put-length i here ∙ ap (λ (n : ℕ). end + (n - end)) (p.fit i [] here)
+      ∙ room-further grows start end size p.strip.order p.strip.inside
 
   -- The bytes before the piece are unchanged in each room.
   pub put-heads : heads start new ≡ heads start old
   put-heads =
-      same_from [] (heads start new) (heads start old) (simp length-map put.0) (λ i h.
+      same_from [] (heads start new) (heads start old) (simp length-map p.put.0) (λ i h.
       let here : i < length old =
-      (let n = length-map new (λ (s : Shard). take start s) in omega (arith, h, n, put.0)) in
-      get_or-map (λ (s : Shard). take start s) new i [] [] (omega (arith, here, put.0))
+      (let n = length-map new (λ (s : Shard). take start s) in omega (arith, h, n, p.put.0)) in
+      get_or-map (λ (s : Shard). take start s) new i [] [] (omega (arith, here, p.put.0))
       ∙ ap (take start) (at i here) ∙ take_at (take start (get_or old i [])) _ start (front i here)
       ∙ sym (get_or-map (λ (s : Shard). take start s) old i [] [] here))
 
   -- The pieces of the new rooms are the pieces that were put into them.
   pub put-pieces : pieces start end new ≡ made
   put-pieces =
-      same_from [] (pieces start end new) made (simp length-map (put.0 ∙ sym number)) (λ i h.
+      same_from [] (pieces start end new) made (simp length-map (p.put.0 ∙ sym p.number)) (λ i h.
       let here : i < length old =
-      (let n = length-map new (λ (s : Shard). between start end s) in omega (arith, h, n, put.0)) in
-      get_or-map (λ (s : Shard). between start end s) new i [] [] (omega (arith, here, put.0))
+      (let n = length-map new (λ (s : Shard). between start end s) in omega (arith, h, n, p.put.0)) in
+      get_or-map (λ (s : Shard). between start end s) new i [] [] (omega (arith, here, p.put.0))
       ∙ ap (λ (s : Shard). take (end - start) (drop start s)) (at i here)
       ∙ ap (take (end - start)) (drop_at (take start (get_or old i [])) _ start (front i here))
       ∙ take_at (get_or made i []) _ (end - start) (long i here))
@@ -203,7 +248,8 @@ module _ (start end : ℕ) (made old new : List Shard) (put : ArePut start end m
   pub put-bytes : All (All (λ b. b < 256)) (heads start old) → All (All (λ b. b < 256)) made
       → All (All (λ b. b < 256)) (heads end new)
   put-bytes before bytes i d h =
-      let here : i < length old = (let n = length-map new (λ (s : Shard). take end s) in omega (arith, h, n, put.0)) in
+      let here : i < length old =
+      (let n = length-map new (λ (s : Shard). take end s) in omega (arith, h, n, p.put.0)) in
       let first = front i here in
       let piece = long i here in
       let head : All (λ b. b < 256) (take start (get_or old i [])) =
@@ -211,12 +257,13 @@ module _ (start end : ℕ) (made old new : List Shard) (put : ArePut start end m
       (before i [] (let n = length-map old (λ (s : Shard). take start s) in omega (arith, here, n))) in
       let both = length-append (take start (get_or old i [])) (get_or made i []) in
       subst (λ (s : Shard). All (λ b. b < 256) s)
-      (sym (get_or-map (λ (s : Shard). take end s) new i [] d (omega (arith, here, put.0))
+      (sym (get_or-map (λ (s : Shard). take end s) new i [] d (omega (arith, here, p.put.0))
       ∙ ap (take end) (at i here
       ∙ sym (append_assoc (take start (get_or old i [])) (get_or made i []) (drop end (get_or old i []))))
-      ∙ take_at (take start (get_or old i []) ++ get_or made i []) _ end (omega (arith, both, first, piece, order))))
+      ∙ take_at (take start (get_or old i []) ++ get_or made i []) _ end
+      (omega (arith, both, first, piece, p.strip.order))))
       (All-append (λ b. b < 256) (take start (get_or old i [])) (get_or made i []) head
-      (bytes i [] (omega (arith, here, number))))
+      (bytes i [] (omega (arith, here, p.number))))
 
 -- ---- the state when all bytes below a number are done
 
@@ -252,29 +299,6 @@ is_strip start strip size width part width_is part_is chunks begins less =
           }
     ]
 
--- A room has at least the length of the bytes that were written.
-pub room-from : (grows : Bool) (written size : ℕ) → written ≤ size → written ≤ room_length grows written size
-room-from true written size inside = omega arith
-room-from false written size inside = inside
-
--- After a strip is put into a room, the room has the length for the end of the strip.
-pub room-further : (grows : Bool) (start end size : ℕ) → start ≤ end → end ≤ size
-    → end + (room_length grows start size - end) ≡ room_length grows end size
-room-further true start end size order inside = omega (arith, order)
-room-further false start end size order inside = omega (arith, inside)
-
--- A strip of a shard is a strip of a room with the length for the end of the strip.
-pub room-strip : (grows : Bool) (start end size : ℕ) → IsStrip start end size
-    → IsStrip start end (room_length grows end size)
-room-strip true start end size strip =
-    record { order = strip.order; inside = omega arith; begins = strip.begins; ends = inr refl }
-room-strip false start end size strip = strip
-
--- After the last strip, a room is as long as its shard.
-pub room-whole : (grows : Bool) (size : ℕ) → room_length grows size size ≡ size
-room-whole true size = refl
-room-whole false size = refl
-
 -- There are as many rooms as recovery shards, and they hold the first bytes of the recovery shards.
 pub record IsDone (k r size end : ℕ) (grows : Bool) (rate : Rate) (originals rooms : List Shard) : Type 0 where
   pub number : length rooms ≡ r
@@ -283,44 +307,39 @@ pub record IsDone (k r size end : ℕ) (grows : Bool) (rate : Rate) (originals r
   pub bytes : All (All (λ b. b < 256)) (heads end rooms)
 
 -- After one more strip is coded and put, the rooms hold the bytes up to the end of the strip.
-pub done-further : (grows : Bool) (rate : Rate) (k r size start end : ℕ) (originals made old new : List Shard)
-    → IsStrip start end size → All (λ s. length s ≡ size) originals
+pub done-further : {grows : Bool} {rate : Rate} {k r size start end : ℕ} {originals made old : List Shard}
+    (new : List Shard) → IsStrip start end size → All (λ s. length s ≡ size) originals
     → IsDone k r size start grows rate originals old
     → AreRecovery (configuration rate k r (end - start)) (pieces start end originals) made
     → ArePut start end made old new
     → IsDone k r size end grows rate originals new
-done-further grows rate k r size start end originals made old new strip sized done recovery put =
-    let inside : All (λ s. start ≤ length s) old = (λ i d h.
-    let n = done.fit i d h in let from =
-    room-from grows start size (let le : start ≤ size = omega (arith, strip.order, strip.inside) in le) in
-    omega (arith, n, from)) in
-    let number : length made ≡ length old = recovery.shards.length_is ∙ sym done.number in
-    let long : All (λ s. length s ≡ end - start) made = (λ i d h. (recovery.shards.each i d h).length_is) in
-    let fit : All (λ s. length s ≡ room_length grows end size) new = (λ i d h.
-    let here : i < length old = omega (arith, h, put.0) in
-    ap length (get_or_default new i d [] h)
-    ∙ put-length start end made old new put strip.order inside number long i here
-    ∙ ap (λ (n : ℕ). end + (n - end)) (done.fit i [] here) ∙ room-further grows start end size strip.order strip.inside)
-    in
+done-further {grows} {rate} {k} {r} {size} {start} {end} {originals} {made} {old} new strip sized done recovery put =
+    let p : AreStripPut grows size start end made old new = record {
+      strip = strip;
+      put = put;
+      number = recovery.shards.length_is ∙ sym done.number;
+      sized = λ i d h. (recovery.shards.each i d h).length_is;
+      fit = done.fit;
+    } in
     record {
       number = put.0 ∙ done.number;
-      fit = fit;
+      fit = put-fit p;
       coded = coded-further rate k r start end originals old new
           (λ i d h. subst (λ (n : ℕ). IsStrip start end n) (sym (sized i d h)) strip)
-          inside
-          (λ i d h. subst (λ (n : ℕ). IsStrip start end n) (sym (fit i d h)) (room-strip grows start end size strip))
-          strip.begins (put-heads start end made old new put strip.order inside number long) done.coded
+          (put-inside p)
+          (λ i d h. subst (λ (n : ℕ). IsStrip start end n) (sym (put-fit p i d h))
+          (room-strip grows start end size strip))
+          strip.begins (put-heads p) done.coded
           (subst (λ (l : List Shard). AreRecovery (configuration rate k r (end - start)) (pieces start end originals) l)
-          (sym (put-pieces start end made old new put strip.order inside number long)) recovery);
-      bytes = put-bytes start end made old new put strip.order inside number long done.bytes
-          (λ i d h. (recovery.shards.each i d h).bytes);
+          (sym (put-pieces p)) recovery);
+      bytes = put-bytes p done.bytes (λ i d h. (recovery.shards.each i d h).bytes);
     }
 
 -- Before the first strip, the rooms satisfy `IsDone` for zero bytes.
-pub done-none : (grows : Bool) (rate : Rate) (k r size : ℕ) (originals rooms : List Shard) → length rooms ≡ r
+pub done-none : {grows : Bool} {rate : Rate} {k r size : ℕ} {originals rooms : List Shard} → length rooms ≡ r
     → All (λ s. length s ≡ room_length grows 0 size) rooms
     → IsDone k r size 0 grows rate originals rooms
-done-none grows rate k r size originals rooms number fit =
+done-none {rooms} number fit =
     record {
       number = number;
       fit = fit;
@@ -329,10 +348,10 @@ done-none grows rate k r size originals rooms number fit =
     }
 
 -- After the last strip, the rooms hold the recovery shards.
-pub done-all : (grows : Bool) (rate : Rate) (k r size : ℕ) (originals rooms : List Shard)
+pub done-all : {grows : Bool} {rate : Rate} {k r size : ℕ} {originals rooms : List Shard}
     → IsDone k r size size grows rate originals rooms
     → AreRecovery (configuration rate k r size) originals rooms
-done-all grows rate k r size originals rooms done =
+done-all {grows} {size} {rooms} done =
     record {
       shards = record {
         length_is = done.number;

@@ -44,8 +44,8 @@ record IsSpread (frame : Frame) (k r : ℕ) : Type 0 where
   apart : (i : ℕ) → i < r → (frame.zeros_to ≤ recovery_row frame i) ⊎ (recovery_row frame i < frame.originals_from)
   counts : degree_bound frame + frame.zeros_from ≡ k + frame.zeros_to
 
-spread : (frame : Frame) (k r : ℕ) → HasDistinctRows frame k r → IsSpread frame k r
-spread frame k r f = grind (arith, common_steps, pow_mono)
+spread : {frame : Frame} {k r : ℕ} → HasDistinctRows frame k r → IsSpread frame k r
+spread f = grind (arith, common_steps, pow_mono)
 
 -- The point of a place: first the originals' points, then the points of the recovery shards.
 point : Frame → ℕ → ℕ → ℕ
@@ -58,9 +58,9 @@ unfolding point
 point_cases p k r x h = grind (arith, common_steps, cases_lt, below_or-first, below_or-then)
 
 -- A point is a word and is not a known zero.
-point_apart : (p : Frame) (k r x : ℕ) → IsSpread p k r → x < k + r → (point p k x < 65536)
+point_apart : {p : Frame} {k r : ℕ} (x : ℕ) → IsSpread p k r → x < k + r → (point p k x < 65536)
     × ((point p k x < p.zeros_from) ⊎ (p.zeros_to ≤ point p k x))
-point_apart p k r x s hx =
+point_apart {p} {k} {r} x s hx =
     elim (point_cases p k r x hx) [
       | inl first ↦ (omega (arith, first.0, first.1), inl (omega (arith, first.0, first.1)))
       | inr later ↦ (
@@ -72,8 +72,9 @@ point_apart p k r x s hx =
     ]
 
 -- Different places have different points.
-point_once : (p : Frame) (k r x y : ℕ) → IsSpread p k r → x < k + r → y < k + r → point p k x ≡ point p k y → x ≡ y
-point_once p k r x y s hx hy same =
+point_once : {p : Frame} {k r : ℕ} (x y : ℕ) → IsSpread p k r → x < k + r → y < k + r → point p k x ≡ point p k y
+    → x ≡ y
+point_once {p} {k} {r} x y s hx hy same =
     elim (point_cases p k r x hx) [
       | inl a ↦ elim (point_cases p k r y hy) [
         | inl b ↦ omega (arith, a.1, b.1)
@@ -92,13 +93,13 @@ point_once p k r x y s hx hy same =
 -- ---- polynomials
 
 -- Two polynomials that code and have the same values at the points of k places are equal.
-fixed_by_points : (rate : Rate) (k r : ℕ) (words other p o : List ℕ) (place : ℕ → ℕ) → supports rate k r ≡ true
+fixed_by_points : {rate : Rate} {k r : ℕ} {words other p o : List ℕ} (place : ℕ → ℕ) → supports rate k r ≡ true
     → Codes rate k r words p → Codes rate k r other o
     → ArePlaces k (k + r) place
     → ((i : ℕ) → i < k → value p (point (frame_of rate k r) k (place i))
     ≡ value o (point (frame_of rate k r) k (place i))) → p ≡ o
-fixed_by_points rate k r words other p o place is cp co are same =
-    by_spread (spread (frame_of rate k r) k r (distinct_rows rate k r is))
+fixed_by_points {rate} {k} {r} {p} {o} place is cp co are same =
+    by_spread (spread (distinct_rows rate k r is))
   where
     -- The k points, followed by the known zeros.
     at : ℕ → ℕ
@@ -120,22 +121,22 @@ fixed_by_points rate k r words other p o place is cp co are same =
           | inl few ↦ omega (
             arith,
             at_place i few,
-            (point_apart (frame_of rate k r) k r (place i) s (are.below i few)).0,
+            (point_apart (place i) s (are.below i few)).0,
           )
           | inr zero_point ↦ omega (arith, at_zero i zero_point)
         ])
         (λ i j hi hj e. elim (cases_lt i k) [
           | inl few ↦ elim (cases_lt j k) [
             | inl more ↦ are.once i j few more
-                (point_once (frame_of rate k r) k r (place i) (place j) s (are.below i few) (are.below j more)
+                (point_once (place i) (place j) s (are.below i few) (are.below j more)
                 (sym (at_place i few) ∙ e ∙ at_place j more))
-            | inr zero_point ↦ absurd (elim (point_apart (frame_of rate k r) k r (place i) s (are.below i few)).1 [
+            | inr zero_point ↦ absurd (elim (point_apart (place i) s (are.below i few)).1 [
               | inl before ↦ omega (arith, at_place i few, at_zero j zero_point, e, before)
               | inr past ↦ omega (arith, at_place i few, at_zero j zero_point, e, past)
             ])
           ]
           | inr zero_point ↦ elim (cases_lt j k) [
-            | inl more ↦ absurd (elim (point_apart (frame_of rate k r) k r (place j) s (are.below j more)).1 [
+            | inl more ↦ absurd (elim (point_apart (place j) s (are.below j more)).1 [
               | inl before ↦ omega (arith, at_place j more, at_zero i zero_point, e, before)
               | inr past ↦ omega (arith, at_place j more, at_zero i zero_point, e, past)
             ])
@@ -152,10 +153,11 @@ fixed_by_points rate k r words other p o place is cp co are same =
 -- ---- shards
 
 -- The word of a codeword at a place is the polynomial's value at the point of the place.
-codeword_word : (rate : Rate) (k r x : ℕ) (message recovery p : List ℕ) → Codes rate k r message p
+codeword_word : {rate : Rate} {k r : ℕ} (x : ℕ) {message : List ℕ} (recovery : List ℕ) {p : List ℕ}
+    → Codes rate k r message p
     → ((i : ℕ) → i < r → slice_index recovery i ≡ value p (recovery_row (frame_of rate k r) i))
     → length message ≡ k → x < k + r → value p (point (frame_of rate k r) k x) ≡ slice_index (message ++ recovery) x
-codeword_word rate k r x message recovery p codes at size hx =
+codeword_word {rate} {k} {r} x {message} recovery {p} codes at size hx =
     elim (point_cases (frame_of rate k r) k r x hx) [
       | inl own ↦ ap (value p) own.1 ∙ codes.originals x own.0
           ∙ sym (get_or_append_left message recovery 0 x (omega (arith, own.0)))
@@ -164,13 +166,13 @@ codeword_word rate k r x message recovery p codes at size hx =
     ]
 
 -- The polynomial's value at the point of a place is the column of the shard at this place.
-codeword_column : (rate : Rate) (k r j x : ℕ) (message recovery : List Shard) (p : List ℕ)
+codeword_column : {rate : Rate} {k r : ℕ} (j x : ℕ) (message recovery : List Shard) {p : List ℕ}
     → Codes rate k r (columns j message) p
     → ((i : ℕ) → i < r → slice_index (columns j recovery) i ≡ value p (recovery_row (frame_of rate k r) i))
     → length message ≡ k → x < k + r
     → value p (point (frame_of rate k r) k x) ≡ column j (shard_at (message ++ recovery) x)
-codeword_column rate k r j x message recovery p codes at size hx =
-    codeword_word rate k r x (columns j message) (columns j recovery) p codes at
+codeword_column j x message recovery codes at size hx =
+    codeword_word x (columns j recovery) codes at
     (length-map message (column j) ∙ size) hx
     ∙ ap (λ (ws : List ℕ). slice_index ws x) (sym (map-append (column j) message recovery))
     ∙ columns-at j (message ++ recovery) x
@@ -184,7 +186,7 @@ pub fixed_by_places : (c : Configuration) (one other one_recovery other_recovery
     → ((i : ℕ) → i < c.original_count
     → shard_at (one ++ one_recovery) (place i) ≡ shard_at (other ++ other_recovery) (place i)) → one ≡ other
 fixed_by_places c one other one_recovery other_recovery place is even a b recovery_a recovery_b are same =
-    shards_from_columns c.original_count c.shard_bytes one other a b even
+    shards_from_columns a b even
     (λ i j hi hj. in_column i j hi (recovery_a.words j hj) (recovery_b.words j hj))
   where
     in_column : (i j : ℕ) → i < c.original_count
@@ -194,14 +196,13 @@ fixed_by_places c one other one_recovery other_recovery place is even a b recove
     in_column i j hi (p, codes_p, at_p) (o, codes_o, at_o) =
         sym (codes_p.originals i hi)
         ∙ ap (λ (q : List ℕ). value q (original_row (frame_of c.rate c.original_count c.recovery_count) i))
-        (fixed_by_points c.rate c.original_count c.recovery_count (columns j one)
-        (columns j other) p o place is codes_p codes_o are
+        (fixed_by_points place is codes_p codes_o are
         (λ n hn.
-        codeword_column c.rate c.original_count c.recovery_count j (place n) one one_recovery p codes_p at_p a.length_is
+        codeword_column j (place n) one one_recovery codes_p at_p a.length_is
         (are.below n hn)
         ∙ ap (column j) (same n hn)
-        ∙ sym (codeword_column c.rate c.original_count c.recovery_count j
-        (place n) other other_recovery o codes_o at_o b.length_is (are.below n hn))))
+        ∙ sym (codeword_column j
+        (place n) other other_recovery codes_o at_o b.length_is (are.below n hn))))
         ∙ codes_o.originals i hi
 
 -- ---- places of given shards
@@ -291,9 +292,9 @@ count-by_place k (suc r) originals recovery =
     ∙ (let more = count_below-suc r recovery in omega arith)
 
 -- A given shard is at its place in the codeword of each message that agrees.
-pub codeword_given : (c : Configuration) (originals recovery : Shards) (message : List Shard)
+pub codeword_given : {c : Configuration} {originals recovery : Shards} {message : List Shard}
     (a : Agrees c originals recovery message) (x : ℕ) (shard : Shard)
     → by_place c.original_count originals recovery x ≡ Some shard → shard_at (message ++ a.coded.0) x ≡ shard
 unfolding by_place
-codeword_given c originals recovery message a x shard e =
+codeword_given a x shard e =
     search (rules, cases_lt, get_or_append_left, below_or-first, get_or-append_right, below_or-then)

@@ -1,6 +1,5 @@
 -- For supported counts, the frame of each rate gives the shards different rows.
-use Rattle.std.proofs.Common.{rules, ◌≡◌, ℕ, ◌+◌, ◌^◌, ◌≤◌, Bool, true, false, cond, min, max, refl, arith}
-use Rattle.std.proofs.Common.{pow_mono}
+use Rattle.std.proofs.Common.{rules, ◌≡◌, ℕ, ◌+◌, ◌^◌, ◌≤◌, Bool, true, false, cond, min, max, refl, arith, pow_mono}
 use Rattle.rs_field.specs.code.Counts.{Rate, low_rate, high_rate, default_rate, next_power, supports, is_low}
 use Rattle.rs_field.specs.code.Frame.{low_frame, high_frame, frame_of, row_count}
 use Rattle.rs_field.proofs.of_code.NextPower.{exponent-small, next_power-above}

@@ -8,7 +8,7 @@ use Rattle.std.specs.Option.{option_map}
 use Rattle.std.proofs.Math.Path.{fun_ext}
 use Rattle.std.proofs.Math.Seq.{take-add, take-append-add, take-append_seam}
 use Rattle.std.proofs.lemmas.Bool.{cases_lt, lt-ltb, le-ltb}
-use Rattle.std.proofs.lemmas.List.{get_or-map, get_or_default, length-map, length-take-le, take_all, ext_get_or}
+use Rattle.std.proofs.lemmas.List.{get_or-map, length-map, length-take-le, take_all, ext_get_or}
 use Rattle.rs_field.specs.declared.code.error.Error.{Error}
 use Rattle.rs_field.specs.declared.code.error.Error.TheVariants.{InconsistentShards, NotEnoughShards}
 use Rattle.rs_field.specs.code.Column.{Shard}
@@ -24,7 +24,7 @@ use Rattle.rs_field.proofs.of_code.Given.{count_below-zero, count_below-suc}
 use Rattle.rs_field.proofs.of_code.GivenRows.{given_within}
 use Rattle.rs_field.proofs.of_code.Listed.{length-listed}
 use Rattle.rs_field.proofs.of_code.ListedMaps.{lists-same, listed-changed, listed-all}
-use Rattle.rs_field.proofs.of_code.Pieces.{put-length, room-from, room-further, room-whole}
+use Rattle.rs_field.proofs.of_code.Pieces.{AreStripPut, put-inside, put-fit, room-whole}
 use Rattle.rs_field.proofs.of_code.PieceStates.{is_some-map, agrees-cut, restored-cut, consistent-whole}
 use Rattle.rs_field.proofs.of_code.PieceStates.{AreConsistentBelow}
 
@@ -50,22 +50,18 @@ module _ (start end : ℕ) where
       ap₂ (by_counts s.configuration.original_count) (count-pieces s.configuration.original_count s.originals)
       (count-pieces s.configuration.recovery_count s.recovery)
 
-  -- If no message agrees with the pieces, no message agrees with the shards.
-  pub none-pieces : (s : DecoderState) (e : Error) → IsStrip start end s.configuration.shard_bytes
-      → NoneAgrees (state_of_pieces start end s) e → NoneAgrees s e
-  none-pieces s e strip none =
-      let c = s.configuration in
-      let own = count-pieces c.original_count s.originals in
-      let other = count-pieces c.recovery_count s.recovery in
-      record {
-        refusal = none.refusal ∙ ap₂ InconsistentShards own other;
-        surplus = omega (arith, none.surplus, own, other);
-        none = λ some. none.none (
-          pieces start end some.0,
-          agrees-cut start end c.rate c.original_count c.recovery_count c.shard_bytes s.originals s.recovery some.0
-              strip some.1,
-        );
-      }
+-- If no message agrees with the pieces, no message agrees with the shards.
+pub none-pieces : {start end : ℕ} (s : DecoderState) {e : Error} → IsStrip start end s.configuration.shard_bytes
+    → NoneAgrees (state_of_pieces start end s) e → NoneAgrees s e
+none-pieces {start} {end} s strip none =
+    let c = s.configuration in
+    let own = count-pieces start end c.original_count s.originals in
+    let other = count-pieces start end c.recovery_count s.recovery in
+    record {
+      refusal = none.refusal ∙ ap₂ InconsistentShards own other;
+      surplus = omega (arith, none.surplus, own, other);
+      none = λ some. none.none (pieces start end some.0, agrees-cut strip some.1);
+    }
 
 -- ---- rooms
 
@@ -118,6 +114,14 @@ missing-lists : (s : DecoderState) (message : List Shard)
 missing-lists s message =
     record { count = s.configuration.original_count; none_past = missing-past s message; in_order = refl }
 
+-- If a map has the missing shards of a message, its list of shards is the list of the missing shards.
+listed-missing : (s : DecoderState) (message : List Shard) {out : Shards} {items : Items}
+    → ((i : ℕ) → out i ≡ missing_of s message i) → Lists out items → shards_listed items ≡ missing_shards s message
+listed-missing s message {items} missing listing =
+    let here : Lists (missing_of s message) items =
+    subst (λ (g : Shards). Lists g items) (fun_ext missing) listing in
+    ap shards_listed (lists-same here (missing-lists s message))
+
 -- The missing shards of a message are as many as originals are missing.
 missing-number : (s : DecoderState) (message : List Shard)
     → length (missing_shards s message) + originals_given s ≡ s.configuration.original_count
@@ -166,15 +170,11 @@ take-joined start old piece rest inside =
     ∙ take-append-add (take start old) (piece ++ rest) (length piece)
     ∙ ap (λ (l : Shard). take start old ++ l) (take-append_seam piece rest)
 
-module _ (s : DecoderState) (grows : Bool) (start end : ℕ) (out : Shards) (items : Items)
-    (strip : IsStrip start end s.configuration.shard_bytes)
+module _ (s : DecoderState) (start end : ℕ) {out : Shards} {items : Items}
     (restored : Restored (state_of_pieces start end s) out) (listing : Lists out items) where
   -- The listed items are the missing pieces.
   items-are : shards_listed items ≡ missing_shards (state_of_pieces start end s) restored.message
-  items-are =
-      ap shards_listed (lists-same (missing_of (state_of_pieces start end s) restored.message) items _
-      (subst (λ (g : Shards). Lists g items) (fun_ext restored.missing) listing)
-      (missing-lists (state_of_pieces start end s) restored.message))
+  items-are = listed-missing (state_of_pieces start end s) restored.message restored.missing listing
 
   -- The listed items are as many as originals are missing.
   pub pieces-number : length items + originals_given s ≡ s.configuration.original_count
@@ -188,53 +188,47 @@ module _ (s : DecoderState) (grows : Bool) (start end : ℕ) (out : Shards) (ite
       subst (λ (l : List Shard). All (λ x. length x ≡ end - start) l) (sym items-are)
       (missing-sized (state_of_pieces start end s) restored.message restored.agrees)
 
+module _ {s : DecoderState} {start end : ℕ} {out : Shards} {items : Items}
+    (strip : IsStrip start end s.configuration.shard_bytes)
+    (restored : Restored (state_of_pieces start end s) out) (listing : Lists out items) where
   -- The listed items are the pieces of the missing shards of each message that agrees.
   items-cut : (message : List Shard) → IsAgreeing s message
       → shards_listed items ≡ pieces start end (missing_shards s message)
   items-cut message agrees =
       let k = s.configuration.original_count in
       let same : out ≡ (λ i. option_map (λ x. between start end x) (missing_of s message i)) =
-      fun_ext (restored-cut start end s message out strip agrees restored) in
-      ap shards_listed (lists-same (missing_of (state_of_pieces start end s) restored.message) items
-      (items_below k (missing_of (state_of_pieces start end s) restored.message))
-      (subst (λ (g : Shards). Lists g items) (fun_ext restored.missing) listing)
-      (missing-lists (state_of_pieces start end s) restored.message))
+      fun_ext (restored-cut strip agrees restored) in
+      items-are s start end restored listing
       ∙ ap (λ (g : Shards). shards_listed (items_below k g)) (sym (fun_ext restored.missing) ∙ same)
       ∙ listed-changed (λ x. between start end x) k 0 (missing_of s message)
 
   -- After the listed items are put into the rooms, one more strip is restored.
-  pub restored-further : (old new : List Shard) → ArePut start end (shards_listed items) old new
+  pub restored-further : {grows : Bool} {old new : List Shard} → ArePut start end (shards_listed items) old new
       → IsRestoredBelow s grows start old → IsRestoredBelow s grows end new
-  restored-further old new put before =
-      let c = s.configuration in
+  restored-further {grows} {old} {new} put before =
       let number = length-map items (λ item. item.1) in
-      let all = pieces-number in
-      let inside : All (λ x. start ≤ length x) old = (λ i d h.
-      let n = before.fit i d h in
-      let from = room-from grows start c.shard_bytes
-      (let le : start ≤ s.configuration.shard_bytes = omega (arith, strip.order, strip.inside) in le) in
-      omega (arith, n, from)) in
-      let as_many : length (shards_listed items) ≡ length old = omega (arith, number, all, before.number) in
+      let all = pieces-number s start end restored listing in
+      let p : AreStripPut grows s.configuration.shard_bytes start end (shards_listed items) old new = record {
+        strip = strip;
+        put = put;
+        number = omega (arith, number, all, before.number);
+        sized = pieces-sized s start end restored listing;
+        fit = before.fit;
+      } in
       let size : (i : ℕ) → i < length old → start + length (get_or (shards_listed items) i []) ≡ end = (λ i h.
-      let piece = pieces-sized i [] (omega (arith, number, all, before.number, h)) in omega (arith, piece, strip.order))
-      in
+      let piece = p.sized i [] (omega (arith, p.number, h)) in omega (arith, piece, strip.order)) in
       let at : (i : ℕ) → i < length old
       → take end (get_or new i []) ≡ take start (get_or old i []) ++ get_or (shards_listed items) i [] =
       (λ i h. ap₂ (λ (n : ℕ) (x : Shard). take n x) (sym (size i h)) (put.1 i h)
       ∙ take-joined start (get_or old i []) (get_or (shards_listed items) i []) (drop end (get_or old i []))
-      (inside i [] h)) in
+      (put-inside p i [] h)) in
       record {
         consistent = λ j inside. elim (cases_lt j (start / 2)) [
           | inl low ↦ before.consistent j low
           | inr high ↦ (start, end, strip, high, inside, (restored.message, restored.agrees))
         ];
         number = ap (λ (n : ℕ). n + originals_given s) put.0 ∙ before.number;
-        fit = λ i d h.
-            let here : i < length old = omega (arith, h, put.0) in
-            ap length (get_or_default new i d [] h)
-            ∙ put-length start end (shards_listed items) old new put strip.order inside as_many pieces-sized i here
-            ∙ ap (λ (n : ℕ). end + (n - end)) (before.fit i [] here)
-            ∙ room-further grows start end c.shard_bytes strip.order strip.inside;
+        fit = put-fit p;
         held = λ message agrees i h.
             let here : i < length old = omega (arith, h, put.0) in
             let n = missing-number s message in
@@ -251,17 +245,17 @@ module _ (s : DecoderState) (grows : Bool) (start end : ℕ) (out : Shards) (ite
       }
 
 -- After all strips are restored, the rooms hold the restored originals.
-pub restored-all : (s : DecoderState) (grows : Bool) (rooms : List Shard)
+pub restored-all : {s : DecoderState} {grows : Bool} {rooms : List Shard}
     → supports s.configuration.rate s.configuration.original_count s.configuration.recovery_count ≡ true
     → s.configuration.shard_bytes % 2 ≡ 0
     → AreWithin s.configuration.original_count s.configuration.shard_bytes s.originals
     → AreWithin s.configuration.recovery_count s.configuration.shard_bytes s.recovery
     → s.configuration.original_count ≤ originals_given s + recovery_given s
     → IsRestoredBelow s grows s.configuration.shard_bytes rooms → HoldRestored s rooms
-restored-all s grows rooms supported even own_within coded_within enough done =
+restored-all {s} {grows} {rooms} supported even own_within coded_within enough done =
     let c = s.configuration in
     let (message, agrees) =
-    consistent-whole s (given_within c s.originals s.recovery supported own_within coded_within) even done.consistent in
+    consistent-whole (given_within c s.originals s.recovery supported own_within coded_within) even done.consistent in
     let number = missing-number s message in
     let sized = missing-sized s message agrees in
     record {
@@ -281,14 +275,9 @@ restored-all s grows rooms supported even own_within coded_within enough done =
           ∙ take_all c.shard_bytes (get_or (missing_shards s message) i []) (omega (arith, long)));
     }
 
-module _ (s : DecoderState) (rooms : List Shard) (holds : HoldRestored s rooms) where
+module _ {s : DecoderState} {rooms : List Shard} (holds : HoldRestored s rooms) where
   held-are : rooms ≡ missing_shards s holds.restored.message
-  held-are =
-      holds.held
-      ∙ ap shards_listed (lists-same (missing_of s holds.restored.message) holds.items
-      (items_below s.configuration.original_count (missing_of s holds.restored.message))
-      (subst (λ (g : Shards). Lists g holds.items) (fun_ext holds.restored.missing) holds.listed)
-      (missing-lists s holds.restored.message))
+  held-are = holds.held ∙ listed-missing s holds.restored.message holds.restored.missing holds.listed
 
   -- Rooms that hold the restored originals are as many as originals are missing.
   pub held-number : length rooms + originals_given s ≡ s.configuration.original_count

@@ -33,10 +33,10 @@ in_line true k r i most hi =
 in_line false k r i most hi = record { follow = refl; inside = omega arith; few = omega arith }
 
 -- Two polynomials that code the same words are equal.
-pub codes_unique : (rate : Rate) (k r : ℕ) (words P Q : List ℕ) → k ≤ 65536 → Codes rate k r words P
+pub codes_unique : {rate : Rate} {k r : ℕ} {words P Q : List ℕ} → k ≤ 65536 → Codes rate k r words P
     → Codes rate k r words Q → P ≡ Q
 unfolding frame_of
-codes_unique rate k r words P Q most p q =
+codes_unique {rate} {k} {r} {P} {Q} most p q =
     same_from_values (degree_bound (frame_of rate k r)) P Q p.degree q.degree (words_from P p.coefficients)
     (words_from Q q.coefficients)
     (λ i. original_row (frame_of rate k r) i)
@@ -55,13 +55,13 @@ recovery_words-unique : (rate : Rate) (k r : ℕ) (words a b : List ℕ) → k �
     → (i : ℕ) → i < r → slice_index a i ≡ slice_index b i
 recovery_words-unique rate k r words a b most (p, codes_p, at_p) (o, codes_o, at_o) i below =
     at_p i below ∙ ap (λ (q : List ℕ). value q (recovery_row (frame_of rate k r) i))
-    (codes_unique rate k r words p o most codes_p codes_o) ∙ sym (at_o i below)
+    (codes_unique most codes_p codes_o) ∙ sym (at_o i below)
 
 -- Two lists of recovery shards of one message are equal.
-pub recovery_unique : (c : Configuration) (message a b : List Shard) → c.original_count ≤ 65536 → c.shard_bytes % 2 ≡ 0
+pub recovery_unique : {c : Configuration} {message a b : List Shard} → c.original_count ≤ 65536 → c.shard_bytes % 2 ≡ 0
     → AreRecovery c message a → AreRecovery c message b → a ≡ b
-recovery_unique c message a b most even ha hb =
-    shards_from_columns c.recovery_count c.shard_bytes a b ha.shards hb.shards even
+recovery_unique {c} {message} {a} {b} most even ha hb =
+    shards_from_columns ha.shards hb.shards even
     (λ i j below hj. recovery_words-unique c.rate c.original_count c.recovery_count (columns j message) (columns j a)
     (columns j b) most (ha.words j hj) (hb.words j hj) i below)
 

@@ -111,8 +111,8 @@ module _ (f a b g : ℕ → ℕ) where
       )
 
 -- A polynomial with one coefficient is a constant, and its derivative is zero.
-pub derivative_one : {size : ℕ} (f : ℕ → ℕ) → size ≤ 1 → (d : ℕ) × (size ≡ 2 ^ d) → IsDerivativeAdded size f f
-derivative_one f small power p len words at x hx =
+pub derivative_one : {size : ℕ} (f : ℕ → ℕ) → size ≤ 1 → IsDerivativeAdded size f f
+derivative_one f small p len words at x hx =
     at x hx ∙ sym (ap (bit_xor (value p x)) (constant p (omega arith)) ∙ xor_zero_r (value p x))
   where
     constant : (p : List ℕ) → length p ≤ 1 → derivative_value p x ≡ 0

@@ -24,9 +24,9 @@ pub record IsBlock (skew : List ℕ) (size shift : ℕ) : Type 0 where
   pub points : shift + size ≤ 65536
 
 -- Both halves of a block of more than two rows are blocks.
-block_halves : (skew : List ℕ) (n shift : ℕ) → IsBlock skew (n + n) shift → 1 < n → IsBlock skew n shift
+block_halves : {skew : List ℕ} (n : ℕ) {shift : ℕ} → IsBlock skew (n + n) shift → 1 < n → IsBlock skew n shift
     × IsBlock skew n (shift + n)
-block_halves skew n shift b large =
+block_halves n {shift} b large =
     let p = half_power (n + n) b.large b.power in
     let half : n ≡ 2 ^ p.0 = omega (arith, p.2) in
     let s = shift_half (n + n) p.0 shift p.1 b.aligned in (
@@ -56,38 +56,34 @@ pub record IsLayer (skew : List ℕ) (half shift : ℕ) (f g : ℕ → ℕ) : Ty
   pub first : (q : ℕ) → q < half → g q ≡ bit_xor (f q) (times_factor (factor skew half shift) (f (half + q)))
   pub second : (q : ℕ) → q < half → g (half + q) ≡ bit_xor (f (half + q)) (g q)
 
-made : (skew : List ℕ) (n e shift : ℕ) (f g : ℕ → ℕ) → IsBlock skew (n + n) shift → n + n ≡ 2 ^ suc e → n ≡ 2 ^ e
+made : {skew : List ℕ} {n : ℕ} (e : ℕ) {shift : ℕ} {f g : ℕ → ℕ} → IsBlock skew (n + n) shift → n ≡ 2 ^ e
     → IsLayer skew n shift f g
     → (q : ℕ) → q < 2 ^ e → g q ≡ bit_xor (f q) (product (f (2 ^ e + q)) (subspace e shift))
-made skew n e shift f g b is half l q hq = grind (arith, common_steps, table_factor)
+made e b half l q hq = grind (arith, common_steps, table_factor)
 
--- Transforming the first half of the words after one layer gives the first half of the transform of the whole.
-layer_low : (skew : List ℕ) (n shift i : ℕ) (f g : ℕ → ℕ) → IsBlock skew (n + n) shift → i < n
-    → IsLayer skew n shift f g
-    → forward n shift g i ≡ forward (n + n) shift f i
-layer_low skew n shift i f g b hi l =
-    let (e, is, part) = half_power (n + n) b.large b.power in
-    let half : n ≡ 2 ^ e = omega (arith, part) in
-    ap (λ m. forward m shift g i) half
-    ∙ lower_half e shift f g i (few_halves (n + n) e shift is b.points) (subst (λ (m : ℕ). shift % m ≡ 0) is b.aligned)
-    (subst (λ (m : ℕ). shift + m ≤ 65536) is b.points) (subst (λ (m : ℕ). i < m) half hi)
-    (made skew n e shift f g b is half l)
-    ∙ ap (λ m. forward m shift f i) (sym is)
+module _ {skew : List ℕ} {n shift : ℕ} (i : ℕ) {f g : ℕ → ℕ} (b : IsBlock skew (n + n) shift) (hi : i < n)
+    (l : IsLayer skew n shift f g) where
+  -- Transforming the first half of the words after one layer gives the first half of the transform of the whole.
+  layer_low : forward n shift g i ≡ forward (n + n) shift f i
+  layer_low =
+      let (e, is, part) = half_power (n + n) b.large b.power in
+      let half : n ≡ 2 ^ e = omega (arith, part) in
+      ap (λ m. forward m shift g i) half
+      ∙ lower_half e shift (few_halves (n + n) e shift is b.points) (subst (λ (m : ℕ). shift % m ≡ 0) is b.aligned)
+      (subst (λ (m : ℕ). shift + m ≤ 65536) is b.points) f g i (subst (λ (m : ℕ). i < m) half hi) (made e b half l)
+      ∙ ap (λ m. forward m shift f i) (sym is)
 
--- Transforming the second half of the words after one layer gives the second half of the transform of the whole.
-layer_high : (skew : List ℕ) (n shift i : ℕ) (f g : ℕ → ℕ) → IsBlock skew (n + n) shift → i < n
-    → IsLayer skew n shift f g
-    → forward n (shift + n) (λ q. g (n + q)) i ≡ forward (n + n) shift f (n + i)
-layer_high skew n shift i f g b hi l =
-    let (e, is, part) = half_power (n + n) b.large b.power in
-    let half : n ≡ 2 ^ e = omega (arith, part) in
-    ap (λ m. forward m (shift + m) (λ q. g (n + q)) i) half
-    ∙ upper_half e shift f g (λ q. g (n + q)) i (few_halves (n + n) e shift is b.points)
-    (subst (λ (m : ℕ). shift % m ≡ 0) is b.aligned)
-    (subst (λ (m : ℕ). shift + m ≤ 65536) is b.points) (subst (λ (m : ℕ). i < m) half hi)
-    (made skew n e shift f g b is half l)
-    (λ q hq. l.second q (subst (λ (m : ℕ). q < m) (sym half) hq) ∙ ap (λ m. bit_xor (f (m + q)) (g q)) half)
-    ∙ ap₂ (λ m o. forward m shift f (o + i)) (sym is) (sym half)
+  -- Transforming the second half of the words after one layer gives the second half of the transform of the whole.
+  layer_high : forward n (shift + n) (λ q. g (n + q)) i ≡ forward (n + n) shift f (n + i)
+  layer_high =
+      let (e, is, part) = half_power (n + n) b.large b.power in
+      let half : n ≡ 2 ^ e = omega (arith, part) in
+      ap (λ m. forward m (shift + m) (λ q. g (n + q)) i) half
+      ∙ upper_half e shift (few_halves (n + n) e shift is b.points) (subst (λ (m : ℕ). shift % m ≡ 0) is b.aligned)
+      (subst (λ (m : ℕ). shift + m ≤ 65536) is b.points) f g i (subst (λ (m : ℕ). i < m) half hi) (made e b half l)
+      (λ q. g (n + q))
+      (λ q hq. l.second q (subst (λ (m : ℕ). q < m) (sym half) hq) ∙ ap (λ m. bit_xor (f (m + q)) (g q)) half)
+      ∙ ap₂ (λ m o. forward m shift f (o + i)) (sym is) (sym half)
 
 -- The transform of part j, with another name for the place where the part begins.
 as_part : (size n shift j i to at : ℕ) (f g : ℕ → ℕ) (place : ℕ → ℕ) → shift + j * n ≡ to → j * n + i ≡ at
@@ -97,43 +93,38 @@ as_part : (size n shift j i to at : ℕ) (f g : ℕ → ℕ) (place : ℕ → �
 as_part size n shift j i to at f g place e is same r = search (rules, forward-same)
 
 -- One layer leaves two parts of the transform.
-pub one_layer : (skew : List ℕ) (n shift : ℕ) (f g : ℕ → ℕ) → IsBlock skew (n + n) shift → IsLayer skew n shift f g
+pub one_layer : {skew : List ℕ} {n shift : ℕ} {f g : ℕ → ℕ} → IsBlock skew (n + n) shift → IsLayer skew n shift f g
     → ArePartsOf (n + n) n shift f g
-one_layer skew n shift f g b l zero i hj hi =
-    as_part (n + n) n shift 0 i shift i f g (λ q. q) (omega arith) (omega arith) (λ q. omega arith)
-    (layer_low skew n shift i f g b hi l)
-one_layer skew n shift f g b l (suc zero) i hj hi =
+one_layer {n} {shift} {f} {g} b l zero i hj hi =
+    as_part (n + n) n shift 0 i shift i f g (λ q. q) (omega arith) (omega arith) (λ q. omega arith) (layer_low i b hi l)
+one_layer {n} {shift} {f} {g} b l (suc zero) i hj hi =
     as_part (n + n) n shift 1 i (shift + n) (n + i) f g (λ q. n + q) (omega arith) (omega arith) (λ q. omega arith)
-    (layer_high skew n shift i f g b hi l)
-one_layer skew n shift f g b l (suc (suc j)) i hj hi = let le : 2 * n ≤ suc (suc j) * n =
+    (layer_high i b hi l)
+one_layer {n} b l (suc (suc j)) i hj hi = let le : 2 * n ≤ suc (suc j) * n =
     mul-le-mul_right n (omega arith) in absurd (omega arith)
 
 -- Two layers leave four parts of the transform.
-pub two_layers : (skew : List ℕ) (n shift : ℕ) (f g h : ℕ → ℕ) → IsBlock skew (n + n + (n + n)) shift
+pub two_layers : {skew : List ℕ} {n shift : ℕ} {f g h : ℕ → ℕ} → IsBlock skew (n + n + (n + n)) shift
     → IsLayer skew (n + n) shift f g
     → IsLayer skew n shift g h → IsLayer skew n (shift + (n + n)) (λ q. g (n + n + q)) (λ q. h (n + n + q))
     → ArePartsOf (n + n + (n + n)) n shift f h
-two_layers skew n shift f g h b l low high = parts (block_halves skew (n + n) shift b (omega (arith, b.large)))
+two_layers {skew} {n} {shift} {f} {h} b l low high = parts (block_halves (n + n) b (omega (arith, b.large)))
   where
     parts : IsBlock skew (n + n) shift × IsBlock skew (n + n) (shift + (n + n))
         → ArePartsOf (n + n + (n + n)) n shift f h
     parts b2 zero i hj hi =
         as_part (n + n + (n + n)) n shift 0 i shift i f h (λ q. q) (omega arith) (omega arith) (λ q. omega arith)
-        (layer_low skew n shift i g h b2.0 hi low ∙ layer_low skew (n + n) shift i f g b (omega arith) l)
+        (layer_low i b2.0 hi low ∙ layer_low i b (omega arith) l)
     parts b2 (suc zero) i hj hi =
         as_part (n + n + (n + n)) n shift 1 i (shift + n) (n + i) f h (λ q. n + q) (omega arith) (omega arith)
-        (λ q. omega arith)
-        (layer_high skew n shift i g h b2.0 hi low ∙ layer_low skew (n + n) shift (n + i) f g b (omega arith) l)
+        (λ q. omega arith) (layer_high i b2.0 hi low ∙ layer_low (n + i) b (omega arith) l)
     parts b2 (suc (suc zero)) i hj hi =
         as_part (n + n + (n + n)) n shift 2 i (shift + (n + n)) (n + n + i) f h (λ q. n + n + q) (omega arith)
-        (omega arith) (λ q. omega arith)
-        (layer_low skew n (shift + (n + n)) i (λ q. g (n + n + q)) (λ q. h (n + n + q)) b2.1 hi high
-        ∙ layer_high skew (n + n) shift i f g b (omega arith) l)
+        (omega arith) (λ q. omega arith) (layer_low i b2.1 hi high ∙ layer_high i b (omega arith) l)
     parts b2 (suc (suc (suc zero))) i hj hi =
         as_part (n + n + (n + n)) n shift 3 i (shift + (n + n) + n) (n + n + (n + i)) f h (λ q. n + n + (n + q))
-        (omega arith) (omega arith) (λ q. omega arith)
-        (layer_high skew n (shift + (n + n)) i (λ q. g (n + n + q)) (λ q. h (n + n + q)) b2.1 hi high
-        ∙ layer_high skew (n + n) shift (n + i) f g b (omega arith) l)
+        (omega arith) (omega arith) (λ q. omega arith) (layer_high i b2.1 hi high
+        ∙ layer_high (n + i) b (omega arith) l)
     parts b2 (suc (suc (suc (suc j)))) i hj hi = let le : 4 * n ≤ suc (suc (suc (suc j))) * n =
         mul-le-mul_right n (omega arith) in absurd (omega arith)
 
@@ -161,13 +152,12 @@ at_quarters related n f h =
     (h (n + n + (n + q)))
 
 -- Forward butterflies of four words leave the four parts of the transform of a block.
-pub forward_parts : (skew : List ℕ) (n shift : ℕ) (f h : ℕ → ℕ) → IsBlock skew (n + n + (n + n)) shift
+pub forward_parts : {skew : List ℕ} (n : ℕ) {shift : ℕ} (f h : ℕ → ℕ) → IsBlock skew (n + n + (n + n)) shift
     → at_quarters (IsForwardFour (factor skew (n + n) shift) (factor skew n shift) (factor skew n (shift + (n + n)))) n
     f h
     → ArePartsOf (n + n + (n + n)) n shift f h
-forward_parts skew n shift f h b four =
-    two_layers skew n shift f g h b
-    (record {
+forward_parts {skew} n {shift} f h b four =
+    two_layers b (record {
       first = λ q hq. between_first m (n + n) f q hq;
       second = λ q hq. between_second m (n + n) f q
           ∙ ap (bit_xor (f (n + n + q))) (sym (between_first m (n + n) f q hq));
@@ -237,8 +227,7 @@ pub four_rows : (skew : List ℕ) (n shift pos : ℕ) (f g : ℕ → ℕ) → Is
     → ArePartsOf (4 * n) n shift (λ q. f (pos + q)) (λ q. g (pos + q))
 four_rows skew n shift pos f g b four =
     subst (λ (m : ℕ). ArePartsOf m n shift (λ q. f (pos + q)) (λ q. g (pos + q))) (sym whole)
-    (forward_parts skew n shift (λ q. f (pos + q)) (λ q. g (pos + q))
-    (subst (λ (m : ℕ). IsBlock skew m shift) whole b) placed)
+    (forward_parts n (λ q. f (pos + q)) (λ q. g (pos + q)) (subst (λ (m : ℕ). IsBlock skew m shift) whole b) placed)
   where
     whole : 4 * n ≡ n + n + (n + n)
     whole = omega arith

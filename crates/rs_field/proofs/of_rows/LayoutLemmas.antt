@@ -1,8 +1,8 @@
 -- The places of the bytes of a shard in a row, and the proof that the columns of the shard are the symbols of the row's
 -- chunks.
 use Rattle.std.proofs.Common.{rules, ◌≡◌, ℕ, zero, suc, ◌+◌, ◌-◌, ◌*◌, ◌/◌, ◌%◌, ◌<◌, ◌≤◌, List, [], ◌∷◌, length}
-use Rattle.std.proofs.Common.{get_or, min}
-use Rattle.std.proofs.Common.{take, drop, All, sym, ap, ap₂, ◌∙◌, refl, subst, arith, inl, inr, length-append}
+use Rattle.std.proofs.Common.{get_or, min, take, drop, All, sym, ap, ap₂, ◌∙◌, refl, subst, arith, inl, inr}
+use Rattle.std.proofs.Common.{length-append}
 use Rattle.std.specs.Prelude.{slice_index}
 use Rattle.std.specs.Simd.{first_chunks}
 use Rattle.std.proofs.Math.Nat.{min-eq_left, min-eq_right}
@@ -79,38 +79,32 @@ byte_offset_lt : (size b : ℕ) → b < size → byte_offset size b < 64
 byte_offset_lt size b h =
     grind (arith, common_steps, cases_lt, byte_offset-whole, byte_offset-tail_low, byte_offset-tail_high)
 
-pub bytes-laid_out : (size : ℕ) (chunks : ℕ → List ℕ)
-    → ((k b : ℕ) → k < row_len size → b < 64 → slice_index (chunks k) b < 256)
-    → All (λ b. b < 256) (laid_out size chunks)
-unfolding laid_out
-bytes-laid_out size chunks small i d h =
-    grind (arith, common_steps, length-laid_out, get-up_to, chunk_of, byte_offset_lt)
+module _ (size : ℕ) (chunks : ℕ → List ℕ)
+    (small : (k b : ℕ) → k < row_len size → b < 64 → slice_index (chunks k) b < 256) where
+  bytes-laid_out : All (λ b. b < 256) (laid_out size chunks)
+  unfolding laid_out
+  bytes-laid_out i d h = grind (arith, common_steps, length-laid_out, get-up_to, chunk_of, byte_offset_lt)
 
-pub shard-laid_out : (size : ℕ) (chunks : ℕ → List ℕ)
-    → ((k b : ℕ) → k < row_len size → b < 64 → slice_index (chunks k) b < 256)
-    → IsShard size (laid_out size chunks)
-shard-laid_out size chunks small =
-    record { length_is = length-laid_out size chunks; bytes = bytes-laid_out size chunks small }
+  pub shard-laid_out : IsShard size (laid_out size chunks)
+  shard-laid_out = record { length_is = length-laid_out size chunks; bytes = bytes-laid_out }
 
--- A shard whose tail was moved is a shard of the size.
-pub shard-in_order : (size : ℕ) (chunks : ℕ → List ℕ)
-    → ((k b : ℕ) → k < row_len size → b < 64 → slice_index (chunks k) b < 256)
-    → IsShard size (in_order size chunks)
-unfolding in_order
-shard-in_order size chunks small = grind (arith, common_steps, length-in_order, get-up_to, chunk_of)
+  -- A shard whose tail was moved is a shard of the size.
+  pub shard-in_order : IsShard size (in_order size chunks)
+  unfolding in_order
+  shard-in_order = grind (arith, common_steps, length-in_order, get-up_to, chunk_of)
 
 -- Word i of chunk q has its low byte in the first half and its high byte in the second half.
-word-laid_out : (size q i half : ℕ) (chunks : ℕ → List ℕ) → min 64 (size - q * 64) / 2 ≡ half → i < half → half ≤ 32
+word-laid_out : (size q i half : ℕ) (chunks : ℕ → List ℕ) → min 64 (size - q * 64) / 2 ≡ half → i < half
     → q * 64 + 2 * half ≤ size
     → slice_index (laid_out size chunks) (q * 64 + i) + 256 * slice_index (laid_out size chunks) (q * 64 + i + half)
     ≡ symbol (chunks q) i
-word-laid_out size q i half chunks e low most fits = search (rules, byte_offset-low, byte_offset-high, get-laid_out)
+word-laid_out size q i half chunks e low fits = search (rules, byte_offset-low, byte_offset-high, get-laid_out)
 
 -- Column j of the shard is a symbol of a chunk of the row.
-pub column-laid_out : (size j : ℕ) (chunks : ℕ → List ℕ) → size % 2 ≡ 0 → j < size / 2
+pub column-laid_out : (size j : ℕ) (chunks : ℕ → List ℕ) → j < size / 2
     → column j (laid_out size chunks) ≡ symbol (chunks (j / 32)) (j % 32)
 unfolding column
-column-laid_out size j chunks even h =
+column-laid_out size j chunks h =
     grind (arith, common_steps, length-laid_out, word-laid_out, cases_lt, min-eq_right, min-eq_left)
 
 -- If the whole chunks of a row are those of the shard, and the last chunk holds the halves of the tail, the row holds
@@ -148,14 +142,14 @@ laid_out-is size chunks s len even whole low high =
         ]
 
 -- Moving the second half of the tail puts the bytes in order.
-pub in_order-is : (size : ℕ) (new old : ℕ → List ℕ) → size % 2 ≡ 0
+pub in_order-is : (size : ℕ) {new old : ℕ → List ℕ} → size % 2 ≡ 0
     → ((k : ℕ) → k < size / 64 → new k ≡ old k)
     → ((b : ℕ) → b < size % 64 / 2 → slice_index (new (size / 64)) b ≡ slice_index (old (size / 64)) b)
     → ((b : ℕ) → b < size % 64 / 2
     → slice_index (new (size / 64)) (size % 64 / 2 + b) ≡ slice_index (old (size / 64)) (32 + b))
     → in_order size new ≡ laid_out size old
 unfolding in_order laid_out
-in_order-is size new old even whole low high = up_to-same size _ _ byte
+in_order-is size {new} {old} even whole low high = up_to-same size _ _ byte
   where
     byte : (b : ℕ) → b < size → slice_index (new (b / 64)) (b % 64) ≡ slice_index (old (b / 64)) (byte_offset size b)
     byte b h =

@@ -58,7 +58,7 @@ parts_begun = grind (arith, common_steps)
 module _ {direction : Direction} {used : ℕ → Bool} {block : Block} {n j : ℕ} {old mid : ShardsRefMut}
     (p : IsPart block.size n) (begins : j * n < block.size) (done : PartsDone direction used block n j old mid) where
   inside : j * n + n ≤ block.size
-  inside = part_within block.size n j p begins
+  inside = part_within j p begins
 
   -- If the next part is transformed and no other row is changed, one more part is done.
   pub parts_next : {used' : ℕ → Bool} {new : ShardsRefMut} → SameExtent mid new
@@ -117,7 +117,7 @@ pub zeros_of_part : (direction : Direction) (used part : UsedRows) {block : Bloc
 zeros_of_part Direction.Forward used part p begins done same zeros = omega arith
 zeros_of_part Direction.Backward used part {block} {n} {j} {old} {mid} p begins done same zeros = λ i k hk hi unused.
     let hk' : k < old.shard_len_64 = omega (arith, done.extent.len_64) in
-    let fits : j * n + i < block.size = omega (arith, part_within block.size n j p begins) in
+    let fits : j * n + i < block.size = omega (arith, part_within j p begins) in
     let at : block.pos + (j * n + i) ≡ block.pos + j * n + i = omega arith in
     subst (λ r. cell mid k r ≡ replicate 64 0) at
     (done.rest k (j * n + i) hk' (omega arith) fits ∙ zeros (j * n + i) k hk' fits (sym (same i hi) ∙ unused))
@@ -129,12 +129,13 @@ part_before size n m j all within = grind (arith, common_steps, cases_lt, mul-le
 -- ---- the parts that the layers leave
 
 -- If the layers leave parts of the whole, transforms of the parts are the transform of the whole.
-joined : (size n shift i : ℕ) (values parts whole : ℕ → ℕ) → IsPart size n → ArePartsOf size n shift whole parts
+joined : {size n : ℕ} (shift i : ℕ) (values parts whole : ℕ → ℕ) → IsPart size n
+    → ArePartsOf size n shift whole parts
     → i < size
     → ((m r : ℕ) → m * n < size → r < n → m * n + r ≡ i
     → values (m * n + r) ≡ forward n (shift + m * n) (λ q. parts (m * n + q)) r)
     → values i ≡ forward size shift whole i
-joined size n shift i values parts whole p layers hi done =
+joined {size} {n} shift i values parts whole p layers hi done =
     let m : ℕ = i / n in
     let r : ℕ = i % n in
     let low : r < n = mod-lt i p.positive in
@@ -149,14 +150,14 @@ module _ {size n : ℕ} (shift : ℕ) (used : ℕ → Bool) (old mid new : ℕ �
       (λ q. new (m * n + q)))
       → AreTransformed Direction.Forward used size shift old new
   forward_whole layers done =
-      λ i hi is. joined size n shift i new mid old p layers hi (λ m r hm hr e. done m hm r hr (ap used e ∙ is))
+      λ i hi is. joined shift i new mid old p layers hi (λ m r hm hr e. done m hm r hr (ap used e ∙ is))
 
   pub backward_whole : ArePartsOf size n shift new mid
       → ((m : ℕ) → m * n < size
       → AreTransformed Direction.Backward (λ i. used (m * n + i)) n (shift + m * n) (λ q. old (m * n + q))
       (λ q. mid (m * n + q)))
       → AreTransformed Direction.Backward used size shift old new
-  backward_whole layers done = λ i hi. joined size n shift i old mid new p layers hi (λ m r hm hr e. done m hm r hr)
+  backward_whole layers done = λ i hi. joined shift i old mid new p layers hi (λ m r hm hr e. done m hm r hr)
 
 -- ---- blocks with nothing to do
 
@@ -210,7 +211,7 @@ pub counts_of_layers : (block : Block) {from to : Steps} → 1 < block.size → 
     → TransformCounts block.size from to
 counts_of_layers block {from} {to} large c =
     let size = block.size in
-    let whole = (part_found block (rows_of_part size) refl large).steps in
+    let whole = (part_found block refl large).steps in
     counts_within (omega arith) (counts_rows c)
 
 -- Transforming one more part adds the bound of one part.

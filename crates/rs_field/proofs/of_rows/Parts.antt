@@ -58,8 +58,8 @@ block_quarters block large more =
     (quarter_power block.size (omega (arith, large, ne)) (block_power block)).3
 
 -- The number of rows of a part of a block of more than one row satisfies `IsPart`.
-pub part_found : (block : Block) (n : ℕ) → n ≡ rows_of_part block.size → 1 < block.size → IsPart block.size n
-part_found block n is large =
+pub part_found : (block : Block) {n : ℕ} → n ≡ rows_of_part block.size → 1 < block.size → IsPart block.size n
+part_found block is large =
     let size = block.size in
     let points = block.points in
     elim (cases_Bool (is_halved size)) [
@@ -101,8 +101,8 @@ part_found block n is large =
     ]
 
 -- Part j of a block is inside the block.
-pub part_within : (size n j : ℕ) → IsPart size n → j * n < size → j * n + n ≤ size
-part_within size n j p within =
+pub part_within : {size n : ℕ} (j : ℕ) → IsPart size n → j * n < size → j * n + n ≤ size
+part_within {n} j p within =
     elim (cases_lt j p.count) [
       | inl before ↦ let next : j + 1 ≤ p.count = omega arith in let le : (j + 1) * n ≤ p.count * n =
           mul-le-mul_right n next in let w = p.whole in omega arith
@@ -111,21 +111,21 @@ part_within size n j p within =
     ]
 
 -- Part j of a block begins at a multiple of its rows.
-pub part_aligned : (size n shift j : ℕ) → IsPart size n → shift % size ≡ 0 → (shift + j * n) % n ≡ 0
-part_aligned size n shift j p aligned =
+pub part_aligned : {size n : ℕ} (shift j : ℕ) → IsPart size n → shift % size ≡ 0 → (shift + j * n) % n ≡ 0
+part_aligned {size} {n} shift j p aligned =
     add-mul-mod_self_right shift j n ∙ ap (λ v. v % n) (aligned_parts size p.count n shift p.whole aligned)
     ∙ mul-mod_left (shift / size * p.count) n
 
 -- ---- the parts one by one
 
 -- The number of parts of a block is the size divided by the rows of a part.
-pub parts_number : (size n : ℕ) (p : IsPart size n) → size / n ≡ p.count
-parts_number size n p = ap (λ v. v / n) p.whole ∙ mul-div_cancel p.count p.positive
+pub parts_number : {size n : ℕ} (p : IsPart size n) → size / n ≡ p.count
+parts_number {n} p = ap (λ v. v / n) p.whole ∙ mul-div_cancel p.count p.positive
 
 -- Each part begins inside the block.
-pub part_begins : (size n j : ℕ) → IsPart size n → j < size / n → j * n < size
-part_begins size n j p h = grind (arith, common_steps)
+pub part_begins : {size n : ℕ} (j : ℕ) → IsPart size n → j < size / n → j * n < size
+part_begins j p h = grind (arith, common_steps)
 
 -- All parts together are the whole block.
-pub parts_whole : (size n j : ℕ) → IsPart size n → j ≡ size / n → j * n ≡ size
-parts_whole size n j p is = ap (λ v. v * n) (is ∙ parts_number size n p) ∙ sym p.whole
+pub parts_whole : {size n : ℕ} (j : ℕ) → IsPart size n → j ≡ size / n → j * n ≡ size
+parts_whole {n} j p is = ap (λ v. v * n) (is ∙ parts_number p) ∙ sym p.whole

@@ -47,65 +47,60 @@ pub zero-part : (bytes : List ℕ) (a n : ℕ) → a + n ≤ length bytes → Ze
 zero-part bytes a n within zeros i h =
     let lt : i < n = subst (λ m. i < m) (part-length bytes a n within) h in part-at bytes a n i lt ∙ zeros i lt
 
-byte-of : (size : ℕ) (row : Chunks) (bytes : List ℕ) → IsRow size row bytes → (q b : ℕ) → b < 64 → q < row_len size
-    → slice_index (chunk row q) b ≡ slice_index bytes (q * 64 + b)
-byte-of size row bytes is q b low within = grind (arith, common_steps, get-flat)
+module _ {size : ℕ} {row : Chunks} {bytes : List ℕ} (is : IsRow size row bytes) where
+  byte-of : (q b : ℕ) → b < 64 → slice_index (chunk row q) b ≡ slice_index bytes (q * 64 + b)
+  byte-of q b low = grind (arith, common_steps, get-flat)
 
--- A symbol is made of its low and its high byte.
-symbol-bytes : (size : ℕ) (row : Chunks) (bytes : List ℕ) → IsRow size row bytes → (q i : ℕ) → i < 32 → q < row_len size
-    → symbol (chunk row q) i ≡ slice_index bytes (q * 64 + i) + 256 * slice_index bytes (q * 64 + (i + 32))
-symbol-bytes size row bytes is q i low within =
-    ap₂ (λ u v. u + 256 * v) (byte-of size row bytes is q i (omega arith) within)
-    (byte-of size row bytes is q (i + 32) (omega arith) within)
+  -- A symbol is made of its low and its high byte.
+  symbol-bytes : (q i : ℕ) → i < 32
+      → symbol (chunk row q) i ≡ slice_index bytes (q * 64 + i) + 256 * slice_index bytes (q * 64 + (i + 32))
+  symbol-bytes q i low = ap₂ (λ u v. u + 256 * v) (byte-of q i (omega arith)) (byte-of q (i + 32) (omega arith))
 
-pub zero_columns : (size : ℕ) (row : Chunks) (bytes : List ℕ) → IsRow size row bytes
-    → ZeroFrom bytes 0 (tail size + half size) → ZeroFrom bytes (tail size + 32) (half size)
-    → HasZeroColumns size (λ k. chunk row k)
-zero_columns size row bytes is first second j h =
-    symbol-bytes size row bytes is (j / 32) (j % 32) (omega arith) (omega arith)
-    ∙ ap₂ (λ u v. u + 256 * v) (before (j / 32 * 64 + j % 32) (omega arith)) high
-  where
-    before : (b : ℕ) → b < tail size + half size → slice_index bytes b ≡ 0
-    before b g = let at : b ≡ 0 + b = omega arith in ap (slice_index bytes) at ∙ first b g
+  pub zero_columns : ZeroFrom bytes 0 (tail size + half size) → ZeroFrom bytes (tail size + 32) (half size)
+      → HasZeroColumns size (λ k. chunk row k)
+  zero_columns first second j h =
+      symbol-bytes (j / 32) (j % 32) (omega arith)
+      ∙ ap₂ (λ u v. u + 256 * v) (before (j / 32 * 64 + j % 32) (omega arith)) high
+    where
+      before : (b : ℕ) → b < tail size + half size → slice_index bytes b ≡ 0
+      before b g = let at : b ≡ 0 + b = omega arith in ap (slice_index bytes) at ∙ first b g
 
-    high : slice_index bytes (j / 32 * 64 + (j % 32 + 32)) ≡ 0
-    high =
-        elim (cases_lt (j / 32) (size / 64)) [
-          | inl whole ↦ before (j / 32 * 64 + (j % 32 + 32)) (omega arith)
-          | inr last ↦
-              let at : j / 32 * 64 + (j % 32 + 32) ≡ size / 64 * 64 + 32 + j % 32 = omega arith in
-              ap (slice_index bytes) at ∙ second (j % 32) (omega arith)
-        ]
+      high : slice_index bytes (j / 32 * 64 + (j % 32 + 32)) ≡ 0
+      high =
+          elim (cases_lt (j / 32) (size / 64)) [
+            | inl whole ↦ before (j / 32 * 64 + (j % 32 + 32)) (omega arith)
+            | inr last ↦
+                let at : j / 32 * 64 + (j % 32 + 32) ≡ size / 64 * 64 + 32 + j % 32 = omega arith in
+                ap (slice_index bytes) at ∙ second (j % 32) (omega arith)
+          ]
 
--- If the columns are zero, both bytes of each symbol are zero.
-zero-bytes : (size : ℕ) (row : Chunks) (bytes : List ℕ) → IsRow size row bytes → HasZeroColumns size (λ k. chunk row k)
-    → (q i : ℕ) → i < 32 → q * 32 + i < size / 2 → (slice_index bytes (q * 64 + i) ≡ 0)
-    × (slice_index bytes (q * 64 + (i + 32)) ≡ 0)
-zero-bytes size row bytes is zeros q i low within =
-    let k : (q * 32 + i) / 32 ≡ q = omega arith in
-    let s : (q * 32 + i) % 32 ≡ i = omega arith in
-    let word : symbol (chunk row q) i ≡ 0 = sym (ap₂ (λ n m. symbol (chunk row n) m) k s) ∙ zeros (q * 32 + i) within in
-    let sum : slice_index bytes (q * 64 + i) + 256 * slice_index bytes (q * 64 + (i + 32)) ≡ 0
-    = sym (symbol-bytes size row bytes is q i low (omega arith)) ∙ word in
-    (omega arith, omega arith)
+  -- If the columns are zero, both bytes of each symbol are zero.
+  zero-bytes : HasZeroColumns size (λ k. chunk row k)
+      → (q i : ℕ) → i < 32 → q * 32 + i < size / 2 → (slice_index bytes (q * 64 + i) ≡ 0)
+      × (slice_index bytes (q * 64 + (i + 32)) ≡ 0)
+  zero-bytes zeros q i low within =
+      let k : (q * 32 + i) / 32 ≡ q = omega arith in
+      let s : (q * 32 + i) % 32 ≡ i = omega arith in
+      let word : symbol (chunk row q) i ≡ 0 = sym (ap₂ (λ n m. symbol (chunk row n) m) k s)
+      ∙ zeros (q * 32 + i) within in
+      let sum : slice_index bytes (q * 64 + i) + 256 * slice_index bytes (q * 64 + (i + 32)) ≡ 0
+      = sym (symbol-bytes q i low) ∙ word in
+      (omega arith, omega arith)
 
-pub zero-first : (size : ℕ) (row : Chunks) (bytes : List ℕ) → IsRow size row bytes
-    → HasZeroColumns size (λ k. chunk row k)
-    → ZeroFrom bytes 0 (tail size + half size)
-zero-first size row bytes is zeros b h =
-    elim (cases_lt (b % 64) 32) [
-      | inl low ↦
-          let at : 0 + b ≡ b / 64 * 64 + b % 64 = omega arith in
-          ap (slice_index bytes) at ∙ (zero-bytes size row bytes is zeros (b / 64) (b % 64) low (omega arith)).0
-      | inr high ↦
-          let at : 0 + b ≡ b / 64 * 64 + (b % 64 - 32 + 32) = omega arith in
-          ap (slice_index bytes) at
-          ∙ (zero-bytes size row bytes is zeros (b / 64) (b % 64 - 32) (omega arith) (omega arith)).1
-    ]
+  pub zero-first : HasZeroColumns size (λ k. chunk row k)
+      → ZeroFrom bytes 0 (tail size + half size)
+  zero-first zeros b h =
+      elim (cases_lt (b % 64) 32) [
+        | inl low ↦
+            let at : 0 + b ≡ b / 64 * 64 + b % 64 = omega arith in
+            ap (slice_index bytes) at ∙ (zero-bytes zeros (b / 64) (b % 64) low (omega arith)).0
+        | inr high ↦
+            let at : 0 + b ≡ b / 64 * 64 + (b % 64 - 32 + 32) = omega arith in
+            ap (slice_index bytes) at ∙ (zero-bytes zeros (b / 64) (b % 64 - 32) (omega arith) (omega arith)).1
+      ]
 
-pub zero-second : (size : ℕ) (row : Chunks) (bytes : List ℕ) → IsRow size row bytes
-    → HasZeroColumns size (λ k. chunk row k)
-    → ZeroFrom bytes (tail size + 32) (half size)
-zero-second size row bytes is zeros b h =
-    let at : size / 64 * 64 + 32 + b ≡ size / 64 * 64 + (b + 32) = omega arith in
-    ap (slice_index bytes) at ∙ (zero-bytes size row bytes is zeros (size / 64) b (omega arith) (omega arith)).1
+  pub zero-second : HasZeroColumns size (λ k. chunk row k)
+      → ZeroFrom bytes (tail size + 32) (half size)
+  zero-second zeros b h =
+      let at : size / 64 * 64 + 32 + b ≡ size / 64 * 64 + (b + 32) = omega arith in
+      ap (slice_index bytes) at ∙ (zero-bytes zeros (size / 64) b (omega arith) (omega arith)).1

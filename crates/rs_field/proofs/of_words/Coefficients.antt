@@ -62,9 +62,9 @@ record IsBasis (q : ℕ) (p : List ℕ) : Type 0 where
 basis_first : (q : ℕ) → q ≡ 0 → IsBasis q (1 ∷ [])
 basis_first q e = grind (arith, common_steps, value-one, basis-zero)
 
-basis_next : (e q n : ℕ) (p : List ℕ) → e < 16 → n < 2 ^ e → q ≡ 2 ^ e + n → IsBasis n p
+basis_next : (e q : ℕ) {n : ℕ} {p : List ℕ} → e < 16 → n < 2 ^ e → q ≡ 2 ^ e + n → IsBasis n p
     → IsBasis q (times (points 0 (2 ^ e)) p)
-basis_next e q n p he hn is h = record {
+basis_next e q {n} {p} he hn is h = record {
   size = length-times 0 (2 ^ e) p ∙ (let s : length p ≡ suc n = h.size in omega arith);
   words = words_times (points 0 (2 ^ e)) p h.words;
   last = ap (slice_index (times (points 0 (2 ^ e)) p)) is ∙ entry-times 0 (2 ^ e) n p h.size ∙ h.last;
@@ -81,8 +81,7 @@ basis_polynomial (suc e) q he hq =
       | inr high ↦
           let rest = basis_polynomial e (q - 2 ^ e) (omega arith) (omega arith) in (
             times (points 0 (2 ^ e)) rest.0,
-            basis_next e q (q - 2 ^ e) rest.0 (omega arith) (omega arith)
-                (omega arith) rest.1,
+            basis_next e q (omega arith) (omega arith) (omega arith) rest.1,
           )
     ]
 
@@ -112,8 +111,8 @@ sum_none f = record {
       value-nil x ∙ sym (forward-zero 0 0 f x (λ q h. let no : ⊥ = omega arith in absurd no));
 }
 
-sum_more : (n : ℕ) (f : ℕ → ℕ) (b p : List ℕ) → IsBasis n b → IsSum n f p → IsSum (suc n) f (add (scale (f n) b) p)
-sum_more n f b p hb hp =
+sum_more : {n : ℕ} {f : ℕ → ℕ} {b p : List ℕ} → IsBasis n b → IsSum n f p → IsSum (suc n) f (add (scale (f n) b) p)
+sum_more hb hp =
     grind (
       arith,
       common_steps,
@@ -132,7 +131,7 @@ sum_polynomial zero f hn = ([], sum_none f)
 sum_polynomial (suc n) f hn =
     let b = basis_polynomial 16 n (omega arith) (omega arith) in
     let p = sum_polynomial n f (omega arith) in
-    (add (scale (f n) b.0) p.0, sum_more n f b.0 p.0 b.1 p.1)
+    (add (scale (f n) b.0) p.0, sum_more b.1 p.1)
 
 -- A sum of n basis polynomials is a polynomial of n coefficients.
 pub polynomial_of_terms : (n : ℕ) (f : ℕ → ℕ) → n ≤ 65536 → (p : List ℕ) × (length p ≡ n) × AreWords p
@@ -140,9 +139,9 @@ pub polynomial_of_terms : (n : ℕ) (f : ℕ → ℕ) → n ≤ 65536 → (p : L
 polynomial_of_terms n f hn = let p = sum_polynomial n f hn in (p.0, p.1.size, all_words p.0 p.1.words, p.1.at)
 
 -- The last coefficient of a sum is its last term.
-last_term : (n : ℕ) (f : ℕ → ℕ) (b p : List ℕ) → f n < 2 ^ 16 → IsBasis n b → IsSum n f p
+last_term : {n : ℕ} {f : ℕ → ℕ} {b p : List ℕ} → f n < 2 ^ 16 → IsBasis n b → IsSum n f p
     → slice_index (add (scale (f n) b) p) n ≡ f n
-last_term n f b p word hb hp = grind (arith, common_steps, entry-add, entry-scale, product_one, get_or_past, xor_zero_r)
+last_term word hb hp = grind (arith, common_steps, entry-add, entry-scale, product_one, get_or_past, xor_zero_r)
 
 entry-padded : (n : ℕ) (p : List ℕ) (i : ℕ) → length p ≤ i → slice_index (padded n p) i ≡ 0
 unfolding padded
@@ -158,13 +157,12 @@ no_last_term : (n : ℕ) (f : ℕ → ℕ) (h : List ℕ) → n < 65536 → f n 
 no_last_term n f h hn word size words at =
     let b = basis_polynomial 16 n (omega arith) hn in
     let p = sum_polynomial n f (omega arith) in
-    let s : IsSum (suc n) f (add (scale (f n) b.0) p.0) = sum_more n f b.0 p.0 b.1 p.1 in
+    let s : IsSum (suc n) f (add (scale (f n) b.0) p.0) = sum_more b.1 p.1 in
     let same : add (scale (f n) b.0) p.0 ≡ padded 1 h =
     same_from_values (suc n) (add (scale (f n) b.0) p.0) (padded 1 h) s.size (length-padded 1 h ∙ omega arith) s.words
     (words_padded 1 h words) (λ i. i) (λ i hi. omega arith) (λ i j hi hj e. e)
     (λ i hi. s.at i ∙ at i hi ∙ sym (value-padded 1 h i)) in
-    sym (last_term n f b.0 p.0 word b.1 p.1) ∙ ap (λ (q : List ℕ). slice_index q n) same
-    ∙ entry-padded 1 h n (omega arith)
+    sym (last_term word b.1 p.1) ∙ ap (λ (q : List ℕ). slice_index q n) same ∙ entry-padded 1 h n (omega arith)
 
 -- If a sum has the values of a polynomial of n coefficients, its terms from n on are zero.
 pub no_terms_past : (n t : ℕ) (f : ℕ → ℕ) (h : List ℕ) → n + t ≤ 65536 → ((i : ℕ) → i < n + t → f i < 2 ^ 16)

@@ -233,29 +233,6 @@ aligned_parts size m n shift whole aligned = regroup (shift / size) (div-add-mod
 even_block : (e shift : ℕ) → shift % 2 ^ suc e ≡ 0 → (u : ℕ) × (shift ≡ u * 2 * 2 ^ e)
 even_block e shift h = (shift / 2 ^ suc e, aligned_parts (2 ^ suc e) 2 (2 ^ e) shift (omega (arith, pow-suc 2 e)) h)
 
--- On the first half of a block, the subspace polynomial e has the value that it has at the start of the block.
-pub lower_factor : (e shift i : ℕ) → e < 16 → shift % 2 ^ suc e ≡ 0 → shift + 2 ^ suc e ≤ 65536 → i < 2 ^ e
-    → subspace e (shift + i) ≡ subspace e shift
-lower_factor e shift i he whole fits hi =
-    grind (arith, common_steps, two-pow-succ, even_block, subspace_shift, div-mul-add, add-zero, pow_pos)
-
--- On the second half of a block, the subspace polynomial e has the value at the start of the block XOR 1.
-pub upper_factor : (e shift i : ℕ) → e < 16 → shift % 2 ^ suc e ≡ 0 → shift + 2 ^ suc e ≤ 65536 → i < 2 ^ e
-    → subspace e (shift + (2 ^ e + i)) ≡ bit_xor (subspace e shift) 1
-upper_factor e shift i he whole fits hi =
-    let d : 2 ^ suc e ≡ 2 ^ e + 2 ^ e = two-pow-succ e in
-    let b = even_block e shift whole in
-    subspace_shift e (shift + (2 ^ e + i)) (omega arith) (omega arith)
-    ∙ ap (λ v. (v + (2 ^ e + i)) / 2 ^ e) b.1 ∙ ap (λ v. v / 2 ^ e) (next (b.0 * 2) (2 ^ e) i)
-    ∙ div-mul-add (b.0 * 2 + 1) (2 ^ e) i hi
-    ∙ sym (xor_shifted b.0 1 1 (omega arith))
-    ∙ ap (λ v. bit_xor v 1)
-    (sym (subspace_shift e shift (omega arith) (omega arith)
-    ∙ ap (λ v. v / 2 ^ e) (b.1 ∙ sym (add-zero (b.0 * 2 * 2 ^ e))) ∙ div-mul-add (b.0 * 2) (2 ^ e) 0 (pow_pos e)))
-  where
-    next : (u m i : ℕ) → u * m + (m + i) ≡ (u + 1) * m + i
-    next u m i = omega arith
-
 mixed : (e shift : ℕ) (f g : ℕ → ℕ) (i : ℕ)
     → ((q : ℕ) → q < 2 ^ e → g q ≡ bit_xor (f q) (product (f (2 ^ e + q)) (subspace e shift)))
     → forward (2 ^ e) shift g i
@@ -266,37 +243,58 @@ mixed e shift f g i made =
     ∙ forward-xor (2 ^ e) shift f (λ q. product (f (2 ^ e + q)) c) i
     ∙ ap (bit_xor (forward (2 ^ e) shift f i)) (forward-product (2 ^ e) shift (λ q. f (2 ^ e + q)) c i)
 
--- The transform of the first half of the rows after a butterfly is the first half of the transform of all rows before
--- the butterfly.
-pub lower_half : (e shift : ℕ) (f g : ℕ → ℕ) (i : ℕ) → e < 16 → shift % 2 ^ suc e ≡ 0 → shift + 2 ^ suc e ≤ 65536
-    → i < 2 ^ e
-    → ((q : ℕ) → q < 2 ^ e → g q ≡ bit_xor (f q) (product (f (2 ^ e + q)) (subspace e shift)))
-    → forward (2 ^ e) shift g i ≡ forward (2 ^ suc e) shift f i
-lower_half e shift f g i he whole fits hi made = grind (arith, common_steps, mixed, forward-half, lower_factor)
+module _ (e shift : ℕ) (he : e < 16) (whole : shift % 2 ^ suc e ≡ 0) (fits : shift + 2 ^ suc e ≤ 65536) where
+  -- On the first half of a block, the subspace polynomial e has the value that it has at the start of the block.
+  lower_factor : (i : ℕ) → i < 2 ^ e
+      → subspace e (shift + i) ≡ subspace e shift
+  lower_factor i hi =
+      grind (arith, common_steps, two-pow-succ, even_block, subspace_shift, div-mul-add, add-zero, pow_pos)
 
--- The transform of the second half of the rows after a butterfly is the second half of the transform of all rows before
--- the butterfly.
-pub upper_half : (e shift : ℕ) (f g h : ℕ → ℕ) (i : ℕ) → e < 16 → shift % 2 ^ suc e ≡ 0 → shift + 2 ^ suc e ≤ 65536
-    → i < 2 ^ e
-    → ((q : ℕ) → q < 2 ^ e → g q ≡ bit_xor (f q) (product (f (2 ^ e + q)) (subspace e shift)))
-    → ((q : ℕ) → q < 2 ^ e → h q ≡ bit_xor (f (2 ^ e + q)) (g q))
-    → forward (2 ^ e) (shift + 2 ^ e) h i ≡ forward (2 ^ suc e) shift f (2 ^ e + i)
-upper_half e shift f g h i he whole fits hi made sums =
-    let c : ℕ = subspace e shift in
-    let j : ℕ = 2 ^ e + i in
-    let second : ℕ → ℕ = λ q. f (2 ^ e + q) in
-    let top : ℕ = forward (2 ^ e) shift second j in
-    let low : ℕ = forward (2 ^ e) shift f j in
-    forward-moved (2 ^ e) shift (2 ^ e) h i
-    ∙ forward-same (2 ^ e) shift h (λ q. bit_xor (second q) (g q)) j sums
-    ∙ forward-xor (2 ^ e) shift second g j
-    ∙ ap (bit_xor top) (mixed e shift f g j made)
-    ∙ one_more top low c (forward_lt (2 ^ e) shift second j)
-    ∙ sym (forward-half e shift f j he
-    ∙ ap (λ v. bit_xor low (product top v)) (upper_factor e shift i he whole fits hi))
-  where
-    one_more : (top low c : ℕ) → top < 2 ^ 16
-        → bit_xor top (bit_xor low (product top c)) ≡ bit_xor low (product top (bit_xor c 1))
-    one_more top low c word =
-        xor_comm top (bit_xor low (product top c)) ∙ xor_assoc low (product top c) top
-        ∙ ap (bit_xor low) (ap (bit_xor (product top c)) (sym (product_one top word)) ∙ sym (product_xor_right top c 1))
+  -- On the second half of a block, the subspace polynomial e has the value at the start of the block XOR 1.
+  upper_factor : (i : ℕ) → i < 2 ^ e
+      → subspace e (shift + (2 ^ e + i)) ≡ bit_xor (subspace e shift) 1
+  upper_factor i hi =
+      let d : 2 ^ suc e ≡ 2 ^ e + 2 ^ e = two-pow-succ e in
+      let b = even_block e shift whole in
+      subspace_shift e (shift + (2 ^ e + i)) (omega arith) (omega arith)
+      ∙ ap (λ v. (v + (2 ^ e + i)) / 2 ^ e) b.1 ∙ ap (λ v. v / 2 ^ e) (next (b.0 * 2) (2 ^ e) i)
+      ∙ div-mul-add (b.0 * 2 + 1) (2 ^ e) i hi
+      ∙ sym (xor_shifted b.0 1 1 (omega arith))
+      ∙ ap (λ v. bit_xor v 1)
+      (sym (subspace_shift e shift (omega arith) (omega arith)
+      ∙ ap (λ v. v / 2 ^ e) (b.1 ∙ sym (add-zero (b.0 * 2 * 2 ^ e))) ∙ div-mul-add (b.0 * 2) (2 ^ e) 0 (pow_pos e)))
+    where
+      next : (u m i : ℕ) → u * m + (m + i) ≡ (u + 1) * m + i
+      next u m i = omega arith
+
+  module _ (f g : ℕ → ℕ) (i : ℕ) (hi : i < 2 ^ e)
+      (made : (q : ℕ) → q < 2 ^ e → g q ≡ bit_xor (f q) (product (f (2 ^ e + q)) (subspace e shift))) where
+    -- The transform of the first half of the rows after a butterfly is the first half of the transform of all rows
+    -- before the butterfly.
+    pub lower_half : forward (2 ^ e) shift g i ≡ forward (2 ^ suc e) shift f i
+    lower_half = grind (arith, common_steps, mixed, forward-half, lower_factor)
+
+    -- The transform of the second half of the rows after a butterfly is the second half of the transform of all rows
+    -- before the butterfly.
+    pub upper_half : (h : ℕ → ℕ) → ((q : ℕ) → q < 2 ^ e → h q ≡ bit_xor (f (2 ^ e + q)) (g q))
+        → forward (2 ^ e) (shift + 2 ^ e) h i ≡ forward (2 ^ suc e) shift f (2 ^ e + i)
+    upper_half h sums =
+        let c : ℕ = subspace e shift in
+        let j : ℕ = 2 ^ e + i in
+        let second : ℕ → ℕ = λ q. f (2 ^ e + q) in
+        let top : ℕ = forward (2 ^ e) shift second j in
+        let low : ℕ = forward (2 ^ e) shift f j in
+        forward-moved (2 ^ e) shift (2 ^ e) h i
+        ∙ forward-same (2 ^ e) shift h (λ q. bit_xor (second q) (g q)) j sums
+        ∙ forward-xor (2 ^ e) shift second g j
+        ∙ ap (bit_xor top) (mixed e shift f g j made)
+        ∙ one_more top low c (forward_lt (2 ^ e) shift second j)
+        ∙ sym (forward-half e shift f j he
+        ∙ ap (λ v. bit_xor low (product top v)) (upper_factor i hi))
+      where
+        one_more : (top low c : ℕ) → top < 2 ^ 16
+            → bit_xor top (bit_xor low (product top c)) ≡ bit_xor low (product top (bit_xor c 1))
+        one_more top low c word =
+            xor_comm top (bit_xor low (product top c)) ∙ xor_assoc low (product top c) top
+            ∙ ap (bit_xor low) (ap (bit_xor (product top c)) (sym (product_one top word))
+            ∙ sym (product_xor_right top c 1))

@@ -199,15 +199,15 @@ pub record AreReceived (n : ℕ) (marks words : ℕ → ℕ) (received : ℕ →
 
 -- A polynomial of b coefficients has the given words as values. If b and the number of marked points are together at
 -- most the number of points, its value at each marked point is the direct sum.
-pub direct_value : (e b y : ℕ) (marks words locator : ℕ → ℕ) (received : ℕ → Bool) (q : List ℕ) → e ≤ 16
-    → AreMarks (2 ^ e) marks → length (marked (2 ^ e) marks) + b ≤ 2 ^ e → Takes (2 ^ e) b marks words q
+pub direct_value : (e y : ℕ) {b : ℕ} {marks words : ℕ → ℕ} (locator : ℕ → ℕ) {received : ℕ → Bool} {q : List ℕ}
+    → e ≤ 16 → AreMarks (2 ^ e) marks → length (marked (2 ^ e) marks) + b ≤ 2 ^ e → Takes (2 ^ e) b marks words q
     → AreReceived (2 ^ e) marks words received → IsLocatorBelow (2 ^ e) marks locator → locator y ≤ 65535 → y < 2 ^ e
     → marks y ≡ 1 → direct_sum (2 ^ e) received locator words y ≡ value q y
 unfolding direct_sum
-direct_value e b y marks words locator received q he m size takes are logs most hy one =
+direct_value e y {b} {marks} {words} locator {received} {q} he m size takes are logs most hy one =
     by_quotient (without_root y (2 ^ e) (times (marked (2 ^ e) marks) q) hy room
     (omega (arith, length-marked_times (marked (2 ^ e) marks) q, takes.degree))
-    (words_times (marked (2 ^ e) marks) q takes.coefficients) (locator_root (2 ^ e) marks q y m hy one))
+    (words_times (marked (2 ^ e) marks) q takes.coefficients) (locator_root q y m hy one))
   where
     room : 2 ^ e ≤ 2 ^ 16
     room = pow_mono he
@@ -241,7 +241,7 @@ direct_value e b y marks words locator received q he m size takes are logs most 
         ≡ product (product (term x) (power (locator y))) (bit_xor x y)
     located-at x hx apart = elim (cases_eq (marks x) 0) [
       | inl none ↦
-          locator_value (2 ^ e) marks q x room (omega (arith, room)) takes.coefficients m
+          locator_value q x room (omega (arith, room)) takes.coefficients m
           (λ z hz marked. not_both marks x z none marked)
           ∙ ap (product (power (log_sum (2 ^ e) marks x))) (takes.given x hx none)
           ∙ elim (are.added x hx none) [
@@ -255,7 +255,7 @@ direct_value e b y marks words locator received q he m size takes are logs most 
           ]
       | inr some ↦
           let erased : marks x ≡ 1 = (let most = m.mark x hx in omega arith) in
-          locator_root (2 ^ e) marks q x m hx erased
+          locator_root q x m hx erased
           ∙ sym (zero-term x (direct_term-other received locator words y x (are.erased x hx erased)))
     ]
 
@@ -283,5 +283,5 @@ direct_value e b y marks words locator received q he m size takes are logs most 
         product_cancel scale sum (value q y) (power_pos (locator y)) (power_lt (locator y))
         (sum_below_lt (2 ^ e) term (λ x hx. term_lt x)) (value_lt q y takes.coefficients)
         (same_from_xor (product sum scale) (value r y) (sym total)
-        ∙ quotient.there ∙ locator_derivative (2 ^ e) marks q y room takes.coefficients m hy one
+        ∙ quotient.there ∙ locator_derivative q y room takes.coefficients m hy one
         ∙ ap (λ w. product w (value q y)) (same y hy) ∙ product-comm scale (value q y))

@@ -42,10 +42,10 @@ falling_more : (m n : ℕ) (r : List ℕ) → m ≤ n → AreFalling m r → Are
 falling_more m n [] le h = tt
 falling_more m n (a ∷ r) le h = (omega (arith, h.0), h.1)
 
-pub falling_marked : (n : ℕ) (marks : ℕ → ℕ) → AreMarks n marks → AreFalling n (marked n marks)
+pub falling_marked : {n : ℕ} {marks : ℕ → ℕ} → AreMarks n marks → AreFalling n (marked n marks)
 unfolding marked
-falling_marked zero marks m = tt
-falling_marked (suc n) marks m =
+falling_marked {n = zero} m = tt
+falling_marked {n = suc n} {marks} m =
     grind (
       arith,
       common_steps,
@@ -53,16 +53,15 @@ falling_marked (suc n) marks m =
       marked-same,
       falling_more,
       cases_eq,
-      falling_marked n marks
-          (record { mark = λ y hy. m.mark y (omega arith) }),
+      falling_marked {n = n} {marks = marks} (record { mark = λ y hy. m.mark y (omega arith) }),
     )
 
-pub roots_marked : (n : ℕ) (marks : ℕ → ℕ) (p : List ℕ) → AreMarks n marks
+pub roots_marked : {n : ℕ} {marks : ℕ → ℕ} (p : List ℕ) → AreMarks n marks
     → ((x : ℕ) → x < n → marks x ≡ 1 → value p x ≡ 0) → AreRoots p (marked n marks)
 unfolding marked
-roots_marked zero marks p m at = tt
-roots_marked (suc n) marks p m at =
-    let below = roots_marked n marks p (record { mark = λ y hy. m.mark y (omega arith) })
+roots_marked {n = zero} p m at = tt
+roots_marked {n = suc n} {marks} p m at =
+    let below = roots_marked {n = n} {marks = marks} p (record { mark = λ y hy. m.mark y (omega arith) })
     (λ x hx. at x (omega arith)) in
     grind (arith, common_steps, cases_eq, marked-more, marked-same, below)
 
@@ -70,36 +69,36 @@ roots_marked (suc n) marks p m at =
 
 -- If a polynomial has the given words as values, the polynomial with one more root at each marked point has the located
 -- words as values.
-pub located_values : (n b : ℕ) (marks words f : ℕ → ℕ) (q : List ℕ) → n ≤ 2 ^ 16 → AreMarks n marks
+pub located_values : {n b : ℕ} {marks words f : ℕ → ℕ} {q : List ℕ} → n ≤ 2 ^ 16 → AreMarks n marks
     → AreLocated n marks words f → Takes n b marks words q
     → (x : ℕ) → x < n → f x ≡ value (times (marked n marks) q) x
-located_values n b marks words f q hn m l h x hx =
+located_values hn m l h x hx =
     grind (arith, common_steps, cases_eq, locator_root, product-comm, locator_value, not_both)
 
 -- ---- the check
 
 -- If some polynomial has the given words as values, the rows after the marked points and its coefficients are zero.
-pub zero_rows : (n b t : ℕ) (marks words f F : ℕ → ℕ) → n ≤ 2 ^ 16 → AreMarks n marks
+pub zero_rows : {n : ℕ} (b t : ℕ) {marks words f F : ℕ → ℕ} → n ≤ 2 ^ 16 → AreMarks n marks
     → length (marked n marks) + b + t ≡ n → AreLocated n marks words f
     → ((x : ℕ) → x < n → F x < 2 ^ 16) → ((x : ℕ) → x < n → forward n 0 F x ≡ f x)
     → (q : List ℕ) × Takes n b marks words q → (i : ℕ) → n ≤ i + t → i < n → F i ≡ 0
-zero_rows n b t marks words f F hn m count l word at (q, h) i above below =
+zero_rows {n} b t {marks} {words} {f} {F} hn m count l word at (q, h) i above below =
     let k : ℕ = length (marked n marks) + b in
     let size : length (times (marked n marks) q) ≡ length (marked n marks) + b =
     length-marked_times (marked n marks) q ∙ omega arith in
     no_terms_past (length (marked n marks) + b) t F (times (marked n marks) q) (omega arith)
     (λ x hx. word x (omega arith)) size (words_times (marked n marks) q h.coefficients)
     (λ x hx. ap (λ k. forward k 0 F x) count ∙ at x (omega arith)
-    ∙ located_values n b marks words f q hn m l h x (omega arith)) i (omega arith) (omega arith)
+    ∙ located_values hn m l h x (omega arith)) i (omega arith) (omega arith)
 
 -- If a polynomial with one more root at each marked point has the located words as values, the polynomial has the given
 -- words as values.
-divided_takes : (n b : ℕ) (marks words f : ℕ → ℕ) (h : List ℕ) → n ≤ 2 ^ 16 → AreMarks n marks
+divided_takes : {n b : ℕ} {marks words f : ℕ → ℕ} (h : List ℕ) → n ≤ 2 ^ 16 → AreMarks n marks
     → AreLocated n marks words f
     → ((x : ℕ) → x < n → marks x ≡ 0 → words x < 2 ^ 16) → ((x : ℕ) → x < n → value h x ≡ f x)
     → (q : List ℕ) × (length q ≡ b) × WordsOneByOne q × ((x : ℕ) → value h x ≡ value (times (marked n marks) q) x)
     → (q : List ℕ) × Takes n b marks words q
-divided_takes n b marks words f h hn m l given same (q, size, are_words, at) =
+divided_takes h hn m l given same (q, size, are_words, at) =
     grind (arith, common_steps, product_cancel, power_pos, power_lt, value_lt, product-comm, locator_value, not_both)
 
 -- If the last rows are zero, a polynomial with the number of the other rows as coefficients has the located words as
@@ -118,12 +117,12 @@ few_coefficients n k t f F hn count at none =
     )
 
 -- If the last rows are zero, some polynomial has the given words as values.
-pub taken_from_zero_rows : (n b t : ℕ) (marks words f F : ℕ → ℕ) → n ≤ 2 ^ 16 → AreMarks n marks
+pub taken_from_zero_rows : {n : ℕ} (b t : ℕ) {marks words f F : ℕ → ℕ} → n ≤ 2 ^ 16 → AreMarks n marks
     → length (marked n marks) + b + t ≡ n → AreLocated n marks words f
     → ((x : ℕ) → x < n → marks x ≡ 0 → words x < 2 ^ 16) → ((x : ℕ) → x < n → forward n 0 F x ≡ f x)
     → ((i : ℕ) → n ≤ i + t → i < n → F i ≡ 0) → (q : List ℕ) × Takes n b marks words q
-taken_from_zero_rows n b t marks words f F hn m count l given at none =
+taken_from_zero_rows {n} b t {marks} {words} {f} {F} hn m count l given at none =
     let (h, size, are_words, same) = few_coefficients n (length (marked n marks) + b) t f F hn count at none in
-    divided_takes n b marks words f h hn m l given same
-    (divided_by n (marked n marks) h b hn (falling_marked n marks m) size are_words
-    (roots_marked n marks h m (λ x hx one. same x hx ∙ l.erased x hx one)))
+    divided_takes h hn m l given same
+    (divided_by n (marked n marks) h b hn (falling_marked m) size are_words
+    (roots_marked h m (λ x hx one. same x hx ∙ l.erased x hx one)))

@@ -52,19 +52,19 @@ forward_injective (suc e) shift f g whole fits words_f words_g same i hi =
     forward_injective e shift (low (2 ^ e) (subspace e shift) f) (low (2 ^ e) (subspace e shift) g) s.0 (omega arith)
     (λ q hq. low_lt (2 ^ e) (subspace e shift) f q (words_f q (omega arith)))
     (λ q hq. low_lt (2 ^ e) (subspace e shift) g q (words_g q (omega arith)))
-    (λ q hq. lower_half e shift f (low (2 ^ e) (subspace e shift) f) q few whole fits hq (λ p hp. refl)
+    (λ q hq. lower_half e shift few whole fits f (low (2 ^ e) (subspace e shift) f) q hq (λ p hp. refl)
     ∙ same q (omega arith)
-    ∙ sym (lower_half e shift g (low (2 ^ e) (subspace e shift) g) q few whole fits hq (λ p hp. refl))) in
+    ∙ sym (lower_half e shift few whole fits g (low (2 ^ e) (subspace e shift) g) q hq (λ p hp. refl))) in
     let highs : (q : ℕ) → q < 2 ^ e → high (2 ^ e) (subspace e shift) f q ≡ high (2 ^ e) (subspace e shift) g q =
     forward_injective e (shift + 2 ^ e) (high (2 ^ e) (subspace e shift) f) (high (2 ^ e) (subspace e shift) g) s.1
     (omega arith)
     (λ q hq. high_lt (2 ^ e) (subspace e shift) f q (words_f q (omega arith)) (words_f (2 ^ e + q) (omega arith)))
     (λ q hq. high_lt (2 ^ e) (subspace e shift) g q (words_g q (omega arith)) (words_g (2 ^ e + q) (omega arith)))
-    (λ q hq. upper_half e shift f (low (2 ^ e) (subspace e shift) f)
-    (high (2 ^ e) (subspace e shift) f) q few whole fits hq (λ p hp. refl) (λ p hp. refl)
+    (λ q hq. upper_half e shift few whole fits f (low (2 ^ e) (subspace e shift) f) q hq (λ p hp. refl)
+    (high (2 ^ e) (subspace e shift) f) (λ p hp. refl)
     ∙ same (2 ^ e + q) (omega arith)
-    ∙ sym (upper_half e shift g (low (2 ^ e) (subspace e shift) g)
-    (high (2 ^ e) (subspace e shift) g) q few whole fits hq (λ p hp. refl) (λ p hp. refl))) in
+    ∙ sym (upper_half e shift few whole fits g (low (2 ^ e) (subspace e shift) g) q hq (λ p hp. refl)
+    (high (2 ^ e) (subspace e shift) g) (λ p hp. refl))) in
     let seconds : (q : ℕ) → q < 2 ^ e → f (2 ^ e + q) ≡ g (2 ^ e + q) =
     λ q hq. second_back (2 ^ e) (subspace e shift) f q ∙ ap₂ bit_xor (highs q hq) (lows q hq)
     ∙ sym (second_back (2 ^ e) (subspace e shift) g q) in

@@ -73,10 +73,10 @@ comes a n p v hn hv words =
     ∙ product_one w word)
     ∙ xor_undo v (value p (a + n))
 
-has_more : (a n : ℕ) (v : ℕ → ℕ) (p : List ℕ) → a + n < 2 ^ 16 → v n < 2 ^ 16 → Has a n v p
+has_more : {a n : ℕ} {v : ℕ → ℕ} {p : List ℕ} → a + n < 2 ^ 16 → v n < 2 ^ 16 → Has a n v p
     → Has a (suc n) v (one_more a n p (v n))
 unfolding one_more
-has_more a n v p hn hv h =
+has_more hn hv h =
     grind (
       arith,
       common_steps,
@@ -98,4 +98,4 @@ interpolated a zero v hn words =
     ([], record { degree = refl; coefficients = tt; at = λ i h. absurd (let no : ⊥ = omega arith in no) })
 interpolated a (suc n) v hn words =
     let p = interpolated a n v (omega arith) (λ i h. words i (omega arith)) in
-    (one_more a n p.0 (v n), has_more a n v p.0 (omega arith) (words n (omega arith)) p.1)
+    (one_more a n p.0 (v n), has_more (omega arith) (words n (omega arith)) p.1)

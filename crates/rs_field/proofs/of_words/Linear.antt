@@ -49,8 +49,8 @@ combine_xor (c ∷ bs) a b =
 pub record IsAdditive (w : ℕ) (f : ℕ → ℕ) : Type 0 where
   pub xor : (a b : ℕ) → a < 2 ^ w → b < 2 ^ w → f (bit_xor a b) ≡ bit_xor (f a) (f b)
 
-pub additive_zero : (w : ℕ) (f : ℕ → ℕ) → IsAdditive w f → f 0 ≡ 0
-additive_zero w f h = h.xor 0 0 (pow_pos w) (pow_pos w) ∙ xor_self (f 0)
+pub additive_zero : {w : ℕ} {f : ℕ → ℕ} → IsAdditive w f → f 0 ≡ 0
+additive_zero {w} {f} h = h.xor 0 0 (pow_pos w) (pow_pos w) ∙ xor_self (f 0)
 
 pub split_top : (n x : ℕ) → x ≡ bit_xor (x / 2 ^ n * 2 ^ n) (x % 2 ^ n)
 split_top n x = sym (shr_split x n) ∙ sym (xor_shifted (x / 2 ^ n) n (x % 2 ^ n) (mod-lt x (pow_pos n)))
@@ -61,17 +61,17 @@ digit_times (suc zero) n h = inr (one-mul (2 ^ n))
 digit_times (suc (suc d)) n h = absurd (omega arith)
 
 -- Two maps that keep XOR and agree on the powers of two below 2 ^ n agree on all numbers below 2 ^ n.
-pub agree_below : (w : ℕ) (f g : ℕ → ℕ) → IsAdditive w f → IsAdditive w g
+pub agree_below : {w : ℕ} {f g : ℕ → ℕ} → IsAdditive w f → IsAdditive w g
     → ((i : ℕ) → i < w → f (2 ^ i) ≡ g (2 ^ i))
     → (n : ℕ) → n ≤ w → (x : ℕ) → x < 2 ^ n → f x ≡ g x
-agree_below w f g hf hg same zero hn x hx = grind (arith, common_steps, additive_zero)
-agree_below w f g hf hg same (suc n) hn x hx =
+agree_below hf hg same zero hn x hx = grind (arith, common_steps, additive_zero)
+agree_below {w} {f} {g} hf hg same (suc n) hn x hx =
     let below : n ≤ w = omega arith in
     let wide : 2 ^ suc n ≤ 2 ^ w = pow_mono hn in
     let top : f (x / 2 ^ n * 2 ^ n) ≡ g (x / 2 ^ n * 2 ^ n) =
     elim (digit_times (x / 2 ^ n) n
     (shr_below x 1 n (subst (λ (p : ℕ). x < p) (ap (λ (k : ℕ). 2 ^ k) (sym (one-add n))) hx))) [
-      | inl e ↦ ap f e ∙ additive_zero w f hf ∙ sym (additive_zero w g hg) ∙ ap g (sym e)
+      | inl e ↦ ap f e ∙ additive_zero hf ∙ sym (additive_zero hg) ∙ ap g (sym e)
       | inr e ↦ ap f e ∙ same n hn ∙ ap g (sym e)
     ] in
     let high_lt : x / 2 ^ n * 2 ^ n < 2 ^ w = lt_of_lt_of_le (lt_of_le_of_lt (div-mul-le_self x (2 ^ n)) hx) wide in
@@ -80,8 +80,7 @@ agree_below w f g hf hg same (suc n) hn x hx =
       split_top n x,
       hf.xor _ _ high_lt low_lt,
       hg.xor _ _ high_lt low_lt,
-      agree_below w f g hf hg same n below
-          (x % 2 ^ n) (mod-lt x (pow_pos n)),
+      agree_below hf hg same n below (x % 2 ^ n) (mod-lt x (pow_pos n)),
     )
 
 -- A test of every number below n, for facts that are proved by computation.

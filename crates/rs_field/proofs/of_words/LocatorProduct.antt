@@ -36,11 +36,11 @@ marked-same n e none =
 pub record AreMarks (n : ℕ) (e : ℕ → ℕ) : Type 0 where
   pub mark : (y : ℕ) → y < n → e y ≤ 1
 
-fewer : (n : ℕ) (e : ℕ → ℕ) → AreMarks (suc n) e → AreMarks n e
-fewer n e h = record { mark = λ y hy. h.mark y (omega arith) }
+fewer : {n : ℕ} {e : ℕ → ℕ} → AreMarks (suc n) e → AreMarks n e
+fewer h = record { mark = λ y hy. h.mark y (omega arith) }
 
-mark_cases : (n : ℕ) (e : ℕ → ℕ) → AreMarks (suc n) e → (e n ≡ 1) ⊎ (e n ≡ 0)
-mark_cases n e h = grind (arith, common_steps)
+mark_cases : {n : ℕ} {e : ℕ → ℕ} → AreMarks (suc n) e → (e n ≡ 1) ⊎ (e n ≡ 0)
+mark_cases h = grind (arith, common_steps)
 
 -- An unmarked point differs from each marked point.
 pub not_both : (marks : ℕ → ℕ) (x y : ℕ) → marks x ≡ 0 → marks y ≡ 1 → y ≢ x
@@ -63,16 +63,16 @@ moved_in s l w = sym (product-assoc s l w) ∙ ap (λ k. product k w) (product-c
 
 -- If x is not marked, the power of the sum of logarithms is the value of the polynomial with a root at each marked
 -- point.
-pub locator_value : (n : ℕ) (e : ℕ → ℕ) (p : List ℕ) (x : ℕ) → n ≤ 2 ^ 16 → x < 2 ^ 16 → WordsOneByOne p → AreMarks n e
+pub locator_value : {n : ℕ} {e : ℕ → ℕ} (p : List ℕ) (x : ℕ) → n ≤ 2 ^ 16 → x < 2 ^ 16 → WordsOneByOne p → AreMarks n e
     → ((y : ℕ) → y < n → e y ≡ 1 → y ≢ x) → value (times (marked n e) p) x ≡ product (power (log_sum n e x)) (value p x)
 unfolding marked times
-locator_value zero e p x hn hx w m apart =
+locator_value {n = zero} {e} p x hn hx w m apart =
     sym (ap (λ k. product k (value p x)) (ap power (log_sum-zero e x) ∙ power_zero)
     ∙ one_product (value p x) (value_lt p x w))
-locator_value (suc n) e p x hn hx w m apart =
+locator_value {n = suc n} {e} p x hn hx w m apart =
     let ih : value (times (marked n e) p) x ≡ product (power (log_sum n e x)) (value p x) =
-    locator_value n e p x (omega arith) hx w (fewer n e m) (λ y hy. apart y (omega arith)) in
-    elim (mark_cases n e m) [
+    locator_value p x (omega arith) hx w (fewer m) (λ y hy. apart y (omega arith)) in
+    elim (mark_cases m) [
       | inl one ↦
           ap (λ (r : List ℕ). value (times r p) x) (marked-more n e one) ∙ value_with_root n (times (marked n e) p) x
           ∙ ap (product (bit_xor x n)) ih ∙ moved_in (bit_xor x n) (power (log_sum n e x)) (value p x)
@@ -83,34 +83,34 @@ locator_value (suc n) e p x hn hx w m apart =
     ]
 
 -- At a marked point, the polynomial with a root at each marked point is zero.
-pub locator_root : (n : ℕ) (e : ℕ → ℕ) (p : List ℕ) (x : ℕ) → AreMarks n e → x < n → e x ≡ 1
+pub locator_root : {n : ℕ} {e : ℕ → ℕ} (p : List ℕ) (x : ℕ) → AreMarks n e → x < n → e x ≡ 1
     → value (times (marked n e) p) x ≡ 0
 unfolding marked times
-locator_root zero e p x m hx one = absurd (let no : ⊥ = omega arith in no)
-locator_root (suc n) e p x m hx one =
-    elim (mark_cases n e m) [
+locator_root {n = zero} p x m hx one = absurd (let no : ⊥ = omega arith in no)
+locator_root {n = suc n} {e} p x m hx one =
+    elim (mark_cases m) [
       | inl last ↦
           ap (λ (r : List ℕ). value (times r p) x) (marked-more n e last) ∙ value_with_root n (times (marked n e) p) x
           ∙ elim (cases_eq x n) [
             | inl same ↦ ap (λ k. product k (value (times (marked n e) p) x)) (ap (bit_xor x) (sym same) ∙ xor_self x)
                 ∙ zero_product (value (times (marked n e) p) x)
-            | inr differs ↦ ap (product (bit_xor x n)) (locator_root n e p x (fewer n e m) (omega arith) one)
+            | inr differs ↦ ap (product (bit_xor x n)) (locator_root p x (fewer m) (omega arith) one)
                 ∙ product_zero (bit_xor x n)
           ]
       | inr none ↦
           ap (λ (r : List ℕ). value (times r p) x) (marked-same n e none)
-          ∙ locator_root n e p x (fewer n e m) (omega (arith, not_both e n x none one)) one
+          ∙ locator_root p x (fewer m) (omega (arith, not_both e n x none one)) one
     ]
 
 -- If x is marked, the power of the sum of logarithms is the derivative of the polynomial with a root at each marked
 -- point.
-pub locator_derivative : (n : ℕ) (e : ℕ → ℕ) (p : List ℕ) (x : ℕ) → n ≤ 2 ^ 16 → WordsOneByOne p → AreMarks n e → x < n
+pub locator_derivative : {n : ℕ} {e : ℕ → ℕ} (p : List ℕ) (x : ℕ) → n ≤ 2 ^ 16 → WordsOneByOne p → AreMarks n e → x < n
     → e x ≡ 1
     → derivative_value (times (marked n e) p) x ≡ product (power (log_sum n e x)) (value p x)
 unfolding marked times
-locator_derivative zero e p x hn w m hx one = absurd (let no : ⊥ = omega arith in no)
-locator_derivative (suc n) e p x hn w m hx one =
-    elim (mark_cases n e m) [
+locator_derivative {n = zero} p x hn w m hx one = absurd (let no : ⊥ = omega arith in no)
+locator_derivative {n = suc n} {e} p x hn w m hx one =
+    elim (mark_cases m) [
       | inl last ↦
           ap (λ (r : List ℕ). derivative_value (times r p) x) (marked-more n e last)
           ∙ derivative_with_root n (times (marked n e) p) x
@@ -120,13 +120,13 @@ locator_derivative (suc n) e p x hn w m hx one =
                 (ap (λ k. product k (derivative_value (times (marked n e) p) x))
                 (ap (bit_xor x) (sym same) ∙ xor_self x) ∙ zero_product (derivative_value (times (marked n e) p) x))
                 ∙ xor_zero_r (value (times (marked n e) p) x)
-                ∙ locator_value n e p x (omega arith) (omega arith) w (fewer n e m)
+                ∙ locator_value p x (omega arith) (omega arith) w (fewer m)
                 (λ y hy of_y. λ (at : y ≡ x). let no : ⊥ = omega arith in no)
                 ∙ ap (λ k. product (power k) (value p x)) (sym (log_sum-itself n e x (sym same)))
             | inr differs ↦
-                ap₂ bit_xor (locator_root n e p x (fewer n e m) (omega arith) one)
+                ap₂ bit_xor (locator_root p x (fewer m) (omega arith) one)
                 (ap (product (bit_xor x n))
-                (locator_derivative n e p x (omega arith) w (fewer n e m) (omega arith) one))
+                (locator_derivative p x (omega arith) w (fewer m) (omega arith) one))
                 ∙ xor_zero_l (product (bit_xor x n) (product (power (log_sum n e x)) (value p x)))
                 ∙ moved_in (bit_xor x n) (power (log_sum n e x)) (value p x)
                 ∙ ap (λ k. product k (value p x))
@@ -134,7 +134,7 @@ locator_derivative (suc n) e p x hn w m hx one =
           ]
       | inr none ↦
           ap (λ (r : List ℕ). derivative_value (times r p) x) (marked-same n e none)
-          ∙ locator_derivative n e p x (omega arith) w (fewer n e m) (omega (arith, not_both e n x none one)) one
+          ∙ locator_derivative p x (omega arith) w (fewer m) (omega (arith, not_both e n x none one)) one
           ∙ ap (λ k. product (power k) (value p x)) (sym (kept n e x none))
     ]
 

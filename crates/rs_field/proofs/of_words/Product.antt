@@ -90,7 +90,7 @@ product_lt x y = from_bits_lt _
 pub same_on_words : (f g : ℕ → ℕ) → IsAdditive 16 f → IsAdditive 16 g
     → passes_below 16 (λ i. eqb (f (2 ^ i)) (g (2 ^ i))) ≡ true → (x : ℕ) → x < 2 ^ 16 → f x ≡ g x
 same_on_words f g hf hg same x hx =
-    agree_below 16 f g hf hg
+    agree_below hf hg
     (λ i hi. eqb-true (f (2 ^ i)) (g (2 ^ i)) (from_passes_below 16 (λ i. eqb (f (2 ^ i)) (g (2 ^ i))) same i hi))
     16 (omega arith) x hx
 
@@ -109,7 +109,7 @@ pub same_on_pairs : (f g : ℕ → ℕ → ℕ)
     → passes_below 16 (λ i. passes_below 16 (λ j. eqb (f (2 ^ i) (2 ^ j)) (g (2 ^ i) (2 ^ j)))) ≡ true
     → (x y : ℕ) → x < 2 ^ 16 → y < 2 ^ 16 → f x y ≡ g x y
 same_on_pairs f g fl fr gl gr same x y hx hy =
-    agree_below 16 (λ x. f x y) (λ x. g x y) (fl y) (gl y)
+    agree_below (fl y) (gl y)
     (λ i hi. same_on_words (f (2 ^ i)) (g (2 ^ i)) (fr (2 ^ i)) (gr (2 ^ i))
     (from_passes_below 16 (λ i. passes_below 16 (λ j. eqb (f (2 ^ i) (2 ^ j)) (g (2 ^ i) (2 ^ j)))) same i hi) y hy)
     16 (omega arith) x hx
@@ -125,7 +125,7 @@ pub same_on_triples : (f g : ℕ → ℕ → ℕ → ℕ)
     ≡ true
     → (x y z : ℕ) → x < 2 ^ 16 → y < 2 ^ 16 → z < 2 ^ 16 → f x y z ≡ g x y z
 same_on_triples f g f1 f2 f3 g1 g2 g3 same x y z hx hy hz =
-    agree_below 16 (λ x. f x y z) (λ x. g x y z) (f1 y z) (g1 y z)
+    agree_below (f1 y z) (g1 y z)
     (λ i hi. same_on_pairs (f (2 ^ i)) (g (2 ^ i)) (f2 (2 ^ i)) (f3 (2 ^ i)) (g2 (2 ^ i)) (g3 (2 ^ i))
     (from_passes_below 16
     (λ i. passes_below 16 (λ j. passes_below 16 (λ k. eqb (f (2 ^ i) (2 ^ j) (2 ^ k)) (g (2 ^ i) (2 ^ j) (2 ^ k)))))
@@ -176,10 +176,10 @@ pub one_product : (x : ℕ) → x < 2 ^ 16 → product 1 x ≡ x
 one_product x hx = product_comm 1 x (omega arith) hx ∙ product_one x hx
 
 pub product_zero : (x : ℕ) → product x 0 ≡ 0
-product_zero x = additive_zero 16 (product x) (additive_right x)
+product_zero x = additive_zero (additive_right x)
 
 pub zero_product : (x : ℕ) → product 0 x ≡ 0
-zero_product x = additive_zero 16 (λ v. product v x) (additive_left x)
+zero_product x = additive_zero (additive_left x)
 
 -- The `bits` of a product are the shift-and-XOR product of the `bits`, reduced.
 pub bits-product : (x y : ℕ) → x < 2 ^ 16 → y < 2 ^ 16 → bits (product x y) ≡ reduce 16 (carryless 16 (bits x) (bits y))

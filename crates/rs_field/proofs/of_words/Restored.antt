@@ -31,12 +31,12 @@ in_basis e f p he size words at x hx =
 -- The rows f are the coefficients of a polynomial p with one more root at each marked point, and the rows g are those
 -- after
 -- the derivative step. The value of g at a marked point is the value of p there, times the power of the locator.
-pub restored : (e : ℕ) (f g marks : ℕ → ℕ) (p : List ℕ) → e ≤ 16 → WordsOneByOne p → AreMarks (2 ^ e) marks
+pub restored : (e : ℕ) (f g : ℕ → ℕ) {marks : ℕ → ℕ} (p : List ℕ) → e ≤ 16 → WordsOneByOne p → AreMarks (2 ^ e) marks
     → length (marked (2 ^ e) marks) + length p ≤ 2 ^ e
     → ((i : ℕ) → i < 2 ^ e → forward (2 ^ e) 0 f i ≡ value (times (marked (2 ^ e) marks) p) i)
     → IsDerivativeAdded (2 ^ e) f g
     → (x : ℕ) → x < 2 ^ e → marks x ≡ 1 → forward (2 ^ e) 0 g x ≡ product (power (log_sum (2 ^ e) marks x)) (value p x)
-restored e f g marks p he words m size at step x hx one =
+restored e f g {marks} p he words m size at step x hx one =
     let room : 2 ^ e ≤ 2 ^ 16 = pow_mono he in
     let h : List ℕ = times (marked (2 ^ e) marks) p in
     let n : ℕ = 2 ^ e - length (times (marked (2 ^ e) marks) p) in
@@ -46,6 +46,6 @@ restored e f g marks p he words m size at step x hx one =
     let full_words : WordsOneByOne (padded n h) = words_padded n h (words_times (marked (2 ^ e) marks) p words) in
     step (padded n h) full (all_words (padded n h) full_words)
     (in_basis e f (padded n h) he full full_words (λ i hi. at i hi ∙ sym (value-padded n h i))) x (omega arith)
-    ∙ ap₂ bit_xor (value-padded n h x ∙ locator_root (2 ^ e) marks p x m hx one)
-    (derivative-padded n h x ∙ locator_derivative (2 ^ e) marks p x room words m hx one)
+    ∙ ap₂ bit_xor (value-padded n h x ∙ locator_root p x m hx one)
+    (derivative-padded n h x ∙ locator_derivative p x room words m hx one)
     ∙ xor_zero_l (product (power (log_sum (2 ^ e) marks x)) (value p x))

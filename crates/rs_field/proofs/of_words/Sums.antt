@@ -38,11 +38,11 @@ value_at f k (x ∷ xs) are zero h = are.0 ∙ ap f (sym (add-zero k))
 value_at f k (x ∷ xs) are (suc i) h = value_at f (suc k) xs are.1 i (omega arith) ∙ ap f (omega arith)
 
 -- If a, b, c and d are the values of an additive map at 1, 2, 4 and 8, the sixteen sums are the values of the map.
-pub sixteen : (f : ℕ → ℕ) → IsAdditive 4 f → (a b c d : ℕ) → a ≡ f 1 → b ≡ f 2 → c ≡ f 4 → d ≡ f 8 → (i : ℕ) → i < 16
+pub sixteen : {f : ℕ → ℕ} → IsAdditive 4 f → {a b c d : ℕ} → a ≡ f 1 → b ≡ f 2 → c ≡ f 4 → d ≡ f 8 → (i : ℕ) → i < 16
     → get_or (sixteen_sums a b c d) i 0
     ≡ f i
-sixteen f hf a b c d ea eb ec ed i hi =
-    value_at f 0 (sixteen_sums a b c d) (search (rules, sym (additive_zero 4 f hf), both)) i hi ∙ ap f (zero-add i)
+sixteen {f} hf {a} {b} {c} {d} ea eb ec ed i hi =
+    value_at f 0 (sixteen_sums a b c d) (search (rules, sym (additive_zero hf), both)) i hi ∙ ap f (zero-add i)
   where
     both : (x y p q n : ℕ) → x ≡ f p → y ≡ f q → bit_xor p q ≡ n → p < 16 → q < 16 → bit_xor x y ≡ f n
     both x y p q n ex ey is hp hq = ap₂ bit_xor ex ey ∙ sym (hf.xor p q hp hq) ∙ ap f is
@@ -63,8 +63,8 @@ digit_additive : (w k c : ℕ) → IsAdditive w (λ i. i / 2 ^ k % 2 * c)
 digit_additive w k c =
     record { xor = λ a b ha hb. ap (λ i. i % 2 * c) (xor_shr a b k) ∙ lowest_xor (a / 2 ^ k) (b / 2 ^ k) c }
 
-sum_additive : (w : ℕ) (f g : ℕ → ℕ) → IsAdditive w f → IsAdditive w g → IsAdditive w (λ i. bit_xor (f i) (g i))
-sum_additive w f g hf hg = grind (arith, common_steps, xor_swap)
+sum_additive : {w : ℕ} {f g : ℕ → ℕ} → IsAdditive w f → IsAdditive w g → IsAdditive w (λ i. bit_xor (f i) (g i))
+sum_additive hf hg = grind (arith, common_steps, xor_swap)
 
 -- The sum of the words among a, b, c and d whose bit is set in i.
 abbrev at_bits : ℕ → ℕ → ℕ → ℕ → ℕ → ℕ
@@ -73,14 +73,14 @@ at_bits a b c d i = bit_xor (bit_xor (bit_xor (i / 2 ^ 0 % 2 * a) (i / 2 ^ 1 % 2
 
 at_bits_additive : (a b c d : ℕ) → IsAdditive 4 (at_bits a b c d)
 at_bits_additive a b c d =
-    sum_additive 4 _ _ (sum_additive 4 _ _ (sum_additive 4 _ _ (digit_additive 4 0 a) (digit_additive 4 1 b))
+    sum_additive (sum_additive (sum_additive (digit_additive 4 0 a) (digit_additive 4 1 b))
     (digit_additive 4 2 c)) (digit_additive 4 3 d)
 
 -- An additive map of four bits is determined by its values at 1, 2, 4 and 8.
-four_bits : (f : ℕ → ℕ) → IsAdditive 4 f → (a b c d i : ℕ) → a ≡ f 1 → b ≡ f 2 → c ≡ f 4 → d ≡ f 8 → i < 16
+four_bits : {f : ℕ → ℕ} → IsAdditive 4 f → {a b c d : ℕ} (i : ℕ) → a ≡ f 1 → b ≡ f 2 → c ≡ f 4 → d ≡ f 8 → i < 16
     → at_bits a b c d i ≡ f i
-four_bits f hf a b c d i ea eb ec ed h =
-    agree_below 4 (at_bits a b c d) f (at_bits_additive a b c d) hf same 4 (omega arith) i h
+four_bits {f} hf {a} {b} {c} {d} i ea eb ec ed h =
+    agree_below (at_bits_additive a b c d) hf same 4 (omega arith) i h
   where
     same : (k : ℕ) → k < 4 → at_bits a b c d (2 ^ k) ≡ f (2 ^ k)
     same zero h = ap₂ bit_xor (ap₂ bit_xor (ap₂ bit_xor (one-mul a) (zero-mul b)) (zero-mul c)) (zero-mul d)
@@ -101,7 +101,7 @@ pub low_of_four : (n f : ℕ) (words : List ℕ) (i : ℕ) → IsNibbleList n f 
 low_of_four n f words i are h =
     let at : (k : ℕ) → k < 16 → bit_and (get_or words k 0) 255 ≡ product (k * 16 ^ n) f % 256 =
     λ k hk. and_mask (get_or words k 0) 8 ∙ ap (λ w. w % 256) (are.entries k hk) in
-    four_bits (λ i. product (i * 16 ^ n) f % 256) (low_nibble_additive n f) _ _ _ _ i (at 1 (omega arith))
+    four_bits (low_nibble_additive n f) i (at 1 (omega arith))
     (at 2 (omega arith)) (at 4 (omega arith)) (at 8 (omega arith)) h
 
 -- The high byte of each product, from the high bytes of the products of 1, 2, 4 and 8.
@@ -111,5 +111,5 @@ pub high_of_four : (n f : ℕ) (words : List ℕ) (i : ℕ) → IsNibbleList n f
 high_of_four n f words i are h =
     let at : (k : ℕ) → k < 16 → get_or words k 0 / 256 ≡ product (k * 16 ^ n) f / 256 = λ k hk.
     ap (λ w. w / 256) (are.entries k hk) in
-    four_bits (λ i. product (i * 16 ^ n) f / 256) (high_nibble_additive n f) _ _ _ _ i (at 1 (omega arith))
+    four_bits (high_nibble_additive n f) i (at 1 (omega arith))
     (at 2 (omega arith)) (at 4 (omega arith)) (at 8 (omega arith)) h

@@ -79,7 +79,7 @@ values-joined d (suc n) u g j i whole fits hj hi =
     ∙ elim (cases_lt j (2 ^ n)) [
       | inl below ↦
           let at : j * 2 ^ d + i < 2 ^ (d + n) = inside j i (2 ^ n) (2 ^ d) (2 ^ (d + n)) blocks below hi in
-          sym (lower_half (d + n) (u * 2 ^ d) all a (j * 2 ^ d + i) few aligned room at low)
+          sym (lower_half (d + n) (u * 2 ^ d) few aligned room all a (j * 2 ^ d + i) at low)
           ∙ values-joined d n u g j i halves.0 (omega arith) below hi
       | inr above ↦
           let k : ℕ = j - 2 ^ n in
@@ -87,7 +87,7 @@ values-joined d (suc n) u g j i whole fits hj hi =
           let at : k * 2 ^ d + i < 2 ^ (d + n) = inside k i (2 ^ n) (2 ^ d) (2 ^ (d + n)) blocks (omega arith) hi in
           ap (forward (2 ^ suc (d + n)) (u * 2 ^ d) all)
           (ap (λ v. v * 2 ^ d + i) (sym back) ∙ moved (2 ^ n) k (2 ^ d) i (2 ^ (d + n)) blocks)
-          ∙ sym (upper_half (d + n) (u * 2 ^ d) all a b (k * 2 ^ d + i) few aligned room at low
+          ∙ sym (upper_half (d + n) (u * 2 ^ d) few aligned room all a (k * 2 ^ d + i) at low b
           (λ q h. second_of (2 ^ (d + n)) c a b q))
           ∙ ap (λ s. forward (2 ^ (d + n)) s b (k * 2 ^ d + i)) next
           ∙ values-joined d n (u + 2 ^ n) g k i (subst (λ (s : ℕ). s % 2 ^ (d + n) ≡ 0) next halves.1) (omega arith)

@@ -24,7 +24,7 @@ use Rattle.rs_field.proofs.of_code.AnyShards.{any_consistent}
 use Rattle.rs_field.proofs.of_code.Columns.{shard_from_columns}
 use Rattle.rs_field.proofs.of_code.Entries.{all_some}
 use Rattle.rs_field.proofs.of_code.Given.{count_below-suc}
-use Rattle.rs_field.proofs.of_code.GivenRows.{erased_in, rows_of, erasures}
+use Rattle.rs_field.proofs.of_code.GivenRows.{erased_in, row_count_of, erasures}
 use Rattle.rs_field.proofs.of_code.MadeShards.{has_recovery}
 use Rattle.rs_field.proofs.of_code.RestoredBelow.{missing-past}
 use Rattle.rs_rate.specs.declared.values.configuration.Configuration.{Configuration}
@@ -137,7 +137,7 @@ module _ (s : AsDefined) {g : FilledRows s.rate (with_frame s)} {left : LeftRows
         → AreFoundFor message
     found_by_rows agreed message a i j inside hj none =
         let p = original_row (frame_at s) i in
-        let below : original_row (frame_at s) i < rows_of (state_before g) =
+        let below : original_row (frame_at s) i < row_count_of (state_before g) =
         omega (arith, g.configured.own_rows, inside) in
         let (added, step, is) = restored.revealed agreed (j / 32) (j % 32) (omega (arith, hj)) (omega arith) i inside
         none in
@@ -146,7 +146,7 @@ module _ (s : AsDefined) {g : FilledRows s.rate (with_frame s)} {left : LeftRows
         ((erasures (are_given s g)).own i inside
         ∙ ap (λ (b : Bool). cond b 0 1) (given-marked g i inside ∙ none))
         (let word = is_locator.are_words (original_row (frame_at s) i) in omega (arith, word))
-        (same_residue (slice_index locator p) (log_sum (rows_of (state_before g)) (erased_in (state_before g)) p)
+        (same_residue (slice_index locator p) (log_sum (row_count_of (state_before g)) (erased_in (state_before g)) p)
         ((rows_located s g is_locator).logarithms p below))
 
   module _ (base : List Bool) (locator : List ℕ) (is_base : IsBaseOf (with_frame s) g.marks base)

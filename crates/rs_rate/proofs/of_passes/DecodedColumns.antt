@@ -77,21 +77,19 @@ module _ (s : AsDefined) (g : FilledRows s.rate (with_frame s)) where
   -- The shard in a row is the shard that is given there.
   pub row-given : (x : ℕ) → shard_in_row (state_before g) x ≡ shards_in g x
   row-given x =
-      let k = s.original_count in
-      let r = s.recovery_count in
-      let own = originals_in (with_frame s) (shards_in g) in
-      let coded = recovery_in (with_frame s) (shards_in g) in
-      elim (kind_of_row (frame_at s) k r x) [
+      let frame = frame_at s in
+      elim (kind_of_row (frame_at s) s.original_count s.recovery_count x) [
         | inl here ↦
-            ap (shard_in_row (state_before g)) here.2 ∙ given_at-own (frame_at s) k r own coded here.0 here.1
-            ∙ part-in (shards_in g) (frame_at s).originals_from k here.0 here.1 ∙ sym (ap (shards_in g) here.2)
+            ap (shard_in_row (state_before g)) here.2 ∙ shard_in_row-own (state_before g) here.0 here.1
+            ∙ part-in (shards_in g) frame.originals_from s.original_count here.0 here.1 ∙ sym (ap (shards_in g) here.2)
         | inr rest ↦ elim rest [
           | inl there ↦
               ap (shard_in_row (state_before g)) there.2
-              ∙ given_at-coded (frame_at s) k r own coded there.0 (places-known g.configured) there.1
-              ∙ part-in (shards_in g) (frame_at s).recovery_from r there.0 there.1 ∙ sym (ap (shards_in g) there.2)
+              ∙ shard_in_row-coded (state_before g) there.0 (places-known g.configured) there.1
+              ∙ part-in (shards_in g) frame.recovery_from s.recovery_count there.0 there.1
+              ∙ sym (ap (shards_in g) there.2)
           | inr neither ↦
-              given_at-other (frame_at s) k r own coded x neither.0 neither.1
+              shard_in_row-other (state_before g) x neither.0 neither.1
               ∙ sym (g.given.placed x neither.0 neither.1)
         ]
       ]

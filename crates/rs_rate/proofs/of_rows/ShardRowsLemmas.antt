@@ -124,7 +124,7 @@ row_chunk-apart chunks part size i j k start n at width fits same inside apart =
 pub column-put : (chunks : Chunks) (size i j : ℕ) → size % 2 ≡ 0 → j < size / 2
     → column j (shard_laid_out chunks size i) ≡ word_in chunks (row_len size) (j / 32) (j % 32) i
 unfolding row_chunk
-column-put chunks size i j even inside = column-laid_out size j (row_chunk chunks size i) even inside
+column-put chunks size i j even inside = column-laid_out size j (row_chunk chunks size i) inside
 
 -- Each element of a chunk of a row is a byte.
 pub row-fits : (chunks : Chunks) (bytes : List ℕ) (size rows i k b : ℕ) → bytes ≡ flat_map (λ x. x) chunks

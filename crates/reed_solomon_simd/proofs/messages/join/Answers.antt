@@ -1,5 +1,4 @@
-use Rattle.std.proofs.Common.{rules, ◌≡◌, ◌-◌, ◌∙◌, [], ◌∷◌, ◌++◌, Ok, sym, ap, ap₂, map, take}
-use Rattle.std.proofs.Common.{length, min, inl, arith}
+use Rattle.std.proofs.Common.{rules, ◌≡◌, ◌-◌, ◌∙◌, [], ◌∷◌, ◌++◌, Ok, sym, ap, ap₂, map, take, length, min, inl, arith}
 use Rattle.std.proofs.lemmas.List.{length-map, map_more, take_all}
 use Rattle.reed_solomon_simd.specs.Messages.{joined}
 use Rattle.reed_solomon_simd.proofs.MessageLemmas.{found-sized, joined-few, joined-enough, joined-lacks, taken-next}

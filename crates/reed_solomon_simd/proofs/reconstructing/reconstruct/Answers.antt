@@ -2,9 +2,8 @@ use Rattle.std.proofs.Common.{rules, ℕ, List, [], map, Bor, Result, Ok, Err, r
 use Rattle.rs_field.specs.code.Column.{Shard}
 use Rattle.rs_field.specs.code.OneCall.{Items}
 use Rattle.reed_solomon_simd.specs.declared.reconstruct_error.ReconstructError.{ReconstructError}
-use Rattle.reed_solomon_simd.specs.Reconstructed.{OneReconstructs}
+use Rattle.reed_solomon_simd.specs.Reconstructed.{OneReconstructs, wanted_outcome}
 use Rattle.reed_solomon_simd.specs.ReceivedState.{received_state}
-use Rattle.reed_solomon_simd.specs.Reconstructed.{wanted_outcome}
 use Rattle.reed_solomon_simd.proofs.ReconstructLemmas.{reconstructs-uncounted, reconstructs-refused, reconstructs-given}
 use Rattle.reed_solomon_simd.proofs.ReconstructLemmas.{rebuilds-lacking, rebuilds-few, rebuilds-unwanted, rebuilds-made}
 use Rattle.reed_solomon_simd.proofs.ReconstructLemmas.{was-checked}

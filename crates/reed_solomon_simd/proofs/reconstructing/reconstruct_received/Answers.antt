@@ -5,10 +5,9 @@ use Rattle.std.proofs.lemmas.List.{length-map, get_or-map}
 use Rattle.rs_field.specs.declared.code.error.Error.TheVariants.{OutOfMemory}
 use Rattle.rs_field.specs.code.Column.{Shard}
 use Rattle.reed_solomon_simd.specs.declared.reconstruct_error.ReconstructError.TheVariants.{Refused}
-use Rattle.reed_solomon_simd.specs.Reconstructed.{of_rooms, rooms_outcome}
+use Rattle.reed_solomon_simd.specs.Reconstructed.{of_rooms, rooms_outcome, wanted_outcome}
 use Rattle.reed_solomon_simd.specs.Rooms.{bytes_in}
 use Rattle.reed_solomon_simd.specs.ReceivedState.{received_state}
-use Rattle.reed_solomon_simd.specs.Reconstructed.{wanted_outcome}
 use Rattle.reed_solomon_simd.proofs.ReconstructLemmas.{rebuilds-lacking, rebuilds-few, rebuilds-unwanted, rebuilds-made}
 use Rattle.reed_solomon_simd.proofs.ReconstructLemmas.{rebuilds-misfit, was-checked, zeros-number, zeros-sized}
 use Rattle.reed_solomon_simd.proofs.RebuiltStrips.{reconstructed-sized}

@@ -19,17 +19,17 @@ returns-in_err-check_rooms-clause-answer g c =
     let s : DecoderState = received_state c.args.received.now in
     let made : List Shard = map (λ v. v.items) c.in_ok-vectors.vectors.items in
     let holds = c.in_ok-vectors.ensures in
-    let many = held-number s made holds in
+    let many = held-number holds in
     let number : length (map (λ v. v.items) c.in_ok-vectors.vectors.items) ≡ c.missing-missing.result =
     omega (arith, many, c.missing-missing.ensures) in
     restores-filled s c.requires.enough made (bytes_in c.args.rooms.now) _ _ holds (Err c.in_err-check_rooms.field-0.0)
-    (c.in_err-check_rooms.ensures.answer made number (held-sized s made holds)) (search rules, refl)
+    (c.in_err-check_rooms.ensures.answer made number (held-sized holds)) (search rules, refl)
 
 pub fill_rooms-requires-clause-number : goal.fill_rooms-requires-clause-number
 fill_rooms-requires-clause-number g c =
     let s : DecoderState = received_state c.args.received.now in
     let made : List Shard = map (λ v. v.items) c.in_ok-vectors.vectors.items in
-    let many = held-number s made c.in_ok-vectors.ensures in
+    let many = held-number c.in_ok-vectors.ensures in
     let long = length-map c.in_ok-vectors.vectors.items (λ v. v.items) in
     ap length c.as_slice.ensures.value
     ∙ omega (arith, many, long, c.missing-missing.ensures, c.in_ok-check_rooms.ensures.number)
@@ -38,7 +38,7 @@ pub fill_rooms-requires-clause-sized : goal.fill_rooms-requires-clause-sized
 fill_rooms-requires-clause-sized g c =
     let s : DecoderState = received_state c.args.received.now in
     let made : List Shard = map (λ v. v.items) c.in_ok-vectors.vectors.items in
-    let sized = held-sized s made c.in_ok-vectors.ensures in
+    let sized = held-sized c.in_ok-vectors.ensures in
     let size = c.args.received.now.shard_bytes in
     subst (λ l. All (λ v. length v.items ≡ size) l) (sym c.as_slice.ensures.value)
     (λ i d h. ap length (sym (get_or-map (λ v. v.items) c.in_ok-vectors.vectors.items i d [] h))
@@ -49,10 +49,10 @@ returns-clause-answer g c =
     let s : DecoderState = received_state c.args.received.now in
     let made : List Shard = map (λ v. v.items) c.in_ok-vectors.vectors.items in
     let holds = c.in_ok-vectors.ensures in
-    let many = held-number s made holds in
+    let many = held-number holds in
     let number : length (map (λ v. v.items) c.in_ok-vectors.vectors.items) ≡ c.missing-missing.result =
     omega (arith, many, c.missing-missing.ensures) in
     restores-filled s c.requires.enough made (bytes_in c.args.rooms.now) (bytes_in c.fill_rooms.new.rooms) (Ok tt) holds
     (Ok tt)
-    (c.in_ok-check_rooms.ensures.answer made number (held-sized s made holds))
+    (c.in_ok-check_rooms.ensures.answer made number (held-sized holds))
     (refl, c.fill_rooms.ensures.filled ∙ ap (map (λ v. v.items)) c.as_slice.ensures.value)

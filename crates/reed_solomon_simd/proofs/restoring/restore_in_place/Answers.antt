@@ -11,7 +11,7 @@ pub put_all-requires-clause-number : goal.put_all-requires-clause-number
 put_all-requires-clause-number g c =
     let s : DecoderState = g.S.Pieces.received c.args.store.now in
     let made : List Shard = map (λ v. v.items) c.in_ok-vectors.vectors.items in
-    let many = held-number s made c.in_ok-vectors.ensures in
+    let many = held-number c.in_ok-vectors.ensures in
     let long = length-map c.in_ok-vectors.vectors.items (λ v. v.items) in
     ap length c.as_slice.ensures.value ∙ omega (arith, many, long, c.requires.missing, c.requires.number)
 
@@ -19,7 +19,7 @@ pub put_all-requires-clause-sized : goal.put_all-requires-clause-sized
 put_all-requires-clause-sized g c =
     let s : DecoderState = g.S.Pieces.received c.args.store.now in
     let made : List Shard = map (λ v. v.items) c.in_ok-vectors.vectors.items in
-    let sized = held-sized s made c.in_ok-vectors.ensures in
+    let sized = held-sized c.in_ok-vectors.ensures in
     let size = c.shard_bytes-shard_bytes.result in
     subst (λ l. All (λ v. length v.items ≡ size) l) (sym c.as_slice.ensures.value)
     (λ i d h. ap length (sym (get_or-map (λ v. v.items) c.in_ok-vectors.vectors.items i d [] h))
@@ -30,7 +30,7 @@ pub returns-clause-restored : goal.returns-clause-restored
 returns-clause-restored g c =
     let s : DecoderState = g.S.Pieces.received c.args.store.now in
     let made : List Shard = map (λ v. v.items) c.in_ok-vectors.vectors.items in
-    let many = held-number s made c.in_ok-vectors.ensures in
+    let many = held-number c.in_ok-vectors.ensures in
     let old : List Shard = g.S.Rooms.held c.args.store.now in
     let new : List Shard = g.S.Rooms.held c.put_all.new.rooms in
     was-done-if c.put_all.result (λ put.

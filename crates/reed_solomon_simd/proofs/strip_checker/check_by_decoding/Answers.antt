@@ -24,7 +24,7 @@ returns-in_err-decode_pieces g c =
     let next = strip-next 2048 c.min-width.ensures c.min.ensures refl
     c.loop-start.invariant.cut c.loop-start-test.true c.shard_bytes-shard_bytes.ensures in
     let refused : c.from_residual-in_err-decode_pieces.result ≡ Err c.in_err-decode_pieces.field-0.0 = search rules in
-    rw refused (inl (none-pieces _ _ (g.P.Pieces.received c.args.received.now) c.in_err-decode_pieces.field-0.0
+    rw refused (inl (none-pieces (g.P.Pieces.received c.args.received.now)
     next.strip
     c.in_err-decode_pieces.ensures.refused))
 

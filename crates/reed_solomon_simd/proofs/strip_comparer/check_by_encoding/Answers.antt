@@ -4,8 +4,7 @@ use Rattle.rs_field.specs.code.Decoder.{DecoderState}
 use Rattle.rs_field.specs.declared.code.error.Error.TheVariants.{InconsistentShards}
 use Rattle.rs_rate.specs.rows.EncoderView.{encoder_state}
 use Rattle.reed_solomon_simd.proofs.StripLoops.{cut-first, strip-next, cut-last}
-use Rattle.reed_solomon_simd.proofs.ConsistentStrips.{checked-none, checked-further, checked-all}
-use Rattle.reed_solomon_simd.proofs.ConsistentStrips.{consistent-cut}
+use Rattle.reed_solomon_simd.proofs.ConsistentStrips.{checked-none, checked-further, checked-all, consistent-cut}
 use Rattle.reed_solomon_simd.proofs.strip_comparer.check_by_encoding.Goals.{
   then-left-width+in_ok-reset,
   else-left-width,

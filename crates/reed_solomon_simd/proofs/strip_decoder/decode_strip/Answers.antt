@@ -13,10 +13,7 @@ put_pieces-requires-clause-pieces g c =
     λ items listing.
     let here : Lists (restored_by_rows c.decode_pieces.new.decoder.rows) items =
     subst (λ (out : Shards). Lists out items) c.lent_originals.ensures listing in
-    let grows = g.S.Rooms.grows in
-    let number = pieces-number x grows start end
-    (restored_by_rows c.decode_pieces.new.decoder.rows) items c.requires.strip made here in (
+    let number = pieces-number x start end made here in (
       omega (arith, number, c.requires.number),
-      pieces-sized x grows start end
-          (restored_by_rows c.decode_pieces.new.decoder.rows) items c.requires.strip made here,
+      pieces-sized x start end made here,
     )

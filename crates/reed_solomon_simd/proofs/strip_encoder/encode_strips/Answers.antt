@@ -11,9 +11,7 @@ loop-start-init g c =
     record {
       cut = cut-first c.args.shard_bytes;
       fresh = λ more. c.in_ok-encoder.ensures.made.0;
-      done = done-none g.R.Rooms.grows default_rate c.args.counts.original_count c.args.counts.recovery_count
-          c.args.shard_bytes (g.O.Originals.shards c.args.originals.now)
-          (g.R.Rooms.held c.args.rooms.now) c.requires.number c.requires.fit;
+      done = done-none c.requires.number c.requires.fit;
       places = refl;
       loan = refl;
     }
@@ -36,9 +34,7 @@ loop-start-preserved g c =
         | else-left-width w ↦ now.fresh ∙ ap (λ e. encoder_state default_rate e.rows) w.encoder-is
             ∙ held.fresh c.loop-start-test.true
       ];
-      done = done-further g.R.Rooms.grows default_rate c.args.counts.original_count c.args.counts.recovery_count
-          c.args.shard_bytes _ _ (g.O.Originals.shards c.args.originals.now) now.coded.0
-          (g.R.Rooms.held c.loop-start.rooms) (g.R.Rooms.held c.encode_strip.new.rooms) next.strip c.requires.sized
+      done = done-further (g.R.Rooms.held c.encode_strip.new.rooms) next.strip c.requires.sized
           held.done (rw (c.requires.originals, held.done.number) at now.coded.1) now.coded.2;
       places = now.places ∙ held.places;
       loan = now.loan ∙ held.loan;
@@ -47,7 +43,4 @@ loop-start-preserved g c =
 pub returns-clause-coded : goal.returns-clause-coded
 returns-clause-coded g c =
     let held = c.loop-start.invariant in
-    done-all g.R.Rooms.grows default_rate c.args.counts.original_count c.args.counts.recovery_count c.args.shard_bytes
-    (g.O.Originals.shards c.args.originals.now)
-    (g.R.Rooms.held c.loop-start.rooms)
-    (rw (cut-last held.cut c.loop-start-test.false refl) at held.done)
+    done-all (rw (cut-last held.cut c.loop-start-test.false refl) at held.done)

@@ -28,8 +28,7 @@ named g c =
     ∙ lent-named (state_of_pieces c.args.start c.args.end x) (restored_by_rows c.decode_pieces.new.decoder.rows)
     (lent_shards c.encode_if_wanted.new.encoder.rows) restored.message restored.agrees restored c.args.wanted.now
     (can-pieces x c.args.start c.args.end c.args.wanted.now c.requires.can)
-    (λ wants. recovery_unique (state_of_pieces c.args.start c.args.end x).configuration restored.message _
-    restored.agrees.coded.0 (few-originals x c.requires.set_up)
+    (λ wants. recovery_unique (few-originals x c.requires.set_up)
     (even-strip x c.requires.set_up c.args.start c.args.end c.requires.strip)
     (c.in_ok-encode_if_wanted.ensures.coded wants restored.message restored.agrees) restored.agrees.coded.1)
 

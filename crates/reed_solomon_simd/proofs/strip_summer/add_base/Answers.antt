@@ -1,10 +1,9 @@
-use Rattle.std.proofs.Common.{◌≡◌, ◌%◌, ◌<◌, length, true, sym, ap, ap₂, ◌∙◌, arith, add-one, bit_xor}
-use Rattle.std.proofs.Common.{subst}
+use Rattle.std.proofs.Common.{◌≡◌, ◌%◌, ◌<◌, length, true, sym, ap, ap₂, ◌∙◌, arith, add-one, bit_xor, subst}
 use Rattle.std.specs.Prelude.{is_some, slice_index}
 use Rattle.std.proofs.lemmas.List.{get_or_default}
 use Rattle.rs_field.specs.code.Decoder.{DecoderState}
-use Rattle.rs_field.specs.code.DirectLaws.{locator_at}
-use Rattle.rs_field.specs.code.Frame.{row_count}
+use Rattle.rs_field.specs.code.DirectLaws.{locator_at, shard_in_row}
+use Rattle.rs_field.specs.code.Frame.{row_count, frame_at}
 use Rattle.rs_field.specs.code.Given.{Shards}
 use Rattle.rs_field.specs.code.PieceStates.{state_of_pieces}
 use Rattle.rs_field.specs.rows.Layout.{row_len}
@@ -14,8 +13,6 @@ use Rattle.rs_field.specs.words.Transform.{sum_below}
 use Rattle.rs_field.proofs.of_words.Combination.{sum_below-zero, sum_below-suc}
 use Rattle.rs_rate.specs.passes.Sums.{AreMarksOf, ListsMarked, sum_word}
 use Rattle.reed_solomon_simd.specs.Base.{marked_state}
-use Rattle.rs_field.specs.code.Frame.{frame_at}
-use Rattle.rs_field.specs.code.DirectLaws.{shard_in_row}
 use Rattle.reed_solomon_simd.proofs.BaseLemmas.{sum_frame, at_counts, base_marks, base-pieces, base_term, term-of}
 use Rattle.reed_solomon_simd.proofs.BaseLemmas.{base_sum-listed}
 use Rattle.reed_solomon_simd.proofs.BaseSums.{in_row-sized}

@@ -1,12 +1,11 @@
 use Rattle.std.proofs.Common.{◌≡◌, ℕ, ◌+◌, ◌^◌, ◌≤◌, cond, sym, ap, ◌∙◌, arith, add-one, pow_mono}
 use Rattle.std.specs.Prelude.{is_some}
 use Rattle.rs_field.specs.code.Decoder.{DecoderState}
-use Rattle.rs_field.specs.code.Frame.{row_count}
+use Rattle.rs_field.specs.code.Frame.{row_count, frame_at}
 use Rattle.rs_field.specs.code.Given.{count_below}
 use Rattle.rs_field.proofs.of_code.Given.{count_below-zero, count_below-suc}
 use Rattle.rs_field.proofs.of_code.Entries.{count_most}
 use Rattle.rs_field.proofs.of_code.PieceStates.{is_some-map}
-use Rattle.rs_field.specs.code.Frame.{frame_at}
 use Rattle.reed_solomon_simd.proofs.BaseLemmas.{decoder_frame}
 use Rattle.reed_solomon_simd.proofs.BaseMarks.{some-copied}
 use Rattle.reed_solomon_simd.proofs.ConsistentStrips.{few-originals}

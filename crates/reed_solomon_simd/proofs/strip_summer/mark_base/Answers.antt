@@ -5,12 +5,11 @@ use Rattle.std.specs.Prelude.{is_some, nat_lt}
 use Rattle.std.proofs.lemmas.List.{get_or-set_other, length-replicate}
 use Rattle.std.proofs.lemmas.Bool.{cases_eq}
 use Rattle.rs_field.specs.code.Decoder.{DecoderState, originals_given, recovery_given}
-use Rattle.rs_field.specs.code.Frame.{row_count}
+use Rattle.rs_field.specs.code.Frame.{row_count, frame_at}
 use Rattle.rs_field.specs.rows.MarkedRows.{is_marked}
 use Rattle.rs_rate.specs.rows.Marks.{how_many}
 use Rattle.rs_rate.proofs.of_rows.HowMany.{how_many-zero, how_many-most}
 use Rattle.rs_rate.proofs.of_rows.DecoderRows.{enough-least}
-use Rattle.rs_field.specs.code.Frame.{frame_at}
 use Rattle.rs_field.specs.code.DirectLaws.{shard_in_row}
 use Rattle.reed_solomon_simd.proofs.BaseLemmas.{decoder_frame, frame_same, some-pieces}
 use Rattle.reed_solomon_simd.proofs.BaseMarks.{some-copied, all-found, base-count, marked-more, many-more, many-passed}

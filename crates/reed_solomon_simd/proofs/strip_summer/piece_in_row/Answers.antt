@@ -1,9 +1,8 @@
 use Rattle.std.proofs.Common.{◌≡◌, sym, ap, ◌∙◌, arith}
 use Rattle.rs_field.specs.code.Decoder.{DecoderState}
-use Rattle.rs_field.specs.code.Frame.{recovery_row, original_row}
+use Rattle.rs_field.specs.code.Frame.{recovery_row, original_row, frame_at}
 use Rattle.rs_field.specs.code.PieceStates.{state_of_pieces}
-use Rattle.rs_field.proofs.of_code.GivenRows.{given_at-own, given_at-coded, given_at-other}
-use Rattle.rs_field.specs.code.Frame.{frame_at}
+use Rattle.rs_field.proofs.of_code.GivenRows.{shard_in_row-own, shard_in_row-coded, shard_in_row-other}
 use Rattle.rs_field.specs.code.DirectLaws.{shard_in_row}
 use Rattle.reed_solomon_simd.proofs.BaseLemmas.{decoder_frame, frame_same, outside-same}
 use Rattle.reed_solomon_simd.proofs.strip_summer.piece_in_row.Goals as goal
@@ -20,8 +19,7 @@ returns-in-Some g c =
     there.1 ∙ ap (λ p. original_row p c.in-Some.index) same in
     c.original_piece.ensures
     ∙ sym (ap (shard_in_row t) at
-    ∙ given_at-own (frame_at s.configuration) s.configuration.original_count s.configuration.recovery_count t.originals
-    t.recovery c.in-Some.index (omega (arith, there.0, c.counts-counts.ensures.originals)))
+    ∙ shard_in_row-own t c.in-Some.index (omega (arith, there.0, c.counts-counts.ensures.originals)))
 
 pub returns-in-Some-index_of : goal.returns-in-Some-index_of
 returns-in-Some-index_of g c =
@@ -35,8 +33,7 @@ returns-in-Some-index_of g c =
     there.1 ∙ ap (λ p. recovery_row p c.in-Some-index_of.index) same in
     c.recovery_piece.ensures
     ∙ sym (ap (shard_in_row t) at
-    ∙ given_at-coded (frame_at s.configuration) s.configuration.original_count s.configuration.recovery_count
-    t.originals t.recovery c.in-Some-index_of.index (decoder_frame s c.requires.set_up)
+    ∙ shard_in_row-coded t c.in-Some-index_of.index (decoder_frame s c.requires.set_up)
     (omega (arith, there.0, c.counts-counts.ensures.recovery)))
 
 pub returns : goal.returns
@@ -46,9 +43,7 @@ returns g c =
     let counts = c.counts-counts.result in
     let same = frame_same s c.requires.set_up counts.framed
     c.counts-counts.ensures.originals c.counts-counts.ensures.recovery in
-    sym (given_at-other (frame_at s.configuration) s.configuration.original_count s.configuration.recovery_count
-    t.originals
-    t.recovery c.args.row
+    sym (shard_in_row-other t c.args.row
     (outside-same c.args.row _ (frame_at s.configuration).originals_from _ s.configuration.original_count
     (ap (λ p. p.originals_from) same) c.counts-counts.ensures.originals c.in_default.ensures)
     (outside-same c.args.row _ (frame_at s.configuration).recovery_from _ s.configuration.recovery_count

@@ -4,12 +4,11 @@ use Rattle.std.proofs.Common.{ap₂, ◌∙◌, inl, inr, arith, pow_mono}
 use Rattle.std.proofs.lemmas.Bool.{cases_eq}
 use Rattle.rs_field.specs.code.Column.{Shard}
 use Rattle.rs_field.specs.code.Decoder.{DecoderState, IsAgreeing}
-use Rattle.rs_field.specs.code.Frame.{row_count}
+use Rattle.rs_field.specs.code.Frame.{row_count, frame_at}
 use Rattle.rs_rate.specs.rows.ShardRows.{shard_in_order}
 use Rattle.reed_solomon_simd.specs.declared.shard_index.ShardIndex.TheVariants.{Original}
 use Rattle.rs_field.specs.code.PieceStates.{state_of_pieces}
 use Rattle.reed_solomon_simd.specs.declared.shard_index.ShardIndex.{ShardIndex}
-use Rattle.rs_field.specs.code.Frame.{frame_at}
 use Rattle.rs_field.specs.code.DirectLaws.{shard_in_row}
 use Rattle.reed_solomon_simd.proofs.BaseLemmas.{decoder_frame, sum_row}
 use Rattle.reed_solomon_simd.proofs.BaseSums.{wanted-at, wanted-missing, missing-unmarked, only-message, row-inside}

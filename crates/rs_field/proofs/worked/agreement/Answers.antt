@@ -40,14 +40,14 @@ line : AreRecovery (configuration default_rate 2 3 2) message recovered
 unfolding passes_below frame_of low_frame high_frame is_low next_power exponent_of first_below value product combine
     bits
     from_bits cantor_basis monomials carryless reduce column
-line = recovery_from _ _ _ ((0 ∷ 1 ∷ []) ∷ []) refl
+line = recovery_from ((0 ∷ 1 ∷ []) ∷ []) refl
 
 -- The recovery shards of one original are values of a constant.
 copies : AreRecovery (configuration default_rate 1 2 2) ((7 ∷ 9 ∷ []) ∷ []) ((7 ∷ 9 ∷ []) ∷ (7 ∷ 9 ∷ []) ∷ [])
 unfolding passes_below frame_of low_frame high_frame is_low next_power exponent_of first_below value product combine
     bits
     from_bits cantor_basis monomials carryless reduce column
-copies = recovery_from _ _ _ ((2311 ∷ []) ∷ []) refl
+copies = recovery_from ((2311 ∷ []) ∷ []) refl
 
 -- The message of two originals agrees with two of its recovery shards.
 agrees : IsAgreeing state_of_two message
@@ -104,7 +104,7 @@ cubic : AreRecovery (configuration default_rate 4 4 2) four four_more
 unfolding passes_below is_low next_power exponent_of first_below value product combine bits from_bits cantor_basis
     monomials
     carryless reduce column
-cubic = recovery_from_high 3 _ _ _ ((11 ∷ 6 ∷ 5 ∷ 1 ∷ []) ∷ []) refl
+cubic = recovery_from_high 3 ((11 ∷ 6 ∷ 5 ∷ 1 ∷ []) ∷ []) refl
 
 -- The message of four originals agrees with two of its originals and two of its recovery shards.
 mixture : MixtureExample

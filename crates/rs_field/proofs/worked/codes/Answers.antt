@@ -22,32 +22,32 @@ unfolding passes_below frame_of low_frame high_frame is_low next_power exponent_
     from_bits cantor_basis monomials carryless reduce column xor_bytes xor_shards
 low = (
   (
-    (codes_from _ _ _ _ _ refl, recovery_from _ _ _ ((2311 ∷ []) ∷ []) refl),
-    (codes_from _ _ _ _ _ refl, recovery_from _ _ _ ((0 ∷ 1 ∷ []) ∷ []) refl),
+    (codes_from refl, recovery_from ((2311 ∷ []) ∷ []) refl),
+    (codes_from refl, recovery_from ((0 ∷ 1 ∷ []) ∷ []) refl),
     (
-      (codes_from _ _ _ _ _ refl, recovery_from _ _ _ ((1 ∷ 0 ∷ []) ∷ []) refl),
+      (codes_from refl, recovery_from ((1 ∷ 0 ∷ []) ∷ []) refl),
       refl,
-      (codes_from _ _ _ _ _ refl, recovery_from _ _ _ ((1 ∷ 1 ∷ []) ∷ []) refl),
+      (codes_from refl, recovery_from ((1 ∷ 1 ∷ []) ∷ []) refl),
       refl,
     ),
-    (codes_from _ _ _ _ _ refl, recovery_from _ _ _ ((0 ∷ 3 ∷ 2 ∷ 1 ∷ []) ∷ []) refl),
+    (codes_from refl, recovery_from ((0 ∷ 3 ∷ 2 ∷ 1 ∷ []) ∷ []) refl),
   ),
   (
-    (codes_from _ _ _ _ _ refl, recovery_from _ _ _ ((2311 ∷ []) ∷ []) refl),
-    (codes_from _ _ _ _ _ refl, recovery_from _ _ _ ((0 ∷ 1 ∷ []) ∷ []) refl),
+    (codes_from refl, recovery_from ((2311 ∷ []) ∷ []) refl),
+    (codes_from refl, recovery_from ((0 ∷ 1 ∷ []) ∷ []) refl),
     (
-      (codes_from _ _ _ _ _ refl, recovery_from _ _ _ ((1 ∷ 0 ∷ []) ∷ []) refl),
+      (codes_from refl, recovery_from ((1 ∷ 0 ∷ []) ∷ []) refl),
       refl,
-      (codes_from _ _ _ _ _ refl, recovery_from _ _ _ ((1 ∷ 1 ∷ []) ∷ []) refl),
+      (codes_from refl, recovery_from ((1 ∷ 1 ∷ []) ∷ []) refl),
       refl,
     ),
-    (codes_from _ _ _ _ _ refl, recovery_from _ _ _ ((0 ∷ 3 ∷ 2 ∷ 1 ∷ []) ∷ []) refl),
+    (codes_from refl, recovery_from ((0 ∷ 3 ∷ 2 ∷ 1 ∷ []) ∷ []) refl),
   ),
-  (codes_from _ _ _ _ _ refl, recovery_from _ _ _ ((0 ∷ 1 ∷ []) ∷ []) refl),
-  (codes_from _ _ _ _ _ refl, recovery_from _ _ _ ((0 ∷ 0 ∷ 1 ∷ 1 ∷ []) ∷ []) refl),
-  recovery_from _ _ _ ((0 ∷ 0 ∷ []) ∷ (0 ∷ 1 ∷ []) ∷ []) refl,
+  (codes_from refl, recovery_from ((0 ∷ 1 ∷ []) ∷ []) refl),
+  (codes_from refl, recovery_from ((0 ∷ 0 ∷ 1 ∷ 1 ∷ []) ∷ []) refl),
+  recovery_from ((0 ∷ 0 ∷ []) ∷ (0 ∷ 1 ∷ []) ∷ []) refl,
   -- There are 32 columns that are zero, and the last column has the polynomial x.
-  recovery_from _ _ _ (replicate 32 (0 ∷ 0 ∷ []) ++ (0 ∷ 1 ∷ []) ∷ []) refl,
+  recovery_from (replicate 32 (0 ∷ 0 ∷ []) ++ (0 ∷ 1 ∷ []) ∷ []) refl,
 )
 
 -- The examples of the high rate pass the tests, below 4 or below 8.
@@ -57,16 +57,16 @@ unfolding passes_below is_low next_power exponent_of first_below value product c
     carryless reduce column
 high = (
   (
-    recovery_from_high 2 _ _ _ ((10773 ∷ 15782 ∷ 5554 ∷ []) ∷ []) refl,
-    recovery_from_high 2 _ _ _ ((2 ∷ 1 ∷ []) ∷ []) refl,
-    recovery_from_high 3 _ _ _ ((11 ∷ 6 ∷ 5 ∷ 1 ∷ []) ∷ []) refl,
-    recovery_from_high 3 _ _ _ ((3 ∷ 6 ∷ 15 ∷ 4 ∷ 2 ∷ 9 ∷ []) ∷ []) refl,
+    recovery_from_high 2 ((10773 ∷ 15782 ∷ 5554 ∷ []) ∷ []) refl,
+    recovery_from_high 2 ((2 ∷ 1 ∷ []) ∷ []) refl,
+    recovery_from_high 3 ((11 ∷ 6 ∷ 5 ∷ 1 ∷ []) ∷ []) refl,
+    recovery_from_high 3 ((3 ∷ 6 ∷ 15 ∷ 4 ∷ 2 ∷ 9 ∷ []) ∷ []) refl,
   ),
   (
-    recovery_from_high 2 _ _ _ ((10773 ∷ 15782 ∷ 5554 ∷ []) ∷ []) refl,
-    recovery_from_high 2 _ _ _ ((2 ∷ 1 ∷ []) ∷ []) refl,
-    recovery_from_high 3 _ _ _ ((11 ∷ 6 ∷ 5 ∷ 1 ∷ []) ∷ []) refl,
-    recovery_from_high 3 _ _ _ ((3 ∷ 6 ∷ 15 ∷ 4 ∷ 2 ∷ 9 ∷ []) ∷ []) refl,
+    recovery_from_high 2 ((10773 ∷ 15782 ∷ 5554 ∷ []) ∷ []) refl,
+    recovery_from_high 2 ((2 ∷ 1 ∷ []) ∷ []) refl,
+    recovery_from_high 3 ((11 ∷ 6 ∷ 5 ∷ 1 ∷ []) ∷ []) refl,
+    recovery_from_high 3 ((3 ∷ 6 ∷ 15 ∷ 4 ∷ 2 ∷ 9 ∷ []) ∷ []) refl,
   ),
 )
 

@@ -5,7 +5,7 @@ use Rattle.rs_field.proofs.code.laws.code_laws.Goals as goal
 pub returns : goal.returns
 returns c = record {
   column = record { in_chunk = column-chunk; in_tail = column-tail };
-  shard = shard_from_columns;
-  polynomial = codes_unique;
-  recovery = recovery_unique;
+  shard = λ size s t. shard_from_columns;
+  polynomial = λ rate k r words p q. codes_unique;
+  recovery = λ c message one other. recovery_unique;
 }

@@ -11,8 +11,7 @@ returns c = record {
   some = has_recovery;
   linear = recovery-xor;
   columns = columns_unique;
-  strips = λ c start end message all strip are coded.
-      recovery-cut start end c.rate c.original_count c.recovery_count c.shard_bytes message all strip are coded;
+  strips = λ c start end message all. recovery-cut;
   joined = strips-join;
   one_code = one;
 }

@@ -48,4 +48,4 @@ returns-else-size-gt1-clause-counts t c = let none = no_steps c.args.size (omega
 
 pub returns-else-size-gt1-clause-derivative : goal.returns-else-size-gt1-clause-derivative
 returns-else-size-gt1-clause-derivative t c k s hk hs =
-    derivative_one _ c.if-size-gt1.false c.requires.power
+    derivative_one _ c.if-size-gt1.false

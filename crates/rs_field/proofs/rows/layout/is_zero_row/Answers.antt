@@ -7,13 +7,13 @@ use Rattle.rs_field.proofs.of_rows.ZeroColumns.{zero-second}
 use Rattle.rs_field.proofs.rows.layout.is_zero_row.Goals as goal
 use Rattle.rs_field.proofs.rows.layout.is_zero_row.Goals.{After-as_flattened-bytes}
 
-first-fits : (size : ℕ) (row : Chunks) (bytes : List ℕ) → IsRow size row bytes
+first-fits : {size : ℕ} {row : Chunks} {bytes : List ℕ} → IsRow size row bytes
     → 0 + (size / 64 * 64 + size % 64 / 2) ≤ length bytes
-first-fits size row bytes is = omega (arith, is.length_is, is.count)
+first-fits is = omega (arith, is.length_is, is.count)
 
-second-fits : (size : ℕ) (row : Chunks) (bytes : List ℕ) → IsRow size row bytes → (size % 64 / 2 ≡ 0 → ⊥)
+second-fits : {size : ℕ} {row : Chunks} {bytes : List ℕ} → IsRow size row bytes → (size % 64 / 2 ≡ 0 → ⊥)
     → size / 64 * 64 + 32 + size % 64 / 2 ≤ length bytes
-second-fits size row bytes is some = omega (arith, is.length_is, is.count, some)
+second-fits is some = omega (arith, is.length_is, is.count, some)
 
 is_row : (c : After-as_flattened-bytes) → IsRow c.args.shard_bytes c.args.row.now c.as_flattened-bytes.result.now
 is_row c = record {
@@ -28,9 +28,8 @@ returns-then-half-eq0 c =
     let size = c.args.shard_bytes in
     let bytes = c.as_flattened-bytes.result.now in
     let is = is_row (goal.at.returns-then-half-eq0 c).After-as_flattened-bytes in
-    let fits = first-fits size c.args.row.now bytes is in (
-      λ yes. zero_columns size c.args.row.now bytes is
-          (zero-from bytes 0 _ fits (c.are_zero_bytes.ensures.0 c.if-are_zero_bytes.true))
+    let fits = first-fits is in (
+      λ yes. zero_columns is (zero-from bytes 0 _ fits (c.are_zero_bytes.ensures.0 c.if-are_zero_bytes.true))
           (λ b h. absurd (omega (arith, h, c.if-half-eq0.true))),
       λ zeros. ap (λ n. nat_eq n 0) c.if-half-eq0.true,
     )
@@ -43,14 +42,11 @@ returns-else-half-eq0 c =
     let is = is_row (goal.at.returns-else-half-eq0 c).After-as_flattened-bytes in
     let part = λ (n : ℕ). AreZero (take n (drop start bytes)) in
     let half : start + size % 64 / 2 - start ≡ size % 64 / 2 = omega arith in
-    let fits = second-fits size c.args.row.now bytes is c.if-half-eq0.false in (
-      λ yes. zero_columns size c.args.row.now bytes is
-          (zero-from bytes 0 _ (first-fits size c.args.row.now bytes is)
-          (c.are_zero_bytes.ensures.0 c.if-are_zero_bytes.true))
+    let fits = second-fits is c.if-half-eq0.false in (
+      λ yes. zero_columns is (zero-from bytes 0 _ (first-fits is) (c.are_zero_bytes.ensures.0 c.if-are_zero_bytes.true))
           (zero-from bytes start (size % 64 / 2) fits (subst part half (c.are_zero_bytes-else-half-eq0.ensures.0 yes))),
       λ zeros. c.are_zero_bytes-else-half-eq0.ensures.1
-          (subst part (sym half)
-          (zero-part bytes start (size % 64 / 2) fits (zero-second size c.args.row.now bytes is zeros))),
+          (subst part (sym half) (zero-part bytes start (size % 64 / 2) fits (zero-second is zeros))),
     )
 
 pub returns-else-are_zero_bytes : goal.returns-else-are_zero_bytes
@@ -60,7 +56,5 @@ returns-else-are_zero_bytes c =
     let is = is_row (goal.at.returns-else-are_zero_bytes c).After-as_flattened-bytes in (
       λ yes. absurd (true≢false (sym yes ∙ c.if-are_zero_bytes.false)),
       λ zeros.
-          c.are_zero_bytes.ensures.1
-          (zero-part bytes 0 _ (first-fits size c.args.row.now bytes is)
-          (zero-first size c.args.row.now bytes is zeros)),
+          c.are_zero_bytes.ensures.1 (zero-part bytes 0 _ (first-fits is) (zero-first is zeros)),
     )

@@ -2,4 +2,4 @@ use Rattle.rs_field.proofs.of_rows.LayoutLemmas.{column-laid_out}
 use Rattle.rs_field.proofs.rows.layout.layout_laws.Goals as goal
 
 pub returns : goal.returns
-returns c = column-laid_out
+returns c size j chunks even = column-laid_out size j chunks

@@ -55,15 +55,14 @@ transform_many-returns-in-Forward-clause-values g t c k s hk hs =
     let len = c.layers.ensures.extent.len_64 in
     let layers = c.layers.ensures.parts k s hk hs in
     rw c.in-Forward.is (forward_whole _ _ _ (λ q. word c.layers.new.data k s (block.pos + q)) _
-    (part_found block _ refl c.requires.large)
-    (rw c.in-Forward.is at layers)
+    (part_found block refl c.requires.large) (rw c.in-Forward.is at layers)
     (λ m hm. let parts = c.transform_parts.ensures.parts k s m (omega (arith, len)) hs hm in
     rw c.in-Forward.is at parts))
 
 pub transform_many-returns-in-Forward-clause-counts : goal.transform_many-returns-in-Forward-clause-counts
 transform_many-returns-in-Forward-clause-counts g t c =
     let block = c.args.block in let size = block.size in
-    let few = (part_found block _ refl c.requires.large).steps in
+    let few = (part_found block refl c.requires.large).steps in
     counts_of_whole size c.transform_parts.new.steps
     (omega (arith, few))
     (counts_rows c.layers.ensures.counts)
@@ -75,14 +74,14 @@ transform_many-returns-in-Backward-clause-values g t c k s hk hs =
     let len = c.transform_parts-in-Backward.ensures.extent.len_64 in
     let layers = c.layers-in-Backward.ensures.parts k s (omega (arith, len)) hs in
     rw c.in-Backward.is (backward_whole _ (is_used c.args.used) _
-    (λ q. word c.transform_parts-in-Backward.new.data k s (block.pos + q)) _ (part_found block _ refl c.requires.large)
+    (λ q. word c.transform_parts-in-Backward.new.data k s (block.pos + q)) _ (part_found block refl c.requires.large)
     (rw c.in-Backward.is at layers)
     (λ m hm. let parts = c.transform_parts-in-Backward.ensures.parts k s m hk hs hm in rw c.in-Backward.is at parts))
 
 pub transform_many-returns-in-Backward-clause-counts : goal.transform_many-returns-in-Backward-clause-counts
 transform_many-returns-in-Backward-clause-counts g t c =
     let block = c.args.block in let size = block.size in
-    let few = (part_found block _ refl c.requires.large).steps in
+    let few = (part_found block refl c.requires.large).steps in
     let mid = c.transform_parts-in-Backward.new.steps in
     counts_of_whole size c.layers-in-Backward.new.steps (omega (arith, few))
     c.transform_parts-in-Backward.ensures.counts
@@ -90,7 +89,7 @@ transform_many-returns-in-Backward-clause-counts g t c =
 
 pub transform_parts-nonzero_div-j-end : goal.transform_parts-nonzero_div-j-end
 transform_parts-nonzero_div-j-end g t c = let part =
-    part_found c.args.block c.part_rows-part.result c.part_rows-part.ensures c.requires.large in part.positive
+    part_found c.args.block c.part_rows-part.ensures c.requires.large in part.positive
 
 pub transform_parts-loop-j-init : goal.transform_parts-loop-j-init
 transform_parts-loop-j-init g t c =
@@ -103,11 +102,11 @@ pub transform_parts-transform-requires : goal.transform_parts-transform-requires
 transform_parts-transform-requires g t c κs within =
     let block = c.args.block in
     let n = c.part_rows-part.result in
-    let part = part_found block n c.part_rows-part.ensures c.requires.large in
+    let part = part_found block c.part_rows-part.ensures c.requires.large in
     let done = c.loop-j.invariant.done in
     let smaller = part.smaller in
-    let begins = part_begins block.size n c.loop-j.j part c.loop-j-test.true in
-    let inside = part_within block.size n c.loop-j.j part begins in
+    let begins = part_begins c.loop-j.j part c.loop-j-test.true in
+    let inside = part_within c.loop-j.j part begins in
     let extent = done.extent in let count = extent.count in
     let rows = c.part.ensures.rows in let size = c.part.ensures.size in
     let marks = subst (HasMarks c.part-in-loop-j.result) (sym size) c.part-in-loop-j.ensures.marks in
@@ -128,8 +127,8 @@ transform_parts-loop-j-preserved g t c =
     let block = c.args.block in
     let n = c.part_rows-part.result in
     let j = c.loop-j.j in
-    let part = part_found block n c.part_rows-part.ensures c.requires.large in
-    let begins = part_begins block.size n j part c.loop-j-test.true in
+    let part = part_found block c.part_rows-part.ensures c.requires.large in
+    let begins = part_begins j part c.loop-j-test.true in
     let rows = c.part.ensures.rows in let size = c.part.ensures.size in let shift = c.part.ensures.shift in
     record {
       done =
@@ -151,10 +150,10 @@ transform_parts-returns-clause-parts g t c k s m hk hs hm =
     let block = c.args.block in
     let n = c.part_rows-part.result in
     let is = c.part_rows-part.ensures in
-    let part = part_found block n is c.requires.large in
+    let part = part_found block is c.requires.large in
     let last : c.loop-j.j ≡ block.size / n = let end = c.loop-j.auto.j-end in let past = c.loop-j-test.false in
     omega arith in
-    let all = parts_whole block.size n c.loop-j.j part last in
+    let all = parts_whole c.loop-j.j part last in
     let within : m * n < block.size = subst (λ (v : ℕ). m * v < block.size) (sym is) hm in
     subst (λ (v : ℕ). AreTransformed c.args.direction (λ i. is_used c.args.used (m * v + i)) v
     (block.skew_delta + m * v)
@@ -166,7 +165,6 @@ pub transform_parts-returns-clause-counts : goal.transform_parts-returns-clause-
 transform_parts-returns-clause-counts g t c =
     let block = c.args.block in
     let n = c.part_rows-part.result in
-    let part = part_found block n c.part_rows-part.ensures c.requires.large in
+    let part = part_found block c.part_rows-part.ensures c.requires.large in
     let end = c.loop-j.auto.j-end in
-    counts_of_parts part
-    (omega (arith, parts_number block.size n part, end)) c.loop-j.invariant.counts
+    counts_of_parts part (omega (arith, parts_number part, end)) c.loop-j.invariant.counts

@@ -1,8 +1,6 @@
-use Rattle.std.proofs.Common.{ℕ, ◌*◌, ◌^◌}
-use Rattle.rs_field.specs.words.Field.{product}
 use Rattle.rs_field.proofs.of_words.Sums.{sixteen, nibble_additive}
 use Rattle.rs_field.proofs.words.mul16.nibble_sums.Goals as goal
 
 pub returns : goal.returns
 returns c n f ea eb ec ed =
-    record { entries = sixteen (λ (i : ℕ). product (i * 16 ^ n) f) (nibble_additive n f) _ _ _ _ ea eb ec ed }
+    record { entries = sixteen (nibble_additive n f) ea eb ec ed }
