@@ -14,7 +14,8 @@ use Rattle.rs_field.specs.rows.MarkedRows.{is_marked}
 use Rattle.rs_field.proofs.of_words.LocatorProduct.{same_residue}
 use Rattle.rs_field.proofs.of_code.Agreement.{AreColumns}
 use Rattle.rs_field.proofs.of_code.DirectColumn.{IsLocated}
-use Rattle.rs_field.proofs.of_code.GivenRows.{AreGiven, kind_of_row, given_at-own, given_at-coded, given_at-other}
+use Rattle.rs_field.proofs.of_code.GivenRows.{AreGiven, kind_of_row, shard_in_row-own, shard_in_row-coded}
+use Rattle.rs_field.proofs.of_code.GivenRows.{shard_in_row-other}
 use Rattle.rs_rate.specs.declared.values.configuration.Configuration.{Configuration}
 use Rattle.rs_rate.specs.values.Configured.{IsConfigured, with_frame}
 use Rattle.rs_rate.specs.passes.Decoding.{IsLocatorOf, RestoresWords, RestoresShards, located_word}
