@@ -16,8 +16,8 @@ pub use Rattle.std.proofs.Math.Nat.{mul-le-mul_right}
 pub use Rattle.std.proofs.raw_atomic.Walks.{proved}
 pub use types.ByLocal.{alloc_all, env, free_all, get, lands_as, look_at, look_in_at, pass_all, sets, sets_last, through}
 pub use types.Kit.{ !, at_ret, await, done, drop, feq_i, feq_l, fjoin, fjoin3, fpack, frame, fsplit, fsplit3, group}
-pub use types.Kit.{join, keep, later, move, pick}
-pub use types.Kit.{qed, raw, rewrite, some, split, split3, suffices, use0, use1, use2, ‵, ◌$◌, ◌∵◌, ◌⊛◌, use3}
+pub use types.Kit.{join, keep, later, move, pick, qed, raw, rewrite, some, split, split3, suffices, use0, use1, use2, ‵}
+pub use types.Kit.{◌$◌, ◌∵◌, ◌⊛◌, use3}
 pub use types.Part.{agg, look_in, sub, whole}
 pub use types.Run.{addr, and_then, bin, blocks, enter, exec, first, fld, from, hop, lit, load, no_more, of_opd, returns}
 pub use types.Run.{stop, unit_lit}

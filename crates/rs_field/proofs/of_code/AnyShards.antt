@@ -9,9 +9,9 @@ use Rattle.rs_field.specs.code.DirectLaws.{HasOneMessage, shard_in_row}
 use Rattle.rs_field.proofs.of_words.Product.{product_lt}
 use Rattle.rs_field.proofs.of_words.PointValues.{coefficients_of}
 use Rattle.rs_field.proofs.of_code.DecodedColumn.{IsColumnOf, some_message}
-use Rattle.rs_field.proofs.of_code.GivenRows.{AreGiven, given_within}
+use Rattle.rs_field.proofs.of_code.GivenRows.{AreGiven, given_within, erased_in, words_in, row_count_of, distinct}
+use Rattle.rs_field.proofs.of_code.GivenRows.{word-given}
 use Rattle.rs_field.specs.code.Frame.{frame_at}
-use Rattle.rs_field.proofs.of_code.GivenRows.{erased_in, words_in, row_count_of, distinct, word-given}
 use Rattle.rs_field.proofs.of_code.AgreeingMessages.{consistent}
 use Rattle.rs_field.proofs.of_code.Agreement.{one_message}
 

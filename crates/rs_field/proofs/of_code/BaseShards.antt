@@ -1,5 +1,6 @@
 -- Any k of the given shards, the base, decide whether some message agrees with all given shards.
-use Rattle.std.proofs.Common.{◌≡◌, ℕ, ◌+◌, ◌/◌, ◌%◌, ◌<◌, Bool, false, List, refl, sym, ap, ◌∙◌, subst, arith, inl, inr}
+use Rattle.std.proofs.Common.{rules, ◌≡◌, ℕ, ◌+◌, ◌/◌, ◌%◌, ◌<◌, Bool, false, List, refl, sym, ap, ◌∙◌, subst, arith}
+use Rattle.std.proofs.Common.{inl, inr}
 use Rattle.std.proofs.Math.Nat.{mod-eq_of_lt, mod-lt}
 use Rattle.std.specs.Prelude.{Option, Some, is_some, ◌↔◌}
 use Rattle.std.proofs.lemmas.Bool.{cases_Bool}
@@ -9,14 +10,14 @@ use Rattle.rs_field.specs.code.Column.{Shard, shard_at, column}
 use Rattle.rs_field.specs.code.Configuration.{Configuration}
 use Rattle.rs_field.specs.code.Decoder.{DecoderState, IsAgreeing, IsConsistent, originals_given, recovery_given}
 use Rattle.rs_field.specs.code.DirectLaws.{locator_at, summed_word, IsPartOf, IsSummedDirectly, IsDecidedByBase}
+use Rattle.rs_field.specs.code.DirectLaws.{shard_in_row}
 use Rattle.rs_field.specs.code.Frame.{original_row, recovery_row, frame_at}
 use Rattle.rs_field.specs.code.Given.{Shards, AreAmong, Agrees}
 use Rattle.rs_field.proofs.of_code.Given.{some_of}
 use Rattle.rs_field.proofs.of_code.Columns.{shard_from_columns, shard_in}
-use Rattle.rs_field.proofs.of_code.GivenRows.{AreGiven, state_with, given_within, erased_in}
-use Rattle.rs_field.specs.code.DirectLaws.{shard_in_row}
-use Rattle.rs_field.proofs.of_code.GivenRows.{words_in, row_count_of, distinct, shard_in_row-own, shard_in_row-coded}
-use Rattle.rs_field.proofs.of_code.GivenRows.{given-own, given-coded, given-either}
+use Rattle.rs_field.proofs.of_code.GivenRows.{AreGiven, state_with, given_within, erased_in, words_in, row_count_of}
+use Rattle.rs_field.proofs.of_code.GivenRows.{distinct, shard_in_row-own, shard_in_row-coded, given-own, given-coded}
+use Rattle.rs_field.proofs.of_code.GivenRows.{given-either}
 use Rattle.rs_field.proofs.of_code.DirectColumn.{IsLocated, direct_original, direct_recovery}
 use Rattle.rs_field.proofs.of_code.AnyShards.{any_consistent}
 
@@ -121,14 +122,7 @@ module _ {s : DecoderState} (g : AreGiven s) {base_originals base_recovery : Sha
           (sym (coded-received i hi) ∙ none)
 
       sums : AreAmong s.originals message → AreAmong s.recovery a.coded.0 → AreSums s received base_sum
-      sums own coded x j shard is none hj = elim (given-either g x shard is) [
-        | inl here ↦
-            ap (base_sum j) here.2 ∙ own_sum here.0 j hj here.1 (sym (ap received here.2) ∙ none)
-            ∙ ap (column j) (own here.0 shard here.3)
-        | inr there ↦
-            ap (base_sum j) there.2 ∙ coded_sum there.0 j hj there.1 (sym (ap received there.2) ∙ none)
-            ∙ ap (column j) (coded there.0 shard there.3)
-      ]
+      sums own coded x j shard is none hj = search (rules, given-either, own_sum, coded_sum)
 
       own_shard : AreSums s received base_sum → AreAmong s.originals message
       own_shard equal i shard given =

@@ -19,10 +19,10 @@ use Rattle.rs_field.proofs.of_words.Total.{product-comm}
 use Rattle.rs_field.proofs.of_code.CodedWords.{values_of, values_of-at}
 use Rattle.rs_field.proofs.of_code.ErasedCount.{counted}
 use Rattle.rs_field.proofs.of_code.Frame.{coefficient_count, zeros_end, framed, unframed}
-use Rattle.rs_field.proofs.of_code.GivenRows.{AreGiven, erased_in, words_in, row_count_of, distinct}
-use Rattle.rs_field.specs.code.DirectLaws.{shard_in_row}
-use Rattle.rs_field.proofs.of_code.GivenRows.{erasures, given-own, given-coded, given-either, given-zero, erased-given}
+use Rattle.rs_field.proofs.of_code.GivenRows.{AreGiven, erased_in, words_in, row_count_of, distinct, erasures}
+use Rattle.rs_field.proofs.of_code.GivenRows.{given-own, given-coded, given-either, given-zero, erased-given}
 use Rattle.rs_field.proofs.of_code.GivenRows.{erased-none, word-given, word-none, cases_given, word_lt}
+use Rattle.rs_field.specs.code.DirectLaws.{shard_in_row}
 
 -- A polynomial has the words j of the given shards as values at their points.
 pub record TakesGiven (s : DecoderState) (j : ℕ) (polynomial : List ℕ) : Type 0 where

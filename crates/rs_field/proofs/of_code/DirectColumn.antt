@@ -1,6 +1,6 @@
 -- The words of shards that were not received, in one column, as direct sums over the received points.
-use Rattle.std.proofs.Common.{◌≡◌, ℕ, ◌+◌, ◌/◌, ◌^◌, ◌<◌, ◌≤◌, Bool, false, cond, List}
-use Rattle.std.proofs.Common.{sym, ap, ◌∙◌, arith, inl, inr, pow_mono}
+use Rattle.std.proofs.Common.{◌≡◌, ℕ, ◌+◌, ◌/◌, ◌^◌, ◌<◌, ◌≤◌, Bool, false, cond, List, sym, ap, ◌∙◌, arith, inl, inr}
+use Rattle.std.proofs.Common.{pow_mono}
 use Rattle.std.specs.Prelude.{is_some}
 use Rattle.rs_field.specs.words.Polynomial.{value}
 use Rattle.rs_field.specs.words.Locator.{IsLocatorBelow}
@@ -11,9 +11,9 @@ use Rattle.rs_field.specs.code.Decoder.{DecoderState, IsAgreeing, originals_give
 use Rattle.rs_field.proofs.of_words.DirectSum.{direct_value}
 use Rattle.rs_field.proofs.of_code.Columns.{columns-at}
 use Rattle.rs_field.proofs.of_code.Unique.{codes_unique}
-use Rattle.rs_field.proofs.of_code.GivenRows.{AreGiven, erased_in, words_in, row_count_of, distinct}
+use Rattle.rs_field.proofs.of_code.GivenRows.{AreGiven, erased_in, words_in, row_count_of, distinct, erasures}
+use Rattle.rs_field.proofs.of_code.GivenRows.{cases_given, erased-given, word-none}
 use Rattle.rs_field.specs.code.DirectLaws.{shard_in_row}
-use Rattle.rs_field.proofs.of_code.GivenRows.{erasures, cases_given, erased-given, word-none}
 use Rattle.rs_field.proofs.of_code.ErasedCount.{counted}
 use Rattle.rs_field.proofs.of_code.DecodedColumn.{IsTaken, taken_from}
 use Rattle.rs_field.proofs.of_code.AgreeingMessages.{column_taken}

@@ -1,6 +1,6 @@
 -- If both counts have the same power of two, both rates have the same recovery words.
-use Rattle.std.proofs.Common.{rules, ◌≡◌, ℕ, suc, ◌+◌, ◌^◌, ◌<◌, ◌≤◌, List, [], ◌∷◌, length, bit_xor, refl, sym}
-use Rattle.std.proofs.Common.{ap, ◌∙◌, arith, inl, inr, one-mul, zero-add, pow_mono}
+use Rattle.std.proofs.Common.{rules, ◌≡◌, ℕ, suc, ◌+◌, ◌^◌, ◌<◌, ◌≤◌, List, [], ◌∷◌, length, bit_xor, refl, sym, ap}
+use Rattle.std.proofs.Common.{◌∙◌, arith, inl, inr, one-mul, zero-add, pow_mono}
 use Rattle.std.specs.Prelude.{slice_index, ◌↔◌, true}
 use Rattle.std.specs.Int.Bits.{xor_comm, xor_shifted}
 use Rattle.std.proofs.lemmas.Bool.{cases_lt}

@@ -1,6 +1,6 @@
 -- The shards that were given to a decoder, by their rows, and the words of a column in these rows.
-use Rattle.std.proofs.Common.{◌≡◌, ℕ, ◌+◌, ◌-◌, ◌^◌, ◌<◌, ◌≤◌, ◌⊎◌, true, cond, refl, sym, ap, ◌∙◌}
-use Rattle.std.proofs.Common.{subst, arith, inl, inr, pow_mono}
+use Rattle.std.proofs.Common.{rules, ◌≡◌, ℕ, ◌+◌, ◌-◌, ◌<◌, ◌≤◌, ◌⊎◌, true, cond, refl, sym, ap, ◌∙◌, subst, arith, inl}
+use Rattle.std.proofs.Common.{inr, pow_mono}
 use Rattle.std.specs.Prelude.{Option, Some, None, is_some}
 use Rattle.std.proofs.lemmas.Bool.{cases_lt}
 use Rattle.std.proofs.lemmas.Option.{none-some}
@@ -24,14 +24,7 @@ pub record AreSized (count size : ℕ) (given : Shards) : Type 0 where
 
 -- Given shards that are within bounds have indexes below the count.
 pub sized-within : {count size : ℕ} {given : Shards} → AreWithin count size given → AreSized count size given
-sized-within {count} within =
-    record {
-      each = λ i shard is. (
-        elim (cases_lt i count)
-            [ inl inside ↦ inside | inr past ↦ absurd (none-some shard (sym (within.none_past i past) ∙ is)) ],
-        within.sized i shard is,
-      );
-    }
+sized-within {count} within = search (rules, cases_lt, none-some)
 
 -- The shards of a decoder for supported counts: all have the size, and their indexes are below the counts.
 pub record AreGiven (s : DecoderState) : Type 0 where
@@ -84,13 +77,7 @@ kind_of_row frame k r x =
 -- The row of a recovery shard is not that of an original.
 pub rows_apart : (frame : Frame) (k r i : ℕ) → HasDistinctRows frame k r → i < r
     → (recovery_row frame i < frame.originals_from) ⊎ (original_row frame k ≤ recovery_row frame i)
-rows_apart frame k r i f inside =
-    let zeros = f.zeros in
-    let follow = f.follow in
-    elim f.order [
-      | inl low ↦ inr (omega (arith, low.1))
-      | inr high ↦ inl (omega (arith, high.0, high.1))
-    ]
+rows_apart frame k r i f inside = search rules
 
 pub entry_in-at : (from n i : ℕ) (given : Shards) (other : Option Shard) → i < n
     → entry_in from n given other (from + i) ≡ given i
@@ -211,13 +198,7 @@ pub record AreErasures (s : DecoderState) : Type 0 where
 -- Below the last row, the zero points among the rows are all zero points.
 zeros_among : (frame : Frame) (k r x : ℕ) → HasDistinctRows frame k r
     → (x < zeros_end frame → x < frame.zeros_to) × (x < row_count frame → zeros_end frame ≤ x → frame.zeros_to ≤ x)
-zeros_among frame k r x f =
-    let room : row_count frame ≤ 2 ^ 16 = pow_mono f.few in
-    let end = f.zeros in
-    elim f.whole [
-      | inl same ↦ (λ below. omega (arith, same.1), λ row past. omega (arith, same.1))
-      | inr all ↦ (λ below. omega (arith, all.1), λ row past. omega (arith, all.1, all.2))
-    ]
+zeros_among frame k r x f = search (rules, pow_mono)
 
 module _ {s : DecoderState} (g : AreGiven s) where
   pub distinct : HasDistinctRows (frame_at s.configuration) s.configuration.original_count
@@ -286,12 +267,7 @@ module _ {s : DecoderState} (g : AreGiven s) where
 
   -- A shard is given in one of the rows of the frame.
   pub given-below : (x : ℕ) (shard : Shard) → shard_in_row s x ≡ Some shard → x < row_count_of s
-  given-below x shard is =
-      let f = distinct in
-      elim (given-either x shard is) [
-        | inl own ↦ omega (arith, f.originals, own.1, own.2)
-        | inr coded ↦ omega (arith, f.recovery, coded.1, coded.2)
-      ]
+  given-below x shard is = search (rules, distinct, given-either)
 
   -- No shard is given in the row of a zero point.
   pub given-zero : (x : ℕ) → (frame_at s.configuration).zeros_from ≤ x → x < zeros_end (frame_at s.configuration)

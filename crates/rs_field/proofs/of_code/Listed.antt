@@ -35,8 +35,7 @@ items_from-some from n given shard inside some =
 
 -- From the end on, no shard is listed.
 pub items_from-past : (from n : ℕ) (given : Shards) → n ≤ from → items_from from (n - from) given ≡ []
-items_from-past from n given past = ap (λ m. items_from from m given) (let m : n - from ≡ 0 = omega arith in m)
-    ∙ items_from-zero from given
+items_from-past from n given past = search (rules, items_from-zero)
 
 -- Listing one index more appends the shard of this index, if there is one.
 pub items_from-more : (from n : ℕ) (given : Shards)

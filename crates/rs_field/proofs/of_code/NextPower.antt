@@ -1,6 +1,6 @@
 -- The power of two to which a count is rounded up.
-use Rattle.std.proofs.Common.{◌≡◌, ℕ, zero, suc, ◌/◌, ◌^◌, ◌<◌, ◌≤◌, max, refl, sym, ap, ◌∙◌, subst, arith, inl, inr}
-use Rattle.std.proofs.Common.{pow_mono}
+use Rattle.std.proofs.Common.{rules, ◌≡◌, ℕ, zero, suc, ◌/◌, ◌^◌, ◌<◌, ◌≤◌, max, refl, sym, ap, ◌∙◌, subst, arith, inl}
+use Rattle.std.proofs.Common.{inr, pow_mono}
 use Rattle.std.specs.Prelude.{nat_le}
 use Rattle.std.proofs.lemmas.Bool.{cases_lt, le-leb, lt-leb, leb-true}
 use Rattle.std.proofs.lemmas.Nat.{pow_pos}
@@ -30,9 +30,7 @@ next_power-small n small = let known = exponent-small n small in (exponent_of n,
 -- No smaller power of two is at least n.
 pub next_power-least : (n d : ℕ) → d < 64 → n ≤ 2 ^ d → next_power n ≤ 2 ^ d
 unfolding next_power exponent_of
-next_power-least n d hd h =
-    pow_mono {i = first_below 64 (λ e. nat_le n (2 ^ e))}
-    (first_below_most 64 (λ e. nat_le n (2 ^ e)) d hd (le-leb n (2 ^ d) h))
+next_power-least n d hd h = search (rules, pow_mono, first_below_most, le-leb)
 
 -- A power of two that is at least n, and whose half is below n, is `next_power n`.
 pub next_power-is : (n p x : ℕ) → p ≡ 2 ^ x → x < 64 → n ≤ p → p / 2 < max 1 n → p ≡ next_power n

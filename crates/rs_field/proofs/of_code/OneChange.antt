@@ -1,8 +1,8 @@
 -- If one original of a message changes, each word of a recovery shard changes by the change of the original's word
 -- times a factor.
-use Rattle.std.proofs.Common.{◌≡◌, ◌≢◌, ℕ, zero, suc, ◌+◌, ◌/◌, ◌<◌, ◌≤◌, ◌⊎◌, Bool, true, false, cond, List, refl}
-use Rattle.std.proofs.Common.{sym, ap, ap₂, ◌∙◌, subst, arith, inl, inr, bit_xor}
-use Rattle.std.specs.Prelude.{Option, Some, None, is_some, nat_lt}
+use Rattle.std.proofs.Common.{rules, ◌≡◌, ◌≢◌, ℕ, zero, suc, ◌+◌, ◌/◌, ◌<◌, ◌≤◌, ◌⊎◌, Bool, true, false, cond, List}
+use Rattle.std.proofs.Common.{refl, sym, ap, ap₂, ◌∙◌, subst, arith, inl, inr, bit_xor}
+use Rattle.std.specs.Prelude.{Some, None, is_some, nat_lt}
 use Rattle.std.proofs.lemmas.Bool.{cases_lt, lt-ltb, le-ltb}
 use Rattle.std.proofs.lemmas.Option.{none-some}
 use Rattle.rs_field.specs.words.Field.{product, power}
@@ -19,10 +19,9 @@ use Rattle.rs_field.proofs.of_words.DirectSum.{direct_sum-changed}
 use Rattle.rs_field.proofs.of_code.Columns.{shard_in}
 use Rattle.rs_field.proofs.of_code.DirectColumn.{IsLocated, direct_recovery}
 use Rattle.rs_field.proofs.of_code.Given.{count_below-zero, count_below-suc, nothing_among}
-use Rattle.rs_field.proofs.of_code.GivenRows.{state_with, words_in, kind_of_row, rows_apart}
+use Rattle.rs_field.proofs.of_code.GivenRows.{state_with, words_in, kind_of_row, rows_apart, shard_in_row-own}
+use Rattle.rs_field.proofs.of_code.GivenRows.{shard_in_row-coded, shard_in_row-other, word-given, word-none}
 use Rattle.rs_field.specs.code.DirectLaws.{shard_in_row}
-use Rattle.rs_field.proofs.of_code.GivenRows.{shard_in_row-own, shard_in_row-coded, shard_in_row-other, word-given}
-use Rattle.rs_field.proofs.of_code.GivenRows.{word-none}
 use Rattle.rs_field.proofs.of_code.RateFrames.{distinct_rows}
 
 -- The map with the first k shards of a list.
@@ -40,14 +39,7 @@ all_of-past k i shards past = ap (λ (b : Bool). cond b (Some (shard_at shards i
 -- A shard of the map is the shard of the list.
 all_of-some : (k i : ℕ) (shards : List Shard) (shard : Shard) → all_of k shards i ≡ Some shard
     → (i < k) × (shard_at shards i ≡ shard)
-all_of-some k i shards shard is = elim (cases_lt i k) [
-  | inl inside ↦ (
-    inside,
-    (let same : ◌≡◌ {A = Option Shard} (Some (shard_at shards i)) (Some shard) = sym (all_of-in k i shards inside) ∙ is
-        in cc same),
-  )
-  | inr past ↦ absurd (none-some shard (sym (all_of-past k i shards past) ∙ is))
-]
+all_of-some k i shards shard is = search (rules, cases_lt, all_of-in, none-some, all_of-past)
 
 count-all_of : (n k : ℕ) (shards : List Shard) → n ≤ k → count_below n (all_of k shards) ≡ n
 count-all_of zero k shards few = count_below-zero (all_of k shards)

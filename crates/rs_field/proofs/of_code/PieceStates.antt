@@ -1,8 +1,8 @@
 -- Facts about a message and given shards hold for their pieces. This is the half of a decode by strips in which no
 -- strips are joined.
-use Rattle.std.proofs.Common.{◌≡◌, ℕ, ◌+◌, ◌-◌, ◌/◌, ◌%◌, ◌<◌, ◌≤◌, Bool, true, false, cond, List, [], length, take}
-use Rattle.std.proofs.Common.{drop, get_or, refl, sym, ap, ap₂, ◌∙◌, subst, inl, inr, arith}
-use Rattle.std.specs.Prelude.{Option, Some, None, is_some, unwrap_or, not, ◌&&◌, nat_lt}
+use Rattle.std.proofs.Common.{rules, ◌≡◌, ℕ, ◌+◌, ◌-◌, ◌/◌, ◌%◌, ◌<◌, ◌≤◌, List, [], take, drop, get_or, refl, sym, ap}
+use Rattle.std.proofs.Common.{◌∙◌, subst, arith}
+use Rattle.std.specs.Prelude.{Option, Some, None, is_some, unwrap_or}
 use Rattle.std.specs.List.{between}
 use Rattle.std.specs.Option.{option_map}
 use Rattle.std.proofs.lemmas.Bool.{cases_lt}
@@ -26,13 +26,7 @@ module _ (start end : ℕ) where
 
   -- Piece i of a list of shards is a piece of shard i.
   pub shard_at-pieces : (i : ℕ) (xs : List Shard) → shard_at (pieces start end xs) i ≡ between start end (shard_at xs i)
-  shard_at-pieces i xs =
-      let long = length-map xs (λ (s : Shard). between start end s) in
-      elim (cases_lt i (length xs)) [
-        | inl inside ↦ get_or-map (λ (s : Shard). between start end s) xs i [] [] inside
-        | inr past ↦ get_or_past (pieces start end xs) i [] (omega (arith, past, long))
-            ∙ sym (ap (λ (s : Shard). between start end s) (get_or_past xs i [] past) ∙ none)
-      ]
+  shard_at-pieces i xs = search (rules, length-map, cases_lt, get_or-map, get_or_past, none)
 
   -- Each piece in a map is a piece of a shard in the map.
   whole_of : (o : Option Shard) (p : Shard) → option_map (λ s. between start end s) o ≡ Some p → (s : Shard)
@@ -49,16 +43,7 @@ module _ (start end : ℕ) where
       → missing_of (state_of_pieces start end s) (pieces start end message) i
       ≡ option_map (λ x. between start end x) (missing_of s message i)
   unfolding missing_of
-  missing-cut s message i =
-      ap₂ (λ (b : Bool) (x : Shard). cond (nat_lt i s.configuration.original_count && not b) (Some x) None)
-      (is_some-map (s.originals i)) (shard_at-pieces i message)
-      ∙ by_test (nat_lt i s.configuration.original_count && not (is_some (s.originals i)))
-    where
-      by_test : (b : Bool)
-          → cond b (Some (between start end (shard_at message i))) None
-          ≡ option_map (λ x. between start end x) (cond b (Some (shard_at message i)) None)
-      by_test true = refl
-      by_test false = refl
+  missing-cut s message i = search (rules, is_some-map, shard_at-pieces)
 
 -- ---- strips
 

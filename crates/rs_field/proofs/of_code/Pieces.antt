@@ -1,6 +1,6 @@
 -- Pieces of shards. Their columns are columns of the shards, so coding each piece codes the shards.
-use Rattle.std.proofs.Common.{◌≡◌, ◌⊎◌, ℕ, suc, ◌+◌, ◌-◌, ◌*◌, ◌/◌, ◌%◌, ◌<◌, ◌≤◌, List, [], ◌∷◌, ◌++◌, length, take}
-use Rattle.std.proofs.Common.{drop, get_or, min, Bool, true, false, refl, sym, ap, ap₂, ◌∙◌, subst, inl, inr}
+use Rattle.std.proofs.Common.{rules, ◌≡◌, ◌⊎◌, ℕ, suc, ◌+◌, ◌-◌, ◌*◌, ◌/◌, ◌%◌, ◌<◌, ◌≤◌, List, [], ◌∷◌, ◌++◌, length}
+use Rattle.std.proofs.Common.{take, drop, get_or, min, Bool, true, false, refl, sym, ap, ap₂, ◌∙◌, subst, inl, inr}
 use Rattle.std.proofs.Common.{arith, All}
 use Rattle.std.specs.List.{between}
 use Rattle.std.proofs.Math.Nat.{min-eq_left, min-eq_right}
@@ -58,17 +58,7 @@ column-rest a j s whole =
 -- A column of a strip of a shard is a column of the shard.
 pub column-piece : (start end j : ℕ) (s : Shard) → IsStrip start end (length s) → j < (end - start) / 2
     → column j (between start end s) ≡ column (start / 2 + j) s
-column-piece start end j s strip inside =
-    let left : length (drop start s) ≡ length s - start = length-drop start s in
-    elim strip.ends [
-      | inl whole ↦
-          column-head (end - start) j (drop start s) (omega (arith, whole, strip.begins, strip.order))
-          (omega (arith, left, strip.inside)) inside
-          ∙ column-rest start j s strip.begins
-      | inr last ↦
-          ap (column j) (take_all (end - start) (drop start s) (omega (arith, left, last)))
-          ∙ column-rest start j s strip.begins
-    ]
+column-piece start end j s strip inside = search (rules, length-drop, column-head, column-rest, take_all)
 
 -- The columns of the strips of shards are columns of the shards.
 pub columns-pieces : (start end j : ℕ) (xs : List Shard) → All (λ s. IsStrip start end (length s)) xs
@@ -209,12 +199,7 @@ module _ {grows : Bool} {size start end : ℕ} {made old new : List Shard}
 
   -- After a piece is put, each room ends at the end of the piece, or where it ended before.
   put-length : (i : ℕ) → i < length old → length (get_or new i []) ≡ end + (length (get_or old i []) - end)
-  put-length i h =
-      let first = front i h in
-      let piece = long i h in
-      let back = length-drop end (get_or old i []) in
-      let all = simp length-append at (ap length (at i h)) in
-      omega (arith, all, first, piece, back, p.strip.order)
+  put-length i h = search (rules, front, long, length-drop, length-append, at)
 
   -- After a piece is put, each room has the length for the end of the strip.
   pub put-fit : All (λ s. length s ≡ room_length grows end size) new
@@ -272,32 +257,7 @@ pub is_strip : (start strip size width part : ℕ) → width ≡ min strip size 
     → strip % 64 ≡ 0
     → (start % 64 ≡ 0) ⊎ (start ≡ size) → start < size → IsStrip start (start + part) size
 is_strip start strip size width part width_is part_is chunks begins less =
-    let from : start % 64 ≡ 0 =
-    elim begins [ inl whole ↦ whole | inr last ↦ absurd (let no : ⊥ = omega (arith, last, less) in no) ] in
-    elim (cases_lt width (size - start)) [
-      | inl more ↦
-          let here : part ≡ width = part_is ∙ min-eq_left (let le : width ≤ size - start = omega (arith, more) in le) in
-          let full : width ≡ strip = elim (cases_lt strip size) [
-            | inl small ↦ width_is ∙ min-eq_left (let le : strip ≤ size = omega (arith, small) in le)
-            | inr large ↦ absurd
-                (let all = width_is ∙ min-eq_right large in let no : ⊥ = omega (arith, all, more, less) in no)
-          ] in
-          record {
-            order = omega arith;
-            inside = omega (arith, here, more);
-            begins = from;
-            ends = inl (omega (arith, here, full, from, chunks));
-          }
-      | inr last ↦
-          let here : part ≡ size - start = part_is ∙ min-eq_right last in
-          record {
-            order = omega arith;
-            inside = omega (arith, here, less);
-            begins = from;
-            ends =
-                inr (omega (arith, here, less));
-          }
-    ]
+    search (rules, cases_lt, min-eq_left, min-eq_right)
 
 -- There are as many rooms as recovery shards, and they hold the first bytes of the recovery shards.
 pub record IsDone (k r size end : ℕ) (grows : Bool) (rate : Rate) (originals rooms : List Shard) : Type 0 where

@@ -1,5 +1,5 @@
 -- For supported counts, the frame of each rate gives the shards different rows.
-use Rattle.std.proofs.Common.{rules, ◌≡◌, ℕ, ◌+◌, ◌^◌, ◌≤◌, Bool, true, false, cond, min, max, refl, arith, pow_mono}
+use Rattle.std.proofs.Common.{rules, ◌≡◌, ℕ, ◌+◌, ◌^◌, ◌≤◌, true, false, min, max, arith, pow_mono}
 use Rattle.rs_field.specs.code.Counts.{Rate, low_rate, high_rate, default_rate, next_power, supports, is_low}
 use Rattle.rs_field.specs.code.Frame.{low_frame, high_frame, frame_of, row_count}
 use Rattle.rs_field.proofs.of_code.NextPower.{exponent-small, next_power-above}
@@ -15,20 +15,13 @@ low_distinct k r fit most =
 -- The frame of the high rate.
 pub high_distinct : (k r : ℕ) → next_power r + k ≤ 65536 → r ≤ next_power r → HasDistinctRows (high_frame k r) k r
 unfolding high_frame zeros_end coefficient_count
-high_distinct k r fit most =
-    let (few, above) = exponent-small (next_power r + k) fit in
-    let room : row_count (high_frame k r) ≤ 2 ^ 16 = pow_mono few in grind (arith, few, above)
+high_distinct k r fit most = search (rules, exponent-small, pow_mono)
 
 -- A frame by its rate, if the counts fit.
 distinct_by_rate : (rate : Rate) (k r : ℕ) → (is_low rate k r ≡ true → next_power k + r ≤ 65536)
     → (is_low rate k r ≡ false → next_power r + k ≤ 65536) → HasDistinctRows (frame_of rate k r) k r
 unfolding frame_of
-distinct_by_rate rate k r low high = by_rate (is_low rate k r) low high
-  where
-    by_rate : (b : Bool) → (b ≡ true → next_power k + r ≤ 65536) → (b ≡ false → next_power r + k ≤ 65536)
-        → HasDistinctRows (cond b (low_frame k r) (high_frame k r)) k r
-    by_rate true low high = let fit = low refl in low_distinct k r fit (next_power-above k (omega arith))
-    by_rate false low high = let fit = high refl in high_distinct k r fit (next_power-above r (omega arith))
+distinct_by_rate rate k r low high = search (rules, low_distinct, next_power-above, high_distinct)
 
 -- The frame of any rate.
 pub distinct_rows : (rate : Rate) (k r : ℕ) → supports rate k r ≡ true → HasDistinctRows (frame_of rate k r) k r

@@ -1,7 +1,9 @@
 -- A decode by strips: the bytes in the rooms after some strips, and the proof that the rooms hold the restored
 -- originals after all strips.
-use Rattle.std.proofs.Common.{◌≡◌, ℕ, zero, suc, ◌+◌, ◌-◌, ◌/◌, ◌%◌, ◌<◌, ◌≤◌, ◌⊎◌, Bool, true, false, cond, List, []}
-use Rattle.std.proofs.Common.{◌++◌, length, take, drop, get_or, All, refl, sym, ap, ap₂, ◌∙◌, subst, inl, inr, arith}
+use Rattle.std.proofs.Common.{rules, ◌≡◌, ℕ, zero, suc, ◌+◌, ◌-◌, ◌/◌, ◌%◌, ◌<◌, ◌≤◌, ◌⊎◌, Bool, true, false, cond}
+use Rattle.std.proofs.Common.{List, [], ◌++◌, length, take, drop, get_or, All, refl, sym, ap, ap₂, ◌∙◌, subst, inl, inr}
+use Rattle.std.proofs.Common.{arith}
+use Rattle.std.proofs.lemmas.Grind.{common_steps}
 use Rattle.std.specs.Prelude.{Some, None, is_some, unwrap_or, not, ◌&&◌, nat_lt, Result, Ok, Err}
 use Rattle.std.specs.List.{between}
 use Rattle.std.specs.Option.{option_map}
@@ -68,14 +70,7 @@ none-pieces {start} {end} s strip none =
 some-missing : (s : DecoderState) (message : List Shard) (i : ℕ) → i < s.configuration.original_count
     → is_some (missing_of s message i) ≡ not (is_some (s.originals i))
 unfolding missing_of
-some-missing s message i inside =
-    ap (λ b. is_some (cond (b && not (is_some (s.originals i))) (Some (get_or message i [])) None))
-    (lt-ltb i s.configuration.original_count inside)
-    ∙ by_test (is_some (s.originals i))
-  where
-    by_test : (b : Bool) → is_some (cond (not b) (Some (get_or message i [])) None) ≡ not b
-    by_test true = refl
-    by_test false = refl
+some-missing s message i inside = search (rules, lt-ltb)
 
 pub missing-past : (s : DecoderState) (message : List Shard) (i : ℕ) → s.configuration.original_count ≤ i
     → missing_of s message i ≡ None
@@ -125,11 +120,7 @@ listed-missing s message {items} missing listing =
 -- The missing shards of a message are as many as originals are missing.
 missing-number : (s : DecoderState) (message : List Shard)
     → length (missing_shards s message) + originals_given s ≡ s.configuration.original_count
-missing-number s message =
-    let k = s.configuration.original_count in
-    ap (λ (n : ℕ). n + originals_given s)
-    (length-map (items_below k (missing_of s message)) (λ item. item.1) ∙ length-listed k (missing_of s message))
-    ∙ count-missing s message
+missing-number s message = search (rules, length-map, length-listed, count-missing)
 
 -- The missing shards of a message have the shard size.
 missing-sized : (s : DecoderState) (message : List Shard) → IsAgreeing s message
@@ -165,10 +156,7 @@ pub record IsRestoredBelow (s : DecoderState) (grows : Bool) (bound : ℕ) (room
 take-joined : (start : ℕ) (old piece rest : Shard) → start ≤ length old
     → take (start + length piece) (take start old ++ (piece ++ rest)) ≡ take start old ++ piece
 take-joined start old piece rest inside =
-    let front = length-take-le start old inside in
-    ap (λ (n : ℕ). take (n + length piece) (take start old ++ (piece ++ rest))) (sym front)
-    ∙ take-append-add (take start old) (piece ++ rest) (length piece)
-    ∙ ap (λ (l : Shard). take start old ++ l) (take-append_seam piece rest)
+    grind (arith, common_steps, length-take-le, take-append-add, take-append_seam)
 
 module _ (s : DecoderState) (start end : ℕ) {out : Shards} {items : Items}
     (restored : Restored (state_of_pieces start end s) out) (listing : Lists out items) where
@@ -184,9 +172,7 @@ module _ (s : DecoderState) (start end : ℕ) {out : Shards} {items : Items}
       ∙ missing-number (state_of_pieces start end s) restored.message
 
   pub pieces-sized : All (λ x. length x ≡ end - start) (shards_listed items)
-  pieces-sized =
-      subst (λ (l : List Shard). All (λ x. length x ≡ end - start) l) (sym items-are)
-      (missing-sized (state_of_pieces start end s) restored.message restored.agrees)
+  pieces-sized = search (rules, items-are, missing-sized)
 
 module _ {s : DecoderState} {start end : ℕ} {out : Shards} {items : Items}
     (strip : IsStrip start end s.configuration.shard_bytes)

@@ -1,6 +1,6 @@
 -- The derivative step by halves, for one symbol of the rows. The polynomial has its coefficients in the subspace basis.
-use Rattle.std.proofs.Common.{rules, ◌≡◌, ℕ, suc, ◌+◌, ◌/◌, ◌^◌, ◌<◌, ◌≤◌, ◌⊎◌, List, [], ◌∷◌, length, bit_xor}
-use Rattle.std.proofs.Common.{refl, sym, ap, ap₂, ◌∙◌, subst, arith, inl, inr, add_assoc, zero-add, pow-suc, pow_mono}
+use Rattle.std.proofs.Common.{rules, ◌≡◌, ℕ, suc, ◌+◌, ◌/◌, ◌^◌, ◌<◌, ◌≤◌, ◌⊎◌, List, [], ◌∷◌, length, bit_xor, refl}
+use Rattle.std.proofs.Common.{sym, ap, ap₂, ◌∙◌, subst, arith, inl, inr, add_assoc, zero-add, pow-suc, pow_mono}
 use Rattle.std.specs.Int.Bits.{xor_comm, xor_zero_r}
 use Rattle.rs_field.specs.words.Field.{product}
 use Rattle.rs_field.specs.words.Polynomial.{value, derivative_value}

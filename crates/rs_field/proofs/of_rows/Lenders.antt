@@ -5,10 +5,10 @@ use Rattle.rs_field.proofs.Walking.{vcons, vnil, only, feq_i, fpack, within, sha
 use Rattle.rs_field.proofs.Walking.{vstruct, of_list, full_share, Lft, ftrue, flft, fact, fact_i, emp, ‵, ◌⊛◌, raw}
 use Rattle.rs_field.proofs.Walking.{some, later, ◌$◌, move, drop, split, join, fsplit, fsplit3, fjoin, fjoin3, use0}
 use Rattle.rs_field.proofs.Walking.{await, pick, rewrite, feq_l, usize, Is, shows, cell_at, uint_vals, uint_Makes}
-use Rattle.rs_field.proofs.Walking.{RattleType, owns, Valss, flat, MutBor, MutRef, mut_vals, named_lft, Array}
-use Rattle.rs_field.proofs.Walking.{MutSlice, Room, room, slice_val, mut_slice_vals, mut_slice_at, pure_l, pure_i}
-use Rattle.rs_field.proofs.Walking.{nothing, heard, opens, closes, peeks, owned, fields, lasts, qed, use2, fres, wand}
-use Rattle.rs_field.proofs.Walking.{◌∵◌, !, use1, id⊢}
+use Rattle.rs_field.proofs.Walking.{RattleType, owns, Valss, flat, MutBor, MutRef, mut_vals, named_lft, Array, MutSlice}
+use Rattle.rs_field.proofs.Walking.{Room, room, slice_val, mut_slice_vals, mut_slice_at, pure_l, pure_i, nothing, heard}
+use Rattle.rs_field.proofs.Walking.{opens, closes, peeks, owned, fields, lasts, qed, use2, fres, wand, ◌∵◌, !, use1}
+use Rattle.rs_field.proofs.Walking.{id⊢}
 use Rattle.std.proofs.Common.{ap₂}
 use seplogic.Ra.Ura.{Ura}
 use base.Fml.{fsep, Share, Fml, fobs, fauth, fobor}

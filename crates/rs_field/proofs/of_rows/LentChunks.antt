@@ -1,7 +1,7 @@
 -- Slices of chunks that are lent, one, two or four at once, and the lengths of the parts of a list of chunks.
 use Rattle.rs_field.proofs.Walking.{◌≡◌, ℕ, ◌+◌, ◌-◌, ◌≤◌, arith, [], ◌∷◌, length, take, drop_list, length-drop}
-use Rattle.rs_field.proofs.Walking.{length-take-le, named, Lft, u8, RattleType, Array, MutSlice, row, tuple_type}
-use Rattle.rs_field.proofs.Walking.{shape, List, Val, MutBor}
+use Rattle.rs_field.proofs.Walking.{length-take-le, named, Lft, u8, RattleType, Array, MutSlice, row, tuple_type, shape}
+use Rattle.rs_field.proofs.Walking.{List, Val, MutBor}
 use base.Fml.{Fml}
 use seplogic.Ra.Ura.{Ura}
 use types.Logic.{Logic}

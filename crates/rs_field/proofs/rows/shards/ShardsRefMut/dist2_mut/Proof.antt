@@ -1,11 +1,11 @@
 use Rattle.rs_field.proofs.Walking.{◌≡◌, refl, ap, ◌∙◌, ◌+◌, ◌*◌, ◌^◌, ◌<◌, ◌≤◌, arith, [], ◌∷◌, length, take}
-use Rattle.rs_field.proofs.Walking.{drop_list, named, w64, ftrue, flft, fact, tables, proved, mul-le-mul_right, ‵}
-use Rattle.rs_field.proofs.Walking.{◌⊛◌, raw, ◌$◌, ◌∵◌, !, qed, move, keep, split, join, fjoin, use2, suffices, done}
-use Rattle.rs_field.proofs.Walking.{group, whole, sub, look_in, stop, fld, addr, load, bin, of_opd, returns, enter}
-use Rattle.rs_field.proofs.Walking.{no_more, and_then, alloc_all, pass_all, free_all, look_at, get, through, sets}
-use Rattle.rs_field.proofs.Walking.{lands_as, usize, yes, no, uint_vals, uint_Tells, RattleType, owns, MutRef}
-use Rattle.rs_field.proofs.Walking.{mut_vals, mut_Tells, plain, named_lft, Room, nothing, heard, framed, Stays}
-use Rattle.rs_field.proofs.Walking.{stay_dropped, walk_of, ends_at, Goes-dropped, Goes-spent_ref, ℕ}
+use Rattle.rs_field.proofs.Walking.{drop_list, named, w64, ftrue, flft, fact, tables, proved, mul-le-mul_right, ‵, ◌⊛◌}
+use Rattle.rs_field.proofs.Walking.{raw, ◌$◌, ◌∵◌, !, qed, move, keep, split, join, fjoin, use2, suffices, done, group}
+use Rattle.rs_field.proofs.Walking.{whole, sub, look_in, stop, fld, addr, load, bin, of_opd, returns, enter, no_more}
+use Rattle.rs_field.proofs.Walking.{and_then, alloc_all, pass_all, free_all, look_at, get, through, sets, lands_as}
+use Rattle.rs_field.proofs.Walking.{usize, yes, no, uint_vals, uint_Tells, RattleType, owns, MutRef, mut_vals}
+use Rattle.rs_field.proofs.Walking.{mut_Tells, plain, named_lft, Room, nothing, heard, framed, Stays, stay_dropped}
+use Rattle.rs_field.proofs.Walking.{walk_of, ends_at, Goes-dropped, Goes-spent_ref, ℕ}
 use Rattle.rs_field.specs.rows.Rows.{Chunks}
 use Rattle.rs_field.specs.rows.View.{row_at}
 use Rattle.rs_field.proofs.of_rows.LentChunks.{E, pair}

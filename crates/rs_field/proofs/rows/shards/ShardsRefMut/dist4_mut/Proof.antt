@@ -1,11 +1,11 @@
-use Rattle.rs_field.proofs.Walking.{◌≡◌, refl, ap, ◌∙◌, ℕ, ◌+◌, ◌*◌, ◌^◌, ◌<◌, ◌≤◌, arith, [], ◌∷◌, length, named}
-use Rattle.rs_field.proofs.Walking.{w64, ftrue, flft, fact, tables, proved, mul-le-mul_right, ‵, ◌⊛◌, raw, ◌$◌, ◌∵◌}
-use Rattle.rs_field.proofs.Walking.{ !, qed, move, keep, split, join, fjoin, use1, suffices, done, group, whole, sub}
-use Rattle.rs_field.proofs.Walking.{look_in, stop, fld, addr, load, bin, lit, of_opd, returns, enter, no_more}
-use Rattle.rs_field.proofs.Walking.{and_then, alloc_all, pass_all, free_all, look_at, get, through, sets, lands_as}
-use Rattle.rs_field.proofs.Walking.{usize, yes, no, uint_vals, uint_Tells, RattleType, owns, MutRef, mut_vals}
-use Rattle.rs_field.proofs.Walking.{mut_Tells, plain, named_lft, Room, nothing, heard, framed, Stays, stay_dropped}
-use Rattle.rs_field.proofs.Walking.{walk_of, ends_at, Goes-dropped, Goes-spent_ref, agg, from, hop, look_in_at}
+use Rattle.rs_field.proofs.Walking.{◌≡◌, refl, ap, ◌∙◌, ℕ, ◌+◌, ◌*◌, ◌^◌, ◌<◌, ◌≤◌, arith, [], ◌∷◌, length, named, w64}
+use Rattle.rs_field.proofs.Walking.{ftrue, flft, fact, tables, proved, mul-le-mul_right, ‵, ◌⊛◌, raw, ◌$◌, ◌∵◌, !, qed}
+use Rattle.rs_field.proofs.Walking.{move, keep, split, join, fjoin, use1, suffices, done, group, whole, sub, look_in}
+use Rattle.rs_field.proofs.Walking.{stop, fld, addr, load, bin, lit, of_opd, returns, enter, no_more, and_then}
+use Rattle.rs_field.proofs.Walking.{alloc_all, pass_all, free_all, look_at, get, through, sets, lands_as, usize, yes}
+use Rattle.rs_field.proofs.Walking.{no, uint_vals, uint_Tells, RattleType, owns, MutRef, mut_vals, mut_Tells, plain}
+use Rattle.rs_field.proofs.Walking.{named_lft, Room, nothing, heard, framed, Stays, stay_dropped, walk_of, ends_at}
+use Rattle.rs_field.proofs.Walking.{Goes-dropped, Goes-spent_ref, agg, from, hop, look_in_at}
 use Rattle.rs_field.specs.rows.Rows.{Chunks}
 use Rattle.rs_field.proofs.of_rows.LentChunks.{E, taken}
 use Rattle.rs_field.proofs.of_rows.Lenders.{opens_self, closes_self, calls_all, calls_two, had, parts, fours_made}

@@ -4,8 +4,8 @@ use Rattle.rs_field.proofs.Walking.{raw, some, later, ◌$◌, ◌∵◌, !, qed
 use Rattle.rs_field.proofs.Walking.{use2, await, pick, suffices, done, rewrite, group, whole, sub, look_in, stop, fld}
 use Rattle.rs_field.proofs.Walking.{addr, load, bin, lit, of_opd, returns, enter, no_more, and_then, alloc_all}
 use Rattle.rs_field.proofs.Walking.{pass_all, free_all, look_at, get, through, sets, lands_as, usize, yes, no, Is}
-use Rattle.rs_field.proofs.Walking.{shows, uint_vals, uint_Tells, uint_Makes, RattleType, owns, Valss, MutRef}
-use Rattle.rs_field.proofs.Walking.{mut_vals, mut_Tells, plain, named_lft, Array, Room, nothing, heard, peeks, owned}
+use Rattle.rs_field.proofs.Walking.{shows, uint_vals, uint_Tells, uint_Makes, RattleType, owns, Valss, MutRef, mut_vals}
+use Rattle.rs_field.proofs.Walking.{mut_Tells, plain, named_lft, Array, Room, nothing, heard, peeks, owned}
 use Rattle.rs_field.proofs.Walking.{follows_both, row, tuple_type, calls_at, lasts, triple_of, framed, Stays}
 use Rattle.rs_field.proofs.Walking.{stay_dropped, walk_of, ends_at, Goes-dropped, Goes-spent_ref}
 use base.Fml.{GName, Fml}

@@ -1,11 +1,9 @@
 -- An empty body. The borrow is opened and closed at another ghost value.
 use Rattle.rs_field.proofs.Walking.{refl, [], ◌∷◌, ◌+◌, proved, named, w64, id⊢, ftrue, flft, ‵, ◌⊛◌, ◌$◌, ◌∵◌, !, qed}
-use Rattle.rs_field.proofs.Walking.{move, keep, use1}
-use Rattle.rs_field.proofs.Walking.{split, join, fsplit3, fjoin, feq_i, suffices, frame, group, done, of_opd, returns}
-use Rattle.rs_field.proofs.Walking.{enter, alloc_all, pass_all}
-use Rattle.rs_field.proofs.Walking.{free_all, look_at, sets, usize, yes, uint_vals, uint_Tells, owns, Valss, MutRef}
-use Rattle.rs_field.proofs.Walking.{mut_vals, mut_Tells, plain}
-use Rattle.rs_field.proofs.Walking.{opens, closes, nothing, says, Stays, stay_dropped, walk_of, ends_at, Goes-dropped}
+use Rattle.rs_field.proofs.Walking.{move, keep, use1, split, join, fsplit3, fjoin, feq_i, suffices, frame, group, done}
+use Rattle.rs_field.proofs.Walking.{of_opd, returns, enter, alloc_all, pass_all, free_all, look_at, sets, usize, yes}
+use Rattle.rs_field.proofs.Walking.{uint_vals, uint_Tells, owns, Valss, MutRef, mut_vals, mut_Tells, plain, opens}
+use Rattle.rs_field.proofs.Walking.{closes, nothing, says, Stays, stay_dropped, walk_of, ends_at, Goes-dropped}
 use mir.Val.{vunit}
 use types.Run.{unit_lit}
 use denote.Triple.Walked.{stay_ref, Goes-ref}
