@@ -148,7 +148,7 @@ fills_end block left =
 
 -- ---- a file in a list of entries
 
-module _ (files : List FileEntry) (i : ℕ) (file : FileEntry) (h : i < length files)
+module _ (files : List FileEntry) {i : ℕ} {file : FileEntry} (h : i < length files)
     (e : file ≡ get_or files i file) where
   cut : files_of (drop i files) ≡ file_of file ∷ files_of (drop (i + 1) files)
   cut = ap files_of (drop_item files i file h e)
