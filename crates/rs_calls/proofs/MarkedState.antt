@@ -22,9 +22,9 @@ use Rattle.rs_field.specs.code.Outcome.{result_and_then}
 use Rattle.rs_field.specs.code.Frame.{decoder_rows}
 use Rattle.rs_field.proofs.of_code.Given.{count_below-zero, count_below-suc}
 use Rattle.rs_rate.specs.objects.Giving.{IsDecoding}
+use Rattle.rs_rate.proofs.of_rows.FirstShards.{first, first-none, first-all, first-skipped, original-taken}
+use Rattle.rs_rate.proofs.of_rows.FirstShards.{recovery-taken}
 use Rattle.reed_solomon_simd.proofs.SetUp.{started-parts}
-use Rattle.reed_solomon_simd.proofs.StripDecodeLemmas.{first, first-none, first-skipped}
-use Rattle.rs_calls.proofs.AddedInOrder.{all_first, next_taken}
 use Rattle.rs_calls.specs.declared.marked_buffers.MarkedBuffers.{MarkedBuffers}
 use Rattle.rs_calls.specs.MarkedState.{state_in}
 use Rattle.rs_calls.specs.Buffers.{lost_indexes, marked_shards, marked_map, marked_state, shard_place}
@@ -208,6 +208,21 @@ module _ (put : Shards → DecoderState) (add : DecoderState → ℕ × Shard �
       shifted : (j : ℕ) → marked_map size (mark ∷ marks) bytes (suc j) ≡ marked_map size marks (drop size bytes) j
       shifted j = ap (λ (x : Shard). cond (get_or marks j 0 == 0) None (Some x)) (sym (place-next size j bytes))
 
+-- Adding all marked shards of a buffer leads to the state whose shards are the map of the marked shards.
+all-added : (put : Shards → DecoderState) (add : DecoderState → ℕ × Shard → Result DecoderState Error) (size count : ℕ)
+    (marks bytes : List ℕ) → length marks ≡ count → length bytes ≡ count * size
+    → ((n : ℕ) (shard : Shard) → marked_map size marks bytes n ≡ Some shard → length shard ≡ size → n < count
+    → add (put (first n (marked_map size marks bytes))) (n, shard)
+    ≡ Ok (put (first (n + 1) (marked_map size marks bytes))))
+    → one_by_one add (put nothing) (marked_shards 0 size marks bytes) ≡ Ok (put (marked_map size marks bytes))
+all-added put add size count marks bytes number whole taken =
+    let given : Shards = marked_map size marks bytes in
+    ap (λ (g : Shards). one_by_one add (put g) (marked_shards 0 size marks bytes)) (first-none given)
+    ∙ marked-added put add size given count taken 0 marks bytes (whole ∙ ap (λ (n : ℕ). n * size) (sym number))
+    (omega (arith, number)) (λ j inside. ap given (let e : 0 + j ≡ j = omega arith in e))
+    ∙ ap (λ (g : Shards). Ok (put g)) (first-all (0 + length marks) given
+    (λ i past. map-lost size marks bytes i (get_or_past marks i 0 (omega (arith, past)))))
+
 module _ (k r size : ℕ) (own originals other recovery : List ℕ) (own_number : length own ≡ k)
     (other_number : length other ≡ r)
     (own_whole : length originals ≡ k * size) (other_whole : length recovery ≡ r * size) where
@@ -217,36 +232,18 @@ module _ (k r size : ℕ) (own originals other recovery : List ℕ) (own_number 
       ≡ Ok (marked_state k r size own originals other recovery)
   both-added =
       let zero_state : DecoderState = fresh_decoder (default_of k r size) in
-      let half : DecoderState =
-      record { configuration = default_of k r size; originals = marked_map size own originals; recovery = nothing }
-      in
       let own_map : Shards = marked_map size own originals in
-      let other_map : Shards = marked_map size other recovery in
-      let one : with_originals (fresh_decoder (default_of k r size)) (marked_shards 0 size own originals) ≡ Ok half =
-      ap (λ (g : Shards). with_originals (record zero_state { originals = g }) (marked_shards 0 size own originals))
-      (first-none own_map)
-      ∙ marked-added (λ (g : Shards). record zero_state { originals = g })
-      (λ s item. with_original s item.0 item.1) size own_map k
-      (λ n shard found sized inside.
-      next_taken k size n own_map shard _ _ _ (λ (g : Shards). record zero_state { originals = g }) inside found sized)
-      0 own originals (own_whole ∙ ap (λ (n : ℕ). n * size) (sym own_number)) (omega (arith, own_number))
-      (λ j inside. ap own_map (let e : 0 + j ≡ j = omega arith in e))
-      ∙ ap (λ (g : Shards). Ok (record zero_state { originals = g }))
-      (all_first (0 + length own) own_map
-      (λ i past. map-lost size own originals i (get_or_past own i 0 (omega (arith, past))))) in
+      let half : DecoderState = record zero_state { originals = own_map } in
+      let one : with_originals zero_state (marked_shards 0 size own originals) ≡ Ok half =
+      all-added (λ (g : Shards). record zero_state { originals = g }) (λ s item. with_original s item.0 item.1) size k
+      own originals own_number own_whole
+      (λ n shard found sized inside. original-taken zero_state n own_map shard found sized inside) in
       let two : with_recoveries half (marked_shards 0 size other recovery)
       ≡ Ok (marked_state k r size own originals other recovery) =
-      ap (λ (g : Shards). with_recoveries (record half { recovery = g }) (marked_shards 0 size other recovery))
-      (first-none other_map)
-      ∙ marked-added (λ (g : Shards). record half { recovery = g })
-      (λ s item. with_recovery s item.0 item.1) size other_map r
+      all-added (λ (g : Shards). record half { recovery = g }) (λ s item. with_recovery s item.0 item.1) size r
+      other recovery other_number other_whole
       (λ n shard found sized inside.
-      next_taken r size n other_map shard _ _ _ (λ (g : Shards). record half { recovery = g }) inside found sized)
-      0 other recovery (other_whole ∙ ap (λ (n : ℕ). n * size) (sym other_number)) (omega (arith, other_number))
-      (λ j inside. ap other_map (let e : 0 + j ≡ j = omega arith in e))
-      ∙ ap (λ (g : Shards). Ok (record half { recovery = g }))
-      (all_first (0 + length other) other_map
-      (λ i past. map-lost size other recovery i (get_or_past other i 0 (omega (arith, past))))) in
+      recovery-taken half n (marked_map size other recovery) shard found sized inside) in
       ap (result_and_then (λ now. with_recoveries now (marked_shards 0 size other recovery))) one ∙ two
 
   -- A decoder can have this state.
