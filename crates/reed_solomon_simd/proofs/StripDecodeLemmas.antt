@@ -95,18 +95,18 @@ left-none n items most left = let long = length-drop n items in let none : lengt
 -- ---- a round
 
 -- A fresh decoder with all pieces has the state of the pieces.
-pub pieces-added : (start end : ℕ) (x zero one two : DecoderState)
+pub pieces-added : (start end : ℕ) (x : DecoderState) {zero one two : DecoderState}
     → zero ≡ fresh_decoder
     (configuration x.configuration.rate x.configuration.original_count x.configuration.recovery_count (end - start))
     → one ≡ record zero { originals = pieces_of start end x.originals }
     → two ≡ record one { recovery = pieces_of start end x.recovery }
     → two ≡ state_of_pieces start end x
-pieces-added start end x zero one two fresh first second =
+pieces-added start end x fresh first second =
     second
     ∙ ap (λ (s : DecoderState). record s { recovery = pieces_of start end x.recovery })
     (first ∙ ap (λ (s : DecoderState). record s { originals = pieces_of start end x.originals }) fresh)
 
-module _ (start end : ℕ) (x state : DecoderState) (is : state ≡ state_of_pieces start end x)
+module _ (start end : ℕ) (x : DecoderState) {state : DecoderState} (is : state ≡ state_of_pieces start end x)
     (enough : enough_given x ≡ Ok tt) where
   enough-here : enough_given (state_of_pieces start end x) ≡ Ok tt
   enough-here = enough-pieces start end x ∙ enough
