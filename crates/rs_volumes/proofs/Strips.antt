@@ -41,8 +41,7 @@ unfolding joined
 pieces-front s e start [] ps order le each = refl
 pieces-front s e start (x ∷ xs) [] order le each = refl
 pieces-front s e start (x ∷ xs) (p ∷ ps) order le each =
-    ap (λ (y : Shard). y ∷ pieces s e (joined xs ps)) (between-front s e start x p order le each.0)
-    ∙ ap (λ (ys : List Shard). between s e x ∷ ys) (pieces-front s e start xs ps order le each.1)
+    rw (between-front s e start x p order le each.0, pieces-front s e start xs ps order le each.1) refl
 
 pieces-back : (start end : ℕ) (xs ps : List Shard) → length xs ≡ length ps → AllByRecursion (λ x. length x ≡ start) xs
     → AllByRecursion (λ p. length p ≡ end - start) ps → pieces start end (joined xs ps) ≡ ps
@@ -52,8 +51,7 @@ pieces-back start end [] (p ∷ ps) count each other = absurd (omega arith)
 pieces-back start end (x ∷ xs) [] count each other = absurd (omega arith)
 pieces-back start end (x ∷ xs) (p ∷ ps) count each other =
     let rest : length xs ≡ length ps = omega arith in
-    ap (λ (y : Shard). y ∷ pieces start end (joined xs ps)) (between-back start end x p each.0 other.0)
-    ∙ ap (λ (ys : List Shard). p ∷ ys) (pieces-back start end xs ps rest each.1 other.1)
+    rw (between-back start end x p each.0 other.0, pieces-back start end xs ps rest each.1 other.1) refl
 
 lengths : {n size : ℕ} {xs : List Shard} → AreShards n size xs → AllByRecursion (λ x. length x ≡ size) xs
 lengths {size = size} {xs = xs} are = recursion_from_All (λ x. length x ≡ size) xs (λ i d h. (are.each i d h).length_is)

@@ -152,7 +152,8 @@ returns-clause-answer g c =
     let does = rw (c.in_ok-counts.ensures.0, c.in_ok-counts.ensures.1) at c.in_ok-restore_marked.ensures.answer in
     let (holds, one) = done-answers d.buffers some (sym made)
     (map (λ i. shard_place c.args.shard_bytes c.restore_marked.new.originals i) (lost_indexes 0 own)) does in
-    let new_is = buffer-restored c.restore_marked.new.originals d.buffers c.in_ok-restore_marked.ensures.long c.in_ok-restore_marked.ensures.marked holds in
+    let new_is = buffer-restored c.restore_marked.new.originals d.buffers c.in_ok-restore_marked.ensures.long
+    c.in_ok-restore_marked.ensures.marked holds in
     let Answers : List ℕ → List ℕ → Type 0 = λ own other.
     OneDecodeAnswers k r (marked_shards 0 size own old) (marked_shards 0 size other recovery) (Ok holds.out) in
     let answers = subst (λ (l : List ℕ). Answers l (drop k marks)) d.own_marks

@@ -45,7 +45,8 @@ returns-clause-answer g c =
     (λ _. MatchResult c.restore_buffers.result (λ _. HoldRestored s rooms)
     (λ e. NoneAgrees s e ⊎ (e ≡ OutOfMemory)))
     (λ e. c.restore_buffers.result ≡ Err e))
-    (rooms-placed c.restore_buffers.new.buffers c.restore_buffers.ensures.others listed) c.restore_buffers.ensures.answer in
+    (rooms-placed c.restore_buffers.new.buffers c.restore_buffers.ensures.others listed)
+    c.restore_buffers.ensures.answer in
     inl (subst (λ (new : List ℕ). MatchResult (enough_given s) (λ _. MatchResult c.restore_buffers.result
     (λ _. HoldRestored s (map (λ i. shard_place c.args.size new i) (lost_indexes 0 c.args.marks.0.now)))
     (λ e. NoneAgrees s e ⊎ (e ≡ OutOfMemory)))
@@ -71,6 +72,7 @@ returns-clause-untouched g c =
     let fact : OnErr c.restore_buffers.result (c.restore_buffers.new.buffers.originals.now ≡ c.args.originals.now) =
     was-done-err c.restore_buffers.result
     (λ same. buffer-same c.restore_buffers.new.buffers.originals.now
-    (buffers g (goal.at.returns-clause-untouched g c).In_ok-lost) long marked (sym placed ∙ same ∙ old)) c.restore_buffers.ensures.untouched
+    (buffers g (goal.at.returns-clause-untouched g c).In_ok-lost) long marked (sym placed ∙ same ∙ old))
+    c.restore_buffers.ensures.untouched
     in
     subst (λ (new : List ℕ). OnErr c.restore_buffers.result (new ≡ c.args.originals.now)) (search rules) fact
