@@ -94,7 +94,8 @@ module _ {k r size start end : ℕ} {originals recovery ps made : List Shard} wh
   pub coded-more : IsStrip start end size
       → AreShards k start originals → AreShards r start recovery
       → AreShards k (end - start) ps → AreRecovery (default_of k r (end - start)) ps made
-      → IsCodedTo k r size start originals recovery → IsCodedTo k r size end (joined originals ps) (joined recovery made)
+      → IsCodedTo k r size start originals recovery
+      → IsCodedTo k r size end (joined originals ps) (joined recovery made)
   coded-more strip are others new coded done =
       record {
         strips = λ byte lt. elim (cases_lt byte start) [

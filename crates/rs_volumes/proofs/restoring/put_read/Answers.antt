@@ -37,7 +37,8 @@ loop-index-preserved g c =
             number = search rules;
             step = search rules;
             put = λ i bytes is held. rw (w.sink-is, more)
-                (gets_same c.args.wanted.now (items_of (take n pieces)) (p.0, p.1.items) c.loop-index.invariant.put (grind (arith, common_steps)) i bytes is held);
+                (gets_same c.args.wanted.now (items_of (take n pieces)) (p.0, p.1.items) c.loop-index.invariant.put
+                (grind (arith, common_steps)) i bytes is held);
           }
     ]
 
