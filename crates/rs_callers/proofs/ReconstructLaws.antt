@@ -160,7 +160,8 @@ module _ {k r : ℕ} {originals recovery : List Shard} {kept received : Items} (
 -- ---- lost originals that are reconstructed
 
 module _ {k r : ℕ} {originals recovery : List Shard} {lost : List ℕ} (recovery_lost : List ℕ) {indexes : List ℕ}
-    {kept received : Items} {wanted : List ShardIndex} (was : AreCoded k r originals recovery) (lists : ListsLost k lost indexes)
+    {kept received : Items} {wanted : List ShardIndex} (was : AreCoded k r originals recovery)
+    (lists : ListsLost k lost indexes)
     (own : kept ≡ left_of originals lost) (coded : received ≡ left_of recovery recovery_lost)
     (named : wanted ≡ map (λ i. Original i) indexes) where
   left : AreLeft originals kept

@@ -20,7 +20,8 @@ use Rattle.rs_rate.proofs.of_rows.StateLemmas.{valid-supported}
 use Rattle.rs_callers.specs.Losing.{changed_count}
 use Rattle.rs_callers.proofs.LeftReceived.{unless_few, left_state, left_agrees, left_enough, received-left}
 
-module _ {k r : ℕ} {originals recovery : List Shard} {kept received : Items} (was : AreCoded k r originals recovery) (left : AreLeft originals kept) (got : AreLeft recovery received) where
+module _ {k r : ℕ} {originals recovery : List Shard} {kept received : Items} (was : AreCoded k r originals recovery)
+    (left : AreLeft originals kept) (got : AreLeft recovery received) where
   -- The decoder with the shards that are left.
   abbrev state : DecoderState
   state = left_state was left got
@@ -45,7 +46,8 @@ module _ {k r : ℕ} {originals recovery : List Shard} {kept received : Items} (
             (λ _. MatchResult result (λ _. IsConsistent state) (NoneAgrees state)) (λ e. result ≡ Err e)
             → (result ≡ enough_left k kept received) ⊎ (result ≡ Err OutOfMemory)
         by_test true few says = inl (says ∙ sym (ap (unless_few k (length kept) (length received)) few))
-        by_test false few says = inl (by_result result says ∙ sym (ap (unless_few k (length kept) (length received)) few))
+        by_test false few says = inl
+            (by_result result says ∙ sym (ap (unless_few k (length kept) (length received)) few))
 
     -- If each shard that is left belongs to a codeword, `verify` succeeds, or fails because too few shards are left or
     -- memory is short.

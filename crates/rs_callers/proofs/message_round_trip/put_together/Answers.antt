@@ -20,7 +20,8 @@ joined c message long are =
     let all = vectors-completed c.args.originals.now c.args.lost.now
     {result = Ok (map (λ vector. vector.items) c.in_ok-all.all.items)} are
     c.deref.ensures.value c.in_ok-kept.ensures c.requires c.in_ok-all.ensures in
-    message-joined c.join.result are long (ap (map (λ vector. vector.items)) c.deref-2.ensures.value ∙ all) c.join.ensures
+    message-joined c.join.result are long (ap (map (λ vector. vector.items)) c.deref-2.ensures.value ∙ all)
+    c.join.ensures
 
 pub returns-clause-same : goal.returns-clause-same
 returns-clause-same c message long are =

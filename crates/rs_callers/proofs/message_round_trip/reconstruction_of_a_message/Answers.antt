@@ -30,5 +30,6 @@ returns-clause-same c =
 pub returns-in_err-back-clause-enough : goal.returns-in_err-back-clause-enough
 returns-in_err-back-clause-enough c counted many =
     let are = c.in_ok-vectors.ensures.shards (counted-some c.args.original_count c.args.recovery_count counted) in
-    let lacks = c.in_err-back.ensures.refused c.args.message.now refl (lent-shards c.as_slice-originals.ensures.value are) in
+    let lacks = c.in_err-back.ensures.refused c.args.message.now refl
+    (lent-shards c.as_slice-originals.ensures.value are) in
     search rules

@@ -32,14 +32,17 @@ pub returns-in_err-give_kept-clause-enough : goal.returns-in_err-give_kept-claus
 returns-in_err-give_kept-clause-enough g c valid sized many =
     absurd (kept-taken (map (λ vector. vector.items) c.args.originals.now) (recovery_shards c.in_ok-recovery.recovery)
     c.args.lost.now c.args.recovery_lost.now c.in_ok-encoder.ensures.made.0 c.in_ok-give_all.ensures
-    (g.met.R.RateEncoder.RateEncoder.valid c.give_all.new.encoder) c.in_ok-recovery.ensures.answer c.in_ok-decoder.ensures.made.0
+    (g.met.R.RateEncoder.RateEncoder.valid c.give_all.new.encoder) c.in_ok-recovery.ensures.answer
+    c.in_ok-decoder.ensures.made.0
     _ _ c.in_err-give_kept.ensures)
 
 pub returns-in_err-give_received-clause-enough : goal.returns-in_err-give_received-clause-enough
 returns-in_err-give_received-clause-enough g c valid sized many =
-    absurd (received-taken (map (λ vector. vector.items) c.args.originals.now) (recovery_shards c.in_ok-recovery.recovery)
+    absurd (received-taken (map (λ vector. vector.items) c.args.originals.now)
+    (recovery_shards c.in_ok-recovery.recovery)
     c.args.lost.now c.args.recovery_lost.now c.in_ok-encoder.ensures.made.0 c.in_ok-give_all.ensures
-    (g.met.R.RateEncoder.RateEncoder.valid c.give_all.new.encoder) c.in_ok-recovery.ensures.answer c.in_ok-decoder.ensures.made.0
+    (g.met.R.RateEncoder.RateEncoder.valid c.give_all.new.encoder) c.in_ok-recovery.ensures.answer
+    c.in_ok-decoder.ensures.made.0
     (g.R.RateDecoder.RateDecoder.state c.give_kept.new.decoder) c.in_ok-give_kept.ensures
     _ _ c.in_err-give_received.ensures)
 
@@ -48,7 +51,8 @@ returns-in_err-restored-clause-enough g c valid sized many =
     let short : c.in_err-restored.field-0.0 ≡ OutOfMemory =
     only-memory (map (λ vector. vector.items) c.args.originals.now) (recovery_shards c.in_ok-recovery.recovery)
     c.args.lost.now c.args.recovery_lost.now c.in_ok-encoder.ensures.made.0 c.in_ok-give_all.ensures
-    (g.met.R.RateEncoder.RateEncoder.valid c.give_all.new.encoder) c.in_ok-recovery.ensures.answer c.in_ok-decoder.ensures.made.0
+    (g.met.R.RateEncoder.RateEncoder.valid c.give_all.new.encoder) c.in_ok-recovery.ensures.answer
+    c.in_ok-decoder.ensures.made.0
     (g.R.RateDecoder.RateDecoder.state c.give_kept.new.decoder) c.in_ok-give_kept.ensures
     (g.R.RateDecoder.RateDecoder.state c.give_received.new.decoder) c.in_ok-give_received.ensures
     c.in_err-restored.field-0.0 c.in_err-restored.ensures.answer many in
@@ -58,7 +62,8 @@ pub returns-clause-restored : goal.returns-clause-restored
 returns-clause-restored g c =
     copies-back (map (λ vector. vector.items) c.args.originals.now) (recovery_shards c.in_ok-recovery.recovery)
     c.args.lost.now c.args.recovery_lost.now c.in_ok-encoder.ensures.made.0 c.in_ok-give_all.ensures
-    (g.met.R.RateEncoder.RateEncoder.valid c.give_all.new.encoder) c.in_ok-recovery.ensures.answer c.in_ok-decoder.ensures.made.0
+    (g.met.R.RateEncoder.RateEncoder.valid c.give_all.new.encoder) c.in_ok-recovery.ensures.answer
+    c.in_ok-decoder.ensures.made.0
     (g.R.RateDecoder.RateDecoder.state c.give_kept.new.decoder) c.in_ok-give_kept.ensures
     (g.R.RateDecoder.RateDecoder.state c.give_received.new.decoder) c.in_ok-give_received.ensures
     (restored_originals c.in_ok-restored.restored) c.restored_copies.result

@@ -40,6 +40,7 @@ returns-in_err-add_recovery_shard c =
     (
     c.loop-index.invariant
     ∙ kept-refused (λ t one. with_recovery t one.0 one.1) (is_left c.args.lost.now) s
-    (enumerate_count c.loop-index.index-iterator) taken_here.0 taken_here.1 (ap not (sym c.contains.ensures.value ∙ c.if-contains.false)) refused
+    (enumerate_count c.loop-index.index-iterator) taken_here.0 taken_here.1
+    (ap not (sym c.contains.ensures.value ∙ c.if-contains.false)) refused
     )
     told

@@ -37,7 +37,8 @@ returns-in_err-give_kept-clause-enough c valid sized many =
 
 pub returns-in_err-give_received-clause-enough : goal.returns-in_err-give_received-clause-enough
 returns-in_err-give_received-clause-enough c valid sized many =
-    absurd (received-taken (map (λ vector. vector.items) c.args.originals.now) (recovery_shards c.in_ok-recovery.recovery)
+    absurd (received-taken (map (λ vector. vector.items) c.args.originals.now)
+    (recovery_shards c.in_ok-recovery.recovery)
     c.args.lost.now c.args.recovery_lost.now c.in_ok-encoder.ensures.made.0 c.in_ok-give_all.ensures
     (valid-encoder c.give_all.new.encoder) c.in_ok-recovery.ensures.answer c.in_ok-decoder.ensures.made.0
     (decoder_state c.give_kept.new.decoder) c.in_ok-give_kept.ensures
