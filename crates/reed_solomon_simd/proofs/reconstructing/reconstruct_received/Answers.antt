@@ -1,20 +1,20 @@
-use Rattle.std.proofs.Common.{rules, ◌≡◌, List, [], length, map, replicate, All, Ok, Err, Result, MatchResult}
+use Rattle.std.proofs.Common.{rules, ◌≡◌, List, [], length, map, replicate, Ok, Err, Result, MatchResult, refl, ap, ◌∙◌}
+use Rattle.std.proofs.Common.{inl, inr}
 use Rattle.std.specs.Prelude.{◌⊎◌}
-use Rattle.std.proofs.Common.{refl, sym, ap, subst, ◌∙◌, inl, inr, arith}
 use Rattle.std.specs.Result.{result_map_both}
-use Rattle.std.proofs.lemmas.List.{length-map, get_or-map}
 use Rattle.rs_field.specs.declared.code.error.Error.{Error}
 use Rattle.rs_field.specs.declared.code.error.Error.TheVariants.{OutOfMemory}
 use Rattle.rs_field.specs.code.Column.{Shard}
 use Rattle.rs_field.specs.code.Decoder.{NoneAgrees}
 use Rattle.reed_solomon_simd.specs.declared.reconstruct_error.ReconstructError.TheVariants.{Refused}
 use Rattle.reed_solomon_simd.specs.Reconstructed.{of_rooms, rooms_outcome, AreReconstructed, Reconstructs}
+use Rattle.reed_solomon_simd.specs.Reconstructed.{wanted_outcome}
 use Rattle.reed_solomon_simd.specs.Rooms.{bytes_in}
 use Rattle.reed_solomon_simd.specs.ReceivedState.{received_state}
-use Rattle.reed_solomon_simd.specs.Reconstructed.{wanted_outcome}
 use Rattle.reed_solomon_simd.proofs.ReconstructLemmas.{rebuilds-lacking, rebuilds-few, rebuilds-unwanted, rebuilds-made}
 use Rattle.reed_solomon_simd.proofs.ReconstructLemmas.{rebuilds-misfit, was-checked, zeros-number, zeros-sized}
 use Rattle.reed_solomon_simd.proofs.RebuiltStrips.{reconstructed-sized}
+use Rattle.reed_solomon_simd.proofs.RoomFits.{vectors-sized}
 use Rattle.reed_solomon_simd.proofs.reconstructing.reconstruct_received.Given.{Over}
 use Rattle.reed_solomon_simd.proofs.reconstructing.reconstruct_received.Goals.{In_ok-check_rooms}
 use Rattle.reed_solomon_simd.proofs.reconstructing.reconstruct_received.Goals as goal
@@ -104,13 +104,9 @@ returns-in_err-vectors-clause-answer g c =
 
 pub fill_rooms-requires-clause-sized : goal.fill_rooms-requires-clause-sized
 fill_rooms-requires-clause-sized g c =
-    let s = received_state c.args.received.now in
-    let made : List Shard = map (λ v. v.items) c.in_ok-vectors.vectors.items in
-    let sized = reconstructed-sized s c.args.wanted.now made c.in_ok-vectors.ensures c.in_ok-check_wanted.ensures.can in
-    let size = c.args.received.now.shard_bytes in
-    subst (λ l. All (λ v. length v.items ≡ size) l) (sym c.as_slice.ensures.value)
-    (λ i d h. ap length (sym (get_or-map (λ v. v.items) c.in_ok-vectors.vectors.items i d [] h))
-    ∙ sized i [] (let long = length-map c.in_ok-vectors.vectors.items (λ v. v.items) in omega (arith, long, h)))
+    vectors-sized c.args.received.now.shard_bytes c.as_slice.ensures.value
+    (reconstructed-sized (received_state c.args.received.now) c.args.wanted.now
+    (map (λ v. v.items) c.in_ok-vectors.vectors.items) c.in_ok-vectors.ensures c.in_ok-check_wanted.ensures.can)
 
 pub returns-clause-answer : goal.returns-clause-answer
 returns-clause-answer g c = (
