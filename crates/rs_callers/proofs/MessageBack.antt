@@ -1,42 +1,22 @@
 -- The last steps of a round trip of a message: its originals are completed and joined.
-use Rattle.std.proofs.Common.{
-  ◌≡◌,
-  ℕ,
-  ◌+◌,
-  ◌<◌,
-  ◌≤◌,
-  ◌%◌,
-  Bool,
-  true,
-  false,
-  cond,
-  List,
-  [],
-  map,
-  length,
-  Ok,
-  Err,
-  Result,
-  Vec,
-  Bor,
-}
-use Rattle.std.proofs.Common.{refl, sym, ap, subst, ◌∙◌, inl, inr, arith}
+use Rattle.std.proofs.Common.{◌≡◌, ℕ, ◌+◌, ◌<◌, ◌≤◌, ◌%◌, Bool, true, false, cond, List, map, length, Ok, Err, Result}
+use Rattle.std.proofs.Common.{Vec, Bor, refl, sym, ap, subst, ◌∙◌, inl, inr, arith}
 use Rattle.std.specs.Prelude.{All, IfOk, IfErr, MatchResult, ◌==◌}
 use Rattle.std.proofs.lemmas.Bool.{cases_eq, ne_eqb}
-use Rattle.std.proofs.lemmas.List.{get_or-map, length-map}
+use Rattle.std.proofs.lemmas.List.{length-map}
 use Rattle.reed_solomon_simd.specs.declared.Error.{Error}
 use Rattle.reed_solomon_simd.specs.declared.Error.TheVariants.{OutOfMemory, UnsupportedShardCount}
 use Rattle.reed_solomon_simd.specs.Column.{Shard}
 use Rattle.reed_solomon_simd.specs.Configuration.{UpToMemory, validation_outcome}
 use Rattle.reed_solomon_simd.specs.Counts.{default_rate, supports}
-use Rattle.reed_solomon_simd.specs.Messages.{AreShardsOf, join_outcome, collected_bytes}
+use Rattle.reed_solomon_simd.specs.Messages.{AreShardsOf, join_outcome, collected_bytes, Completes}
 use Rattle.reed_solomon_simd.specs.OneCall.{counts_outcome, default_of}
 use Rattle.reed_solomon_simd.specs.Given.{Shards}
-use Rattle.reed_solomon_simd.specs.Messages.{Completes}
 use Rattle.reed_solomon_simd.proofs.CallerLemmas.{valid-some}
 use Rattle.reed_solomon_simd.proofs.Left.{kept_of, kept-left, lost-kept}
 use Rattle.reed_solomon_simd.proofs.MessageLaws.{completes_all}
 use Rattle.reed_solomon_simd.proofs.MessageLemmas.{joined-back}
+use Rattle.reed_solomon_simd.proofs.RoomFits.{vectors-sized}
 use Rattle.rs_callers.specs.Losing.{is_lost, left_of, left_below, lost_at}
 
 -- The originals of a message, joined to its length, are the message, or memory could not be allocated.
@@ -105,14 +85,6 @@ lent-shards {message = message} {vectors = vectors} same are =
     (subst (λ n. AreShardsOf n message (map (λ v. v.items) vectors))
     (sym are.number ∙ length-map vectors (λ v. v.items)) are)
 
--- Vectors whose shards have a size have this size.
-vectors-sized : {Y : Type 0} (size : ℕ) (vectors others : List (Vec ℕ Y)) → others ≡ vectors
-    → All (λ shard. length shard ≡ size) (map (λ v. v.items) vectors) → All (λ v. length v.items ≡ size) others
-vectors-sized size vectors others is sized =
-    subst (λ xs. All (λ v. length v.items ≡ size) xs) (sym is)
-    (λ j d inside. ap length (sym (get_or-map (λ v. v.items) vectors j d [] inside))
-    ∙ sized j [] (let long = length-map vectors (λ v. v.items) in omega (arith, inside, long)))
-
 -- The shards of a message for supported counts have a valid size. If enough shards are left for k originals, then
 -- enough are left for the lent ones.
 pub lent-valid : {Y : Type 0} {k : ℕ} (r : ℕ) {message : List ℕ} (lost recovery_lost : List ℕ)
@@ -127,7 +99,7 @@ lent-valid {k = k} r lost recovery_lost {vectors = vectors} {lent = lent} same a
       are.size,
       subst (λ n. validation_outcome (default_of n r are.size) ≡ Ok tt) (sym long)
           (counted-valid k r are.size counted are.least.holds.some are.least.holds.even),
-      vectors-sized are.size vectors lent same are.sized,
+      vectors-sized are.size same are.sized,
       subst (λ n. n ≤ left_below n lost + left_below r recovery_lost) (sym long) many,
     )
 
