@@ -1,4 +1,5 @@
--- Lemmas about `rooms_fit`, which checks that rooms have the length of shards of one size, and about vectors of one size.
+-- Lemmas about `rooms_fit`, which checks that rooms have the length of shards of one size, and about vectors of one
+-- size.
 use Rattle.std.proofs.Common.{◌≡◌, ℕ, zero, suc, ◌<◌, List, [], ◌∷◌, length, get_or, All, Result, Ok, Err, MatchResult}
 use Rattle.std.proofs.Common.{Vec, map, ap, subst, refl, ◌∙◌, sym, arith}
 use Rattle.std.proofs.lemmas.Bool.{eq-eqb, ne_eqb}

@@ -174,18 +174,15 @@ description_again s fits =
           s.recovery_count;
       file_count = length s.files;
     } in
-    let opening : opening_at (spelling s) ≡ Ok (o, flat_map file_spelling s.files ++ s.digests) =
-    opening_again o (flat_map file_spelling s.files ++ s.digests)
-    (record {
+    let numbers : OpeningFits o = record {
       block_bytes = fits.block_bytes;
       original_count = fits.original_count;
       recovery_count =
           fits.recovery_count;
       file_count = fits.count;
-    }) in
+    } in
     rw (
-      opening,
+      opening_again o (flat_map file_spelling s.files ++ s.digests) numbers,
       files_again s.files s.digests fits.files,
-      digests_again
-          (s.original_count + s.recovery_count) s.digests fits.digests,
+      digests_again (s.original_count + s.recovery_count) s.digests fits.digests,
     ) refl

@@ -1,6 +1,6 @@
 -- The places of blocks, file by file.
 use Rattle.std.proofs.Common.{◌≡◌, ℕ, zero, suc, ◌+◌, ◌-◌, ◌*◌, ◌/◌, ◌%◌, ◌<◌, ◌≤◌, List, [], ◌∷◌, ◌++◌, length, get_or}
-use Rattle.std.proofs.Common.{take, map, refl, sym, ap, subst, ◌∙◌, inl, inr, append_assoc, add-one, arith}
+use Rattle.std.proofs.Common.{take, map, refl, sym, ap, ◌∙◌, inl, inr, append_assoc, add-one, arith}
 use Rattle.std.specs.List.{concat, flat_map}
 use Rattle.std.proofs.Math.Nat.{suc-mul, zero-mul}
 use Rattle.std.proofs.lemmas.Nat.{div-add-mod'}
@@ -35,18 +35,23 @@ places-append index block (first ∷ files) file =
     (sym (append_assoc (file_places index block first.size) (set_places (suc index) block files)
     (file_places (index + suc (length files)) block file.size)))
 
+-- the first n + 1 entries are the first n entries and then entry n
+pub files_further : (files : List FileEntry) {n : ℕ} {file : FileEntry} → n < length files → file ≡ get_or files n file
+    → files_of (take (n + 1) files) ≡ files_of (take n files) ++ file_of file ∷ []
+files_further files {n = n} {file = file} h e =
+    ap files_of (take_more files n file h ∙ ap (λ (f : FileEntry). take n files ++ f ∷ []) (sym e))
+    ∙ map-append file_of (take n files) (file ∷ [])
+
 pub places_next : (block : ℕ) (files : List FileEntry) (n : ℕ) (file : FileEntry) → n < length files
     → file ≡ get_or files n file
     → set_places 0 block (files_of (take (n + 1) files)) ≡ set_places 0 block (files_of (take n files))
     ++ file_places n block file.size
 places_next block files n file h e =
-    ap (λ (fs : List FileEntry). set_places 0 block (files_of fs))
-    (take_more files n file h ∙ ap (λ (f : FileEntry). take n files ++ f ∷ []) (sym e))
-    ∙ ap (set_places 0 block) (map-append file_of (take n files) (file ∷ []))
-    ∙ places-append 0 block (files_of (take n files)) (file_of file)
-    ∙ ap (λ (i : ℕ). set_places 0 block (files_of (take n files)) ++ file_places i block file.size)
-    (let long = length-map (take n files) file_of in let front = length-take n files in
-    let same : 0 + length (files_of (take n files)) ≡ n = omega (arith, long, front, h) in same)
+    let count : 0 + length (files_of (take n files)) ≡ n = (
+    let long = length-map (take n files) file_of in let front = length-take n files in omega (arith, long, front, h)
+    ) in
+    ap (λ (fs : List SetFile). set_places 0 block fs) (files_further files h e)
+    ∙ places-append 0 block (files_of (take n files)) (file_of file) ∙ rw count refl
 
 -- a file whose last block is full has no further block, and another file has one
 pub rest-none : (file block size : ℕ) → size % block ≡ 0 → rest_place file block size ≡ []
