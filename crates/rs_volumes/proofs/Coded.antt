@@ -54,29 +54,29 @@ module _ {k r : ℕ} {pieces made : List Shard} {before between after : Shards} 
             ∙ ap (λ (x : Shard). Some (block ++ x)) (sym (get_or-append_right pieces made k i [] one back))
       ]
 
-module _ {start piece size : ℕ} where
+module _ {start piece size width : ℕ} where
   -- the next piece is a strip
   pub next_strip : start ≤ size → (start % 64 ≡ 0) ⊎ (start ≡ size) → piece % 64 ≡ 0 → 0 < piece → start < size
-      → IsStrip start (start + min piece (size - start)) size
-  next_strip inside begins chunks some less =
+      → width ≡ min piece (size - start) → IsStrip start (start + width) size
+  next_strip inside begins chunks some less is =
       let from : start % 64 ≡ 0 =
       elim begins [ inl whole ↦ whole | inr last ↦ absurd (let no : ⊥ = omega (arith, last, less) in no) ] in
       elim (cases_lt piece (size - start)) [
         | inl lt ↦
-            let width : min piece (size - start) ≡ piece = omega arith in
+            let whole : width ≡ piece = omega arith in
             record {
               order = omega arith;
-              inside = omega (arith, width, lt, less);
+              inside = omega (arith, whole, lt, less);
               begins = from;
-              ends = inl (omega (arith, width, from, chunks));
+              ends = inl (omega (arith, whole, from, chunks));
             }
         | inr le ↦
-            let width : min piece (size - start) ≡ size - start = omega arith in
+            let left : width ≡ size - start = omega arith in
             record {
               order = omega arith;
-              inside = omega (arith, width, less);
+              inside = omega (arith, left, less);
               begins = from;
-              ends = inr (omega (arith, width, less));
+              ends = inr (omega (arith, left, less));
             }
       ]
 

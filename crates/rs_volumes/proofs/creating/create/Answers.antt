@@ -1,7 +1,6 @@
-use Rattle.std.proofs.Common.{◌≡◌, ℕ, ◌+◌, List, ◌++◌, refl, sym, ap, subst, ◌∙◌, inl, arith}
+use Rattle.std.proofs.Common.{◌≡◌, ℕ, List, ◌++◌, refl, ap, ◌∙◌, inl, arith}
 use Rattle.std.specs.List.{flat_map}
 use Rattle.sha2.specs.Sha256.{sha256}
-use Rattle.rs_field.specs.code.Pieces.{IsStrip}
 use Rattle.rs_volumes.proofs.Coded.{next_strip}
 use Rattle.rs_volumes.proofs.Created.{length-empty, created_none, created_more, created_all}
 use Rattle.rs_volumes.proofs.creating.create.Goals as goal
@@ -20,11 +19,8 @@ loop-start-init g c =
 pub loop-start-preserved : goal.loop-start-preserved
 loop-start-preserved g c =
     let held = c.loop-start.invariant in
-    let start : ℕ = c.loop-start.start in
-    let size : ℕ = c.args.shape.block_bytes in
-    let strip : IsStrip start (start + c.min.result) size =
-    subst (λ (n : ℕ). IsStrip start (start + n) size) (sym c.min.ensures)
-    (next_strip held.inside held.begins c.requires.chunks c.requires.some c.loop-start-test.true) in
+    let strip = next_strip held.inside held.begins c.requires.chunks c.requires.some c.loop-start-test.true c.min.ensures
+    in
     let now = c.in_ok-create_piece.ensures in
     let made = rw held.kept at now.made in
     record {

@@ -1,6 +1,5 @@
-use Rattle.std.proofs.Common.{◌≡◌, ℕ, ◌+◌, Some, sym, ap, subst, ◌∙◌, arith, take}
+use Rattle.std.proofs.Common.{◌≡◌, ℕ, Some, ap, ◌∙◌, arith, take}
 use Rattle.std.proofs.lemmas.Grind.{common_steps}
-use Rattle.rs_field.specs.code.Pieces.{IsStrip}
 use Rattle.rs_volumes.proofs.Coded.{next_strip}
 use Rattle.rs_field.specs.code.Column.{shard_at}
 use Rattle.rs_volumes.proofs.Originals.{block_more, whole_block}
@@ -10,11 +9,8 @@ use Rattle.rs_volumes.proofs.restoring.restore.Goals as goal
 pub loop-start-preserved : goal.loop-start-preserved
 loop-start-preserved g c =
     let held = c.loop-start.invariant in
-    let start : ℕ = c.loop-start.start in
-    let size : ℕ = c.args.shape.block_bytes in
-    let strip : IsStrip start (start + c.min.result) size =
-    subst (λ (n : ℕ). IsStrip start (start + n) size) (sym c.min.ensures)
-    (next_strip held.inside held.begins c.requires.chunks c.requires.some c.loop-start-test.true) in
+    let strip = next_strip held.inside held.begins c.requires.chunks c.requires.some c.loop-start-test.true c.min.ensures
+    in
     record {
       inside = strip.inside;
       begins = strip.ends;
