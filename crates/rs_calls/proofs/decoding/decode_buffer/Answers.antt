@@ -15,7 +15,7 @@ use Rattle.rs_calls.proofs.MarkedLemmas.{present, count-present}
 use Rattle.rs_calls.proofs.MarkedState.{AreMarked}
 use Rattle.rs_calls.proofs.RestoredBuffer.{unset-answers, failed-answers, done-answers, buffer-restored}
 use Rattle.rs_calls.proofs.decoding.decode_buffer.Given.{Over}
-use Rattle.rs_calls.proofs.decoding.decode_buffer.Goals.{After-split_at}
+use Rattle.rs_calls.proofs.decoding.decode_buffer.Goals.{After-split_at, After-check_decoder_rows}
 use Rattle.rs_calls.proofs.decoding.decode_buffer.Goals as goal
 
 pub overflow_add-original_count : goal.overflow_add-original_count
@@ -85,19 +85,21 @@ returns-then-count_marked-eq0-clause-answer g c =
     (decoding-nothing k r (marked_shards 0 size (take k marks) old) (marked_shards 0 size (drop k marks) recovery) led)
     (search rules, sym (with-nothing 0 size k old d.buffers.own_whole))
 
+-- A recovery shard is marked.
+marked : (g : Over) (c : After-check_decoder_rows g) → 0 < present c.split_at.result.1.now
+marked g c =
+    let counted = c.count_marked.ensures ∙ sym (count-present c.split_at.result.1.now) in
+    omega (arith, counted, c.if-count_marked-eq0.false)
+
 pub returns-in_err-check_decoder_rows-clause-answer : goal.returns-in_err-check_decoder_rows-clause-answer
 returns-in_err-check_decoder_rows-clause-answer g c =
     let k = c.args.original_count in let r = c.args.recovery_count in let size = c.args.shard_bytes in
     let marks = c.args.marks.now in let old = c.args.originals.now in let recovery = c.args.recovery.now in
-    let own = c.split_at.result.0.now in let other = c.split_at.result.1.now in
     let d = divided g (goal.at.returns-in_err-check_decoder_rows-clause-answer g c).After-split_at in
-    let counted = c.count_marked.ensures ∙ sym (count-present other) in
-    let some : 0 < present c.split_at.result.1.now = omega (arith, counted, c.if-count_marked-eq0.false) in
+    let some = marked g (goal.at.returns-in_err-check_decoder_rows-clause-answer g c).After-check_decoder_rows in
     let e = c.in_err-check_decoder_rows.field-0.0 in
     let unset = rw (c.in_ok-counts.ensures.0, c.in_ok-counts.ensures.1) at c.in_err-check_decoder_rows.ensures in
-    let answers = rw (d.own_marks, d.other_marks) at
-    (unset-answers d.buffers some e (sym unset))
-    in
+    let answers = rw (d.own_marks, d.other_marks) at (unset-answers d.buffers some e (sym unset)) in
     decodes k r size marks recovery old _ _
     (Err e) d.supported c.in_ok-check_length.ensures c.in_ok-check_length-2.ensures c.in_ok-check_length-3.ensures
     answers (search rules, refl)
@@ -126,10 +128,9 @@ pub returns-in_err-restore_marked-clause-answer : goal.returns-in_err-restore_ma
 returns-in_err-restore_marked-clause-answer g c =
     let k = c.args.original_count in let r = c.args.recovery_count in let size = c.args.shard_bytes in
     let marks = c.args.marks.now in let old = c.args.originals.now in let recovery = c.args.recovery.now in
-    let own = c.split_at.result.0.now in let other = c.split_at.result.1.now in
+    let own = c.split_at.result.0.now in
     let d = divided g (goal.at.returns-in_err-restore_marked-clause-answer g c).After-split_at in
-    let counted = c.count_marked.ensures ∙ sym (count-present other) in
-    let some : 0 < present c.split_at.result.1.now = omega (arith, counted, c.if-count_marked-eq0.false) in
+    let some = marked g (goal.at.returns-in_err-restore_marked-clause-answer g c).After-check_decoder_rows in
     let e = c.in_err-restore_marked.field-0.0 in
     let made = rw (c.in_ok-counts.ensures.0, c.in_ok-counts.ensures.1) at c.in_ok-check_decoder_rows.ensures in
     let does = rw (c.in_ok-counts.ensures.0, c.in_ok-counts.ensures.1) at c.in_err-restore_marked.ensures.answer in
@@ -144,10 +145,9 @@ pub returns-clause-answer : goal.returns-clause-answer
 returns-clause-answer g c =
     let k = c.args.original_count in let r = c.args.recovery_count in let size = c.args.shard_bytes in
     let marks = c.args.marks.now in let old = c.args.originals.now in let recovery = c.args.recovery.now in
-    let own = c.split_at.result.0.now in let other = c.split_at.result.1.now in
+    let own = c.split_at.result.0.now in
     let d = divided g (goal.at.returns-clause-answer g c).After-split_at in
-    let counted = c.count_marked.ensures ∙ sym (count-present other) in
-    let some : 0 < present c.split_at.result.1.now = omega (arith, counted, c.if-count_marked-eq0.false) in
+    let some = marked g (goal.at.returns-clause-answer g c).After-check_decoder_rows in
     let made = rw (c.in_ok-counts.ensures.0, c.in_ok-counts.ensures.1) at c.in_ok-check_decoder_rows.ensures in
     let does = rw (c.in_ok-counts.ensures.0, c.in_ok-counts.ensures.1) at c.in_ok-restore_marked.ensures.answer in
     let (holds, one) = done-answers d.buffers some (sym made)
