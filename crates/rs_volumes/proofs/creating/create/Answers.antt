@@ -19,8 +19,8 @@ loop-start-init g c =
 pub loop-start-preserved : goal.loop-start-preserved
 loop-start-preserved g c =
     let held = c.loop-start.invariant in
-    let strip = next_strip held.inside held.begins c.requires.chunks c.requires.some c.loop-start-test.true c.min.ensures
-    in
+    let strip = next_strip held.inside held.begins c.requires.chunks c.requires.some c.loop-start-test.true
+    c.min.ensures in
     let now = c.in_ok-create_piece.ensures in
     let made = rw held.kept at now.made in
     record {

@@ -9,8 +9,8 @@ use Rattle.rs_volumes.proofs.restoring.restore.Goals as goal
 pub loop-start-preserved : goal.loop-start-preserved
 loop-start-preserved g c =
     let held = c.loop-start.invariant in
-    let strip = next_strip held.inside held.begins c.requires.chunks c.requires.some c.loop-start-test.true c.min.ensures
-    in
+    let strip = next_strip held.inside held.begins c.requires.chunks c.requires.some c.loop-start-test.true
+    c.min.ensures in
     record {
       inside = strip.inside;
       begins = strip.ends;
