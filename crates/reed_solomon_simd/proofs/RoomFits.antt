@@ -1,11 +1,21 @@
--- Lemmas about `rooms_fit`, which checks that rooms have the length of shards of one size.
+-- Lemmas about `rooms_fit`, which checks that rooms have the length of shards of one size, and about vectors of one
+-- size.
 use Rattle.std.proofs.Common.{◌≡◌, ℕ, zero, suc, ◌<◌, List, [], ◌∷◌, length, get_or, All, Result, Ok, Err, MatchResult}
-use Rattle.std.proofs.Common.{subst, refl, ◌∙◌, sym, arith}
+use Rattle.std.proofs.Common.{Vec, map, ap, subst, refl, ◌∙◌, sym, arith}
 use Rattle.std.proofs.lemmas.Bool.{eq-eqb, ne_eqb}
+use Rattle.std.proofs.lemmas.List.{length-map, get_or-map}
 use Rattle.rs_field.specs.code.Column.{Shard}
 use Rattle.reed_solomon_simd.specs.declared.room_error.RoomError.{RoomError}
 use Rattle.reed_solomon_simd.specs.declared.room_error.RoomError.TheVariants.{WrongLength}
 use Rattle.reed_solomon_simd.specs.Into.{lengths_fit, rooms_fit, Fills}
+
+-- Vectors whose shards have a size have this size.
+pub vectors-sized : {Y : Type 0} (size : ℕ) {vectors others : List (Vec ℕ Y)} → others ≡ vectors
+    → All (λ shard. length shard ≡ size) (map (λ v. v.items) vectors) → All (λ v. length v.items ≡ size) others
+vectors-sized size {vectors = vectors} is sized =
+    subst (λ xs. All (λ v. length v.items ≡ size) xs) (sym is)
+    (λ j d inside. ap length (sym (get_or-map (λ v. v.items) vectors j d [] inside))
+    ∙ sized j [] (let long = length-map vectors (λ v. v.items) in omega (arith, inside, long)))
 
 -- If there are as many rooms as shards, `rooms_fit` depends only on their lengths.
 pub fits-many : (shards : List Shard) (rooms : List (List ℕ)) → length shards ≡ length rooms

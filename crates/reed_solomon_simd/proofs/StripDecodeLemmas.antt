@@ -1,13 +1,11 @@
 -- A round of a decoder over a strip of each received shard.
-use Rattle.std.proofs.Common.{◌≡◌, ℕ, suc, ◌+◌, ◌-◌, ◌<◌, ◌≤◌, Bool, true, cond, List, [], ◌∷◌, length, drop, get_or}
-use Rattle.std.proofs.Common.{Result, Ok, Err, Option, Some, None, refl, sym, ap, ◌∙◌, subst, inl, inr, arith}
-use Rattle.std.specs.Prelude.{◌⊎◌, nat_lt, nat_le, ◌==◌, not, is_some, if◌then◌else◌, unwrap_or, MatchResult}
+use Rattle.std.proofs.Common.{◌≡◌, ℕ, suc, ◌+◌, ◌-◌, ◌<◌, ◌≤◌, Bool, true, List, [], ◌∷◌, length, drop, get_or, Result}
+use Rattle.std.proofs.Common.{Ok, Err, Option, Some, None, refl, sym, ap, ◌∙◌, subst, inl, inr, arith}
+use Rattle.std.specs.Prelude.{◌⊎◌, unwrap_or, MatchResult}
 use Rattle.std.specs.List.{between}
 use Rattle.std.specs.Option.{option_map}
 use Rattle.std.proofs.lemmas.Option.{none-some}
 use Rattle.std.proofs.lemmas.List.{length-take-le, length-drop, get_or-map, drop_more}
-use Rattle.std.proofs.Math.Path.{fun_ext}
-use Rattle.std.proofs.lemmas.Bool.{cases_eq, cases_lt, lt-ltb, le-ltb, lt-leb, eq-eqb}
 use Rattle.rs_field.specs.declared.code.error.Error.{Error}
 use Rattle.rs_field.specs.declared.code.error.Error.TheVariants.{OutOfMemory}
 use Rattle.rs_field.specs.code.Column.{Shard}
@@ -15,56 +13,13 @@ use Rattle.rs_field.specs.code.Configuration.{Configuration, configuration}
 use Rattle.rs_field.specs.code.Counts.{default_rate}
 use Rattle.rs_field.specs.code.Decoder.{DecoderState, IsDecoder, fresh_decoder, with_original, with_recovery}
 use Rattle.rs_field.specs.code.Decoder.{enough_given, Restored, NoneAgrees, DecodeAnswers, after_decode}
-use Rattle.rs_field.specs.code.Given.{Shards, AreWithin, Lists, nothing, with_entry}
+use Rattle.rs_field.specs.code.Given.{Shards, AreWithin, Lists}
 use Rattle.rs_field.specs.code.Pieces.{IsStrip, ArePut}
 use Rattle.rs_field.specs.code.PieceStates.{pieces_of, state_of_pieces, shards_listed}
 use Rattle.rs_field.specs.code.OneCall.{Items}
-use Rattle.rs_field.proofs.of_code.Given.{entered_cases}
 use Rattle.rs_field.proofs.of_code.RestoredBelow.{IsRestoredBelow, enough-pieces, none-pieces, restored-further}
+use Rattle.rs_rate.proofs.of_rows.FirstShards.{first, first-all, original-taken, recovery-taken}
 use Rattle.reed_solomon_simd.proofs.CallerLemmas.{ended}
-
--- The shards of a map at the indexes below n.
-abbrev pub first : ℕ → Shards → Shards
-first n given i = cond (nat_lt i n) (given i) None
-
-first-inside : (n i : ℕ) (given : Shards) → i < n → first n given i ≡ given i
-first-inside n i given inside = ap (λ (b : Bool). cond b (given i) None) (lt-ltb i n inside)
-
-first-outside : (n i : ℕ) (given : Shards) → n ≤ i → first n given i ≡ None
-first-outside n i given outside = ap (λ (b : Bool). cond b (given i) None) (le-ltb i n outside)
-
--- There are no shards at the indexes below zero.
-pub first-none : (given : Shards) → nothing ≡ first 0 given
-first-none given = fun_ext (λ i. sym (first-outside 0 i given (omega arith)))
-
--- If a map has no shards from index n on, its shards below n are all its shards.
-first-all : (n : ℕ) (given : Shards) → ((i : ℕ) → n ≤ i → given i ≡ None) → first n given ≡ given
-first-all n given none = fun_ext (λ i. elim (cases_lt i n) [
-  | inl inside ↦ first-inside n i given inside
-  | inr outside ↦ first-outside n i given outside ∙ sym (none i outside)
-])
-
--- If index n has no shard, the shards below n + 1 are the shards below n.
-pub first-skipped : (n : ℕ) (given : Shards) → given n ≡ None → first n given ≡ first (n + 1) given
-first-skipped n given free = fun_ext (λ i. elim (cases_lt i n) [
-  | inl inside ↦ first-inside n i given inside ∙ sym (first-inside (n + 1) i given (omega (arith, inside)))
-  | inr outside ↦ first-outside n i given outside ∙ elim (cases_eq i n) [
-    | inl same ↦ sym (first-inside (n + 1) i given (omega (arith, same)) ∙ ap given same ∙ free)
-    | inr other ↦ sym (first-outside (n + 1) i given (omega (arith, outside, other)))
-  ]
-])
-
--- Entering the shard with index n into the shards below n gives the shards below n + 1.
-first-entered : (n : ℕ) (given : Shards) (shard : Shard) → given n ≡ Some shard
-    → with_entry (first n given) n shard ≡ first (n + 1) given
-first-entered n given shard found = fun_ext (λ i. elim (entered_cases (first n given) n i shard) [
-  | inl here ↦ here.1 ∙ sym found ∙ sym (ap given here.0) ∙ sym (first-inside (n + 1) i given (omega (arith, here.0)))
-  | inr other ↦ other.1 ∙ elim (cases_lt i n) [
-    | inl inside ↦ first-inside n i given inside ∙ sym (first-inside (n + 1) i given (omega (arith, inside)))
-    | inr outside ↦ first-outside n i given outside
-        ∙ sym (first-outside (n + 1) i given (omega (arith, outside, other.0)))
-  ]
-])
 
 -- The pieces of a strip of shards that are within bounds.
 module _ (start end n count size : ℕ) (given : Shards) (within : AreWithin count size given) where
@@ -92,38 +47,29 @@ module _ (start end n count size : ℕ) (given : Shards) (within : AreWithin cou
 module _ (start end n : ℕ) (x s now : DecoderState) (piece : Shard) (order : start ≤ end)
     (inside : end ≤ x.configuration.shard_bytes) (set_up : IsDecoder default_rate x)
     (configured : s.configuration ≡ (state_of_pieces start end x).configuration) where
-  -- Adding a shard enters it if the index is below the count, it was not added before, and it has the size.
-  taken : (count most : ℕ) (given : Shards) (past double sized : Error) (put : Shards → DecoderState)
-      → AreWithin count x.configuration.shard_bytes given → n < most → pieces_of start end given n ≡ Some piece
-      → (
-      if nat_le most n then Err past else if is_some (first n (pieces_of start end given) n) then Err double
-      else if not (length piece == s.configuration.shard_bytes) then Err sized
-      else Ok (put (with_entry (first n (pieces_of start end given)) n piece))
-      ) ≡ Ok (put (first (n + 1) (pieces_of start end given)))
-  taken count most given past double sized put within below found =
-      let size = ap (λ (d : Configuration). d.shard_bytes) configured in
-      let long = piece-sized start end n count x.configuration.shard_bytes given within piece order inside found in
-      let none = first-outside n n (pieces_of start end given) (omega arith) in
-      rw (lt-leb most n below, none, eq-eqb (length piece) s.configuration.shard_bytes (long ∙ sym size))
-      (ap (λ (g : Shards). Ok (put g)) (first-entered n (pieces_of start end given) piece found))
+  sized : (count : ℕ) (given : Shards) → AreWithin count x.configuration.shard_bytes given
+      → pieces_of start end given n ≡ Some piece → length piece ≡ s.configuration.shard_bytes
+  sized count given within found =
+      piece-sized start end n count x.configuration.shard_bytes given within piece order inside found
+      ∙ sym (ap (λ (d : Configuration). d.shard_bytes) configured)
 
-  pub original-taken : now ≡ record s { originals = first n (pieces_of start end x.originals) }
+  pub original-piece-taken : now ≡ record s { originals = first n (pieces_of start end x.originals) }
       → n < x.configuration.original_count → pieces_of start end x.originals n ≡ Some piece
       → with_original now n piece ≡ Ok (record s { originals = first (n + 1) (pieces_of start end x.originals) })
-  original-taken is below found =
+  original-piece-taken is below found =
       let count = ap (λ (d : Configuration). d.original_count) configured in
       ap (λ (t : DecoderState). with_original t n piece) is
-      ∙ taken x.configuration.original_count s.configuration.original_count x.originals _ _ _
-      (λ g. record s { originals = g }) set_up.originals_within (omega (arith, count, below)) found
+      ∙ original-taken s n (pieces_of start end x.originals) piece found
+      (sized x.configuration.original_count x.originals set_up.originals_within found) (omega (arith, count, below))
 
-  pub recovery-taken : now ≡ record s { recovery = first n (pieces_of start end x.recovery) }
+  pub recovery-piece-taken : now ≡ record s { recovery = first n (pieces_of start end x.recovery) }
       → n < x.configuration.recovery_count → pieces_of start end x.recovery n ≡ Some piece
       → with_recovery now n piece ≡ Ok (record s { recovery = first (n + 1) (pieces_of start end x.recovery) })
-  recovery-taken is below found =
+  recovery-piece-taken is below found =
       let count = ap (λ (d : Configuration). d.recovery_count) configured in
       ap (λ (t : DecoderState). with_recovery t n piece) is
-      ∙ taken x.configuration.recovery_count s.configuration.recovery_count x.recovery _ _ _
-      (λ g. record s { recovery = g }) set_up.recovery_within (omega (arith, count, below)) found
+      ∙ recovery-taken s n (pieces_of start end x.recovery) piece found
+      (sized x.configuration.recovery_count x.recovery set_up.recovery_within found) (omega (arith, count, below))
 
 -- ---- pieces are put into rooms, one after another
 
@@ -149,18 +95,18 @@ left-none n items most left = let long = length-drop n items in let none : lengt
 -- ---- a round
 
 -- A fresh decoder with all pieces has the state of the pieces.
-pub pieces-added : (start end : ℕ) (x zero one two : DecoderState)
+pub pieces-added : (start end : ℕ) (x : DecoderState) {zero one two : DecoderState}
     → zero ≡ fresh_decoder
     (configuration x.configuration.rate x.configuration.original_count x.configuration.recovery_count (end - start))
     → one ≡ record zero { originals = pieces_of start end x.originals }
     → two ≡ record one { recovery = pieces_of start end x.recovery }
     → two ≡ state_of_pieces start end x
-pieces-added start end x zero one two fresh first second =
+pieces-added start end x fresh first second =
     second
     ∙ ap (λ (s : DecoderState). record s { recovery = pieces_of start end x.recovery })
     (first ∙ ap (λ (s : DecoderState). record s { originals = pieces_of start end x.originals }) fresh)
 
-module _ (start end : ℕ) (x state : DecoderState) (is : state ≡ state_of_pieces start end x)
+module _ (start end : ℕ) (x : DecoderState) {state : DecoderState} (is : state ≡ state_of_pieces start end x)
     (enough : enough_given x ≡ Ok tt) where
   enough-here : enough_given (state_of_pieces start end x) ≡ Ok tt
   enough-here = enough-pieces start end x ∙ enough

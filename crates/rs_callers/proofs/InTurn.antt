@@ -30,19 +30,21 @@ module _ {S : Type 0} (add : S → ℕ × Shard → Result S Error) (kept : ℕ 
 
   -- If a shard that is kept is added without an error, the outcome is the outcome of adding the later shards to the
   -- next state.
-  pub kept-next : (s next : S) (n m index : ℕ) (shard : Shard) (shards rest : List Shard) → shards ≡ shard ∷ rest
+  pub kept-next : (s : S) {next : S} (n : ℕ) {m index : ℕ} {shard : Shard} {shards rest : List Shard}
+      → shards ≡ shard ∷ rest
       → index ≡ n → m ≡ n + 1 → kept (index, shard) ≡ true
       → add s (index, shard) ≡ Ok next → led_by s n shards ≡ led_by next m rest
-  kept-next s next n m index shard shards rest is first after keeps taken = rw (is, after, ← first, keeps, taken) refl
+  kept-next s n is first after keeps taken = rw (is, after, ← first, keeps, taken) refl
 
   -- If a shard that is kept cannot be added, its error is the outcome.
-  pub kept-refused : (s : S) (n index : ℕ) (shard : Shard) (shards rest : List Shard) (e : Error)
+  pub kept-refused : (s : S) (n : ℕ) {index : ℕ} {shard : Shard} {shards rest : List Shard} {e : Error}
       → shards ≡ shard ∷ rest → index ≡ n → kept (index, shard) ≡ true
       → add s (index, shard) ≡ Err e → led_by s n shards ≡ Err e
-  kept-refused s n index shard shards rest e is first keeps refused = rw (is, ← first, keeps, refused) refl
+  kept-refused s n is first keeps refused = rw (is, ← first, keeps, refused) refl
 
   -- If a shard is not kept, the outcome is the outcome of adding the later shards.
-  pub lost-next : (s : S) (n m index : ℕ) (shard : Shard) (shards rest : List Shard) → shards ≡ shard ∷ rest → index ≡ n
+  pub lost-next : (s : S) (n : ℕ) {m index : ℕ} {shard : Shard} {shards rest : List Shard} → shards ≡ shard ∷ rest
+      → index ≡ n
       → m ≡ n + 1 → kept (index, shard) ≡ false
       → led_by s n shards ≡ led_by s m rest
-  lost-next s n m index shard shards rest is first after passes = rw (is, after, ← first, passes) refl
+  lost-next s n is first after passes = rw (is, after, ← first, passes) refl

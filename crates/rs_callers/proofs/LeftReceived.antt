@@ -48,16 +48,16 @@ all_free [] = tt
 all_free (item ∷ items) = (refl, all_free items)
 
 -- The map of the items that are left has as many shards as there are items.
-left-count : (count : ℕ) (shards : List Shard) (items : Items) → length shards ≡ count → AreLeft shards items
+left-count : {count : ℕ} {shards : List Shard} {items : Items} → length shards ≡ count → AreLeft shards items
     → count_below count (entered_all nothing items) ≡ length items
-left-count count shards items long left =
+left-count {count = count} {items = items} long left =
     let counted = count-entered_all count items nothing
     (recursion_from_All (λ (item : ℕ × Shard). item.0 < count) items
     (λ i d h. let own = (left.own i d h).0 in omega (arith, own, long))) (all_free items) left.once in
     counted ∙ ap (λ (n : ℕ). n + length items) (count-nothing count)
     ∙ (let e : 0 + length items ≡ length items = omega arith in e)
 
-module _ (k r : ℕ) (originals recovery : List Shard) (kept received : Items) (was : AreCoded k r originals recovery)
+module _ {k r : ℕ} {originals recovery : List Shard} {kept received : Items} (was : AreCoded k r originals recovery)
     (left : AreLeft originals kept) (got : AreLeft recovery received) where
   -- The state of a decoder with the shards that are left.
   abbrev pub left_state : DecoderState
@@ -84,8 +84,8 @@ module _ (k r : ℕ) (originals recovery : List Shard) (kept received : Items) (
   pub left_enough : enough_given left_state ≡ enough_left k kept received
   left_enough =
       ap₂ (λ (o c : ℕ). unless_few k o c (nat_lt (o + c) k))
-      (left-count k originals kept was.shards.length_is left)
-      (left-count r recovery received was.coded.shards.length_is got)
+      (left-count was.shards.length_is left)
+      (left-count was.coded.shards.length_is got)
 
   -- A property of the outcome of setting up a decoder and adding the shards.
   abbrev Begun : (DecoderState → Type 0) → (Error → Type 0) → Result (Unit {0}) Error → Type 0
@@ -108,26 +108,26 @@ module _ (k r : ℕ) (originals recovery : List Shard) (kept received : Items) (
           inl (subst (λ (o : Result DecoderState Error). MatchResult o A B)
           (all_taken (default_of k r was.size) originals recovery kept received was.shards was.coded left got) h)
 
--- A property of the outcome of collecting what is left is a property of the decoder with these shards, or of
--- `OutOfMemory`, or of `NotEnoughShards` if nothing is left.
-pub received-left : (k r : ℕ) (originals recovery : List Shard) (kept received : Items)
-    (was : AreCoded k r originals recovery)
-    → AreLeft originals kept → AreLeft recovery received → (A : DecoderState → Type 0) (B : Error → Type 0)
-    → MatchResult (receiving_outcome k r (received_size kept received) kept received) A B
-    → (A (left_with (default_of k r was.size) kept received) ⊎ B OutOfMemory)
-    ⊎ (B (NotEnoughShards k 0 0) × (kept ≡ []) × (received ≡ []))
-received-left k r originals recovery kept (first ∷ rest) was left got A B holds =
-    let own = got.own 0 first (omega arith) in
-    let size : length first.1 ≡ was.size =
-    sym (ap length own.1) ∙ (was.coded.shards.each first.0 [] own.0).length_is in
-    inl (by_start k r originals recovery kept (first ∷ rest) was left got A B
-    (subst (λ (n : ℕ). MatchResult (receiving_outcome k r (Some n) kept (first ∷ rest)) A B) size holds))
-received-left k r originals recovery (first ∷ rest) [] was left got A B holds =
-    let own = left.own 0 first (omega arith) in
-    let size : length first.1 ≡ was.size =
-    sym (ap length own.1) ∙ (was.shards.each first.0 [] own.0).length_is in
-    inl (by_start k r originals recovery (first ∷ rest) [] was left got A B
-    (subst (λ (n : ℕ). MatchResult (receiving_outcome k r (Some n) (first ∷ rest) []) A B) size holds))
-received-left k r originals recovery [] [] was left got A B holds =
-    let supported = valid-supported (default_of k r was.size) was.valid in
-    inr (rw supported at holds, refl, refl)
+module _ {k r : ℕ} {originals recovery : List Shard} (was : AreCoded k r originals recovery) where
+  -- A property of the outcome of collecting what is left is a property of the decoder with these shards, or of
+  -- `OutOfMemory`, or of `NotEnoughShards` if nothing is left.
+  pub received-left : {kept received : Items} → AreLeft originals kept → AreLeft recovery received
+      → (A : DecoderState → Type 0) (B : Error → Type 0)
+      → MatchResult (receiving_outcome k r (received_size kept received) kept received) A B
+      → (A (left_with (default_of k r was.size) kept received) ⊎ B OutOfMemory)
+      ⊎ (B (NotEnoughShards k 0 0) × (kept ≡ []) × (received ≡ []))
+  received-left {kept = kept} {received = first ∷ rest} left got A B holds =
+      let own = got.own 0 first (omega arith) in
+      let size : length first.1 ≡ was.size =
+      sym (ap length own.1) ∙ (was.coded.shards.each first.0 [] own.0).length_is in
+      inl (by_start was left got A B
+      (subst (λ (n : ℕ). MatchResult (receiving_outcome k r (Some n) kept (first ∷ rest)) A B) size holds))
+  received-left {kept = first ∷ rest} {received = []} left got A B holds =
+      let own = left.own 0 first (omega arith) in
+      let size : length first.1 ≡ was.size =
+      sym (ap length own.1) ∙ (was.shards.each first.0 [] own.0).length_is in
+      inl (by_start was left got A B
+      (subst (λ (n : ℕ). MatchResult (receiving_outcome k r (Some n) (first ∷ rest) []) A B) size holds))
+  received-left {kept = []} {received = []} left got A B holds =
+      let supported = valid-supported (default_of k r was.size) was.valid in
+      inr (rw supported at holds, refl, refl)

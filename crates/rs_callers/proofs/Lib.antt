@@ -4,6 +4,7 @@ pub mod Chains
 pub mod InTurn
 pub mod LeftCount
 pub mod MessageBack
+pub mod ObjectsBack
 pub mod LeftReceived
 pub mod LostIndexes
 pub mod VerifyLaws

@@ -38,7 +38,7 @@ same_or : (b : Bool) → (b || (false || false)) ≡ b
 same_or true = refl
 same_or false = refl
 
-module _ (n : ℕ) (lost indexes : List ℕ) (lists : ListsLost n lost indexes) where
+module _ {n : ℕ} {lost indexes : List ℕ} (lists : ListsLost n lost indexes) where
   -- The next index is not yet in the list.
   not_yet : list_any (nat_eq n) indexes ≡ false
   not_yet = lists.each n ∙ ap (λ b. b && is_lost lost n) (le-ltb n n (omega arith))

@@ -1,29 +1,9 @@
 -- The last steps of a round trip of a message: its originals are completed and joined.
-use Rattle.std.proofs.Common.{
-  ◌≡◌,
-  ℕ,
-  ◌+◌,
-  ◌<◌,
-  ◌≤◌,
-  ◌%◌,
-  Bool,
-  true,
-  false,
-  cond,
-  List,
-  [],
-  map,
-  length,
-  Ok,
-  Err,
-  Result,
-  Vec,
-  Bor,
-}
-use Rattle.std.proofs.Common.{refl, sym, ap, subst, ◌∙◌, inl, inr, arith}
+use Rattle.std.proofs.Common.{◌≡◌, ℕ, ◌+◌, ◌<◌, ◌≤◌, ◌%◌, Bool, true, false, cond, List, map, length, Ok, Err, Result}
+use Rattle.std.proofs.Common.{Vec, Bor, refl, sym, ap, subst, ◌∙◌, inl, inr, arith}
 use Rattle.std.specs.Prelude.{All, IfOk, IfErr, MatchResult, ◌==◌}
 use Rattle.std.proofs.lemmas.Bool.{cases_eq, ne_eqb}
-use Rattle.std.proofs.lemmas.List.{get_or-map, length-map}
+use Rattle.std.proofs.lemmas.List.{length-map}
 use Rattle.reed_solomon_simd.specs.declared.Error.{Error}
 use Rattle.reed_solomon_simd.specs.declared.Error.TheVariants.{OutOfMemory, UnsupportedShardCount}
 use Rattle.reed_solomon_simd.specs.Column.{Shard}
@@ -36,14 +16,15 @@ use Rattle.reed_solomon_simd.proofs.CallerLemmas.{valid-some}
 use Rattle.reed_solomon_simd.proofs.Left.{kept_of, kept-left, lost-kept}
 use Rattle.reed_solomon_simd.proofs.MessageLaws.{completes_all}
 use Rattle.reed_solomon_simd.proofs.MessageLemmas.{joined-back}
+use Rattle.reed_solomon_simd.proofs.RoomFits.{vectors-sized}
 use Rattle.rs_callers.specs.Losing.{is_lost, left_of, left_below, lost_at}
 
 -- The originals of a message, joined to its length, are the message, or memory could not be allocated.
-pub message-joined : {Z : Type 0} (k total : ℕ) (message : List ℕ) (originals all : List Shard)
+pub message-joined : {Z : Type 0} {k total : ℕ} {message : List ℕ} {originals all : List Shard}
     (result : Result (Vec ℕ Z) Error) → AreShardsOf k message originals → length message ≡ total → all ≡ originals
     → UpToMemory (join_outcome all total) (collected_bytes result)
     → IfOk result (λ back. back.items ≡ message) × IfErr result (λ e. e ≡ OutOfMemory)
-message-joined k total message originals all result are long same answer =
+message-joined {k = k} {message = message} {originals = originals} {all = all} result are long same answer =
     by_result result
     (subst (λ (wanted : Result (List ℕ) Error). UpToMemory wanted (collected_bytes result))
     (ap (join_outcome all) (sym long) ∙ ap (λ shards. join_outcome shards (length message)) same
@@ -79,14 +60,14 @@ counted-some k r counted = valid-some (default_of k r 2) (counted-valid k r 2 co
 
 -- The originals of a message that are left, and the lost ones, are completed to all originals, or memory could not be
 -- allocated. The originals are vectors, and those that are left were collected and then lent.
-pub vectors-completed : {Y : Type 0} (k : ℕ) (message : List ℕ) (originals : List (Vec ℕ Y)) (lost : List ℕ)
-    (collected kept : List (ℕ × Bor (List ℕ))) (restored : Shards) (result : Result (List Shard) Error)
+pub vectors-completed : {Y : Type 0} {k : ℕ} {message : List ℕ} (originals : List (Vec ℕ Y)) (lost : List ℕ)
+    {collected kept : List (ℕ × Bor (List ℕ))} {restored : Shards} {result : Result (List Shard) Error}
     → AreShardsOf k message (map (λ v. v.items) originals) → kept ≡ collected
     → map (λ item. (item.0, item.1.now)) collected ≡ left_of (map (λ v. v.items) originals) lost
     → ((i : ℕ) → restored i ≡ lost_at (map (λ v. v.items) originals) lost i)
     → Completes k (map (λ item. (item.0, item.1.now)) kept) restored result
     → MatchResult result (λ all. all ≡ map (λ v. v.items) originals) (λ e. e ≡ OutOfMemory)
-vectors-completed k message originals lost collected kept restored result are same left gone answer =
+vectors-completed originals lost {kept = kept} {restored = restored} {result = result} are same left gone answer =
     let items : map (λ item. (item.0, item.1.now)) kept ≡ kept_of (map (λ v. v.items) originals) (is_lost lost) =
     ap (map (λ item. (item.0, item.1.now))) same ∙ left in
     completes_all (map (λ v. v.items) originals) (kept_of (map (λ v. v.items) originals) (is_lost lost)) restored
@@ -96,42 +77,35 @@ vectors-completed k message originals lost collected kept restored result are sa
     (subst (λ n. Completes n (map (λ item. (item.0, item.1.now)) kept) restored result) (sym are.number) answer))
 
 -- The shards of a message are still its shards after the vectors that hold them were lent.
-pub lent-shards : {Y : Type 0} (k : ℕ) (message : List ℕ) (vectors lent : List (Vec ℕ Y)) → lent ≡ vectors
+pub lent-shards : {Y : Type 0} {k : ℕ} {message : List ℕ} {vectors lent : List (Vec ℕ Y)} → lent ≡ vectors
     → AreShardsOf k message (map (λ v. v.items) vectors)
     → AreShardsOf (length lent) message (map (λ v. v.items) lent)
-lent-shards k message vectors lent same are =
+lent-shards {message = message} {vectors = vectors} same are =
     subst (λ xs. AreShardsOf (length xs) message (map (λ v. v.items) xs)) (sym same)
     (subst (λ n. AreShardsOf n message (map (λ v. v.items) vectors))
     (sym are.number ∙ length-map vectors (λ v. v.items)) are)
 
--- Vectors whose shards have a size have this size.
-vectors-sized : {Y : Type 0} (size : ℕ) (vectors others : List (Vec ℕ Y)) → others ≡ vectors
-    → All (λ shard. length shard ≡ size) (map (λ v. v.items) vectors) → All (λ v. length v.items ≡ size) others
-vectors-sized size vectors others is sized =
-    subst (λ xs. All (λ v. length v.items ≡ size) xs) (sym is)
-    (λ j d inside. ap length (sym (get_or-map (λ v. v.items) vectors j d [] inside))
-    ∙ sized j [] (let long = length-map vectors (λ v. v.items) in omega (arith, inside, long)))
-
 -- The shards of a message for supported counts have a valid size. If enough shards are left for k originals, then
 -- enough are left for the lent ones.
-pub lent-valid : {Y : Type 0} (k r : ℕ) (message lost recovery_lost : List ℕ) (vectors lent : List (Vec ℕ Y))
+pub lent-valid : {Y : Type 0} {k : ℕ} (r : ℕ) {message : List ℕ} (lost recovery_lost : List ℕ)
+    {vectors lent : List (Vec ℕ Y)}
     → lent ≡ vectors → AreShardsOf k message (map (λ v. v.items) vectors) → counts_outcome k r ≡ Ok tt
     → k ≤ left_below k lost + left_below r recovery_lost
     → (size : ℕ) × (validation_outcome (default_of (length lent) r size) ≡ Ok tt)
     × All (λ v. length v.items ≡ size) lent
     × (length lent ≤ left_below (length lent) lost + left_below r recovery_lost)
-lent-valid k r message lost recovery_lost vectors lent same are counted many =
+lent-valid {k = k} r lost recovery_lost {vectors = vectors} {lent = lent} same are counted many =
     let long : length lent ≡ k = ap length same ∙ sym (length-map vectors (λ v. v.items)) ∙ are.number in (
       are.size,
       subst (λ n. validation_outcome (default_of n r are.size) ≡ Ok tt) (sym long)
           (counted-valid k r are.size counted are.least.holds.some are.least.holds.even),
-      vectors-sized are.size vectors lent same are.sized,
+      vectors-sized are.size same are.sized,
       subst (λ n. n ≤ left_below n lost + left_below r recovery_lost) (sym long) many,
     )
 
 -- If a message was split, there is an original.
-pub split-some : {T : Type 0} (k : ℕ) (x : T) (e : Error) → (k ≡ 0 → Ok x ≡ Err e) → 0 < k
-split-some k x e none = elim (cases_eq k 0) [
+pub split-some : {T : Type 0} {k : ℕ} {x : T} {e : Error} → (k ≡ 0 → Ok x ≡ Err e) → 0 < k
+split-some {k = k} none = elim (cases_eq k 0) [
   | inl zero_is ↦ absurd (let refused = none zero_is in let wrong : ⊥ = cc in wrong)
   | inr some ↦ omega (arith, some)
 ]

@@ -32,22 +32,22 @@ use Rattle.rs_field.proofs.of_code.SupportedCounts.{default_fits}
 use Rattle.rs_field.proofs.of_code.Unique.{recovery_unique}
 use Rattle.rs_rate.proofs.of_rows.StateLemmas.{valid-supported}
 use Rattle.rs_callers.specs.Losing.{is_lost, left_of, left_below, lost_at, ListsLost}
-use Rattle.rs_callers.proofs.LeftCount.{left-count}
+use Rattle.rs_callers.proofs.LeftCount.{left-number}
 use Rattle.rs_callers.proofs.LostIndexes.{lost-wanted, lost-mapped, named_at}
 use Rattle.rs_callers.proofs.LeftReceived.{unless_few, left_state, left_agrees, left_enough, received-left}
 
-module _ (k r : ℕ) (originals recovery : List Shard) (kept received : Items) (wanted : List ShardIndex)
+module _ {k r : ℕ} {originals recovery : List Shard} {kept received : Items} (wanted : List ShardIndex)
     (was : AreCoded k r originals recovery) (left : AreLeft originals kept) (got : AreLeft recovery received) where
   -- The decoder with the shards that are left.
   abbrev state : DecoderState
-  state = left_state k r originals recovery kept received was left got
+  state = left_state was left got
 
   -- Shards that are reconstructed from what is left of a codeword are shards of this codeword.
   are_named : (shards : List Shard)
       → AreReconstructed state wanted shards
       → shards ≡ map (shard_named originals recovery) wanted
   are_named shards are =
-      let same = are.only originals (left_agrees k r originals recovery kept received was left got) in
+      let same = are.only originals (left_agrees was left got) in
       let fits = default_fits k r (valid-supported (default_of k r was.size) was.valid) in
       let other : AreRecovery (default_of k r was.size) originals are.agrees.coded.0 =
       subst (λ (m : List Shard). AreRecovery (default_of k r was.size) m are.agrees.coded.0) (sym same)
@@ -63,7 +63,7 @@ module _ (k r : ℕ) (originals recovery : List Shard) (kept received : Items) (
         → shards ≡ map (shard_named originals recovery) wanted
     wanted_come_back shards (inr lacks) = let short = lacks.1 in absurd (let no : ⊥ = cc in no)
     wanted_come_back shards (inl answers) =
-        elim (received-left k r originals recovery kept received was left got
+        elim (received-left was left got
         (λ s. ReconstructAnswers s wanted (fit s.configuration.shard_bytes) (Ok shards))
         (λ e. ◌≡◌ {A = Result (List Shard) ReconstructError} (Ok shards) (Err (Refused e))) answers) [
           | inl some ↦ elim some [
@@ -88,11 +88,11 @@ module _ (k r : ℕ) (originals recovery : List Shard) (kept received : Items) (
       let (f, none, is) = subst (λ (o : Result (Unit {0}) ReconstructError).
       MatchResult o (λ _. (f : Error) × NoneAgrees state f × (e ≡ Refused f))
       (λ x. ◌≡◌ {A = Result (List Shard) ReconstructError} (Err e) (Err x))) ready says in
-      none.none (originals, left_agrees k r originals recovery kept received was left got)
+      none.none (originals, left_agrees was left got)
     where
       enough : enough_given state ≡ Ok tt
       enough =
-          left_enough k r originals recovery kept received was left got
+          left_enough was left got
           ∙ ap (unless_few k (length kept) (length received)) (le-ltb (length kept + length received) k many)
 
       ready : ready_outcome state wanted (Ok tt) ≡ Ok tt
@@ -109,7 +109,7 @@ module _ (k r : ℕ) (originals recovery : List Shard) (kept received : Items) (
       → e ≡ Refused OutOfMemory
   lacks_memory e lost some many (inr lacks) = let short = lacks.1 in cc
   lacks_memory e lost some many (inl answers) =
-      elim (received-left k r originals recovery kept received was left got
+      elim (received-left was left got
       (λ s. ReconstructAnswers s wanted (Ok tt) (Err e))
       (λ f. ◌≡◌ {A = Result (List Shard) ReconstructError} (Err e) (Err (Refused f))) answers) [
         | inl held ↦ elim held [ inl says ↦ absurd (never e lost many says) | inr short ↦ cc ]
@@ -132,7 +132,7 @@ module _ (k r : ℕ) (originals recovery : List Shard) (kept received : Items) (
     where
       same : state ≡ s
       same =
-          elim (received-left k r originals recovery kept received was left got (λ t. t ≡ s) (λ f. ⊥)
+          elim (received-left was left got (λ t. t ≡ s) (λ f. ⊥)
           (subst (λ (o : Result DecoderState Error). MatchResult o (λ t. t ≡ s) (λ f. ⊥)) (sym taken) refl)) [
             | inl some ↦ elim some [ inl is ↦ is | inr short ↦ absurd short ]
             | inr none ↦ absurd none.0
@@ -159,8 +159,9 @@ module _ (k r : ℕ) (originals recovery : List Shard) (kept received : Items) (
 
 -- ---- lost originals that are reconstructed
 
-module _ (k r : ℕ) (originals recovery : List Shard) (lost recovery_lost indexes : List ℕ) (kept received : Items)
-    (wanted : List ShardIndex) (was : AreCoded k r originals recovery) (lists : ListsLost k lost indexes)
+module _ {k r : ℕ} {originals recovery : List Shard} {lost : List ℕ} (recovery_lost : List ℕ) {indexes : List ℕ}
+    {kept received : Items} {wanted : List ShardIndex} (was : AreCoded k r originals recovery)
+    (lists : ListsLost k lost indexes)
     (own : kept ≡ left_of originals lost) (coded : received ≡ left_of recovery recovery_lost)
     (named : wanted ≡ map (λ i. Original i) indexes) where
   left : AreLeft originals kept
@@ -177,7 +178,7 @@ module _ (k r : ℕ) (originals recovery : List Shard) (lost recovery_lost index
   lost_come_back vectors m made mapped =
       lost-mapped originals lost indexes vectors m
       (subst (λ n. ListsLost n lost indexes) (sym was.shards.length_is) lists)
-      (wanted_come_back k r originals recovery kept received wanted was left got (λ _. Ok tt)
+      (wanted_come_back wanted was left got (λ _. Ok tt)
       (map (λ vector. vector.items) vectors) made
       ∙ ap (map (shard_named originals recovery)) named ∙ named_at originals recovery indexes) mapped
 
@@ -186,12 +187,11 @@ module _ (k r : ℕ) (originals recovery : List Shard) (lost recovery_lost index
       → OneReconstructs k r kept received wanted (λ _. Ok tt) (Err e) → e ≡ Refused OutOfMemory
   lost_refused e many made =
       let first : length kept ≡ left_below k lost =
-      ap length own ∙ left-count 0 lost originals ∙ ap (λ n. left_below n lost) was.shards.length_is in
+      ap length own ∙ left-number lost originals was.shards.length_is in
       let second : length received ≡ left_below r recovery_lost =
-      ap length coded ∙ left-count 0 recovery_lost recovery
-      ∙ ap (λ n. left_below n recovery_lost) was.coded.shards.length_is in
-      lacks_memory k r originals recovery kept received wanted was left got e
-      (ap (wanted_outcome (left_state k r originals recovery kept received was left got) []) named
-      ∙ lost-wanted (left_state k r originals recovery kept received was left got) originals lost indexes
+      ap length coded ∙ left-number recovery_lost recovery was.coded.shards.length_is in
+      lacks_memory wanted was left got e
+      (ap (wanted_outcome (left_state was left got) []) named
+      ∙ lost-wanted (left_state was left got) originals lost indexes
       (ap (entered_all nothing) own) lists)
       (valid-some (default_of k r was.size) was.valid) (omega (arith, first, second, many)) made

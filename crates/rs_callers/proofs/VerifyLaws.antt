@@ -20,66 +20,62 @@ use Rattle.rs_rate.proofs.of_rows.StateLemmas.{valid-supported}
 use Rattle.rs_callers.specs.Losing.{changed_count}
 use Rattle.rs_callers.proofs.LeftReceived.{unless_few, left_state, left_agrees, left_enough, received-left}
 
-module _ (k r : ℕ) (originals recovery : List Shard) (kept received : Items) (result : Result (Unit {0}) Error)
-    (was : AreCoded k r originals recovery) (left : AreLeft originals kept) (got : AreLeft recovery received) where
+module _ {k r : ℕ} {originals recovery : List Shard} {kept received : Items} (was : AreCoded k r originals recovery)
+    (left : AreLeft originals kept) (got : AreLeft recovery received) where
   -- The decoder with the shards that are left.
   abbrev state : DecoderState
-  state = left_state k r originals recovery kept received was left got
+  state = left_state was left got
 
-  by_state : VerifyAnswers state result
-      → (result ≡ enough_left k kept received) ⊎ (result ≡ Err OutOfMemory)
-  by_state answers =
-      by_test (nat_lt (length kept + length received) k) refl
-      (subst (λ (o : Result (Unit {0}) Error).
-      MatchResult o (λ _. MatchResult result (λ _. IsConsistent state) (NoneAgrees state)) (λ e. result ≡ Err e))
-      (left_enough k r originals recovery kept received was left got) answers)
-    where
-      by_result : (x : Result (Unit {0}) Error) → MatchResult x (λ _. IsConsistent state) (NoneAgrees state)
-          → x ≡ Ok tt
-      by_result (Ok u) says = refl
-      by_result (Err e) none =
-          absurd (none.none (originals, left_agrees k r originals recovery kept received was left got))
+  module _ {result : Result (Unit {0}) Error} where
+    by_state : VerifyAnswers state result
+        → (result ≡ enough_left k kept received) ⊎ (result ≡ Err OutOfMemory)
+    by_state answers =
+        by_test (nat_lt (length kept + length received) k) refl
+        (subst (λ (o : Result (Unit {0}) Error).
+        MatchResult o (λ _. MatchResult result (λ _. IsConsistent state) (NoneAgrees state)) (λ e. result ≡ Err e))
+        (left_enough was left got) answers)
+      where
+        by_result : (x : Result (Unit {0}) Error) → MatchResult x (λ _. IsConsistent state) (NoneAgrees state)
+            → x ≡ Ok tt
+        by_result (Ok u) says = refl
+        by_result (Err e) none =
+            absurd (none.none (originals, left_agrees was left got))
 
-      by_test : (few : Bool) → nat_lt (length kept + length received) k ≡ few
-          → MatchResult (unless_few k (length kept) (length received) few)
-          (λ _. MatchResult result (λ _. IsConsistent state) (NoneAgrees state)) (λ e. result ≡ Err e)
-          → (result ≡ enough_left k kept received) ⊎ (result ≡ Err OutOfMemory)
-      by_test true few says = inl (says ∙ sym (ap (unless_few k (length kept) (length received)) few))
-      by_test false few says = inl (by_result result says ∙ sym (ap (unless_few k (length kept) (length received)) few))
+        by_test : (few : Bool) → nat_lt (length kept + length received) k ≡ few
+            → MatchResult (unless_few k (length kept) (length received) few)
+            (λ _. MatchResult result (λ _. IsConsistent state) (NoneAgrees state)) (λ e. result ≡ Err e)
+            → (result ≡ enough_left k kept received) ⊎ (result ≡ Err OutOfMemory)
+        by_test true few says = inl (says ∙ sym (ap (unless_few k (length kept) (length received)) few))
+        by_test false few says = inl
+            (by_result result says ∙ sym (ap (unless_few k (length kept) (length received)) few))
 
--- If each shard that is left belongs to a codeword, `verify` succeeds, or fails because too few shards are left or
--- memory is short.
-pub codeword_passes : (k r : ℕ) (originals recovery : List Shard) (kept received : Items)
-    (result : Result (Unit {0}) Error)
-    → AreCoded k r originals recovery → AreLeft originals kept → AreLeft recovery received
-    → OneVerifies k r kept received result
-    → (result ≡ enough_left k kept received) ⊎ (result ≡ Err OutOfMemory)
-codeword_passes k r originals recovery kept received result was left got (inr lacks) = inr lacks.1
-codeword_passes k r originals recovery kept received result was left got (inl answers) =
-    elim (received-left k r originals recovery kept received was left got (λ s. VerifyAnswers s result)
-    (λ e. result ≡ Err e) answers) [
-      | inl some ↦ elim some [
-        | inl says ↦ by_state k r originals recovery kept received result was left got says
-        | inr short ↦ inr short
-      ]
-      | inr none ↦
-          let (few, no_kept, no_received) = none in
-          inl (few
-          ∙ sym (ap (unless_few k 0 0) (lt-ltb 0 k (valid-some (default_of k r was.size) was.valid)))
-          ∙ sym (ap₂ (λ (a b : Items). enough_left k a b) no_kept no_received))
-    ]
+    -- If each shard that is left belongs to a codeword, `verify` succeeds, or fails because too few shards are left or
+    -- memory is short.
+    pub codeword_passes : OneVerifies k r kept received result
+        → (result ≡ enough_left k kept received) ⊎ (result ≡ Err OutOfMemory)
+    codeword_passes (inr lacks) = inr lacks.1
+    codeword_passes (inl answers) =
+        elim (received-left was left got (λ s. VerifyAnswers s result) (λ e. result ≡ Err e) answers) [
+          | inl some ↦ elim some [ inl says ↦ by_state says | inr short ↦ inr short ]
+          | inr none ↦
+              let (few, no_kept, no_received) = none in
+              inl (few
+              ∙ sym (ap (unless_few k 0 0) (lt-ltb 0 k (valid-some (default_of k r was.size) was.valid)))
+              ∙ sym (ap₂ (λ (a b : Items). enough_left k a b) no_kept no_received))
+        ]
 
 -- If some shards differ from a codeword, but at most as many as there are shards beyond the number of originals,
 -- `verify` fails.
-pub changes_found : (k r : ℕ) (kept received : Items) (s : DecoderState) (message all : List Shard)
-    (result : Result (Unit {0}) Error)
+pub changes_found : {k : ℕ} (r : ℕ) (kept received : Items) {s : DecoderState} {message all : List Shard}
+    {result : Result (Unit {0}) Error}
     → receiving_outcome k r (received_size kept received) kept received ≡ Ok s
     → AreShards k s.configuration.shard_bytes message → AreRecovery s.configuration message all
     → 0 < changed_count s message all → changed_count s message all + k ≤ originals_given s + recovery_given s
     → OneVerifies k r kept received result
     → (result ≡ Err (InconsistentShards (originals_given s) (recovery_given s))) ⊎ (result ≡ Err OutOfMemory)
-changes_found k r kept received s message all result taken are coded some few (inr lacks) = inr lacks.1
-changes_found k r kept received s message all result taken are coded some few (inl answers) =
+changes_found r kept received taken are coded some few (inr lacks) = inr lacks.1
+changes_found {k = k} r kept received {s = s} {message = message} {all = all} {result = result} taken are coded some few
+    (inl answers) =
     let (valid, count) = received-configured k r kept received s taken in
     let says : VerifyAnswers s result =
     subst (λ (o : Result DecoderState Error). MatchResult o (λ s. VerifyAnswers s result) (λ e. result ≡ Err e)) taken

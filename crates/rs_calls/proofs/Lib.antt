@@ -7,6 +7,5 @@ mod AloneLemmas
 mod RoomFaults
 mod CutLemmas
 mod LostLemmas
-mod AddedInOrder
 mod MarkedState
 mod RestoredBuffer

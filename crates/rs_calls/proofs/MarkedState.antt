@@ -22,9 +22,9 @@ use Rattle.rs_field.specs.code.Outcome.{result_and_then}
 use Rattle.rs_field.specs.code.Frame.{decoder_rows}
 use Rattle.rs_field.proofs.of_code.Given.{count_below-zero, count_below-suc}
 use Rattle.rs_rate.specs.objects.Giving.{IsDecoding}
+use Rattle.rs_rate.proofs.of_rows.FirstShards.{first, first-none, first-all, first-skipped, original-taken}
+use Rattle.rs_rate.proofs.of_rows.FirstShards.{recovery-taken}
 use Rattle.reed_solomon_simd.proofs.SetUp.{started-parts}
-use Rattle.reed_solomon_simd.proofs.StripDecodeLemmas.{first, first-none, first-skipped}
-use Rattle.rs_calls.proofs.AddedInOrder.{all_first, next_taken}
 use Rattle.rs_calls.specs.declared.marked_buffers.MarkedBuffers.{MarkedBuffers}
 use Rattle.rs_calls.specs.MarkedState.{state_in}
 use Rattle.rs_calls.specs.Buffers.{lost_indexes, marked_shards, marked_map, marked_state, shard_place}
@@ -208,111 +208,109 @@ module _ (put : Shards → DecoderState) (add : DecoderState → ℕ × Shard �
       shifted : (j : ℕ) → marked_map size (mark ∷ marks) bytes (suc j) ≡ marked_map size marks (drop size bytes) j
       shifted j = ap (λ (x : Shard). cond (get_or marks j 0 == 0) None (Some x)) (sym (place-next size j bytes))
 
-module _ (k r size : ℕ) (own originals other recovery : List ℕ) (own_number : length own ≡ k)
-    (other_number : length other ≡ r)
-    (own_whole : length originals ≡ k * size) (other_whole : length recovery ≡ r * size) where
+-- Adding all marked shards of a buffer leads to the state whose shards are the map of the marked shards.
+all-added : (put : Shards → DecoderState) (add : DecoderState → ℕ × Shard → Result DecoderState Error) (size count : ℕ)
+    (marks bytes : List ℕ) → length marks ≡ count → length bytes ≡ count * size
+    → ((n : ℕ) (shard : Shard) → marked_map size marks bytes n ≡ Some shard → length shard ≡ size → n < count
+    → add (put (first n (marked_map size marks bytes))) (n, shard)
+    ≡ Ok (put (first (n + 1) (marked_map size marks bytes))))
+    → one_by_one add (put nothing) (marked_shards 0 size marks bytes) ≡ Ok (put (marked_map size marks bytes))
+all-added put add size count marks bytes number whole taken =
+    let given : Shards = marked_map size marks bytes in
+    ap (λ (g : Shards). one_by_one add (put g) (marked_shards 0 size marks bytes)) (first-none given)
+    ∙ marked-added put add size given count taken 0 marks bytes (whole ∙ ap (λ (n : ℕ). n * size) (sym number))
+    (omega (arith, number)) (λ j inside. ap given (let e : 0 + j ≡ j = omega arith in e))
+    ∙ ap (λ (g : Shards). Ok (put g)) (first-all (0 + length marks) given
+    (λ i past. map-lost size marks bytes i (get_or_past marks i 0 (omega (arith, past)))))
+
+-- Two buffers consist of whole shards, and there is a mark for each shard.
+pub record AreMarked (k r size : ℕ) (own originals other recovery : List ℕ) : Type 0 where
+  pub own_number : length own ≡ k
+  pub other_number : length other ≡ r
+  pub own_whole : length originals ≡ k * size
+  pub other_whole : length recovery ≡ r * size
+
+module _ {k r size : ℕ} {own originals other recovery : List ℕ}
+    (buffers : AreMarked k r size own originals other recovery) where
+  -- The marked shards of each buffer, the decoder to which they are added, and the decoder to which they were added.
+  abbrev kept : Items
+  kept = marked_shards 0 size own originals
+
+  abbrev received : Items
+  received = marked_shards 0 size other recovery
+
+  abbrev empty : DecoderState
+  empty = fresh_decoder (default_of k r size)
+
+  abbrev state : DecoderState
+  state = marked_state k r size own originals other recovery
+
   -- Adding the marked shards of both buffers to a decoder succeeds.
-  both-added : with_both (fresh_decoder (default_of k r size)) (marked_shards 0 size own originals)
-      (marked_shards 0 size other recovery)
-      ≡ Ok (marked_state k r size own originals other recovery)
+  both-added : with_both empty kept received ≡ Ok state
   both-added =
-      let zero_state : DecoderState = fresh_decoder (default_of k r size) in
-      let half : DecoderState =
-      record { configuration = default_of k r size; originals = marked_map size own originals; recovery = nothing }
-      in
-      let own_map : Shards = marked_map size own originals in
-      let other_map : Shards = marked_map size other recovery in
-      let one : with_originals (fresh_decoder (default_of k r size)) (marked_shards 0 size own originals) ≡ Ok half =
-      ap (λ (g : Shards). with_originals (record zero_state { originals = g }) (marked_shards 0 size own originals))
-      (first-none own_map)
-      ∙ marked-added (λ (g : Shards). record zero_state { originals = g })
-      (λ s item. with_original s item.0 item.1) size own_map k
+      let half : DecoderState = record empty { originals = marked_map size own originals } in
+      let one : with_originals empty kept ≡ Ok half =
+      all-added (λ (g : Shards). record empty { originals = g }) (λ s item. with_original s item.0 item.1) size k
+      own originals buffers.own_number buffers.own_whole
       (λ n shard found sized inside.
-      next_taken k size n own_map shard _ _ _ (λ (g : Shards). record zero_state { originals = g }) inside found sized)
-      0 own originals (own_whole ∙ ap (λ (n : ℕ). n * size) (sym own_number)) (omega (arith, own_number))
-      (λ j inside. ap own_map (let e : 0 + j ≡ j = omega arith in e))
-      ∙ ap (λ (g : Shards). Ok (record zero_state { originals = g }))
-      (all_first (0 + length own) own_map
-      (λ i past. map-lost size own originals i (get_or_past own i 0 (omega (arith, past))))) in
-      let two : with_recoveries half (marked_shards 0 size other recovery)
-      ≡ Ok (marked_state k r size own originals other recovery) =
-      ap (λ (g : Shards). with_recoveries (record half { recovery = g }) (marked_shards 0 size other recovery))
-      (first-none other_map)
-      ∙ marked-added (λ (g : Shards). record half { recovery = g })
-      (λ s item. with_recovery s item.0 item.1) size other_map r
+      original-taken empty n (marked_map size own originals) shard found sized inside) in
+      let two : with_recoveries half received ≡ Ok state =
+      all-added (λ (g : Shards). record half { recovery = g }) (λ s item. with_recovery s item.0 item.1) size r
+      other recovery buffers.other_number buffers.other_whole
       (λ n shard found sized inside.
-      next_taken r size n other_map shard _ _ _ (λ (g : Shards). record half { recovery = g }) inside found sized)
-      0 other recovery (other_whole ∙ ap (λ (n : ℕ). n * size) (sym other_number)) (omega (arith, other_number))
-      (λ j inside. ap other_map (let e : 0 + j ≡ j = omega arith in e))
-      ∙ ap (λ (g : Shards). Ok (record half { recovery = g }))
-      (all_first (0 + length other) other_map
-      (λ i past. map-lost size other recovery i (get_or_past other i 0 (omega (arith, past))))) in
-      ap (result_and_then (λ now. with_recoveries now (marked_shards 0 size other recovery))) one ∙ two
+      recovery-taken half n (marked_map size other recovery) shard found sized inside) in
+      ap (result_and_then (λ now. with_recoveries now received)) one ∙ two
 
   -- A decoder can have this state.
   pub marked-decoder : All (λ b. b < 256) originals → All (λ b. b < 256) recovery
       → start_outcome (decoder_rows default_rate k r) (default_of k r size) ≡ Ok tt
-      → IsDecoder default_rate (marked_state k r size own originals other recovery)
+      → IsDecoder default_rate state
   marked-decoder own_bytes other_bytes made =
       let parts = started-parts (decoder_rows default_rate k r) (default_of k r size) made in
       record {
         of_rate = refl;
         valid = parts.0;
         fits = parts.1;
-        originals_within = map-within k size own originals own_number own_whole own_bytes;
-        recovery_within = map-within r size other recovery other_number other_whole other_bytes;
+        originals_within = map-within k size own originals buffers.own_number buffers.own_whole own_bytes;
+        recovery_within = map-within r size other recovery buffers.other_number buffers.other_whole other_bytes;
       }
 
   -- If a recovery shard is marked, there is a first marked recovery shard, and it has the shard size.
   module _ (some : 0 < present other) where
-    first-marked : (first : ℕ × Shard) × (rest : Items) × (marked_shards 0 size other recovery ≡ first ∷ rest)
-        × (length first.1 ≡ size)
-    first-marked = by_items (marked_shards 0 size other recovery) refl
+    first-marked : (first : ℕ × Shard) × (rest : Items) × (received ≡ first ∷ rest) × (length first.1 ≡ size)
+    first-marked = by_items received refl
       where
-        by_items : (items : Items) → marked_shards 0 size other recovery ≡ items
-            → (first : ℕ × Shard) × (rest : Items) × (marked_shards 0 size other recovery ≡ first ∷ rest)
-            × (length first.1 ≡ size)
+        by_items : (items : Items) → received ≡ items
+            → (first : ℕ × Shard) × (rest : Items) × (received ≡ first ∷ rest) × (length first.1 ≡ size)
         by_items [] is = absurd (marked-some 0 size other recovery some is)
         by_items (item ∷ items) is = (
           item,
           items,
           is,
           marked-sized 0 size other recovery item items
-              (other_whole ∙ ap (λ (n : ℕ). n * size) (sym other_number)) is,
+              (buffers.other_whole ∙ ap (λ (n : ℕ). n * size) (sym buffers.other_number)) is,
         )
 
     -- One call adds the marked shards to a decoder, which leads to this state, or fails with the error of setting up
     -- the decoder.
     pub marked-led : (o : Result (Unit {0}) Error)
         → start_outcome (decoder_rows default_rate k r) (default_of k r size) ≡ o
-        → IsDecoding k r (marked_shards 0 size own originals) (marked_shards 0 size other recovery)
-        (result_and_then (λ _. Ok (Some (marked_state k r size own originals other recovery))) o)
+        → IsDecoding k r kept received (result_and_then (λ _. Ok (Some state)) o)
     marked-led o made =
         let (item, items, is, sized) = first-marked in
-        let both : with_both (fresh_decoder (default_of k r size)) (marked_shards 0 size own originals) (item ∷ items)
-        ≡ Ok (marked_state k r size own originals other recovery) =
-        ap (λ (l : Items). with_both (fresh_decoder (default_of k r size)) (marked_shards 0 size own originals) l)
-        (sym is) ∙ both-added in
-        subst (λ (l : Items).
-        IsDecoding k r (marked_shards 0 size own originals) l
-        (result_and_then (λ _. Ok (Some (marked_state k r size own originals other recovery))) o)) (sym is)
+        let both : with_both empty kept (item ∷ items) ≡ Ok state =
+        ap (λ (l : Items). with_both empty kept l) (sym is) ∙ both-added in
+        subst (λ (l : Items). IsDecoding k r kept l (result_and_then (λ _. Ok (Some state)) o)) (sym is)
         (inl (sym (ap (λ (n : ℕ). result_and_then (λ s. Ok (Some s))
-        (result_and_then (λ _.
-        with_both (fresh_decoder (default_of k r n)) (marked_shards 0 size own originals) (item ∷ items))
+        (result_and_then (λ _. with_both (fresh_decoder (default_of k r n)) kept (item ∷ items))
         (start_outcome (decoder_rows default_rate k r) (default_of k r n)))) sized
         ∙ ap (λ (outcome : Result (Unit {0}) Error). result_and_then (λ s. Ok (Some s))
-        (result_and_then (λ _.
-        with_both (fresh_decoder (default_of k r size)) (marked_shards 0 size own originals) (item ∷ items))
-        outcome)) made
+        (result_and_then (λ _. with_both empty kept (item ∷ items)) outcome)) made
         ∙ by_outcome (item ∷ items) o both)))
       where
-        by_outcome : (items : Items) (o : Result (Unit {0}) Error)
-            → with_both (fresh_decoder (default_of k r size)) (marked_shards 0 size own originals) items
-            ≡ Ok (marked_state k r size own originals other recovery)
-            → result_and_then (λ s. Ok (Some s))
-            (result_and_then (λ _.
-            with_both (fresh_decoder (default_of k r size)) (marked_shards 0 size own originals) items) o)
-            ≡ result_and_then (λ _. Ok (Some (marked_state k r size own originals other recovery))) o
+        by_outcome : (items : Items) (o : Result (Unit {0}) Error) → with_both empty kept items ≡ Ok state
+            → result_and_then (λ s. Ok (Some s)) (result_and_then (λ _. with_both empty kept items) o)
+            ≡ result_and_then (λ _. Ok (Some state)) o
         by_outcome items (Ok u) both = ap (result_and_then (λ s. Ok (Some s))) both
         by_outcome items (Err e) both = refl
 

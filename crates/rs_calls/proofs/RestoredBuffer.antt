@@ -1,5 +1,5 @@
 -- Lemmas about a buffer whose lost originals were restored in their places.
-use Rattle.std.proofs.Common.{◌≡◌, ℕ, suc, ◌+◌, ◌*◌, ◌<◌, ◌==◌, ◌&&◌, Bool, true, false, not, cond, List, [], ◌∷◌, ◌++◌}
+use Rattle.std.proofs.Common.{◌≡◌, ℕ, suc, ◌+◌, ◌<◌, ◌==◌, ◌&&◌, Bool, true, false, not, cond, List, [], ◌∷◌, ◌++◌}
 use Rattle.std.proofs.Common.{length, map, get_or, Option, Some, None, Result, Ok, Err, MatchResult, refl, sym, ap, ap₂}
 use Rattle.std.proofs.Common.{◌∙◌, inl, inr, arith}
 use Rattle.std.specs.Prelude.{◌⊎◌, OnErr, is_some, unwrap_or}
@@ -27,7 +27,7 @@ use Rattle.rs_calls.specs.MarkedState.{besides_rooms, rooms_in}
 use Rattle.rs_calls.proofs.DecodeLemmas.{with-nothing}
 use Rattle.rs_calls.proofs.LostLemmas.{lost-same, with-placed}
 use Rattle.rs_calls.proofs.MarkedLemmas.{present}
-use Rattle.rs_calls.proofs.MarkedState.{map-kept, marked-led}
+use Rattle.rs_calls.proofs.MarkedState.{AreMarked, map-kept, marked-led}
 
 -- If a map has the shards of a message at the indexes of the marks that are 0, it lists the shards of the lost indexes.
 lost-listed : (out : Shards) (message : List Shard) (i : ℕ) (marks : List ℕ)
@@ -58,8 +58,8 @@ lost-listed out message i (mark ∷ marks) each =
           ∙ ap (λ (n : ℕ). shards_listed (items_from n (length marks) out)) step ∙ others)
     ]
 
-module _ (k r size : ℕ) (own originals other recovery new : List ℕ) (own_number : length own ≡ k)
-    (own_whole : length originals ≡ k * size)
+module _ {k r size : ℕ} {own originals other recovery : List ℕ} (new : List ℕ)
+    (buffers : AreMarked k r size own originals other recovery)
     (long : length new ≡ length originals) (kept : marked_map size own new ≡ marked_map size own originals) where
   -- The place of an original whose mark is not 0 is unchanged.
   place-kept : (j : ℕ) → (get_or own j 0 ≡ 0 → ⊥) → shard_place size new j ≡ shard_place size originals j
@@ -109,17 +109,17 @@ module _ (k r size : ℕ) (own originals other recovery new : List ℕ) (own_num
       ≡ map (λ n. shard_at holds.restored.message n) (lost_indexes 0 own) =
       lost-listed holds.out message 0 own (λ j inside.
       let same : 0 + j ≡ j = omega arith in
-      ap holds.out same ∙ by_index j (omega (arith, inside, own_number))
+      ap holds.out same ∙ by_index j (omega (arith, inside, buffers.own_number))
       ∙ ap (λ (n : ℕ). cond (get_or own j 0 == 0) (Some (shard_at holds.restored.message n)) None) (sym same)) in
       let all : map (λ i. shard_place size new i) (lost_indexes 0 own)
       ≡ map (λ n. shard_at holds.restored.message n) (lost_indexes 0 own) =
       holds.held ∙ ap shards_listed (lists-same holds.listed lists)
-      ∙ ap (λ (n : ℕ). shards_listed (items_below n holds.out)) (sym own_number) ∙ listed in
-      with-placed holds.out 0 size k originals new (long ∙ own_whole) (λ j inside.
+      ∙ ap (λ (n : ℕ). shards_listed (items_below n holds.out)) (sym buffers.own_number) ∙ listed in
+      with-placed holds.out 0 size k originals new (long ∙ buffers.own_whole) (λ j inside.
       let same : 0 + j ≡ j = omega arith in
       let here : holds.out (0 + j) ≡ cond (get_or own j 0 == 0) (Some (shard_at holds.restored.message j)) None =
       ap holds.out same ∙ by_index j inside in
-      let below : j < length own = omega (arith, inside, own_number) in
+      let below : j < length own = omega (arith, inside, buffers.own_number) in
       elim (cases_eq (get_or own j 0) 0) [
         | inl lost ↦
             let placed = lost-same (λ i. shard_place size new i) (λ n. shard_at message n) 0 own all j below lost in
@@ -137,9 +137,9 @@ module _ (k r size : ℕ) (own originals other recovery new : List ℕ) (own_num
   pub buffer-same : map (λ i. shard_place size new i) (lost_indexes 0 own)
       ≡ map (λ i. shard_place size originals i) (lost_indexes 0 own) → new ≡ originals
   buffer-same same =
-      with-placed nothing 0 size k originals new (long ∙ own_whole) (λ j inside.
+      with-placed nothing 0 size k originals new (long ∙ buffers.own_whole) (λ j inside.
       let here : 0 + j ≡ j = omega arith in
-      let below : j < length own = omega (arith, inside, own_number) in
+      let below : j < length own = omega (arith, inside, buffers.own_number) in
       elim (cases_eq (get_or own j 0) 0) [
         | inl lost ↦
             let placed = lost-same (λ i. shard_place size new i)
@@ -148,112 +148,85 @@ module _ (k r size : ℕ) (own originals other recovery new : List ℕ) (own_num
             ∙ ap (λ (n : ℕ). shard_place size originals n) here
         | inr marked ↦ place-kept j marked
       ])
-      ∙ with-nothing 0 size k originals own_whole
+      ∙ with-nothing 0 size k originals buffers.own_whole
 
 -- ---- the result of one call for the marked shards
 
-module _ (k r size : ℕ) (own other originals recovery : List ℕ) (own_number : length own ≡ k)
-    (other_number : length other ≡ r)
-    (own_whole : length originals ≡ k * size) (other_whole : length recovery ≡ r * size)
-    (some : 0 < present other) where
+module _ {k r size : ℕ} {own originals other recovery : List ℕ}
+    (buffers : AreMarked k r size own originals other recovery) (some : 0 < present other) where
+  -- The results of one call for the marked shards.
+  abbrev Answers : Result Shards Error → Type 0
+  Answers = OneDecodeAnswers k r (marked_shards 0 size own originals) (marked_shards 0 size other recovery)
+
   -- If a decoder cannot be set up, one call returns the error.
   pub unset-answers : (e : Error) → start_outcome (decoder_rows default_rate k r) (default_of k r size) ≡ Err e
-      → OneDecodeAnswers k r (marked_shards 0 size own originals) (marked_shards 0 size other recovery) (Err e)
-  unset-answers e made =
-      decoding-refused k r (marked_shards 0 size own originals) (marked_shards 0 size other recovery) e
-      (marked-led k r size own originals other recovery own_number other_number own_whole other_whole some (Err e) made)
+      → Answers (Err e)
+  unset-answers e made = decoding-refused k r _ _ e (marked-led buffers some (Err e) made)
 
   module _ (made : start_outcome (decoder_rows default_rate k r) (default_of k r size) ≡ Ok tt) where
-    leads : IsDecoding k r (marked_shards 0 size own originals) (marked_shards 0 size other recovery)
-        (Ok (Some (marked_state k r size own originals other recovery)))
-    leads = marked-led k r size own originals other recovery own_number other_number own_whole other_whole some
-        (Ok tt) made
+    -- The decoder to which the marked shards were added.
+    abbrev state : DecoderState
+    state = marked_state k r size own originals other recovery
 
-    -- One call may fail with `OutOfMemory`.
-    pub short-answers : (e : Error) → e ≡ OutOfMemory
-        → OneDecodeAnswers k r (marked_shards 0 size own originals) (marked_shards 0 size other recovery) (Err e)
-    short-answers e lacks =
-        decoding-answered k r (marked_shards 0 size own originals) (marked_shards 0 size other recovery)
-        (marked_state k r size own originals other recovery) leads (Err e) (inr (ap Err lacks))
+    leads : IsDecoding k r (marked_shards 0 size own originals) (marked_shards 0 size other recovery) (Ok (Some state))
+    leads = marked-led buffers some (Ok tt) made
 
-    -- The result of restoring into the buffer is a result of one call.
-    pub restored-answers : (rooms : List Shard) (result : Result (Unit {0}) Error)
-        → MatchResult (enough_given (marked_state k r size own originals other recovery))
-        (λ _. MatchResult result (λ _. HoldRestored (marked_state k r size own originals other recovery) rooms)
-        (λ e. NoneAgrees (marked_state k r size own originals other recovery) e ⊎ (e ≡ OutOfMemory)))
-        (λ e. result ≡ Err e)
-        → MatchResult result (λ _. (holds : HoldRestored (marked_state k r size own originals other recovery) rooms)
-        × OneDecodeAnswers k r (marked_shards 0 size own originals) (marked_shards 0 size other recovery)
-        (Ok holds.out))
-        (λ e. OneDecodeAnswers k r (marked_shards 0 size own originals) (marked_shards 0 size other recovery) (Err e))
-    restored-answers rooms result does =
-        by_outcome (enough_given (marked_state k r size own originals other recovery)) refl result does
-      where
-        by_outcome : (o : Result (Unit {0}) Error)
-            → enough_given (marked_state k r size own originals other recovery) ≡ o → (result : Result (Unit {0}) Error)
-            → MatchResult o (λ _.
-            MatchResult result (λ _. HoldRestored (marked_state k r size own originals other recovery) rooms)
-            (λ e. NoneAgrees (marked_state k r size own originals other recovery) e ⊎ (e ≡ OutOfMemory)))
-            (λ e. result ≡ Err e)
-            → MatchResult result (λ _. (holds : HoldRestored (marked_state k r size own originals other recovery) rooms)
-            × OneDecodeAnswers k r (marked_shards 0 size own originals) (marked_shards 0 size other recovery)
-            (Ok holds.out))
-            (λ e. OneDecodeAnswers k r (marked_shards 0 size own originals) (marked_shards 0 size other recovery)
-            (Err e))
-        by_outcome (Ok u) enough (Ok v) holds = (
-          holds,
-          decoding-restored k r _ _ (marked_state k r size own originals other recovery) leads enough
-              (Ok holds.out) holds.restored,
-        )
-        by_outcome (Ok u) enough (Err e) why =
-            decoding-none-agrees k r _ _ (marked_state k r size own originals other recovery) leads enough e why
-        by_outcome (Err f) few (Ok v) same = absurd (let no : ⊥ = cc in no)
-        by_outcome (Err f) few (Err e) same =
-            let is : e ≡ f = cc in
-            decoding-few k r _ _ (marked_state k r size own originals other recovery) leads e (ap Err is ∙ sym few)
+    -- The result of restoring into rooms, if this is the outcome of the check that enough shards were given: the rooms
+    -- hold the restored originals, or no message agrees with the shards, or memory is short.
+    abbrev Restores : List Shard → Result (Unit {0}) Error → Result (Unit {0}) Error → Type 0
+    Restores rooms o result =
+        MatchResult o (λ _. MatchResult result (λ _. HoldRestored state rooms)
+        (λ e. NoneAgrees state e ⊎ (e ≡ OutOfMemory))) (λ e. result ≡ Err e)
 
-    -- the result of restoring into the buffer: it restores the originals, or it fails with an error of one call, or
-    -- with `OutOfMemory`
-    abbrev Restores : List Shard → Result (Unit {0}) Error → Type 0
-    Restores rooms result =
-        MatchResult (enough_given (marked_state k r size own originals other recovery))
-        (λ _. MatchResult result (λ _. HoldRestored (marked_state k r size own originals other recovery) rooms)
-        (λ e. NoneAgrees (marked_state k r size own originals other recovery) e ⊎ (e ≡ OutOfMemory)))
-        (λ e. result ≡ Err e) ⊎ (result ≡ Err OutOfMemory)
+    -- The result of restoring into rooms is a result of one call.
+    by_outcome : (rooms : List Shard) (o : Result (Unit {0}) Error) → enough_given state ≡ o
+        → (result : Result (Unit {0}) Error) → Restores rooms o result
+        → MatchResult result (λ _. (holds : HoldRestored state rooms) × Answers (Ok holds.out)) (λ e. Answers (Err e))
+    by_outcome rooms (Ok u) enough (Ok v) holds =
+        (holds, decoding-restored k r _ _ state leads enough (Ok holds.out) holds.restored)
+    by_outcome rooms (Ok u) enough (Err e) why = decoding-none-agrees k r _ _ state leads enough e why
+    by_outcome rooms (Err f) few (Ok v) same = absurd (let no : ⊥ = cc in no)
+    by_outcome rooms (Err f) few (Err e) same =
+        let is : e ≡ f = cc in decoding-few k r _ _ state leads e (ap Err is ∙ sym few)
 
-    pub failed-answers : (rooms : List Shard) (e : Error) → Restores rooms (Err e)
-        → OneDecodeAnswers k r (marked_shards 0 size own originals) (marked_shards 0 size other recovery) (Err e)
-    failed-answers rooms e (inl does) = restored-answers rooms (Err e) does
-    failed-answers rooms e (inr lacks) = short-answers e (let same : e ≡ OutOfMemory = cc in same)
+    -- If restoring into rooms fails, one call may fail with the same error.
+    pub failed-answers : (rooms : List Shard) (e : Error)
+        → Restores rooms (enough_given state) (Err e) ⊎ (◌≡◌ {A = Result (Unit {0}) Error} (Err e) (Err OutOfMemory))
+        → Answers (Err e)
+    failed-answers rooms e (inl does) = by_outcome rooms (enough_given state) refl (Err e) does
+    failed-answers rooms e (inr lacks) =
+        let same : e ≡ OutOfMemory = cc in decoding-answered k r _ _ state leads (Err e) (inr (ap Err same))
 
-    pub done-answers : (rooms : List Shard) → Restores rooms (Ok tt)
-        → (holds : HoldRestored (marked_state k r size own originals other recovery) rooms)
-        × OneDecodeAnswers k r (marked_shards 0 size own originals) (marked_shards 0 size other recovery) (Ok holds.out)
-    done-answers rooms (inl does) = restored-answers rooms (Ok tt) does
+    -- If restoring into rooms succeeds, one call may return the originals that the rooms hold.
+    pub done-answers : (rooms : List Shard)
+        → Restores rooms (enough_given state) (Ok tt) ⊎ (◌≡◌ {A = Result (Unit {0}) Error} (Ok tt) (Err OutOfMemory))
+        → (holds : HoldRestored state rooms) × Answers (Ok holds.out)
+    done-answers rooms (inl does) = by_outcome rooms (enough_given state) refl (Ok tt) does
     done-answers rooms (inr lacks) = absurd (let no : ⊥ = cc in no)
 
 -- ---- a struct of buffers in which only the places of lost originals were changed
 
-module _ (k r size : ℕ) (own originals other recovery lost : List ℕ) (y : MarkedBuffers)
-    (same : besides_rooms y ≡ (marked_state k r size own originals other recovery, own, lost, length originals)) where
-  size-same : y.size ≡ size
+module _ {s : DecoderState} {own lost : List ℕ} {len : ℕ} (y : MarkedBuffers)
+    (same : besides_rooms y ≡ (s, own, lost, len)) where
+  size-same : y.size ≡ s.configuration.shard_bytes
   size-same = ap (λ t. t.0.configuration.shard_bytes) same
 
   -- The rooms are the places of the lost indexes.
   pub rooms-placed : lost ≡ lost_indexes 0 own
-      → rooms_in y ≡ map (λ i. shard_place size y.originals.now i) (lost_indexes 0 own)
+      → rooms_in y ≡ map (λ i. shard_place s.configuration.shard_bytes y.originals.now i) (lost_indexes 0 own)
   rooms-placed listed =
       ap (λ (n : ℕ). map (λ i. shard_place n y.originals.now i) y.lost.now) size-same
-      ∙ ap (λ (l : List ℕ). map (λ i. shard_place size y.originals.now i) l) (ap (λ t. t.2) same ∙ listed)
+      ∙ ap (λ (l : List ℕ). map (λ i. shard_place s.configuration.shard_bytes y.originals.now i) l)
+      (ap (λ t. t.2) same ∙ listed)
 
-  -- The marked originals are unchanged.
-  pub marked-same : marked_map size own y.originals.now ≡ marked_map size own originals
+  -- The marked originals are those of the state.
+  pub marked-same : marked_map s.configuration.shard_bytes own y.originals.now ≡ s.originals
   marked-same =
       ap₂ (λ (n : ℕ) (marks : List ℕ). marked_map n marks y.originals.now) (sym size-same) (sym (ap (λ t. t.1) same))
       ∙ ap (λ t. t.0.originals) same
 
-  -- The length of the buffer is unchanged.
-  pub length-same : length y.originals.now ≡ length originals
+  -- The buffer of the originals has the same length.
+  pub length-same : length y.originals.now ≡ len
   length-same = ap (λ t. t.3) same
 
 -- If P implies Q and P holds whenever a call fails, Q holds whenever the call fails.

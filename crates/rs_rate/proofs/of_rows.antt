@@ -4,5 +4,6 @@ pub mod ShardRowsLemmas
 pub mod RowMaps
 pub mod HowMany
 pub mod AddedShards
+pub mod FirstShards
 pub mod DecoderRows
 pub mod ResultLemmas

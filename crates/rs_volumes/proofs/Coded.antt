@@ -1,6 +1,6 @@
 -- Pieces that were coded, and then written by two calls.
-use Rattle.std.proofs.Common.{◌≡◌, ◌⊎◌, ℕ, ◌+◌, ◌-◌, ◌<◌, ◌≤◌, ◌%◌, List, [], ◌++◌, length, All, Some, sym, ap, subst}
-use Rattle.std.proofs.Common.{◌∙◌, get_or, inl, inr, zero-add, arith}
+use Rattle.std.proofs.Common.{◌≡◌, ◌⊎◌, ℕ, ◌+◌, ◌-◌, ◌<◌, ◌≤◌, ◌%◌, List, [], ◌++◌, length, All, Some, sym, ap, ◌∙◌}
+use Rattle.std.proofs.Common.{get_or, inl, inr, zero-add, arith}
 use Rattle.std.specs.Prelude.{min, map, ◌≢◌}
 use Rattle.std.specs.Global.{Vec}
 use Rattle.std.proofs.lemmas.Bool.Decides.{eqb_tells}
@@ -17,16 +17,14 @@ use Rattle.rs_field.proofs.of_code.SupportedCounts.{default_fits}
 use Rattle.reed_solomon_simd.proofs.StateLemmas.{valid-supported}
 
 -- what one call codes has the size of its pieces
-pub coded_sized : (k r n : ℕ) (pieces made : List Shard) → AreCoded k r pieces made → All (λ p. length p ≡ n) pieces
+pub coded_sized : (n : ℕ) {k r : ℕ} {pieces made : List Shard} → AreCoded k r pieces made
+    → All (λ p. length p ≡ n) pieces
     → AreShards k n pieces × AreRecovery (default_of k r n) pieces made
-coded_sized k r n pieces made coded sized =
+coded_sized n {k = k} {r = r} {pieces = pieces} {made = made} coded sized =
     let some : 0 < k = (default_fits k r (valid-supported (default_of k r coded.size) coded.valid)).0 in
     let first : 0 < length pieces = omega (arith, some, coded.shards.length_is) in
-    let size : coded.size ≡ n = sym (coded.shards.each 0 [] first).length_is ∙ sized 0 [] first in (
-      subst (λ (m : ℕ). AreShards k m pieces) size coded.shards,
-      subst
-          (λ (m : ℕ). AreRecovery (default_of k r m) pieces made) size coded.coded,
-    )
+    let size : coded.size ≡ n = sym (coded.shards.each 0 [] first).length_is ∙ sized 0 [] first in
+    (rw size at coded.shards, rw size at coded.coded)
 
 -- a call that writes the pieces of the blocks from `first` on
 pub record Puts (first : ℕ) (pieces : List Shard) (before after : Shards) : Type 0 where
@@ -34,61 +32,61 @@ pub record Puts (first : ℕ) (pieces : List Shard) (before after : Shards) : Ty
       → after (first + i) ≡ Some (block ++ shard_at pieces i)
   pub others : (i : ℕ) → (i < first) ⊎ (first + length pieces ≤ i) → after i ≡ before i
 
--- the pieces of the original blocks and then those of the recovery blocks
-pub put_both : (k r : ℕ) (pieces made : List Shard) (before between after : Shards) → length pieces ≡ k
-    → length made ≡ r
-    → Puts 0 pieces before between → Puts k made between after
-    → (i : ℕ) (block : Shard) → i < k + r → before i ≡ Some block
-    → after i ≡ Some (block ++ shard_at (pieces ++ made) i)
-put_both k r pieces made before between after one two first second i block lt is =
-    elim (cases_lt i k) [
-      | inl front ↦
-          let inside : i < length pieces = omega (arith, front, one) in
-          let here : before (0 + i) ≡ Some block = ap before (zero-add i) ∙ is in
-          second.others i (inl front) ∙ ap between (sym (zero-add i)) ∙ first.put i block inside here
-          ∙ ap (λ (x : Shard). Some (block ++ x)) (sym (get_or-append pieces made [] i inside))
-      | inr back ↦
-          let inside : i - k < length made = omega (arith, back, lt, two) in
-          let place : k + (i - k) ≡ i = omega (arith, back) in
-          let past : 0 + length pieces ≤ i = omega (arith, back, one) in
-          let here : between (k + (i - k)) ≡ Some block = ap between place ∙ first.others i (inr past) ∙ is in
-          ap after (sym place) ∙ second.put (i - k) block inside here
-          ∙ ap (λ (x : Shard). Some (block ++ x)) (sym (get_or-append_right pieces made k i [] one back))
-    ]
+module _ {k r : ℕ} {pieces made : List Shard} {before between after : Shards} where
+  -- the pieces of the original blocks and then those of the recovery blocks
+  pub put_both : length pieces ≡ k → length made ≡ r
+      → Puts 0 pieces before between → Puts k made between after
+      → (i : ℕ) (block : Shard) → i < k + r → before i ≡ Some block
+      → after i ≡ Some (block ++ shard_at (pieces ++ made) i)
+  put_both one two first second i block lt is =
+      elim (cases_lt i k) [
+        | inl front ↦
+            let inside : i < length pieces = omega (arith, front, one) in
+            let here : before (0 + i) ≡ Some block = ap before (zero-add i) ∙ is in
+            second.others i (inl front) ∙ ap between (sym (zero-add i)) ∙ first.put i block inside here
+            ∙ ap (λ (x : Shard). Some (block ++ x)) (sym (get_or-append pieces made [] i inside))
+        | inr back ↦
+            let inside : i - k < length made = omega (arith, back, lt, two) in
+            let place : k + (i - k) ≡ i = omega (arith, back) in
+            let past : 0 + length pieces ≤ i = omega (arith, back, one) in
+            let here : between (k + (i - k)) ≡ Some block = ap between place ∙ first.others i (inr past) ∙ is in
+            ap after (sym place) ∙ second.put (i - k) block inside here
+            ∙ ap (λ (x : Shard). Some (block ++ x)) (sym (get_or-append_right pieces made k i [] one back))
+      ]
 
--- the next piece is a strip
-pub next_strip : (start piece size : ℕ) → start ≤ size → (start % 64 ≡ 0) ⊎ (start ≡ size) → piece % 64 ≡ 0 → 0 < piece
-    → start < size
-    → IsStrip start (start + min piece (size - start)) size
-next_strip start piece size inside begins chunks some less =
-    let from : start % 64 ≡ 0 =
-    elim begins [ inl whole ↦ whole | inr last ↦ absurd (let no : ⊥ = omega (arith, last, less) in no) ] in
-    elim (cases_lt piece (size - start)) [
-      | inl lt ↦
-          let width : min piece (size - start) ≡ piece = omega arith in
-          record {
-            order = omega arith;
-            inside = omega (arith, width, lt, less);
-            begins = from;
-            ends = inl (omega (arith, width, from, chunks));
-          }
-      | inr le ↦
-          let width : min piece (size - start) ≡ size - start = omega arith in
-          record {
-            order = omega arith;
-            inside = omega (arith, width, less);
-            begins = from;
-            ends = inr (omega (arith, width, less));
-          }
-    ]
+module _ {start piece size width : ℕ} where
+  -- the next piece is a strip
+  pub next_strip : start ≤ size → (start % 64 ≡ 0) ⊎ (start ≡ size) → piece % 64 ≡ 0 → 0 < piece → start < size
+      → width ≡ min piece (size - start) → IsStrip start (start + width) size
+  next_strip inside begins chunks some less is =
+      let from : start % 64 ≡ 0 =
+      elim begins [ inl whole ↦ whole | inr last ↦ absurd (let no : ⊥ = omega (arith, last, less) in no) ] in
+      elim (cases_lt piece (size - start)) [
+        | inl lt ↦
+            let whole : width ≡ piece = omega arith in
+            record {
+              order = omega arith;
+              inside = omega (arith, whole, lt, less);
+              begins = from;
+              ends = inl (omega (arith, whole, from, chunks));
+            }
+        | inr le ↦
+            let left : width ≡ size - start = omega arith in
+            record {
+              order = omega arith;
+              inside = omega (arith, left, less);
+              begins = from;
+              ends = inr (omega (arith, left, less));
+            }
+      ]
 
 -- the pieces of vectors, as a call writes them
-pub puts_from : (first : ℕ) (vectors : List (Vec ℕ)) (before after : Shards)
+pub puts_from : {first : ℕ} (vectors : List (Vec ℕ)) {before after : Shards}
     → ((i : ℕ) (block : Shard) → i < length vectors → before (first + i) ≡ Some block
     → after (first + i) ≡ Some (block ++ shard_at (map (λ p. p.items) vectors) i))
     → ((i : ℕ) → (i < first) ⊎ (first + length vectors ≤ i) → after i ≡ before i)
     → Puts first (map (λ p. p.items) vectors) before after
-puts_from first vectors before after put others =
+puts_from vectors put others =
     let count : length (map (λ (p : Vec ℕ). p.items) vectors) ≡ length vectors = length-map vectors _ in
     record {
       put = λ i block lt is. put i block (omega (arith, lt, count)) is;
@@ -96,37 +94,36 @@ puts_from first vectors before after put others =
     }
 
 -- the pieces of the blocks up to number n, and then the next one
-module _ (first n : ℕ) (pieces : List Shard) (piece : Shard) (before now after : Shards)
+module _ {first n : ℕ} (pieces : List Shard) {piece : Shard} {before now after : Shards}
     (is : piece ≡ shard_at pieces n)
     (done : (i : ℕ) (block : Shard) → i < n → before (first + i) ≡ Some block
     → now (first + i) ≡ Some (block ++ shard_at pieces i))
     (rest : (i : ℕ) → (i < first) ⊎ (first + n ≤ i) → now i ≡ before i)
     (here : (block : Shard) → now (first + n) ≡ Some block → after (first + n) ≡ Some (block ++ piece))
     (others : (i : ℕ) → i ≢ first + n → after i ≡ now i) where
-  pub done_next : (i : ℕ) (block : Shard) → i < n + 1 → before (first + i) ≡ Some block
-      → after (first + i) ≡ Some (block ++ shard_at pieces i)
-  done_next i block lt held =
-      elim (eqb_tells i n) [
-        | inl same ↦
-            let at : i ≡ n = same.1 in
-            let place : first + i ≡ first + n = omega (arith, at) in
-            let past : first + n ≤ first + n = omega arith in
-            ap after place ∙ here block (rest (first + n) (inr past) ∙ ap before (sym place) ∙ held)
-            ∙ ap (λ (x : Shard). Some (block ++ x)) (is ∙ ap (shard_at pieces) (sym at))
-        | inr other ↦
-            let less : i < n = omega (arith, lt, other.1) in
-            others (first + i) (λ e. other.1 (omega (arith, e))) ∙ done i block less held
-      ]
-
-  pub rest_next : (i : ℕ) → (i < first) ⊎ (first + (n + 1) ≤ i) → after i ≡ before i
-  rest_next i side =
-      elim side [
-        | inl lt ↦ others i (λ e. let no : ⊥ = omega (arith, lt, e) in no) ∙ rest i (inl lt)
-        | inr le ↦ others i (λ e. let no : ⊥ = omega (arith, le, e) in no) ∙ rest i (inr (omega (arith, le)))
-      ]
+  pub done_next : ((i : ℕ) (block : Shard) → i < n + 1 → before (first + i) ≡ Some block
+      → after (first + i) ≡ Some (block ++ shard_at pieces i))
+      × ((i : ℕ) → (i < first) ⊎ (first + (n + 1) ≤ i) → after i ≡ before i)
+  done_next = (
+    λ i block lt held. elim (eqb_tells i n) [
+      | inl same ↦
+          let at : i ≡ n = same.1 in
+          let place : first + i ≡ first + n = omega (arith, at) in
+          let past : first + n ≤ first + n = omega arith in
+          ap after place ∙ here block (rest (first + n) (inr past) ∙ ap before (sym place) ∙ held)
+          ∙ ap (λ (x : Shard). Some (block ++ x)) (is ∙ ap (shard_at pieces) (sym at))
+      | inr other ↦
+          let less : i < n = omega (arith, lt, other.1) in
+          others (first + i) (λ e. other.1 (omega (arith, e))) ∙ done i block less held
+    ],
+    λ i side. elim side [
+      | inl lt ↦ others i (λ e. let no : ⊥ = omega (arith, lt, e) in no) ∙ rest i (inl lt)
+      | inr le ↦ others i (λ e. let no : ⊥ = omega (arith, le, e) in no) ∙ rest i (inr (omega (arith, le)))
+    ],
+  )
 
 -- a vector in a list
-pub piece_at : (vectors : List (Vec ℕ)) (n : ℕ) (v : Vec ℕ) → n < length vectors → v ≡ get_or vectors n v
+pub piece_at : (vectors : List (Vec ℕ)) {n : ℕ} {v : Vec ℕ} → n < length vectors → v ≡ get_or vectors n v
     → v.items ≡ shard_at (map (λ p. p.items) vectors) n
-piece_at vectors n v h e =
+piece_at vectors {n = n} {v = v} h e =
     ap (λ (p : Vec ℕ). p.items) e ∙ sym (get_or-map (λ (p : Vec ℕ). p.items) vectors n v [] h)

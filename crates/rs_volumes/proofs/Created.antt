@@ -67,22 +67,24 @@ empty_block k r i =
       | inr back ↦ back.1 ∙ shard_at-empty r (i - k)
     ]
 
-pub created_none : (shape : Shape) (known before : Shards) (hashers recovery_hashers : List Sha256)
+-- Before the first piece, nothing was read, coded, hashed or written.
+pub created_none : {shape : Shape} {known before : Shards} {hashers recovery_hashers : List Sha256}
     → AreHashed hashers (empty_blocks shape.original_count)
     → AreHashed recovery_hashers (empty_blocks shape.recovery_count)
     → IsCreatedTo shape 0 known before before hashers recovery_hashers
-created_none shape known before hashers recovery_hashers one two =
+created_none {shape = shape} one two =
+    let k : ℕ = shape.original_count in
+    let r : ℕ = shape.recovery_count in
     record {
-      originals = empty_blocks shape.original_count;
-      recovery = empty_blocks shape.recovery_count;
-      shards = empty_shards shape.original_count;
-      made = empty_shards shape.recovery_count;
-      coded = coded-none shape.original_count shape.recovery_count shape.block_bytes (empty_blocks shape.original_count)
-          (empty_blocks shape.recovery_count);
-      read = λ i block lt is. shard_at-empty shape.original_count i;
+      originals = empty_blocks k;
+      recovery = empty_blocks r;
+      shards = empty_shards k;
+      made = empty_shards r;
+      coded = coded-none k r shape.block_bytes (empty_blocks k) (empty_blocks r);
+      read = λ i block lt is. shard_at-empty k i;
       hashed = one;
       recovery_hashed = two;
-      written = λ i lt is. is ∙ ap Some (sym (empty_block shape.original_count shape.recovery_count i));
+      written = λ i lt is. is ∙ ap Some (sym (empty_block k r i));
     }
 
 -- the blocks of two joined lists
@@ -94,69 +96,60 @@ joined_block k r xs ys ps qs i a b c d lt =
       | inl front ↦
           let one : i < length xs = omega (arith, front.0) in
           let two : i < length ps = omega (arith, front.0) in
-          let left : shard_at (xs ++ ys) i ≡ shard_at xs i = get_or-append xs ys [] i one in
-          let right : shard_at (ps ++ qs) i ≡ shard_at ps i = get_or-append ps qs [] i two in
-          front.1 ∙ shard_at-joined xs ps i one two ∙ ap (λ (x : Shard). x ++ shard_at ps i) (sym left)
-          ∙ ap (λ (x : Shard). shard_at (xs ++ ys) i ++ x) (sym right)
+          rw (get_or-append xs ys [] i one, get_or-append ps qs [] i two)
+          (front.1 ∙ shard_at-joined xs ps i one two)
       | inr back ↦
           let one : i - k < length ys = omega (arith, back.0) in
           let two : i - k < length qs = omega (arith, back.0) in
-          let left : shard_at (xs ++ ys) i ≡ shard_at ys (i - k) = get_or-append_right xs ys k i [] a back.0 in
-          let right : shard_at (ps ++ qs) i ≡ shard_at qs (i - k) = get_or-append_right ps qs k i [] c back.0 in
-          back.1 ∙ shard_at-joined ys qs (i - k) one two ∙ ap (λ (x : Shard). x ++ shard_at qs (i - k)) (sym left)
-          ∙ ap (λ (x : Shard). shard_at (xs ++ ys) i ++ x) (sym right)
+          rw (get_or-append_right xs ys k i [] a back.0, get_or-append_right ps qs k i [] c back.0)
+          (back.1 ∙ shard_at-joined ys qs (i - k) one two)
     ]
 
-pub created_more : (shape : Shape) (start end : ℕ) (known before now after : Shards) (h h' r r' : List Sha256)
-    → IsStrip start end shape.block_bytes
-    → IsCreatedTo shape start known before now h r → MakesPiece shape start end known now after h h' r r'
-    → IsCreatedTo shape end known before after h' r'
-created_more shape start end known before now after h h' r r' strip old new =
-    let k : ℕ = shape.original_count in
-    let sum : start + (end - start) ≡ end = omega (arith, strip.order) in
-    record {
-      originals = joined old.originals new.pieces;
-      recovery = joined old.recovery new.made;
-      shards = subst (λ (n : ℕ). AreShards shape.original_count n (joined old.originals new.pieces)) sum
-          (shards-joined shape.original_count start (end - start) old.originals new.pieces old.shards new.shards);
-      made = subst (λ (n : ℕ). AreShards shape.recovery_count n (joined old.recovery new.made)) sum
-          (shards-joined shape.recovery_count start (end - start) old.recovery new.made old.made new.coded.shards);
-      coded = coded-more shape.original_count shape.recovery_count shape.block_bytes start end old.originals
-          old.recovery new.pieces new.made strip old.shards old.made new.shards new.coded old.coded;
-      read = λ i block lt is.
-          let one : i < length old.originals = omega (arith, lt, old.shards.length_is) in
-          let two : i < length new.pieces = omega (arith, lt, new.shards.length_is) in
-          shard_at-joined old.originals new.pieces i one two
-          ∙ ap (λ (x : Shard). x ++ shard_at new.pieces i) (old.read i block lt is)
-          ∙ ap (λ (x : Shard). take start block ++ x) (new.read i block lt is)
-          ∙ take-further start end block strip.order;
-      hashed = new.hashed old.originals old.hashed;
-      recovery_hashed = new.recovery_hashed old.recovery old.recovery_hashed;
-      written = λ i lt is.
-          new.put i (shard_at (old.originals ++ old.recovery) i) lt (old.written i lt is)
-          ∙ ap Some (sym (joined_block shape.original_count shape.recovery_count old.originals old.recovery new.pieces
-          new.made i old.shards.length_is old.made.length_is new.shards.length_is new.coded.shards.length_is lt));
-    }
+module _ {shape : Shape} {start end : ℕ} {known before now after : Shards} {h h' r r' : List Sha256} where
+  -- If the first `start` bytes of each block were read, coded, hashed and written, and then the piece from `start` to
+  -- `end`, this holds for the first `end` bytes.
+  pub created_more : IsStrip start end shape.block_bytes
+      → IsCreatedTo shape start known before now h r → MakesPiece shape start end known now after h h' r r'
+      → IsCreatedTo shape end known before after h' r'
+  created_more strip old new =
+      let sum : start + (end - start) ≡ end = omega (arith, strip.order) in
+      record {
+        originals = joined old.originals new.pieces;
+        recovery = joined old.recovery new.made;
+        shards = rw sum at (shards-joined old.shards new.shards);
+        made = rw sum at (shards-joined old.made new.coded.shards);
+        coded = coded-more strip old.shards old.made new.shards new.coded old.coded;
+        read = λ i block lt is.
+            let one : i < length old.originals = omega (arith, lt, old.shards.length_is) in
+            let two : i < length new.pieces = omega (arith, lt, new.shards.length_is) in
+            shard_at-joined old.originals new.pieces i one two
+            ∙ rw (old.read i block lt is, new.read i block lt is) (take-further start end block strip.order);
+        hashed = new.hashed old.originals old.hashed;
+        recovery_hashed = new.recovery_hashed old.recovery old.recovery_hashed;
+        written = λ i lt is.
+            new.put i (shard_at (old.originals ++ old.recovery) i) lt (old.written i lt is)
+            ∙ ap Some (sym (joined_block shape.original_count shape.recovery_count old.originals old.recovery new.pieces
+            new.made i old.shards.length_is old.made.length_is new.shards.length_is new.coded.shards.length_is lt));
+      }
 
-pub created_all : (shape : Shape) (start : ℕ) (known before now : Shards) (h r : List Sha256) (digests : List ℕ)
-    → start ≡ shape.block_bytes
-    → IsCreatedTo shape start known before now h r
-    → ((blocks : List Shard) → AreHashed h blocks → (others : List Shard) → AreHashed r others
-    → digests ≡ flat_map sha256 blocks ++ flat_map sha256 others)
-    → IsCreated shape known before now digests
-created_all shape start known before now h r digests ends done hashed =
-    let size : ℕ = shape.block_bytes in
-    let shards = subst (λ (n : ℕ). AreShards shape.original_count n done.originals) ends done.shards in
-    let made = subst (λ (n : ℕ). AreShards shape.recovery_count n done.recovery) ends done.made in
-    record {
-      originals = done.originals;
-      recovery = done.recovery;
-      shards = shards;
-      coded = strips-join (default_of shape.original_count shape.recovery_count shape.block_bytes) done.originals
-          done.recovery shards made
-          (λ byte lt. let is = done.coded.strips byte (subst (λ (n : ℕ). byte < n) (sym ends) lt) in
-          (is.0, is.1, is.2, is.3, is.4, is.6));
-      read = λ i block lt is len. done.read i block lt is ∙ take_all start block (omega (arith, ends, len));
-      digests_are = hashed done.originals done.hashed done.recovery done.recovery_hashed;
-      written = done.written;
-    }
+module _ {shape : Shape} {start : ℕ} {known before now : Shards} {h r : List Sha256} {digests : List ℕ} where
+  -- If all bytes of each block were read, coded, hashed and written, the set is created.
+  pub created_all : start ≡ shape.block_bytes
+      → IsCreatedTo shape start known before now h r
+      → ((blocks : List Shard) → AreHashed h blocks → (others : List Shard) → AreHashed r others
+      → digests ≡ flat_map sha256 blocks ++ flat_map sha256 others)
+      → IsCreated shape known before now digests
+  created_all ends done hashed =
+      let shards = rw ends at done.shards in
+      record {
+        originals = done.originals;
+        recovery = done.recovery;
+        shards = shards;
+        coded = strips-join (default_of shape.original_count shape.recovery_count shape.block_bytes) done.originals
+            done.recovery shards (rw ends at done.made)
+            (λ byte lt. let is = done.coded.strips byte (rw ends lt) in
+            (is.0, is.1, is.2, is.3, is.4, is.6));
+        read = λ i block lt is len. done.read i block lt is ∙ take_all start block (omega (arith, ends, len));
+        digests_are = hashed done.originals done.hashed done.recovery done.recovery_hashed;
+        written = done.written;
+      }

@@ -26,31 +26,43 @@ IsBytes-take n bytes h i =
       | inr le ↦ rw (get_or_past (take n bytes) i 0 (omega (arith, length-take n bytes))) (omega arith)
     ]
 
--- the value of a step that did not fail
-pub bind_ok : {A B : Type 0} (r : Result A Fault) (f : A → Result B Fault) (y : B) → (r >>= f) ≡ Ok y → (x : A)
+-- If two steps succeed, the first step returned a value, and the second one succeeded with this value.
+pub bind_ok : {A B : Type 0} {r : Result A Fault} {f : A → Result B Fault} {y : B} → (r >>= f) ≡ Ok y → (x : A)
     × (r ≡ Ok x) × (f x ≡ Ok y)
-bind_ok (Ok x) f y e = (x, refl, e)
-bind_ok (Err d) f y e = absurd cc
+bind_ok {r = Ok x} e = (x, refl, e)
+bind_ok {r = Err d} e = absurd cc
 
--- a test that did not fail
-pub guard_ok : {A : Type 0} (b : Bool) (d : Fault) (x y : A) → cond b (Err d) (Ok x) ≡ Ok y → (b ≡ false) × (x ≡ y)
-guard_ok true d x y e = absurd cc
-guard_ok false d x y e = (refl, cc)
+-- If a step fails when a test holds, and goes on otherwise, and it succeeds, the test is false.
+pub guard_ok : {A : Type 0} {b : Bool} (d : Fault) {x : Result A Fault} {y : A} → cond b (Err d) x ≡ Ok y → (b ≡ false)
+    × (x ≡ Ok y)
+guard_ok {b = true} d e = absurd cc
+guard_ok {b = false} d e = (refl, e)
+
+-- If a step fails unless a test holds, and the step succeeds, the test is true.
+pub guard_passed : {A : Type 0} {b : Bool} (d : Fault) {x y : A} → cond b (Ok x) (Err d) ≡ Ok y → (b ≡ true) × (x ≡ y)
+guard_passed {b = true} d e = (refl, cc)
+guard_passed {b = false} d e = absurd cc
 
 abbrev done : {A : Type 0} → A → Result A Fault
 done x = Ok x
 
-pub ok_is : {A : Type 0} (x y : A) → done x ≡ done y → x ≡ y
-ok_is x y e = cc
+-- Two results that are equal and that did not fail have the same value.
+pub ok_is : {A : Type 0} {x y : A} → done x ≡ done y → x ≡ y
+ok_is e = cc
 
 -- what a reader took from the front
 pub record Takes (bytes text rest : List ℕ) : Type 0 where
   pub parts : bytes ≡ text ++ rest
   pub rest_fits : IsBytes rest
 
-pub Takes-then : (a x b y c : List ℕ) → Takes a x b → Takes b y c → Takes a (x ++ y) c
-Takes-then a x b y c p q =
+-- What two readers took, one after the other, is what both took together.
+pub Takes-then : {a x b y c : List ℕ} → Takes a x b → Takes b y c → Takes a (x ++ y) c
+Takes-then {x = x} {y = y} {c = c} p q =
     record { parts = p.parts ∙ ap (λ (t : List ℕ). x ++ t) q.parts ∙ sym (append_assoc x y c); rest_fits = q.rest_fits }
+
+-- If a reader took a text from the front, and the bytes after it are known, all bytes are known.
+pub also : {a x b c : List ℕ} → Takes a x b → b ≡ c → a ≡ x ++ c
+also {x = x} t e = t.parts ∙ ap (λ (s : List ℕ). x ++ s) e
 
 -- ---- numbers
 
@@ -85,83 +97,91 @@ wide64 = record {
   below = λ bytes fits. omega (arith, fits 0, fits 1, fits 2, fits 3, fits 4, fits 5, fits 6, fits 7);
 }
 
-pub number_takes : (w : Width) (limit : ℕ) (wide : IsWide w limit) (bytes : List ℕ) (n : ℕ) (rest : List ℕ)
-    → IsBytes bytes → number_at w bytes ≡ Ok (n, rest) → Takes bytes (to_le_bytes w n) rest × (n < limit)
-number_takes w limit wide bytes n rest fits e =
-    let g = guard_ok (ltb (length bytes) (byte_len w)) Short
-    (from_le_bytes w (take (byte_len w) bytes), drop (byte_len w) bytes) (n, rest) e in
-    let long : byte_len w ≤ length bytes = ltb-false _ _ g.0 in
-    let n-is : from_le_bytes w (take (byte_len w) bytes) ≡ n = ap (λ (p : ℕ × List ℕ). p.0) g.1 in
-    let rest-is : drop (byte_len w) bytes ≡ rest = ap (λ (p : ℕ × List ℕ). p.1) g.1 in
-    let front : to_le_bytes w n ≡ take (byte_len w) bytes =
-    rw (← n-is) (wide.back (take (byte_len w) bytes) (omega (arith, length-take (byte_len w) bytes))
-    (IsBytes-take (byte_len w) bytes fits)) in (
-      record {
-        parts = rw (front, ← rest-is) (sym (take-append-drop (byte_len w) bytes));
-        rest_fits =
-            rw (← rest-is) (IsBytes-drop (byte_len w) bytes fits);
-      },
-      rw (← n-is)
-          (wide.below (take (byte_len w) bytes) (IsBytes-take (byte_len w) bytes fits)),
-    )
+module _ {w : Width} {limit : ℕ} (wide : IsWide w limit) where
+  -- A number that is read has the bytes that were taken as its spelling, and it fits its field.
+  number_takes : {bytes : List ℕ} {x : ℕ × List ℕ} → IsBytes bytes → number_at w bytes ≡ Ok x
+      → Takes bytes (to_le_bytes w x.0) x.1 × (x.0 < limit)
+  number_takes {bytes = bytes} fits e =
+      let g = guard_ok Short e in
+      let long : byte_len w ≤ length bytes = ltb-false _ _ g.0 in
+      let front_fits = IsBytes-take (byte_len w) bytes fits in
+      let front = wide.back (take (byte_len w) bytes) (omega (arith, length-take (byte_len w) bytes)) front_fits in
+      subst (λ (p : ℕ × List ℕ). Takes bytes (to_le_bytes w p.0) p.1 × (p.0 < limit)) (ok_is g.1) (
+        record {
+          parts = rw front (sym (take-append-drop (byte_len w) bytes));
+          rest_fits = IsBytes-drop (byte_len w) bytes fits;
+        },
+        wide.below (take (byte_len w) bytes) front_fits,
+      )
 
-pub number_again : (w : Width) (limit : ℕ) (wide : IsWide w limit) (n : ℕ) (rest : List ℕ) → n < limit
-    → number_at w (to_le_bytes w n ++ rest) ≡ Ok (n, rest)
-number_again w limit wide n rest lt =
-    let len = wide.len n in
-    let long : ltb (length (to_le_bytes w n ++ rest)) (byte_len w) ≡ false =
-    le-ltb _ _ (omega (arith, length-append (to_le_bytes w n) rest)) in
-    rw (
-      long,
-      take_at (to_le_bytes w n) rest (byte_len w) len,
-      drop_at (to_le_bytes w n) rest
-          (byte_len w) len,
-      wide.again n lt,
-    ) refl
+  -- If reading a number and a further step succeed, the number was taken from the front, and the step succeeded with
+  -- it.
+  pub number_first : {B : Type 0} {bytes : List ℕ} {f : ℕ × List ℕ → Result B Fault} {y : B} → IsBytes bytes
+      → (number_at w bytes >>= f) ≡ Ok y
+      → (x : ℕ × List ℕ) × Takes bytes (to_le_bytes w x.0) x.1 × (x.0 < limit) × (f x ≡ Ok y)
+  number_first fits e =
+      let a = bind_ok e in
+      let t = number_takes fits a.1 in
+      (a.0, t.0, t.1, a.2)
 
-pub guard_passed : {A : Type 0} (b : Bool) (d : Fault) (x y : A) → cond b (Ok x) (Err d) ≡ Ok y → (b ≡ true) × (x ≡ y)
-guard_passed true d x y e = (refl, cc)
-guard_passed false d x y e = absurd cc
+  -- A number that fits its field is read from its spelling.
+  pub number_again : {n : ℕ} → n < limit → (rest : List ℕ) → number_at w (to_le_bytes w n ++ rest) ≡ Ok (n, rest)
+  number_again {n = n} lt rest =
+      let len = wide.len n in
+      let long : ltb (length (to_le_bytes w n ++ rest)) (byte_len w) ≡ false =
+      le-ltb _ _ (omega (arith, length-append (to_le_bytes w n) rest)) in
+      rw (
+        long,
+        take_at (to_le_bytes w n) rest (byte_len w) len,
+        drop_at (to_le_bytes w n) rest
+            (byte_len w) len,
+        wide.again n lt,
+      ) refl
 
-pub fixed_takes : (wanted : ℕ) (fault : Fault) (bytes rest : List ℕ) → IsBytes bytes
-    → fixed_at wanted fault bytes ≡ Ok rest → Takes bytes (to_le_bytes w32 wanted) rest
+-- If reading a fixed number and a further step succeed, the number was taken from the front, and the step succeeded
+-- with the bytes after it.
+pub fixed_first : {B : Type 0} (wanted : ℕ) (fault : Fault) {bytes : List ℕ} {f : List ℕ → Result B Fault} {y : B}
+    → IsBytes bytes → (fixed_at wanted fault bytes >>= f) ≡ Ok y
+    → (rest : List ℕ) × Takes bytes (to_le_bytes w32 wanted) rest × (f rest ≡ Ok y)
 unfolding fixed_at
-fixed_takes wanted fault bytes rest fits e =
-    let a = bind_ok (number_at w32 bytes) (λ n. cond (eqb n.0 wanted) (Ok n.1) (Err fault)) rest e in
-    let g = guard_passed (eqb a.0.0 wanted) fault a.0.1 rest a.2 in
-    let t = number_takes w32 (2 ^ 32) wide32 bytes a.0.0 a.0.1 fits a.1 in
-    let same : a.0.0 ≡ wanted = eqb-true _ _ g.0 in
-    subst (λ (r : List ℕ). Takes bytes (to_le_bytes w32 wanted) r) g.1
-    (subst (λ (n : ℕ). Takes bytes (to_le_bytes w32 n) a.0.1) same t.0)
+fixed_first wanted fault {bytes = bytes} fits e =
+    let a = bind_ok e in
+    let n = number_first wide32 fits a.1 in
+    let g = guard_passed fault n.3 in
+    let t = subst (λ (m : ℕ). Takes bytes (to_le_bytes w32 m) n.0.1) (eqb-true _ _ g.0) n.1 in
+    (a.0, subst (λ (r : List ℕ). Takes bytes (to_le_bytes w32 wanted) r) g.1 t, a.2)
 
+-- A fixed number is read from its spelling.
 pub fixed_again : (wanted : ℕ) (fault : Fault) (rest : List ℕ) → wanted < 2 ^ 32
     → fixed_at wanted fault (to_le_bytes w32 wanted ++ rest) ≡ Ok rest
 unfolding fixed_at
 fixed_again wanted fault rest lt =
     let same : eqb wanted wanted ≡ true = eq-eqb wanted wanted refl in
-    rw (number_again w32 (2 ^ 32) wide32 wanted rest lt, same) refl
+    rw (number_again wide32 lt rest, same) refl
 
 -- ---- names
 
-pub name_takes : (bytes name rest : List ℕ) → IsBytes bytes → name_at bytes ≡ Ok (name, rest)
-    → Takes bytes (name_spelling name) rest × (length name < 2 ^ 16)
+-- A name that is read has the bytes that were taken as its spelling, and its length fits its field.
+pub name_takes : {bytes : List ℕ} {x : List ℕ × List ℕ} → IsBytes bytes → name_at bytes ≡ Ok x
+    → Takes bytes (name_spelling x.0) x.1 × (length x.0 < 2 ^ 16)
 unfolding name_at
-name_takes bytes name rest fits e =
-    let b = bind_ok (number_at w16 bytes)
-    (λ n. cond (ltb (length n.1) n.0) (Err Short) (Ok (take n.0 n.1, drop n.0 n.1))) (name, rest) e in
-    let n = b.0 in
-    let t = number_takes w16 (2 ^ 16) wide16 bytes n.0 n.1 fits b.1 in
-    let g = guard_ok (ltb (length n.1) n.0) Short (take n.0 n.1, drop n.0 n.1) (name, rest) b.2 in
-    let long : n.0 ≤ length n.1 = ltb-false _ _ g.0 in
-    let len : length (take n.0 n.1) ≡ n.0 = omega (arith, length-take n.0 n.1) in
-    let second : Takes n.1 (take n.0 n.1) (drop n.0 n.1) =
-    record { parts = sym (take-append-drop n.0 n.1); rest_fits = IsBytes-drop n.0 n.1 t.0.rest_fits } in
-    let both = Takes-then bytes (to_le_bytes w16 n.0) n.1 (take n.0 n.1) (drop n.0 n.1) t.0 second in
-    let whole : Takes bytes (name_spelling (take n.0 n.1)) (drop n.0 n.1) =
-    subst (λ (k : ℕ). Takes bytes (to_le_bytes w16 k ++ take n.0 n.1) (drop n.0 n.1)) (sym len) both in
-    subst (λ (p : List ℕ × List ℕ). Takes bytes (name_spelling p.0) p.1 × (length p.0 < 2 ^ 16)) g.1
-    (whole, omega (arith, t.1))
+name_takes {bytes = bytes} fits e =
+    let n = number_first wide16 fits e in
+    let k : ℕ = n.0.0 in
+    let left : List ℕ = n.0.1 in
+    let g = guard_ok Short n.3 in
+    let long : k ≤ length left = ltb-false _ _ g.0 in
+    let len : length (take k left) ≡ k = omega (arith, length-take k left) in
+    let small : length (take k left) < 2 ^ 16 = omega (arith, n.2) in
+    let second : Takes left (take k left) (drop k left) =
+    record { parts = sym (take-append-drop k left); rest_fits = IsBytes-drop k left n.1.rest_fits } in
+    let whole : Takes bytes (name_spelling (take k left)) (drop k left) =
+    subst (λ (m : ℕ). Takes bytes (to_le_bytes w16 m ++ take k left) (drop k left)) (sym len)
+    (Takes-then n.1 second) in
+    subst (λ (p : List ℕ × List ℕ). Takes bytes (name_spelling p.0) p.1 × (length p.0 < 2 ^ 16)) (ok_is g.1)
+    (whole, small)
 
+-- A name whose length fits its field is read from its spelling.
 pub name_again : (name rest : List ℕ) → length name < 2 ^ 16 → name_at (name_spelling name ++ rest) ≡ Ok (name, rest)
 unfolding name_at
 name_again name rest lt =
@@ -169,7 +189,7 @@ name_again name rest lt =
     le-ltb _ _ (omega (arith, length-append name rest)) in
     ap name_at (append_assoc (to_le_bytes w16 (length name)) name rest)
     ∙ rw (
-      number_again w16 (2 ^ 16) wide16 (length name) (name ++ rest) lt,
+      number_again wide16 lt (name ++ rest),
       long,
       take_at name rest
           (length name) refl,

@@ -1,89 +1,64 @@
 -- What is read is spelled so, and what is spelled so is read.
-use Rattle.std.proofs.Common.{◌≡◌, ℕ, zero, suc, ◌+◌, ◌*◌, ◌^◌, ◌<◌, ◌≤◌, Bool, true, false, cond, ltb, List, []}
-use Rattle.std.proofs.Common.{◌∷◌, ◌++◌, length, Result, Ok, Err, refl, sym, ap, subst, ◌∙◌, append_assoc, arith}
+use Rattle.std.proofs.Common.{◌≡◌, ℕ, zero, suc, ◌+◌, ◌*◌, ◌^◌, ◌<◌, ◌≤◌, false, ltb, List, [], ◌∷◌, ◌++◌, length, Ok}
+use Rattle.std.proofs.Common.{refl, sym, ap, subst, ◌∙◌, append_assoc, arith}
 use Rattle.std.specs.List.{flat_map, AllByRecursion}
 use Rattle.std.specs.Int.{w32, w64, to_le_bytes}
 use Rattle.std.proofs.lemmas.Bool.{ltb-false, le-ltb}
 use Rattle.std.proofs.lemmas.List.Concat.{flat_map-cons}
-use Rattle.rs_volumes.specs.declared.fault.Fault.{Fault}
 use Rattle.rs_volumes.specs.declared.fault.Fault.TheVariants.{Short, Trailing, Code, Digest}
 use Rattle.rs_volumes.specs.Description.{SetFile, FileSet, name_spelling, file_spelling, opening_spelling, spelling}
 use Rattle.rs_volumes.specs.Description.{FileFits, Fits}
-use Rattle.rs_volumes.specs.Reading.{◌>>=◌, number_at, name_at, file_at, files_at, Opening, fixed_at, opening_at}
-use Rattle.rs_volumes.specs.Reading.{digests_in, description_in}
-use Rattle.rs_volumes.proofs.Fields.{IsBytes, bind_ok, guard_ok, ok_is, Takes, Takes-then, wide32, wide64, number_takes}
-use Rattle.rs_volumes.proofs.Fields.{number_again, fixed_takes, fixed_again, name_takes, name_again}
+use Rattle.rs_volumes.specs.Reading.{file_at, files_at, Opening, opening_at, digests_in, description_in}
+use Rattle.rs_volumes.proofs.Fields.{IsBytes, bind_ok, guard_ok, ok_is, Takes, Takes-then, also, wide32, wide64}
+use Rattle.rs_volumes.proofs.Fields.{number_first, number_again, fixed_first, fixed_again, name_takes, name_again}
 
 -- ---- a file
 
-file_takes : (bytes : List ℕ) (x : SetFile × List ℕ) → IsBytes bytes → file_at bytes ≡ Ok x
+file_takes : {bytes : List ℕ} {x : SetFile × List ℕ} → IsBytes bytes → file_at bytes ≡ Ok x
     → Takes bytes (file_spelling x.0) x.1 × FileFits x.0
 unfolding file_at
-file_takes bytes x fits e =
-    let a = bind_ok (number_at w64 bytes)
-    (λ size. number_at w64 size.1 >>= λ modified. number_at w32 modified.1 >>= λ mode. name_at mode.1 >>= λ name.
-    Ok (record { size = size.0; modified = modified.0; mode = mode.0; name = name.0 }, name.1)) x e in
-    let b = bind_ok (number_at w64 a.0.1)
-    (λ modified. number_at w32 modified.1 >>= λ mode. name_at mode.1 >>= λ name.
-    Ok (record { size = a.0.0; modified = modified.0; mode = mode.0; name = name.0 }, name.1)) x a.2 in
-    let c = bind_ok (number_at w32 b.0.1)
-    (λ mode. name_at mode.1 >>= λ name.
-    Ok (record { size = a.0.0; modified = b.0.0; mode = mode.0; name = name.0 }, name.1)) x b.2 in
-    let d = bind_ok (name_at c.0.1)
-    (λ name. Ok (record { size = a.0.0; modified = b.0.0; mode = c.0.0; name = name.0 }, name.1)) x c.2 in
-    let t0 = number_takes w64 (2 ^ 64) wide64 bytes a.0.0 a.0.1 fits a.1 in
-    let t1 = number_takes w64 (2 ^ 64) wide64 a.0.1 b.0.0 b.0.1 t0.0.rest_fits b.1 in
-    let t2 = number_takes w32 (2 ^ 32) wide32 b.0.1 c.0.0 c.0.1 t1.0.rest_fits c.1 in
-    let t3 = name_takes c.0.1 d.0.0 d.0.1 t2.0.rest_fits d.1 in
-    let e23 = Takes-then b.0.1 (to_le_bytes w32 c.0.0) c.0.1 (name_spelling d.0.0) d.0.1 t2.0 t3.0 in
-    let e13 = Takes-then a.0.1 (to_le_bytes w64 b.0.0) b.0.1
-    (to_le_bytes w32 c.0.0 ++ name_spelling d.0.0) d.0.1 t1.0 e23 in
-    let e03 = Takes-then bytes (to_le_bytes w64 a.0.0) a.0.1
-    (to_le_bytes w64 b.0.0 ++ (to_le_bytes w32 c.0.0 ++ name_spelling d.0.0)) d.0.1 t0.0 e13 in
-    let made : SetFile × List ℕ = (record { size = a.0.0; modified = b.0.0; mode = c.0.0; name = d.0.0 }, d.0.1) in
-    subst (λ (y : SetFile × List ℕ). Takes bytes (file_spelling y.0) y.1 × FileFits y.0) (ok_is made x d.2)
-    (e03, record { size = t0.1; modified = t1.1; mode = t2.1; name = t3.1 })
+file_takes {bytes = bytes} fits e =
+    let size = number_first wide64 fits e in
+    let modified = number_first wide64 size.1.rest_fits size.3 in
+    let mode = number_first wide32 modified.1.rest_fits modified.3 in
+    let named = bind_ok mode.3 in
+    let name = name_takes mode.1.rest_fits named.1 in
+    subst (λ (y : SetFile × List ℕ). Takes bytes (file_spelling y.0) y.1 × FileFits y.0) (ok_is named.2) (
+      Takes-then size.1 (Takes-then modified.1 (Takes-then mode.1 name.0)),
+      record { size = size.2; modified = modified.2; mode = mode.2; name = name.1 },
+    )
 
 file_again : (f : SetFile) (rest : List ℕ) → FileFits f → file_at (file_spelling f ++ rest) ≡ Ok (f, rest)
 unfolding file_at
 file_again f rest fits =
-    let regrouped : file_spelling f ++ rest ≡ to_le_bytes w64 f.size
-    ++ (to_le_bytes w64 f.modified ++ (to_le_bytes w32 f.mode ++ (name_spelling f.name ++ rest))) =
-    append_assoc (to_le_bytes w64 f.size)
-    (to_le_bytes w64 f.modified ++ (to_le_bytes w32 f.mode ++ name_spelling f.name)) rest
-    ∙ ap (λ (x : List ℕ). to_le_bytes w64 f.size ++ x)
-    (append_assoc (to_le_bytes w64 f.modified) (to_le_bytes w32 f.mode ++ name_spelling f.name) rest
-    ∙ ap (λ (x : List ℕ). to_le_bytes w64 f.modified ++ x)
-    (append_assoc (to_le_bytes w32 f.mode) (name_spelling f.name) rest)) in
+    let mode : List ℕ = to_le_bytes w32 f.mode ++ (name_spelling f.name ++ rest) in
+    let modified : List ℕ = to_le_bytes w64 f.modified ++ mode in
+    let regrouped : file_spelling f ++ rest ≡ to_le_bytes w64 f.size ++ modified = simp append_assoc in
     ap file_at regrouped
     ∙ rw (
-      number_again w64 (2 ^ 64) wide64 f.size
-          (to_le_bytes w64 f.modified ++ (to_le_bytes w32 f.mode ++ (name_spelling f.name ++ rest))) fits.size,
-      number_again w64 (2 ^ 64) wide64 f.modified
-          (to_le_bytes w32 f.mode ++ (name_spelling f.name ++ rest)) fits.modified,
-      number_again w32 (2 ^ 32) wide32 f.mode (name_spelling f.name ++ rest) fits.mode,
+      number_again wide64 fits.size modified,
+      number_again wide64 fits.modified mode,
+      number_again wide32 fits.mode (name_spelling f.name ++ rest),
       name_again f.name rest fits.name,
     ) refl
 
 -- ---- files
 
-files_take : (n : ℕ) (bytes : List ℕ) (x : List SetFile × List ℕ) → IsBytes bytes → files_at n bytes ≡ Ok x
+files_take : (n : ℕ) {bytes : List ℕ} {x : List SetFile × List ℕ} → IsBytes bytes → files_at n bytes ≡ Ok x
     → Takes bytes (flat_map file_spelling x.0) x.1 × (length x.0 ≡ n) × AllByRecursion FileFits x.0
 unfolding files_at
-files_take zero bytes x fits e =
+files_take zero {bytes = bytes} fits e =
     subst (λ (y : List SetFile × List ℕ). Takes bytes (flat_map file_spelling y.0) y.1 × (length y.0 ≡ 0)
-    × AllByRecursion FileFits y.0) (ok_is ([], bytes) x e)
+    × AllByRecursion FileFits y.0) (ok_is e)
     (record { parts = refl; rest_fits = fits }, refl, tt)
-files_take (suc n) bytes x fits e =
-    let a = bind_ok (file_at bytes) (λ first. files_at n first.1 >>= λ others. Ok (first.0 ∷ others.0, others.1)) x e in
-    let b = bind_ok (files_at n a.0.1) (λ others. Ok (a.0.0 ∷ others.0, others.1)) x a.2 in
-    let first = file_takes bytes a.0 fits a.1 in
-    let second = files_take n a.0.1 b.0 first.0.rest_fits b.1 in
-    let both = Takes-then bytes (file_spelling a.0.0) a.0.1 (flat_map file_spelling b.0.0) b.0.1 first.0 second.0 in
-    let made : List SetFile × List ℕ = (a.0.0 ∷ b.0.0, b.0.1) in
+files_take (suc n) {bytes = bytes} fits e =
+    let a = bind_ok e in
+    let b = bind_ok a.2 in
+    let first = file_takes fits a.1 in
+    let others = files_take n first.0.rest_fits b.1 in
     subst (λ (y : List SetFile × List ℕ). Takes bytes (flat_map file_spelling y.0) y.1 × (length y.0 ≡ suc n)
-    × AllByRecursion FileFits y.0) (ok_is made x b.2)
-    (rw flat_map-cons both, ap suc second.1, (first.1, second.2))
+    × AllByRecursion FileFits y.0) (ok_is b.2)
+    (rw flat_map-cons (Takes-then first.0 others.0), ap suc others.1, (first.1, others.2))
 
 files_again : (fs : List SetFile) (rest : List ℕ) → AllByRecursion FileFits fs
     → files_at (length fs) (flat_map file_spelling fs ++ rest) ≡ Ok (fs, rest)
@@ -108,69 +83,21 @@ record OpeningFits (o : Opening) : Type 0 where
 abbrev spelled : Opening → List ℕ
 spelled o = opening_spelling o.block_bytes o.original_count o.recovery_count o.file_count
 
-opening_takes : (bytes : List ℕ) (x : Opening × List ℕ) → IsBytes bytes → opening_at bytes ≡ Ok x
+opening_takes : {bytes : List ℕ} {x : Opening × List ℕ} → IsBytes bytes → opening_at bytes ≡ Ok x
     → Takes bytes (spelled x.0) x.1 × OpeningFits x.0
 unfolding opening_at
-opening_takes bytes x fits e =
-    let o1 = bind_ok (fixed_at 1 Code bytes)
-    (λ code. fixed_at 1 Digest code >>= λ digest. number_at w64 digest >>= λ block. number_at w32 block.1 >>= λ k.
-    number_at w32 k.1 >>= λ r. number_at w32 r.1 >>= λ count.
-    Ok (
-      record { block_bytes = block.0; original_count = k.0; recovery_count = r.0; file_count = count.0 },
-      count.1,
-    )) x e in
-    let o2 = bind_ok (fixed_at 1 Digest o1.0)
-    (λ digest. number_at w64 digest >>= λ block. number_at w32 block.1 >>= λ k. number_at w32 k.1 >>= λ r.
-    number_at w32 r.1 >>= λ count.
-    Ok (
-      record { block_bytes = block.0; original_count = k.0; recovery_count = r.0; file_count = count.0 },
-      count.1,
-    )) x o1.2 in
-    let b = bind_ok (number_at w64 o2.0)
-    (λ block. number_at w32 block.1 >>= λ k. number_at w32 k.1 >>= λ r. number_at w32 r.1 >>= λ count.
-    Ok (
-      record { block_bytes = block.0; original_count = k.0; recovery_count = r.0; file_count = count.0 },
-      count.1,
-    )) x o2.2 in
-    let k = bind_ok (number_at w32 b.0.1)
-    (λ k. number_at w32 k.1 >>= λ r. number_at w32 r.1 >>= λ count.
-    Ok (record { block_bytes = b.0.0; original_count = k.0; recovery_count = r.0; file_count = count.0 }, count.1))
-    x b.2 in
-    let r = bind_ok (number_at w32 k.0.1)
-    (λ r. number_at w32 r.1 >>= λ count.
-    Ok (
-      record { block_bytes = b.0.0; original_count = k.0.0; recovery_count = r.0; file_count = count.0 },
-      count.1,
-    )) x k.2 in
-    let n = bind_ok (number_at w32 r.0.1)
-    (λ count. Ok (
-      record
-          { block_bytes = b.0.0; original_count = k.0.0; recovery_count = r.0.0; file_count = count.0 },
-      count.1,
-    )) x r.2
-    in
-    let t1 = fixed_takes 1 Code bytes o1.0 fits o1.1 in
-    let t2 = fixed_takes 1 Digest o1.0 o2.0 t1.rest_fits o2.1 in
-    let t3 = number_takes w64 (2 ^ 64) wide64 o2.0 b.0.0 b.0.1 t2.rest_fits b.1 in
-    let t4 = number_takes w32 (2 ^ 32) wide32 b.0.1 k.0.0 k.0.1 t3.0.rest_fits k.1 in
-    let t5 = number_takes w32 (2 ^ 32) wide32 k.0.1 r.0.0 r.0.1 t4.0.rest_fits r.1 in
-    let t6 = number_takes w32 (2 ^ 32) wide32 r.0.1 n.0.0 n.0.1 t5.0.rest_fits n.1 in
-    let made : Opening × List ℕ =
-    (record { block_bytes = b.0.0; original_count = k.0.0; recovery_count = r.0.0; file_count = n.0.0 }, n.0.1) in
-    let e5 = Takes-then k.0.1 (to_le_bytes w32 r.0.0) r.0.1 (to_le_bytes w32 n.0.0) n.0.1 t5.0 t6.0 in
-    let e4 = Takes-then b.0.1 (to_le_bytes w32 k.0.0) k.0.1
-    (to_le_bytes w32 r.0.0 ++ to_le_bytes w32 n.0.0) n.0.1 t4.0 e5 in
-    let e3 = Takes-then o2.0 (to_le_bytes w64 b.0.0) b.0.1
-    (to_le_bytes w32 k.0.0 ++ (to_le_bytes w32 r.0.0 ++ to_le_bytes w32 n.0.0)) n.0.1 t3.0 e4 in
-    let e2 = Takes-then o1.0 (to_le_bytes w32 1) o2.0
-    (to_le_bytes w64 b.0.0 ++ (to_le_bytes w32 k.0.0 ++ (to_le_bytes w32 r.0.0 ++ to_le_bytes w32 n.0.0))) n.0.1 t2
-    e3 in
-    let e1 = Takes-then bytes (to_le_bytes w32 1) o1.0
-    (to_le_bytes w32 1 ++
-    (to_le_bytes w64 b.0.0 ++ (to_le_bytes w32 k.0.0 ++ (to_le_bytes w32 r.0.0 ++ to_le_bytes w32 n.0.0)))) n.0.1 t1
-    e2 in
-    subst (λ (y : Opening × List ℕ). Takes bytes (spelled y.0) y.1 × OpeningFits y.0) (ok_is made x n.2)
-    (e1, record { block_bytes = t3.1; original_count = t4.1; recovery_count = t5.1; file_count = t6.1 })
+opening_takes {bytes = bytes} fits e =
+    let code = fixed_first 1 Code fits e in
+    let digest = fixed_first 1 Digest code.1.rest_fits code.2 in
+    let block = number_first wide64 digest.1.rest_fits digest.2 in
+    let k = number_first wide32 block.1.rest_fits block.3 in
+    let r = number_first wide32 k.1.rest_fits k.3 in
+    let count = number_first wide32 r.1.rest_fits r.3 in
+    subst (λ (y : Opening × List ℕ). Takes bytes (spelled y.0) y.1 × OpeningFits y.0) (ok_is count.3) (
+      Takes-then code.1
+          (Takes-then digest.1 (Takes-then block.1 (Takes-then k.1 (Takes-then r.1 count.1)))),
+      record { block_bytes = block.2; original_count = k.2; recovery_count = r.2; file_count = count.2 },
+    )
 
 opening_again : (o : Opening) (rest : List ℕ) → OpeningFits o → opening_at (spelled o ++ rest) ≡ Ok (o, rest)
 unfolding opening_at
@@ -184,10 +111,10 @@ opening_again o rest fits =
     ∙ rw (
       fixed_again 1 Code (to_le_bytes w32 1 ++ b) (omega arith),
       fixed_again 1 Digest b (omega arith),
-      number_again w64 (2 ^ 64) wide64 o.block_bytes k fits.block_bytes,
-      number_again w32 (2 ^ 32) wide32 o.original_count r fits.original_count,
-      number_again w32 (2 ^ 32) wide32 o.recovery_count n fits.recovery_count,
-      number_again w32 (2 ^ 32) wide32 o.file_count rest fits.file_count,
+      number_again wide64 fits.block_bytes k,
+      number_again wide32 fits.original_count r,
+      number_again wide32 fits.recovery_count n,
+      number_again wide32 fits.file_count rest,
     ) refl
 
 -- ---- the digests
@@ -196,18 +123,12 @@ digests_take : (blocks : ℕ) (bytes digests : List ℕ) → digests_in blocks b
     × (length digests ≡ 32 * blocks)
 unfolding digests_in
 digests_take blocks bytes digests e =
-    let g = guarded (ltb (length bytes) (32 * blocks)) Short
-    (cond (ltb (32 * blocks) (length bytes)) (Err Trailing) (Ok bytes)) digests e in
-    let h = guard_ok (ltb (32 * blocks) (length bytes)) Trailing bytes digests g.1 in
+    let g = guard_ok Short e in
+    let h = guard_ok Trailing g.1 in
     let low : 32 * blocks ≤ length bytes = ltb-false _ _ g.0 in
     let high : length bytes ≤ 32 * blocks = ltb-false _ _ h.0 in
     let same : length bytes ≡ 32 * blocks = omega arith in
-    (h.1, ap length (sym h.1) ∙ same)
-  where
-    guarded : {A : Type 0} (b : Bool) (d : Fault) (x : Result A Fault) (y : A) → cond b (Err d) x ≡ Ok y → (b ≡ false)
-        × (x ≡ Ok y)
-    guarded true d x y e = absurd cc
-    guarded false d x y e = (refl, e)
+    (ok_is h.1, ap length (sym (ok_is h.1)) ∙ same)
 
 digests_again : (blocks : ℕ) (digests : List ℕ) → length digests ≡ 32 * blocks → digests_in blocks digests ≡ Ok digests
 unfolding digests_in
@@ -218,70 +139,29 @@ digests_again blocks digests len =
 
 -- ---- a description
 
-pub description_takes : (bytes : List ℕ) (s : FileSet) → IsBytes bytes → description_in bytes ≡ Ok s → Fits s
+-- A description that is read fits its fields, and all bytes are its spelling.
+pub description_takes : {bytes : List ℕ} {s : FileSet} → IsBytes bytes → description_in bytes ≡ Ok s → Fits s
     × (bytes ≡ spelling s)
 unfolding description_in
-description_takes bytes s fits e =
-    let a = bind_ok (opening_at bytes)
-    (λ opening. files_at opening.0.file_count opening.1 >>= λ files.
-    digests_in (opening.0.original_count + opening.0.recovery_count) files.1 >>= λ digests.
-    Ok (record {
-      block_bytes = opening.0.block_bytes;
-      original_count = opening.0.original_count;
-      recovery_count =
-          opening.0.recovery_count;
-      files = files.0;
-      digests = digests;
-    })) s e in
-    let b = bind_ok (files_at a.0.0.file_count a.0.1)
-    (λ files. digests_in (a.0.0.original_count + a.0.0.recovery_count) files.1 >>= λ digests.
-    Ok (record {
-      block_bytes = a.0.0.block_bytes;
-      original_count = a.0.0.original_count;
-      recovery_count =
-          a.0.0.recovery_count;
-      files = files.0;
-      digests = digests;
-    })) s a.2 in
-    let c = bind_ok (digests_in (a.0.0.original_count + a.0.0.recovery_count) b.0.1)
-    (λ digests. Ok (record {
-      block_bytes = a.0.0.block_bytes;
-      original_count = a.0.0.original_count;
-      recovery_count =
-          a.0.0.recovery_count;
-      files = b.0.0;
-      digests = digests;
-    })) s b.2 in
-    let t1 = opening_takes bytes a.0 fits a.1 in
-    let t2 = files_take a.0.0.file_count a.0.1 b.0 t1.0.rest_fits b.1 in
-    let t3 = digests_take (a.0.0.original_count + a.0.0.recovery_count) b.0.1 c.0 c.1 in
-    let made : FileSet =
-    record {
-      block_bytes = a.0.0.block_bytes;
-      original_count = a.0.0.original_count;
-      recovery_count =
-          a.0.0.recovery_count;
-      files = b.0.0;
-      digests = c.0;
-    } in
-    let counted : opening_spelling a.0.0.block_bytes a.0.0.original_count a.0.0.recovery_count a.0.0.file_count
-    ≡ opening_spelling a.0.0.block_bytes a.0.0.original_count a.0.0.recovery_count (length b.0.0) =
-    ap (λ (n : ℕ). opening_spelling a.0.0.block_bytes a.0.0.original_count a.0.0.recovery_count n) (sym t2.1) in
-    let whole : bytes ≡ spelling made =
-    t1.0.parts ∙ ap (λ (x : List ℕ). spelled a.0.0 ++ x)
-    (t2.0.parts ∙ ap (λ (x : List ℕ). flat_map file_spelling b.0.0 ++ x) t3.0)
-    ∙ ap (λ (x : List ℕ). x ++ (flat_map file_spelling b.0.0 ++ c.0)) counted in
-    let few : length b.0.0 < 2 ^ 32 = subst (λ (n : ℕ). n < 2 ^ 32) (sym t2.1) t1.1.file_count in
-    subst (λ (v : FileSet). Fits v × (bytes ≡ spelling v)) (ok_is made s c.2) (
+description_takes {bytes = bytes} fits e =
+    let a = bind_ok e in
+    let b = bind_ok a.2 in
+    let c = bind_ok b.2 in
+    let opening = opening_takes fits a.1 in
+    let files = files_take a.0.0.file_count opening.0.rest_fits b.1 in
+    let digests = digests_take (a.0.0.original_count + a.0.0.recovery_count) b.0.1 c.0 c.1 in
+    let whole : bytes ≡ spelled a.0.0 ++ (flat_map file_spelling b.0.0 ++ c.0) =
+    also opening.0 (also files.0 digests.0) in
+    subst (λ (v : FileSet). Fits v × (bytes ≡ spelling v)) (ok_is c.2) (
       record {
-        block_bytes = t1.1.block_bytes;
-        original_count = t1.1.original_count;
-        recovery_count = t1.1.recovery_count;
-        count = few;
-        files = t2.2;
-        digests = t3.1;
+        block_bytes = opening.1.block_bytes;
+        original_count = opening.1.original_count;
+        recovery_count = opening.1.recovery_count;
+        count = rw files.1 opening.1.file_count;
+        files = files.2;
+        digests = digests.1;
       },
-      whole,
+      rw files.1 whole,
     )
 
 pub description_again : (s : FileSet) → Fits s → description_in (spelling s) ≡ Ok s
@@ -294,18 +174,15 @@ description_again s fits =
           s.recovery_count;
       file_count = length s.files;
     } in
-    let opening : opening_at (spelling s) ≡ Ok (o, flat_map file_spelling s.files ++ s.digests) =
-    opening_again o (flat_map file_spelling s.files ++ s.digests)
-    (record {
+    let numbers : OpeningFits o = record {
       block_bytes = fits.block_bytes;
       original_count = fits.original_count;
       recovery_count =
           fits.recovery_count;
       file_count = fits.count;
-    }) in
+    } in
     rw (
-      opening,
+      opening_again o (flat_map file_spelling s.files ++ s.digests) numbers,
       files_again s.files s.digests fits.files,
-      digests_again
-          (s.original_count + s.recovery_count) s.digests fits.digests,
+      digests_again (s.original_count + s.recovery_count) s.digests fits.digests,
     ) refl

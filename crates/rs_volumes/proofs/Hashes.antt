@@ -23,12 +23,12 @@ shard_at-joined (block ∷ blocks) (piece ∷ pieces) (suc i) h k =
     shard_at-joined blocks pieces i (omega arith) (omega arith)
 
 -- hashers that took the next piece of each block
-pub absorbed : (old new : List Sha256) (blocks pieces : List Shard) → length old ≡ length pieces
+pub absorbed : {old new : List Sha256} {blocks : List Shard} (pieces : List Shard) → length old ≡ length pieces
     → length new ≡ length pieces
     → ((i : ℕ) (d : Sha256) (m : List ℕ) → i < length pieces → Holds256 (get_or old i d) m
     → Holds256 (get_or new i d) (m ++ shard_at pieces i))
     → AreHashed old blocks → AreHashed new (joined blocks pieces)
-absorbed old new blocks pieces one other step is =
+absorbed {old = old} {new = new} {blocks = blocks} pieces one other step is =
     let count : length old ≡ length blocks = is.number in
     record {
       number = omega (arith, length-joined blocks pieces);

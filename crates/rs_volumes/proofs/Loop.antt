@@ -17,33 +17,34 @@ regroup : (front : List SetFile) (n : SetFile) (read : Result (List SetFile × L
 regroup front n (Ok x) = ap (λ (fs : List SetFile). Ok (fs, x.1)) (simp append_assoc)
 regroup front n (Err f) = refl
 
-pub goes_on : (front : List SetFile) (count i : ℕ) (bytes : List ℕ) (n : SetFile) (after : List ℕ)
-    (total : Result (List SetFile × List ℕ) Fault) → i < count → file_at bytes ≡ Ok (n, after)
-    → with_front front (files_at (count - i) bytes) ≡ total
-    → with_front (front ++ n ∷ []) (files_at (count - (i + 1)) after) ≡ total
-unfolding files_at
-goes_on front count i bytes n after total lt h so_far =
-    let k : count - i ≡ suc (count - (i + 1)) = omega arith in
-    let one : with_front front (files_at (count - i) bytes)
-    ≡ with_front (front ++ n ∷ []) (files_at (count - (i + 1)) after) =
-    rw (k, h) (regroup front n (files_at (count - (i + 1)) after)) in
-    sym one ∙ so_far
+-- Some files were read, and the outcome of reading all files is known from the outcome for the bytes that are left.
+module _ (front : List SetFile) (count i : ℕ) (bytes : List ℕ) {total : Result (List SetFile × List ℕ) Fault}
+    (so_far : with_front front (files_at (count - i) bytes) ≡ total) where
+  -- The next file is read.
+  pub goes_on : {n : SetFile} {after : List ℕ} → i < count → file_at bytes ≡ Ok (n, after)
+      → with_front (front ++ n ∷ []) (files_at (count - (i + 1)) after) ≡ total
+  unfolding files_at
+  goes_on {n = n} {after = after} lt h =
+      let k : count - i ≡ suc (count - (i + 1)) = omega arith in
+      let one : with_front front (files_at (count - i) bytes)
+      ≡ with_front (front ++ n ∷ []) (files_at (count - (i + 1)) after) =
+      rw (k, h) (regroup front n (files_at (count - (i + 1)) after)) in
+      sym one ∙ so_far
 
-pub ends : (e : ReadError) (front : List SetFile) (count i : ℕ) (bytes : List ℕ)
-    (total : Result (List SetFile × List ℕ) Fault) → i < count → Fails e (file_at bytes)
-    → with_front front (files_at (count - i) bytes) ≡ total → Fails e total
-unfolding files_at
-ends errors.Memory front count i bytes total lt h so_far = tt
-ends (errors.Fault f) front count i bytes total lt h so_far =
-    let k : count - i ≡ suc (count - (i + 1)) = omega arith in
-    let one : with_front front (files_at (count - i) bytes) ≡ Err f = rw (k, h) refl in
-    sym so_far ∙ one
+  -- The next file cannot be read.
+  pub ends : (e : ReadError) → i < count → Fails e (file_at bytes) → Fails e total
+  unfolding files_at
+  ends errors.Memory lt h = tt
+  ends (errors.Fault f) lt h =
+      let k : count - i ≡ suc (count - (i + 1)) = omega arith in
+      let one : with_front front (files_at (count - i) bytes) ≡ Err f = rw (k, h) refl in
+      sym so_far ∙ one
 
-pub is_done : (front : List SetFile) (count i : ℕ) (bytes : List ℕ) (total : Result (List SetFile × List ℕ) Fault)
-    → count ≤ i → with_front front (files_at (count - i) bytes) ≡ total → total ≡ Ok (front, bytes)
-unfolding files_at
-is_done front count i bytes total le so_far =
-    let k : count - i ≡ 0 = omega arith in
-    let one : with_front front (files_at (count - i) bytes) ≡ Ok (front, bytes) =
-    rw k (ap (λ (fs : List SetFile). Ok (fs, bytes)) (append-nil front)) in
-    sym so_far ∙ one
+  -- All files were read.
+  pub is_done : count ≤ i → total ≡ Ok (front, bytes)
+  unfolding files_at
+  is_done le =
+      let k : count - i ≡ 0 = omega arith in
+      let one : with_front front (files_at (count - i) bytes) ≡ Ok (front, bytes) =
+      rw k (ap (λ (fs : List SetFile). Ok (fs, bytes)) (append-nil front)) in
+      sym so_far ∙ one

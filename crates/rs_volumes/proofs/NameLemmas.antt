@@ -49,16 +49,13 @@ between_further name start i le h =
     ∙ ap (λ (x : ℕ). take (i - start) (drop start name) ++ x ∷ [])
     (get_or-drop start name (i - start) 0 ∙ ap (λ (k : ℕ). get_or name k 0) here))
 
-pub between_nothing : (name : List ℕ) (i : ℕ) → between i i name ≡ []
-between_nothing name i = between_none name i
-
 pub parts_end : (part name : List ℕ) (i : ℕ) → length name ≤ i → has_parts part (drop i name) ≡ is_part part
 unfolding has_parts
 parts_end part name i h = rw (drop_all i name h) refl
 
 -- the steps of the loop over the bytes of a name
 pub ruleset steps_in_parts =
-    (zero_ends, slash_goes, slash_ends, byte_goes, between_further, between_nothing, parts_end)
+    (zero_ends, slash_goes, slash_ends, byte_goes, between_further, between_none, parts_end)
 
 -- ---- the order of names
 
@@ -147,7 +144,7 @@ fills_end block left =
 
 -- ---- a file in a list of entries
 
-module _ (files : List FileEntry) (i : ℕ) (file : FileEntry) (h : i < length files)
+module _ (files : List FileEntry) {i : ℕ} {file : FileEntry} (h : i < length files)
     (e : file ≡ get_or files i file) where
   cut : files_of (drop i files) ≡ file_of file ∷ files_of (drop (i + 1) files)
   cut = ap files_of (drop_item files i file h e)

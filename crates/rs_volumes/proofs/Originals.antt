@@ -49,14 +49,13 @@ piece_of-none i (item ∷ items) none =
       | inr other ↦ rw other.0 (piece_of-none i items (rw other.0 at none))
     ]
 
--- the piece of a number that one item has
-pub piece_of-one : (blocks : List Shard) (items : Items)
+one_of : (blocks : List Shard) (items : Items)
     → All (λ item. (item.0 < length blocks) × (shard_at blocks item.0 ≡ item.1)) items
     → IsDistinct nat_eq (map (λ item. item.0) items)
     → (i : ℕ) → has i items ≡ true → piece_of i items ≡ shard_at blocks i
 unfolding piece_of IsDistinct
-piece_of-one blocks [] own once i is = absurd (let no : ⊥ = cc in no)
-piece_of-one blocks (item ∷ items) own once i is =
+one_of blocks [] own once i is = absurd (let no : ⊥ = cc in no)
+one_of blocks (item ∷ items) own once i is =
     elim (eqb_tells i item.0) [
       | inl same ↦
           let rest : piece_of i items ≡ [] =
@@ -65,12 +64,17 @@ piece_of-one blocks (item ∷ items) own once i is =
           rw (same.0, rest) (append-nil item.1 ∙ sym (own 0 item (omega arith)).1
           ∙ ap (shard_at blocks) (sym same.1))
       | inr other ↦
-          rw other.0 (piece_of-one blocks items (λ j d h. own (suc j) d (omega arith)) once.1 i (rw other.0 at is))
+          rw other.0 (one_of blocks items (λ j d h. own (suc j) d (omega arith)) once.1 i (rw other.0 at is))
     ]
+
+-- the piece of a number that one item has
+pub piece_of-one : {blocks : List Shard} {items : Items} → AreLeft blocks items → (i : ℕ) → has i items ≡ true
+    → piece_of i items ≡ shard_at blocks i
+piece_of-one {blocks = blocks} {items = items} left i is = one_of blocks items left.own left.once i is
 
 -- ---- what a decode of pieces returns
 
-module _ (k r size : ℕ) (message all : List Shard) (read received : Items) (out : Shards)
+module _ {k r size : ℕ} {message all : List Shard} {read received : Items} {out : Shards}
     (are : AreShards k size message) (coded : AreRecovery (default_of k r size) message all)
     (left : AreLeft message read) (got : AreLeft all received) (some : 0 < length received)
     (answers : OneDecodeAnswers k r read received (Ok out)) where
@@ -101,9 +105,9 @@ module _ (k r size : ℕ) (message all : List Shard) (read received : Items) (ou
 
   by_tests : (i : ℕ) (inside given : Bool) → nat_lt i (length message) ≡ inside → has i read ≡ given
       → piece_of i read ++ bytes_of (cond (inside && not given) (Some (shard_at message i)) None) ≡ shard_at message i
-  by_tests i true true a b = append-nil (piece_of i read) ∙ piece_of-one message read left.own left.once i b
+  by_tests i true true a b = append-nil (piece_of i read) ∙ piece_of-one left i b
   by_tests i true false a b = ap (λ (s : Shard). s ++ shard_at message i) (piece_of-none i read b)
-  by_tests i false true a b = append-nil (piece_of i read) ∙ piece_of-one message read left.own left.once i b
+  by_tests i false true a b = append-nil (piece_of i read) ∙ piece_of-one left i b
   by_tests i false false a b =
       let past : length message ≤ i = ltb-false i (length message) a in
       append-nil (piece_of i read) ∙ piece_of-none i read b ∙ sym (get_or_past message i [] past)
@@ -126,11 +130,11 @@ has-numbers i [] = refl
 has-numbers i (p ∷ ps) = ap (λ (b : Bool). nat_eq i p.0 || b) (has-numbers i ps)
 
 -- the pieces of known blocks that were read are left of the pieces of all blocks
-pieces-left : (first start end : ℕ) (known : Shards) (blocks : List Shard) (ps : List (ℕ × Vec ℕ))
-    → AreKnown known first blocks (map (λ p. p.0) ps)
-    → All (λ p. (block : Shard) → known (first + p.0) ≡ Some block → p.1.items ≡ between start end block) ps
+pieces-left : {first start end : ℕ} {known : Shards} {blocks : List Shard} {numbers : List ℕ} {ps : List (ℕ × Vec ℕ)}
+    → AreKnown known first blocks numbers → AreRead first numbers start end known ps
     → AreLeft (pieces start end blocks) (items_of ps)
-pieces-left first start end known blocks ps are read =
+pieces-left {first = first} {start = start} {end = end} {known = known} {blocks = blocks} {ps = ps} whole read =
+    let are = rw (← read.numbers_are) at whole in
     record {
       own = All-map (λ item. (item.0 < length (pieces start end blocks))
           × (shard_at (pieces start end blocks) item.0 ≡ item.1)) (λ (p : ℕ × Vec ℕ). (p.0, p.1.items)) ps (λ j d h.
@@ -145,22 +149,22 @@ pieces-left first start end known blocks ps are read =
           let is : known (first + p.0) ≡ Some (shard_at blocks p.0) =
           subst (λ (n : ℕ). known (first + n) ≡ Some (shard_at blocks n)) at here.1 in (
             (let n = length-map blocks (λ (s : Shard). between start end s) in omega (arith, inside, n)),
-            shard_at-pieces start end p.0 blocks ∙ sym (read j d h (shard_at blocks p.0) is),
+            shard_at-pieces start end p.0 blocks ∙ sym (read.each j d h (shard_at blocks p.0) is),
           ));
       once = subst (IsDistinct nat_eq) (sym (numbers_of ps)) are.once;
     }
 
 -- a whole block is its first bytes
-pub whole_block : (count size i : ℕ) (blocks : List Shard) → AreShards count size blocks
+pub whole_block : {count size : ℕ} {blocks : List Shard} (i : ℕ) → AreShards count size blocks
     → take size (shard_at blocks i) ≡ shard_at blocks i
-whole_block count size i blocks are =
+whole_block {size = size} {blocks = blocks} i are =
     take_all size (shard_at blocks i) (elim (cases_lt i (length blocks)) [
       | inl inside ↦ (let n = (are.each i [] inside).length_is in omega (arith, n))
       | inr past ↦ (let n = ap length (get_or_past blocks i [] past) in omega (arith, n))
     ])
 
-module _ (shape : Shape) (plan : Plan) (known now after : Shards) (originals recovery : List Shard) (start end : ℕ)
-    (ps qs : List (ℕ × Vec ℕ)) (strip : IsStrip start end shape.block_bytes)
+module _ {shape : Shape} {plan : Plan} {known now after : Shards} {originals recovery : List Shard} {start end : ℕ}
+    {ps qs : List (ℕ × Vec ℕ)} (strip : IsStrip start end shape.block_bytes)
     (set : ReadsSet shape plan known originals recovery)
     (read : AreRead 0 plan.originals.items start end known ps)
     (received : AreRead shape.original_count plan.recovery.items start end known qs)
@@ -172,10 +176,8 @@ module _ (shape : Shape) (plan : Plan) (known now after : Shards) (originals rec
   block_more i is covered held =
       let k : ℕ = shape.original_count in
       let size : ℕ = shape.block_bytes in
-      let left = pieces-left 0 start end known originals ps
-      (subst (AreKnown known 0 originals) (sym read.numbers_are) set.originals_known) read.each in
-      let got = pieces-left k start end known recovery qs
-      (subst (AreKnown known k recovery) (sym received.numbers_are) set.recovery_known) received.each in
+      let left = pieces-left set.originals_known read in
+      let got = pieces-left set.recovery_known received in
       let given : (has i (items_of ps) ≡ true) ⊎ (0 < length (items_of qs)) =
       elim covered [
         | inl own ↦ inl (sym (has-numbers i ps) ∙ ap (list_any (nat_eq i)) read.numbers_are ∙ own)

@@ -1,6 +1,6 @@
 -- The places of blocks, file by file.
 use Rattle.std.proofs.Common.{◌≡◌, ℕ, zero, suc, ◌+◌, ◌-◌, ◌*◌, ◌/◌, ◌%◌, ◌<◌, ◌≤◌, List, [], ◌∷◌, ◌++◌, length, get_or}
-use Rattle.std.proofs.Common.{take, map, refl, sym, ap, subst, ◌∙◌, inl, inr, append_assoc, add-one, arith}
+use Rattle.std.proofs.Common.{take, map, refl, sym, ap, ◌∙◌, inl, inr, append_assoc, add-one, arith}
 use Rattle.std.specs.List.{concat, flat_map}
 use Rattle.std.proofs.Math.Nat.{suc-mul, zero-mul}
 use Rattle.std.proofs.lemmas.Nat.{div-add-mod'}
@@ -27,28 +27,31 @@ places-append : (index block : ℕ) (files : List SetFile) (file : SetFile)
     ++ file_places (index + length files) block file.size
 unfolding set_places
 places-append index block [] file =
-    append-nil (file_places index block file.size)
-    ∙ ap (λ (i : ℕ). file_places i block file.size) (let same : index ≡ index + 0 = omega arith in same)
+    let same : index ≡ index + 0 = omega arith in
+    append-nil (file_places index block file.size) ∙ ap (λ (i : ℕ). file_places i block file.size) same
 places-append index block (first ∷ files) file =
-    ap (λ (l : List Place). file_places index block first.size ++ l) (places-append (suc index) block files file)
-    ∙ sym (append_assoc (file_places index block first.size) (set_places (suc index) block files)
-    (file_places (suc index + length files) block file.size))
-    ∙ ap (λ (i : ℕ). file_places index block first.size ++ set_places (suc index) block files
-    ++ file_places i block file.size)
-    (let same : suc index + length files ≡ index + suc (length files) = omega arith in same)
+    let same : suc index + length files ≡ index + suc (length files) = omega arith in
+    rw (places-append (suc index) block files file, same)
+    (sym (append_assoc (file_places index block first.size) (set_places (suc index) block files)
+    (file_places (index + suc (length files)) block file.size)))
+
+-- the first n + 1 entries are the first n entries and then entry n
+pub files_further : (files : List FileEntry) {n : ℕ} {file : FileEntry} → n < length files → file ≡ get_or files n file
+    → files_of (take (n + 1) files) ≡ files_of (take n files) ++ file_of file ∷ []
+files_further files {n = n} {file = file} h e =
+    ap files_of (take_more files n file h ∙ ap (λ (f : FileEntry). take n files ++ f ∷ []) (sym e))
+    ∙ map-append file_of (take n files) (file ∷ [])
 
 pub places_next : (block : ℕ) (files : List FileEntry) (n : ℕ) (file : FileEntry) → n < length files
     → file ≡ get_or files n file
     → set_places 0 block (files_of (take (n + 1) files)) ≡ set_places 0 block (files_of (take n files))
     ++ file_places n block file.size
 places_next block files n file h e =
-    ap (λ (fs : List FileEntry). set_places 0 block (files_of fs))
-    (take_more files n file h ∙ ap (λ (f : FileEntry). take n files ++ f ∷ []) (sym e))
-    ∙ ap (set_places 0 block) (map-append file_of (take n files) (file ∷ []))
-    ∙ places-append 0 block (files_of (take n files)) (file_of file)
-    ∙ ap (λ (i : ℕ). set_places 0 block (files_of (take n files)) ++ file_places i block file.size)
-    (let long = length-map (take n files) file_of in let front = length-take n files in
-    let same : 0 + length (files_of (take n files)) ≡ n = omega (arith, long, front, h) in same)
+    let count : 0 + length (files_of (take n files)) ≡ n = (
+    let long = length-map (take n files) file_of in let front = length-take n files in omega (arith, long, front, h)
+    ) in
+    ap (λ (fs : List SetFile). set_places 0 block fs) (files_further files h e)
+    ∙ places-append 0 block (files_of (take n files)) (file_of file) ∙ rw count refl
 
 -- a file whose last block is full has no further block, and another file has one
 pub rest-none : (file block size : ℕ) → size % block ≡ 0 → rest_place file block size ≡ []
@@ -68,14 +71,11 @@ full-covers : (contents : List Shard) (file block n : ℕ)
 unfolding full_places
 full-covers contents file block zero = ap (λ (m : ℕ). take m (shard_at contents file)) (sym (zero-mul block))
 full-covers contents file block (suc n) =
-    let x : Shard = shard_at contents file in
     let place : Place = record { file = file; offset = n * block; bytes = block } in
     let order : n * block ≤ n * block + block = omega arith in
     flat_map-append (bytes_at contents) (full_places file block n) (place ∷ [])
-    ∙ ap (λ (l : Shard). l ++ (bytes_at contents place ++ [])) (full-covers contents file block n)
-    ∙ ap (λ (l : Shard). take (n * block) x ++ l) (append-nil (bytes_at contents place))
-    ∙ take-further (n * block) (n * block + block) x order
-    ∙ ap (λ (m : ℕ). take m x) (sym (suc-mul n block))
+    ∙ rw (full-covers contents file block n, append-nil (bytes_at contents place), suc-mul n block)
+    (take-further (n * block) (n * block + block) (shard_at contents file) order)
 
 rest-covers : (contents : List Shard) (file block size : ℕ) → length (shard_at contents file) ≡ size
     → take (size / block * block) (shard_at contents file) ++ flat_map (bytes_at contents) (rest_place file block size)
@@ -85,28 +85,23 @@ rest-covers contents file block size long =
     let sum = div-add-mod' size block in
     elim (eqb_tells (size % block) 0) [
       | inl none ↦
-          ap (λ (l : List Place). take (size / block * block) x ++ flat_map (bytes_at contents) l)
-          (rest-none file block size none.1)
-          ∙ append-nil (take (size / block * block) x)
-          ∙ take_all (size / block * block) x (let e = none.1 in omega (arith, sum, e, long))
+          let e = none.1 in
+          rw (rest-none file block size e, append-nil (take (size / block * block) x))
+          (take_all (size / block * block) x (omega (arith, sum, e, long)))
       | inr some ↦
           let place : Place = record { file = file; offset = size / block * block; bytes = size % block } in
           let order : size / block * block ≤ size / block * block + size % block = omega arith in
           let more : 0 < size % block = (let e = some.1 in omega (arith, e)) in
-          ap (λ (l : List Place). take (size / block * block) x ++ flat_map (bytes_at contents) l)
-          (rest-some file block size more)
-          ∙ ap (λ (l : Shard). take (size / block * block) x ++ l) (append-nil (bytes_at contents place))
-          ∙ take-further (size / block * block) (size / block * block + size % block) x order
-          ∙ take_all (size / block * block + size % block) x (omega (arith, sum, long))
+          rw (rest-some file block size more, append-nil (bytes_at contents place))
+          (take-further (size / block * block) (size / block * block + size % block) x order
+          ∙ take_all (size / block * block + size % block) x (omega (arith, sum, long)))
     ]
 
 file-covers : (contents : List Shard) (file block size : ℕ) → length (shard_at contents file) ≡ size
     → flat_map (bytes_at contents) (file_places file block size) ≡ shard_at contents file
 file-covers contents file block size long =
     flat_map-append (bytes_at contents) (full_places file block (size / block)) (rest_place file block size)
-    ∙ ap (λ (l : Shard). l ++ flat_map (bytes_at contents) (rest_place file block size))
-    (full-covers contents file block (size / block))
-    ∙ rest-covers contents file block size long
+    ∙ rw (full-covers contents file block (size / block)) (rest-covers contents file block size long)
 
 set-covers : (block : ℕ) (files : List SetFile) (before contents : List Shard)
     → map (λ bytes. length bytes) contents ≡ map (λ file. file.size) files
@@ -127,14 +122,10 @@ set-covers block (file ∷ files) before (x ∷ xs) e =
     let n = length-append before (x ∷ []) in omega (arith, n)
     ) in
     let rest : flat_map (bytes_at all) (set_places (suc (length before)) block files) ≡ concat xs =
-    subst (λ (n : ℕ). flat_map (bytes_at all) (set_places n block files) ≡ concat xs) next
-    (subst (λ (l : List Shard). flat_map (bytes_at l) (set_places (length (before ++ x ∷ [])) block files) ≡ concat xs)
-    (append_assoc before (x ∷ []) xs) (set-covers block files (before ++ x ∷ []) xs others)) in
+    rw (next, append_assoc before (x ∷ []) xs) at (set-covers block files (before ++ x ∷ []) xs others) in
     flat_map-append (bytes_at all) (file_places (length before) block file.size)
     (set_places (suc (length before)) block files)
-    ∙ ap (λ (l : Shard). l ++ flat_map (bytes_at all) (set_places (suc (length before)) block files))
-    (file-covers all (length before) block file.size (ap length here ∙ long) ∙ here)
-    ∙ ap (λ (l : Shard). x ++ l) rest
+    ∙ rw (file-covers all (length before) block file.size (ap length here ∙ long), here, rest) refl
 
 -- the places of a set cover its files
 pub places-cover : (block : ℕ) (files : List SetFile) → Cover files (set_places 0 block files)

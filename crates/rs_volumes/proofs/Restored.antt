@@ -8,14 +8,15 @@ use Rattle.rs_field.specs.code.Column.{Shard}
 use Rattle.rs_field.specs.code.Given.{Shards}
 use Rattle.rs_volumes.specs.Restoring.{HasDigest, AreRestored, AreInStep}
 
-pub step_one : (old new : List Sha256) (index : ℕ) (piece : Shard) (before now after : Shards) → length new ≡ length old
+-- If one hasher takes a piece, and the sink gets this piece of the same block, hashers and sink stay in step.
+pub step_one : {old new : List Sha256} {index : ℕ} (piece : Shard) {before now after : Shards} → length new ≡ length old
     → ((d : Sha256) (bytes : Shard) → Holds256 (get_or old index d) bytes
     → Holds256 (get_or new index d) (bytes ++ piece))
     → ((i : ℕ) (d : Sha256) → i ≢ index → get_or new i d ≡ get_or old i d)
     → ((bytes : Shard) → now index ≡ Some bytes → after index ≡ Some (bytes ++ piece))
     → ((i : ℕ) → i ≢ index → after i ≡ now i)
     → AreInStep old before now → AreInStep new before after
-step_one old new index piece before now after count here others put rest is =
+step_one {old = old} {new = new} {index = index} piece {now = now} {after = after} count here others put rest is =
     record {
       each = λ i d h.
           let inside : i < length old = omega arith in
@@ -38,14 +39,16 @@ step_one old new index piece before now after count here others put rest is =
           ];
     }
 
-pub restored : (hashers : List Sha256) (wanted : List Bool) (digests : List ℕ) (before after : Shards)
+-- If hashers and a sink are in step, and the hasher of each wanted block gives its digest, the wanted blocks were
+-- written with these digests.
+pub restored : (hashers : List Sha256) {wanted : List Bool} {digests : List ℕ} {before after : Shards}
     → length wanted ≤ length hashers → AreInStep hashers before after
     → ((i : ℕ) (d : Sha256) (bytes : Shard) → i < length wanted → get_or wanted i false ≡ true
     → Holds256 (get_or hashers i d) bytes → HasDigest digests i bytes)
     → AreRestored wanted digests before after
-restored [] wanted digests before after room step compared =
+restored [] room step compared =
     record { each = λ i lt is. absurd (omega (arith, room, lt)) }
-restored (h ∷ hs) wanted digests before after room step compared =
+restored (h ∷ hs) room step compared =
     record {
       each = λ i lt is.
           let one = step.each i h (omega (arith, room, lt)) in

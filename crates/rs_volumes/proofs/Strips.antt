@@ -41,8 +41,7 @@ unfolding joined
 pieces-front s e start [] ps order le each = refl
 pieces-front s e start (x ∷ xs) [] order le each = refl
 pieces-front s e start (x ∷ xs) (p ∷ ps) order le each =
-    ap (λ (y : Shard). y ∷ pieces s e (joined xs ps)) (between-front s e start x p order le each.0)
-    ∙ ap (λ (ys : List Shard). between s e x ∷ ys) (pieces-front s e start xs ps order le each.1)
+    rw (between-front s e start x p order le each.0, pieces-front s e start xs ps order le each.1) refl
 
 pieces-back : (start end : ℕ) (xs ps : List Shard) → length xs ≡ length ps → AllByRecursion (λ x. length x ≡ start) xs
     → AllByRecursion (λ p. length p ≡ end - start) ps → pieces start end (joined xs ps) ≡ ps
@@ -52,32 +51,32 @@ pieces-back start end [] (p ∷ ps) count each other = absurd (omega arith)
 pieces-back start end (x ∷ xs) [] count each other = absurd (omega arith)
 pieces-back start end (x ∷ xs) (p ∷ ps) count each other =
     let rest : length xs ≡ length ps = omega arith in
-    ap (λ (y : Shard). y ∷ pieces start end (joined xs ps)) (between-back start end x p each.0 other.0)
-    ∙ ap (λ (ys : List Shard). p ∷ ys) (pieces-back start end xs ps rest each.1 other.1)
+    rw (between-back start end x p each.0 other.0, pieces-back start end xs ps rest each.1 other.1) refl
 
-lengths : (n size : ℕ) (xs : List Shard) → AreShards n size xs → AllByRecursion (λ x. length x ≡ size) xs
-lengths n size xs are = recursion_from_All (λ x. length x ≡ size) xs (λ i d h. (are.each i d h).length_is)
+lengths : {n size : ℕ} {xs : List Shard} → AreShards n size xs → AllByRecursion (λ x. length x ≡ size) xs
+lengths {size = size} {xs = xs} are = recursion_from_All (λ x. length x ≡ size) xs (λ i d h. (are.each i d h).length_is)
 
--- blocks of n bytes with a piece of m bytes each are blocks of n + m bytes
-pub shards-joined : (count n m : ℕ) (xs ps : List Shard) → AreShards count n xs → AreShards count m ps
-    → AreShards count (n + m) (joined xs ps)
-shards-joined count n m xs ps are new =
-    let number : length (joined xs ps) ≡ count = length-joined xs ps ∙ are.length_is in
-    record {
-      length_is = number;
-      each = λ i d h.
-          let inside : i < count = omega (arith, number) in
-          let first : i < length xs = omega (arith, are.length_is) in
-          let second : i < length ps = omega (arith, new.length_is) in
-          let is : get_or (joined xs ps) i d ≡ get_or xs i [] ++ get_or ps i [] =
-          get_or_default (joined xs ps) i d [] h ∙ shard_at-joined xs ps i first second in
-          let one = are.each i [] first in
-          let two = new.each i [] second in
-          subst (IsShard (n + m)) (sym is) (record {
-            length_is = omega (arith, length-append (get_or xs i []) (get_or ps i []), one.length_is, two.length_is);
-            bytes = All-append (λ b. b < 256) (get_or xs i []) (get_or ps i []) one.bytes two.bytes;
-          });
-    }
+module _ {count n m : ℕ} {xs ps : List Shard} where
+  -- blocks of n bytes with a piece of m bytes each are blocks of n + m bytes
+  pub shards-joined : AreShards count n xs → AreShards count m ps
+      → AreShards count (n + m) (joined xs ps)
+  shards-joined are new =
+      let number : length (joined xs ps) ≡ count = length-joined xs ps ∙ are.length_is in
+      record {
+        length_is = number;
+        each = λ i d h.
+            let inside : i < count = omega (arith, number) in
+            let first : i < length xs = omega (arith, are.length_is) in
+            let second : i < length ps = omega (arith, new.length_is) in
+            let is : get_or (joined xs ps) i d ≡ get_or xs i [] ++ get_or ps i [] =
+            get_or_default (joined xs ps) i d [] h ∙ shard_at-joined xs ps i first second in
+            let one = are.each i [] first in
+            let two = new.each i [] second in
+            subst (IsShard (n + m)) (sym is) (record {
+              length_is = omega (arith, length-append (get_or xs i []) (get_or ps i []), one.length_is, two.length_is);
+              bytes = All-append (λ b. b < 256) (get_or xs i []) (get_or ps i []) one.bytes two.bytes;
+            });
+      }
 
 -- ---- strips
 
@@ -89,46 +88,27 @@ pub record IsCodedTo (k r size start : ℕ) (originals recovery : List Shard) : 
 pub coded-none : (k r size : ℕ) (originals recovery : List Shard) → IsCodedTo k r size 0 originals recovery
 coded-none k r size originals recovery = record { strips = λ byte lt. absurd (omega arith) }
 
-pub coded-more : (k r size start end : ℕ) (originals recovery ps made : List Shard) → IsStrip start end size
-    → AreShards k start originals → AreShards r start recovery
-    → AreShards k (end - start) ps → AreRecovery (default_of k r (end - start)) ps made
-    → IsCodedTo k r size start originals recovery → IsCodedTo k r size end (joined originals ps) (joined recovery made)
-coded-more k r size start end originals recovery ps made strip are others new coded done =
-    record {
-      strips = λ byte lt. elim (cases_lt byte start) [
-        | inl before ↦
-            let old = done.strips byte before in
-            let s : ℕ = old.0 in
-            let e : ℕ = old.1 in
-            let is : IsStrip s e size = old.2 in
-            let below : e ≤ start = old.5 in
-            let front = pieces-front s e start originals ps is.order below (lengths k start originals are) in
-            let back = pieces-front s e start recovery made is.order below (lengths r start recovery others) in (
-              s,
-              e,
-              is,
-              old.3,
-              old.4,
-              omega (arith, below, strip.order),
-              subst (λ (l : List Shard). AreRecovery (default_of k r (e - s)) l (pieces s e (joined recovery made)))
-                  (sym front)
-                  (subst (λ (l : List Shard). AreRecovery (default_of k r (e - s)) (pieces s e originals) l)
-                  (sym back) old.6),
-            )
-        | inr after ↦
-            let one = pieces-back start end originals ps (are.length_is ∙ sym new.length_is)
-            (lengths k start originals are) (lengths k (end - start) ps new) in
-            let two = pieces-back start end recovery made (others.length_is ∙ sym coded.shards.length_is)
-            (lengths r start recovery others) (lengths r (end - start) made coded.shards) in (
-              start,
-              end,
-              strip,
-              after,
-              lt,
-              omega arith,
-              subst (λ (l : List Shard).
-                  AreRecovery (default_of k r (end - start)) l (pieces start end (joined recovery made))) (sym one)
-                  (subst (λ (l : List Shard). AreRecovery (default_of k r (end - start)) ps l) (sym two) coded),
-            )
-      ];
-    }
+module _ {k r size start end : ℕ} {originals recovery ps made : List Shard} where
+  -- If the recovery blocks are known in all strips before `start`, and in the strip up to `end`, they are known in all
+  -- strips before `end`.
+  pub coded-more : IsStrip start end size
+      → AreShards k start originals → AreShards r start recovery
+      → AreShards k (end - start) ps → AreRecovery (default_of k r (end - start)) ps made
+      → IsCodedTo k r size start originals recovery
+      → IsCodedTo k r size end (joined originals ps) (joined recovery made)
+  coded-more strip are others new coded done =
+      record {
+        strips = λ byte lt. elim (cases_lt byte start) [
+          | inl before ↦
+              let (s, e, is, from, to, below, known) = done.strips byte before in
+              let front = pieces-front s e start originals ps is.order below (lengths are) in
+              let back = pieces-front s e start recovery made is.order below (lengths others) in
+              (s, e, is, from, to, omega (arith, below, strip.order), rw (front, back) known)
+          | inr after ↦
+              let one = pieces-back start end originals ps (are.length_is ∙ sym new.length_is) (lengths are)
+              (lengths new) in
+              let two = pieces-back start end recovery made (others.length_is ∙ sym coded.shards.length_is)
+              (lengths others) (lengths coded.shards) in
+              (start, end, strip, after, lt, omega arith, rw (one, two) coded)
+        ];
+      }

@@ -36,55 +36,50 @@ piece_of-append i (x ∷ xs) ys =
     ap (λ (s : Shard). (if eqb i x.0 then x.1 else []) ++ s) (piece_of-append i xs ys)
     ∙ sym (append_assoc (if eqb i x.0 then x.1 else []) (piece_of i xs) (piece_of i ys))
 
-piece_of-own : (i : ℕ) (item : ℕ × Shard) → i ≡ item.0 → piece_of i (item ∷ []) ≡ item.1
+-- a further piece is added to the pieces with its own number
+more-own : (i : ℕ) (items : Items) (item : ℕ × Shard) → i ≡ item.0
+    → piece_of i (items ++ item ∷ []) ≡ piece_of i items ++ item.1
 unfolding piece_of
-piece_of-own i item same = rw (eq-eqb i item.0 same) (append-nil item.1)
+more-own i items item same =
+    piece_of-append i items (item ∷ [])
+    ∙ ap (λ (s : Shard). piece_of i items ++ s) (rw (eq-eqb i item.0 same) (append-nil item.1))
 
-piece_of-other : (i : ℕ) (item : ℕ × Shard) → i ≢ item.0 → piece_of i (item ∷ []) ≡ []
+-- a further piece changes no piece with another number
+more-other : (i : ℕ) (items : Items) (item : ℕ × Shard) → i ≢ item.0
+    → piece_of i (items ++ item ∷ []) ≡ piece_of i items
 unfolding piece_of
-piece_of-other i item other = rw (ne_eqb i item.0 other) refl
+more-other i items item other =
+    piece_of-append i items (item ∷ [])
+    ∙ rw (ne_eqb i item.0 other) (append-nil (piece_of i items))
 
-module _ (wanted : List Bool) (items : Items) (item : ℕ × Shard) (before now after : Shards)
+module _ (wanted : List Bool) (items : Items) (item : ℕ × Shard) {before now : Shards}
     (so_far : Gets wanted (λ i. piece_of i items) before now) where
   -- the next piece is written
-  pub gets_more : ((bytes : Shard) → now item.0 ≡ Some bytes → after item.0 ≡ Some (bytes ++ item.1))
+  pub gets_more : {after : Shards}
+      → ((bytes : Shard) → now item.0 ≡ Some bytes → after item.0 ≡ Some (bytes ++ item.1))
       → ((i : ℕ) → i ≢ item.0 → after i ≡ now i) → Gets wanted (λ i. piece_of i (items ++ item ∷ [])) before after
-  gets_more here others i bytes is held =
-      let add : piece_of i (items ++ item ∷ []) ≡ piece_of i items ++ piece_of i (item ∷ []) =
-      piece_of-append i items (item ∷ []) in
+  gets_more {after = after} here others i bytes is held =
       elim (eqb_tells i item.0) [
         | inl same ↦
             let at : i ≡ item.0 = same.1 in
             ap after at ∙ here (bytes ++ piece_of i items) (ap now (sym at) ∙ so_far i bytes is held)
-            ∙ ap Some (append_assoc bytes (piece_of i items) item.1
-            ∙ ap (λ (s : Shard). bytes ++ s)
-            (ap (λ (s : Shard). piece_of i items ++ s) (sym (piece_of-own i item at)) ∙ sym add))
-        | inr other ↦
-            others i other.1 ∙ so_far i bytes is held
-            ∙ ap (λ (s : Shard). Some (bytes ++ s))
-            (sym (append-nil (piece_of i items))
-            ∙ ap (λ (s : Shard). piece_of i items ++ s) (sym (piece_of-other i item other.1)) ∙ sym add)
+            ∙ rw (more-own i items item at) (ap Some (append_assoc bytes (piece_of i items) item.1))
+        | inr other ↦ others i other.1 ∙ rw (more-other i items item other.1) (so_far i bytes is held)
       ]
 
   -- the next piece is not wanted
   pub gets_same : (get_or wanted item.0 false ≡ true → ⊥) → Gets wanted (λ i. piece_of i (items ++ item ∷ [])) before
       now
   gets_same unwanted i bytes is held =
-      let add : piece_of i (items ++ item ∷ []) ≡ piece_of i items ++ piece_of i (item ∷ []) =
-      piece_of-append i items (item ∷ []) in
       elim (eqb_tells i item.0) [
         | inl same ↦ absurd (unwanted (subst (λ (n : ℕ). get_or wanted n false ≡ true) same.1 is))
-        | inr other ↦
-            so_far i bytes is held
-            ∙ ap (λ (s : Shard). Some (bytes ++ s))
-            (sym (append-nil (piece_of i items))
-            ∙ ap (λ (s : Shard). piece_of i items ++ s) (sym (piece_of-other i item other.1)) ∙ sym add)
+        | inr other ↦ rw (more-other i items item other.1) (so_far i bytes is held)
       ]
 
 -- the pieces up to number n, and then the next one
-pub items_more : (pieces : List (ℕ × Vec ℕ)) (n : ℕ) (p : ℕ × Vec ℕ) → n < length pieces → p ≡ get_or pieces n p
+pub items_more : (pieces : List (ℕ × Vec ℕ)) {n : ℕ} {p : ℕ × Vec ℕ} → n < length pieces → p ≡ get_or pieces n p
     → items_of (take (n + 1) pieces) ≡ items_of (take n pieces) ++ (p.0, p.1.items) ∷ []
-items_more pieces n p h e =
+items_more pieces {n = n} {p = p} h e =
     ap items_of (take_more pieces n p h ∙ ap (λ (q : ℕ × Vec ℕ). take n pieces ++ q ∷ []) (sym e))
     ∙ map-append (λ (q : ℕ × Vec ℕ). (q.0, q.1.items)) (take n pieces) (p ∷ [])
 
@@ -94,28 +89,28 @@ unfolding piece_of
 gets_none wanted before i bytes is held = held ∙ ap Some (sym (append-nil bytes))
 
 -- the wanted blocks below number n got their pieces, and then block n
-module _ (wanted : List Bool) (piece : ℕ → Shard) (n : ℕ) (before now after : Shards)
+module _ (wanted : List Bool) (piece : ℕ → Shard) {n : ℕ} {before now after : Shards}
     (done : (i : ℕ) (bytes : Shard) → i < n → get_or wanted i false ≡ true → before i ≡ Some bytes
     → now i ≡ Some (bytes ++ piece i))
     (rest : (i : ℕ) → n ≤ i → now i ≡ before i)
     (others : (i : ℕ) → i ≢ n → after i ≡ now i) where
   pub got_next : (get_or wanted n false ≡ true → (bytes : Shard) → now n ≡ Some bytes
       → after n ≡ Some (bytes ++ piece n))
-      → (i : ℕ) (bytes : Shard) → i < n + 1 → get_or wanted i false ≡ true → before i ≡ Some bytes
-      → after i ≡ Some (bytes ++ piece i)
-  got_next here i bytes lt is held =
-      elim (eqb_tells i n) [
-        | inl same ↦
-            let at : i ≡ n = same.1 in
-            let own : get_or wanted n false ≡ true = subst (λ (m : ℕ). get_or wanted m false ≡ true) at is in
-            ap after at ∙ here own bytes (rest n (omega arith) ∙ ap before (sym at) ∙ held)
-            ∙ ap (λ (m : ℕ). Some (bytes ++ piece m)) (sym at)
-        | inr other ↦
-            let less : i < n = omega (arith, lt, other.1) in
-            others i other.1 ∙ done i bytes less is held
-      ]
-
-  pub left_next : (i : ℕ) → n + 1 ≤ i → after i ≡ before i
-  left_next i le =
-      let past : n ≤ i = omega (arith, le) in
-      others i (λ e. let no : ⊥ = omega (arith, le, e) in no) ∙ rest i past
+      → ((i : ℕ) (bytes : Shard) → i < n + 1 → get_or wanted i false ≡ true → before i ≡ Some bytes
+      → after i ≡ Some (bytes ++ piece i))
+      × ((i : ℕ) → n + 1 ≤ i → after i ≡ before i)
+  got_next here = (
+    λ i bytes lt is held. elim (eqb_tells i n) [
+      | inl same ↦
+          let at : i ≡ n = same.1 in
+          let own : get_or wanted n false ≡ true = subst (λ (m : ℕ). get_or wanted m false ≡ true) at is in
+          ap after at ∙ here own bytes (rest n (omega arith) ∙ ap before (sym at) ∙ held)
+          ∙ ap (λ (m : ℕ). Some (bytes ++ piece m)) (sym at)
+      | inr other ↦
+          let less : i < n = omega (arith, lt, other.1) in
+          others i other.1 ∙ done i bytes less is held
+    ],
+    λ i le.
+        let past : n ≤ i = omega (arith, le) in
+        others i (λ e. let no : ⊥ = omega (arith, le, e) in no) ∙ rest i past,
+  )

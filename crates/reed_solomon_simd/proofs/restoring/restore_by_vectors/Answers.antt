@@ -1,10 +1,11 @@
-use Rattle.std.proofs.Common.{rules, ◌≡◌, List, [], length, map, All, Ok, Err, ap, subst, ◌∙◌, sym, refl, arith}
-use Rattle.std.proofs.lemmas.List.{length-map, get_or-map}
+use Rattle.std.proofs.Common.{rules, ◌≡◌, List, length, map, Ok, Err, ap, ◌∙◌, refl, arith}
+use Rattle.std.proofs.lemmas.List.{length-map}
 use Rattle.rs_field.specs.code.Column.{Shard}
 use Rattle.rs_field.specs.code.Decoder.{DecoderState}
 use Rattle.rs_field.proofs.of_code.RestoredBelow.{held-number, held-sized}
 use Rattle.reed_solomon_simd.specs.ReceivedState.{received_state}
 use Rattle.reed_solomon_simd.specs.Rooms.{bytes_in}
+use Rattle.reed_solomon_simd.proofs.RoomFits.{vectors-sized}
 use Rattle.reed_solomon_simd.proofs.RestoringLemmas.{restores-refused, restores-filled}
 use Rattle.reed_solomon_simd.proofs.restoring.restore_by_vectors.Goals as goal
 
@@ -36,13 +37,7 @@ fill_rooms-requires-clause-number g c =
 
 pub fill_rooms-requires-clause-sized : goal.fill_rooms-requires-clause-sized
 fill_rooms-requires-clause-sized g c =
-    let s : DecoderState = received_state c.args.received.now in
-    let made : List Shard = map (λ v. v.items) c.in_ok-vectors.vectors.items in
-    let sized = held-sized c.in_ok-vectors.ensures in
-    let size = c.args.received.now.shard_bytes in
-    subst (λ l. All (λ v. length v.items ≡ size) l) (sym c.as_slice.ensures.value)
-    (λ i d h. ap length (sym (get_or-map (λ v. v.items) c.in_ok-vectors.vectors.items i d [] h))
-    ∙ sized i [] (let long = length-map c.in_ok-vectors.vectors.items (λ v. v.items) in omega (arith, long, h)))
+    vectors-sized c.args.received.now.shard_bytes c.as_slice.ensures.value (held-sized c.in_ok-vectors.ensures)
 
 pub returns-clause-answer : goal.returns-clause-answer
 returns-clause-answer g c =

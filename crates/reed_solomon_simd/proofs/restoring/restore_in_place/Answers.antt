@@ -1,9 +1,10 @@
-use Rattle.std.proofs.Common.{◌≡◌, List, [], map, length, All, ap, subst, ◌∙◌, sym, arith}
-use Rattle.std.proofs.lemmas.List.{length-map, get_or-map}
+use Rattle.std.proofs.Common.{◌≡◌, List, map, length, ap, subst, ◌∙◌, sym, arith}
+use Rattle.std.proofs.lemmas.List.{length-map}
 use Rattle.rs_field.specs.code.Column.{Shard}
 use Rattle.rs_field.specs.code.Decoder.{DecoderState}
 use Rattle.rs_field.specs.code.PieceStates.{HoldRestored}
 use Rattle.rs_field.proofs.of_code.RestoredBelow.{held-number, held-sized}
+use Rattle.reed_solomon_simd.proofs.RoomFits.{vectors-sized}
 use Rattle.reed_solomon_simd.proofs.RestoringLemmas.{put-whole, was-done-if}
 use Rattle.reed_solomon_simd.proofs.restoring.restore_in_place.Goals as goal
 
@@ -18,13 +19,9 @@ put_all-requires-clause-number g c =
 pub put_all-requires-clause-sized : goal.put_all-requires-clause-sized
 put_all-requires-clause-sized g c =
     let s : DecoderState = g.S.Pieces.received c.args.store.now in
-    let made : List Shard = map (λ v. v.items) c.in_ok-vectors.vectors.items in
     let sized = held-sized c.in_ok-vectors.ensures in
-    let size = c.shard_bytes-shard_bytes.result in
-    subst (λ l. All (λ v. length v.items ≡ size) l) (sym c.as_slice.ensures.value)
-    (λ i d h. ap length (sym (get_or-map (λ v. v.items) c.in_ok-vectors.vectors.items i d [] h))
-    ∙ sized i [] (let long = length-map c.in_ok-vectors.vectors.items (λ v. v.items) in omega (arith, long, h))
-    ∙ sym c.shard_bytes-shard_bytes.ensures)
+    vectors-sized c.shard_bytes-shard_bytes.result c.as_slice.ensures.value
+    (λ i d h. sized i d h ∙ sym c.shard_bytes-shard_bytes.ensures)
 
 pub returns-clause-restored : goal.returns-clause-restored
 returns-clause-restored g c =

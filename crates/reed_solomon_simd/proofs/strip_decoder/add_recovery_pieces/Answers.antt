@@ -4,7 +4,8 @@ use Rattle.rs_field.specs.code.Decoder.{DecoderState}
 use Rattle.rs_field.specs.code.Given.{Shards}
 use Rattle.rs_field.specs.code.Outcome.{answer_of, state_after}
 use Rattle.rs_rate.specs.rows.DecoderView.{decoder_state}
-use Rattle.reed_solomon_simd.proofs.StripDecodeLemmas.{first-none, first-skipped, pieces-all, recovery-taken}
+use Rattle.rs_rate.proofs.of_rows.FirstShards.{first-none, first-skipped}
+use Rattle.reed_solomon_simd.proofs.StripDecodeLemmas.{pieces-all, recovery-piece-taken}
 use Rattle.reed_solomon_simd.proofs.strip_decoder.add_recovery_pieces.Goals.{in-Some+in_ok-add_recovery_shard}
 use Rattle.reed_solomon_simd.proofs.strip_decoder.add_recovery_pieces.Goals.{in_default}
 use Rattle.reed_solomon_simd.proofs.strip_decoder.add_recovery_pieces.Goals as goal
@@ -22,7 +23,7 @@ returns-in_err-add_recovery_shard g c =
     let x : DecoderState = g.P.Pieces.received c.args.received.now in
     let refused = c.in_err-add_recovery_shard.ensures.answer
     ∙ ap answer_of
-    (recovery-taken _ _ c.loop-index.index x s (decoder_state default_rate c.loop-index.decoder.rows) _
+    (recovery-piece-taken _ _ c.loop-index.index x s (decoder_state default_rate c.loop-index.decoder.rows) _
     c.requires.order c.requires.inside c.requires.set_up
     c.requires.configured c.loop-index.invariant
     (omega (arith, c.counts-index-end.ensures.recovery, c.loop-index-test.true)) (sym c.in-Some.ensures)) in
@@ -36,7 +37,7 @@ loop-index-preserved g c =
       | in-Some+in_ok-add_recovery_shard w ↦
           ap (λ d. decoder_state default_rate d.rows) w.decoder-is ∙ w.in_ok-add_recovery_shard.ensures.left
           ∙ ap (state_after (decoder_state default_rate c.loop-index.decoder.rows))
-          (recovery-taken _ _ c.loop-index.index x s (decoder_state default_rate c.loop-index.decoder.rows) _
+          (recovery-piece-taken _ _ c.loop-index.index x s (decoder_state default_rate c.loop-index.decoder.rows) _
           c.requires.order c.requires.inside c.requires.set_up
           c.requires.configured c.loop-index.invariant
           (omega (arith, c.counts-index-end.ensures.recovery, c.loop-index-test.true)) (sym w.in-Some.ensures))

@@ -2,7 +2,7 @@ use Rattle.std.proofs.Common.{◌≡◌}
 use Rattle.rs_field.specs.code.Counts.{default_rate}
 use Rattle.rs_field.specs.code.PieceStates.{pieces_of}
 use Rattle.rs_rate.specs.rows.DecoderView.{decoder_state}
-use Rattle.reed_solomon_simd.proofs.StripDecodeLemmas.{first}
+use Rattle.rs_rate.proofs.of_rows.FirstShards.{first}
 use Rattle.reed_solomon_simd.proofs.strip_decoder.add_recovery_pieces.Given as goal
 
 -- The decoder has the pieces of the recovery shards below the index.

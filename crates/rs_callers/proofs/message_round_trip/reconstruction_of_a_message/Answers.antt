@@ -12,8 +12,7 @@ returns-in_err-vectors-clause-enough c counted many =
 pub returns-in_err-restored-clause-enough : goal.returns-in_err-restored-clause-enough
 returns-in_err-restored-clause-enough c counted many =
     let are = c.in_ok-vectors.ensures.shards (counted-some c.args.original_count c.args.recovery_count counted) in
-    let lent = lent-valid c.args.original_count c.args.recovery_count c.args.message.now c.args.lost.now
-    c.args.recovery_lost.now c.in_ok-vectors.vectors.items c.as_slice-originals.result.now
+    let lent = lent-valid c.args.recovery_count c.args.lost.now c.args.recovery_lost.now
     c.as_slice-originals.ensures.value are counted many in
     let lacks : c.in_err-restored.field-0.0 ≡ Refused OutOfMemory =
     c.in_err-restored.ensures.enough lent.0 lent.1 lent.2 lent.3 in
@@ -25,14 +24,12 @@ put_together-requires c = c.in_ok-restored.ensures.restored
 pub returns-clause-same : goal.returns-clause-same
 returns-clause-same c =
     let are = c.in_ok-vectors.ensures.shards
-    (split-some c.args.original_count c.in_ok-vectors.vectors _ c.in_ok-vectors.ensures.none) in
-    c.in_ok-back.ensures.same c.args.message.now refl (lent-shards c.args.original_count c.args.message.now
-    c.in_ok-vectors.vectors.items c.as_slice-originals.result.now c.as_slice-originals.ensures.value are)
+    (split-some c.in_ok-vectors.ensures.none) in
+    c.in_ok-back.ensures.same c.args.message.now refl (lent-shards c.as_slice-originals.ensures.value are)
 
 pub returns-in_err-back-clause-enough : goal.returns-in_err-back-clause-enough
 returns-in_err-back-clause-enough c counted many =
     let are = c.in_ok-vectors.ensures.shards (counted-some c.args.original_count c.args.recovery_count counted) in
-    let lacks = c.in_err-back.ensures.refused c.args.message.now refl (lent-shards c.args.original_count
-    c.args.message.now c.in_ok-vectors.vectors.items c.as_slice-originals.result.now
-    c.as_slice-originals.ensures.value are) in
+    let lacks = c.in_err-back.ensures.refused c.args.message.now refl
+    (lent-shards c.as_slice-originals.ensures.value are) in
     search rules

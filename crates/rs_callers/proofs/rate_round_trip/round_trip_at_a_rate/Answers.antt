@@ -1,14 +1,11 @@
-use Rattle.std.proofs.Common.{rules, ◌≡◌, ◌∙◌, Ok, Err, map, length, ap, arith}
+use Rattle.std.proofs.Common.{rules, ◌≡◌, map, length}
 use Rattle.std.proofs.lemmas.List.{length-map}
 use Rattle.std.proofs.lemmas.List.Elements.{All-map}
 use Rattle.reed_solomon_simd.specs.ResultView.{recovery_shards, restored_originals}
 use Rattle.reed_solomon_simd.specs.declared.Error.TheVariants.{OutOfMemory}
-use Rattle.reed_solomon_simd.proofs.Left.{kept_of}
 use Rattle.reed_solomon_simd.proofs.Giving.{reached-ok}
-use Rattle.reed_solomon_simd.proofs.ObjectRoundTrip.{codes-given, gives-back, copies-lost, gives-all, encodes}
-use Rattle.reed_solomon_simd.proofs.ObjectRoundTrip.{gives-kept, gives-received, restores}
-use Rattle.rs_callers.specs.Losing.{is_lost, left_below}
-use Rattle.rs_callers.proofs.LeftCount.{left-count}
+use Rattle.reed_solomon_simd.proofs.ObjectRoundTrip.{gives-all, encodes}
+use Rattle.rs_callers.proofs.ObjectsBack.{kept-taken, received-taken, only-memory, copies-back}
 use Rattle.rs_callers.proofs.rate_round_trip.round_trip_at_a_rate.Goals as goal
 
 pub returns-in_err-give_all-clause-enough : goal.returns-in_err-give_all-clause-enough
@@ -33,79 +30,45 @@ returns-in_err-recovery-clause-enough g c valid sized many =
 
 pub returns-in_err-give_kept-clause-enough : goal.returns-in_err-give_kept-clause-enough
 returns-in_err-give_kept-clause-enough g c valid sized many =
-    let originals = map (λ vector. vector.items) c.args.originals.now in let recovery =
-    recovery_shards c.in_ok-recovery.recovery in
-    let lost = is_lost c.args.lost.now in let recovery_lost = is_lost c.args.recovery_lost.now in
-    let all = codes-given _ _ originals recovery (g.R.RateEncoder.RateEncoder.state c.in_ok-encoder.encoder)
-    (g.R.RateEncoder.RateEncoder.state c.give_all.new.encoder) c.in_ok-encoder.ensures.made.0
-    (reached-ok _ (g.R.RateEncoder.RateEncoder.state c.give_all.new.encoder) c.in_ok-give_all.ensures)
-    (g.met.R.RateEncoder.RateEncoder.valid c.give_all.new.encoder) c.in_ok-recovery.ensures.answer in
-    absurd (gives-kept _ originals recovery lost recovery_lost
-    (g.R.RateDecoder.RateDecoder.state c.in_ok-decoder.decoder) c.in_ok-decoder.ensures.made.0 all _ _
-    c.in_err-give_kept.ensures)
+    absurd (kept-taken (map (λ vector. vector.items) c.args.originals.now) (recovery_shards c.in_ok-recovery.recovery)
+    c.args.lost.now c.args.recovery_lost.now c.in_ok-encoder.ensures.made.0 c.in_ok-give_all.ensures
+    (g.met.R.RateEncoder.RateEncoder.valid c.give_all.new.encoder) c.in_ok-recovery.ensures.answer
+    c.in_ok-decoder.ensures.made.0
+    _ _ c.in_err-give_kept.ensures)
 
 pub returns-in_err-give_received-clause-enough : goal.returns-in_err-give_received-clause-enough
 returns-in_err-give_received-clause-enough g c valid sized many =
-    let originals = map (λ vector. vector.items) c.args.originals.now in let recovery =
-    recovery_shards c.in_ok-recovery.recovery in
-    let lost = is_lost c.args.lost.now in let recovery_lost = is_lost c.args.recovery_lost.now in
-    let all = codes-given _ _ originals recovery (g.R.RateEncoder.RateEncoder.state c.in_ok-encoder.encoder)
-    (g.R.RateEncoder.RateEncoder.state c.give_all.new.encoder) c.in_ok-encoder.ensures.made.0
-    (reached-ok _ (g.R.RateEncoder.RateEncoder.state c.give_all.new.encoder) c.in_ok-give_all.ensures)
-    (g.met.R.RateEncoder.RateEncoder.valid c.give_all.new.encoder) c.in_ok-recovery.ensures.answer in
-    absurd (gives-received _ originals recovery lost recovery_lost
-    (g.R.RateDecoder.RateDecoder.state c.in_ok-decoder.decoder) c.in_ok-decoder.ensures.made.0 all
-    (g.R.RateDecoder.RateDecoder.state c.give_kept.new.decoder) _ _
-    (reached-ok _ (g.R.RateDecoder.RateDecoder.state c.give_kept.new.decoder) c.in_ok-give_kept.ensures)
-    c.in_err-give_received.ensures)
+    absurd (received-taken (map (λ vector. vector.items) c.args.originals.now)
+    (recovery_shards c.in_ok-recovery.recovery)
+    c.args.lost.now c.args.recovery_lost.now c.in_ok-encoder.ensures.made.0 c.in_ok-give_all.ensures
+    (g.met.R.RateEncoder.RateEncoder.valid c.give_all.new.encoder) c.in_ok-recovery.ensures.answer
+    c.in_ok-decoder.ensures.made.0
+    (g.R.RateDecoder.RateDecoder.state c.give_kept.new.decoder) c.in_ok-give_kept.ensures
+    _ _ c.in_err-give_received.ensures)
 
 pub returns-in_err-restored-clause-enough : goal.returns-in_err-restored-clause-enough
 returns-in_err-restored-clause-enough g c valid sized many =
-    let originals = map (λ vector. vector.items) c.args.originals.now in let recovery =
-    recovery_shards c.in_ok-recovery.recovery in
-    let lost = is_lost c.args.lost.now in let recovery_lost = is_lost c.args.recovery_lost.now in
-    let all = codes-given _ _ originals recovery (g.R.RateEncoder.RateEncoder.state c.in_ok-encoder.encoder)
-    (g.R.RateEncoder.RateEncoder.state c.give_all.new.encoder) c.in_ok-encoder.ensures.made.0
-    (reached-ok _ (g.R.RateEncoder.RateEncoder.state c.give_all.new.encoder) c.in_ok-give_all.ensures)
-    (g.met.R.RateEncoder.RateEncoder.valid c.give_all.new.encoder) c.in_ok-recovery.ensures.answer in
-    let back = gives-back _ originals recovery lost recovery_lost
-    (g.R.RateDecoder.RateDecoder.state c.in_ok-decoder.decoder)
-    (g.R.RateDecoder.RateDecoder.state c.give_kept.new.decoder)
-    (g.R.RateDecoder.RateDecoder.state c.give_received.new.decoder) (Err c.in_err-restored.field-0.0) all
-    c.in_ok-decoder.ensures.made.0
-    (reached-ok _ (g.R.RateDecoder.RateDecoder.state c.give_kept.new.decoder) c.in_ok-give_kept.ensures)
-    (reached-ok _ (g.R.RateDecoder.RateDecoder.state c.give_received.new.decoder) c.in_ok-give_received.ensures)
-    c.in_err-restored.ensures.answer in
-    let long : length originals ≡ length c.args.originals.now =
-    length-map c.args.originals.now (λ vector. vector.items) in
-    let own = left-count 0 c.args.lost.now originals ∙ ap (λ n. left_below n c.args.lost.now) long in
-    let coded = left-count 0 c.args.recovery_lost.now recovery
-    ∙ ap (λ n. left_below n c.args.recovery_lost.now) all.1.shards.length_is in
     let short : c.in_err-restored.field-0.0 ≡ OutOfMemory =
-    restores originals (kept_of originals lost) (kept_of recovery recovery_lost) c.in_err-restored.field-0.0 back
-    (omega (arith, long, own, coded, many)) in
+    only-memory (map (λ vector. vector.items) c.args.originals.now) (recovery_shards c.in_ok-recovery.recovery)
+    c.args.lost.now c.args.recovery_lost.now c.in_ok-encoder.ensures.made.0 c.in_ok-give_all.ensures
+    (g.met.R.RateEncoder.RateEncoder.valid c.give_all.new.encoder) c.in_ok-recovery.ensures.answer
+    c.in_ok-decoder.ensures.made.0
+    (g.R.RateDecoder.RateDecoder.state c.give_kept.new.decoder) c.in_ok-give_kept.ensures
+    (g.R.RateDecoder.RateDecoder.state c.give_received.new.decoder) c.in_ok-give_received.ensures
+    c.in_err-restored.field-0.0 c.in_err-restored.ensures.answer many in
     search rules
 
 pub returns-clause-restored : goal.returns-clause-restored
 returns-clause-restored g c =
-    let originals = map (λ vector. vector.items) c.args.originals.now in let recovery =
-    recovery_shards c.in_ok-recovery.recovery in
-    let out = restored_originals c.in_ok-restored.restored in
-    let lost = is_lost c.args.lost.now in let recovery_lost = is_lost c.args.recovery_lost.now in
-    let all = codes-given _ _ originals recovery (g.R.RateEncoder.RateEncoder.state c.in_ok-encoder.encoder)
-    (g.R.RateEncoder.RateEncoder.state c.give_all.new.encoder) c.in_ok-encoder.ensures.made.0
-    (reached-ok _ (g.R.RateEncoder.RateEncoder.state c.give_all.new.encoder) c.in_ok-give_all.ensures)
-    (g.met.R.RateEncoder.RateEncoder.valid c.give_all.new.encoder) c.in_ok-recovery.ensures.answer in
-    let back = gives-back _ originals recovery lost recovery_lost
-    (g.R.RateDecoder.RateDecoder.state c.in_ok-decoder.decoder)
-    (g.R.RateDecoder.RateDecoder.state c.give_kept.new.decoder)
-    (g.R.RateDecoder.RateDecoder.state c.give_received.new.decoder) (Ok out) all
+    copies-back (map (λ vector. vector.items) c.args.originals.now) (recovery_shards c.in_ok-recovery.recovery)
+    c.args.lost.now c.args.recovery_lost.now c.in_ok-encoder.ensures.made.0 c.in_ok-give_all.ensures
+    (g.met.R.RateEncoder.RateEncoder.valid c.give_all.new.encoder) c.in_ok-recovery.ensures.answer
     c.in_ok-decoder.ensures.made.0
-    (reached-ok _ (g.R.RateDecoder.RateDecoder.state c.give_kept.new.decoder) c.in_ok-give_kept.ensures)
-    (reached-ok _ (g.R.RateDecoder.RateDecoder.state c.give_received.new.decoder) c.in_ok-give_received.ensures)
-    c.in_ok-restored.ensures.answer in
-    copies-lost originals lost (kept_of recovery recovery_lost) out c.restored_copies.result
-    (λ copies. map (λ item. (item.0, item.1.items)) copies.items) back c.restored_copies.ensures.copies
+    (g.R.RateDecoder.RateDecoder.state c.give_kept.new.decoder) c.in_ok-give_kept.ensures
+    (g.R.RateDecoder.RateDecoder.state c.give_received.new.decoder) c.in_ok-give_received.ensures
+    (restored_originals c.in_ok-restored.restored) c.restored_copies.result
+    (λ copies. map (λ item. (item.0, item.1.items)) copies.items) c.in_ok-restored.ensures.answer
+    c.restored_copies.ensures.copies
 
 pub returns-clause-enough : goal.returns-clause-enough
 returns-clause-enough g c valid sized many = c.restored_copies.ensures.memory

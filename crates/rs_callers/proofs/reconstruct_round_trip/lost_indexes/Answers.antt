@@ -16,10 +16,10 @@ loop-index-preserved c =
           let more : c.if-contains.indexes.items ≡ c.loop-index.indexes.items ++ c.loop-index.index-counter ∷ [] =
           search rules in
           subst (ListsLost (c.loop-index.index-counter + 1) c.args.lost.now) (sym more)
-          (lists-lost c.loop-index.index-counter c.args.lost.now c.loop-index.indexes.items c.loop-index.invariant
+          (lists-lost c.loop-index.invariant
           (sym c.contains.ensures.value ∙ w.if-contains.true))
       | else-contains w ↦
           subst (λ v. ListsLost (c.loop-index.index-counter + 1) c.args.lost.now v.items) (sym w.indexes-is)
-          (lists-left c.loop-index.index-counter c.args.lost.now c.loop-index.indexes.items c.loop-index.invariant
+          (lists-left c.loop-index.invariant
           (sym c.contains.ensures.value ∙ w.if-contains.false))
     ]

@@ -23,11 +23,7 @@ returns-in_err-recovery-clause-enough c size valid sized many =
 pub returns-in_err-shards-clause-enough : goal.returns-in_err-shards-clause-enough
 returns-in_err-shards-clause-enough c size valid sized many =
     let lacks : c.in_err-shards.field-0.0 ≡ Refused OutOfMemory =
-    lost_refused (length c.args.originals.now) c.args.recovery_count (map (λ vector. vector.items) c.args.originals.now)
-    (map (λ vector. vector.items) c.in_ok-recovery.recovery.items) c.args.lost.now c.args.recovery_lost.now
-    c.in_ok-indexes.indexes.items (map (λ item. (item.0, item.1.now)) c.deref.result.now)
-    (map (λ item. (item.0, item.1.now)) c.deref-2.result.now) c.deref-3.result.now
-    c.in_ok-recovery.ensures.coded c.in_ok-indexes.ensures
+    lost_refused c.args.recovery_lost.now c.in_ok-recovery.ensures.coded c.in_ok-indexes.ensures
     (ap (map (λ item. (item.0, item.1.now))) c.deref.ensures.value ∙ c.in_ok-kept.ensures)
     (ap (map (λ item. (item.0, item.1.now))) c.deref-2.ensures.value ∙ c.in_ok-received.ensures
     ∙ ap (λ vectors. left_of (map (λ vector. vector.items) vectors) c.args.recovery_lost.now) c.as_slice.ensures.value)
@@ -37,11 +33,7 @@ returns-in_err-shards-clause-enough c size valid sized many =
 
 pub returns-clause-restored : goal.returns-clause-restored
 returns-clause-restored c =
-    lost_come_back (length c.args.originals.now) c.args.recovery_count
-    (map (λ vector. vector.items) c.args.originals.now) (map (λ vector. vector.items) c.in_ok-recovery.recovery.items)
-    c.args.lost.now c.args.recovery_lost.now c.in_ok-indexes.indexes.items
-    (map (λ item. (item.0, item.1.now)) c.deref.result.now) (map (λ item. (item.0, item.1.now)) c.deref-2.result.now)
-    c.deref-3.result.now c.in_ok-recovery.ensures.coded c.in_ok-indexes.ensures
+    lost_come_back c.args.recovery_lost.now c.in_ok-recovery.ensures.coded c.in_ok-indexes.ensures
     (ap (map (λ item. (item.0, item.1.now))) c.deref.ensures.value ∙ c.in_ok-kept.ensures)
     (ap (map (λ item. (item.0, item.1.now))) c.deref-2.ensures.value ∙ c.in_ok-received.ensures
     ∙ ap (λ vectors. left_of (map (λ vector. vector.items) vectors) c.args.recovery_lost.now) c.as_slice.ensures.value)

@@ -1,9 +1,9 @@
-use Rattle.std.proofs.Common.{◌+◌, ◌∙◌, refl, sym, ap, not, get_or}
+use Rattle.std.proofs.Common.{◌∙◌, refl, sym, ap, not}
 use Rattle.reed_solomon_simd.specs.Decoder.{with_original}
 use Rattle.reed_solomon_simd.specs.DecoderObject.{state_of}
 use Rattle.reed_solomon_simd.proofs.Giving.{outcome-ok}
 use Rattle.rs_callers.specs.Losing.{is_left}
-use Rattle.rs_callers.proofs.InTurn.{shards_from, shards_from-next, kept-next, lost-next}
+use Rattle.rs_callers.proofs.InTurn.{shards_from-next, kept-next, lost-next}
 use Rattle.rs_callers.proofs.round_trip.give_kept.Goals as goal
 
 pub loop-index-preserved-then-contains : goal.loop-index-preserved-then-contains
@@ -13,8 +13,7 @@ loop-index-preserved-then-contains c =
     let originals = c.args.originals.now in
     let item = c.index-originals-index.result in
     c.loop-index.invariant
-    ∙ lost-next (λ now one. with_original now one.0 one.1) (is_left c.args.lost.now) s i (i + 1) i
-    (get_or originals i item).items (shards_from i originals) (shards_from (i + 1) originals)
+    ∙ lost-next (λ now one. with_original now one.0 one.1) (is_left c.args.lost.now) s i
     (shards_from-next i originals item c.loop-index-test.true) refl refl
     (ap not (sym c.contains.ensures.value ∙ c.if-contains.true))
 
@@ -32,7 +31,6 @@ loop-index-preserved c =
     c.add_original_shard.ensures.left
     in
     c.loop-index.invariant
-    ∙ kept-next (λ now one. with_original now one.0 one.1) (is_left c.args.lost.now) s next i (i + 1) i
-    (get_or originals i item).items (shards_from i originals) (shards_from (i + 1) originals)
+    ∙ kept-next (λ now one. with_original now one.0 one.1) (is_left c.args.lost.now) s i
     (shards_from-next i originals item c.loop-index-test.true) refl refl
     (ap not (sym c.contains.ensures.value ∙ c.if-contains.false)) taken

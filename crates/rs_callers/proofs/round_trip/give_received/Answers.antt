@@ -1,5 +1,5 @@
 use Rattle.std.proofs.Common.{rules, ◌≡◌, ◌∙◌, sym, ap, not, Err}
-use Rattle.std.specs.Iterator.Adapters.{enumerate_source, enumerate_count}
+use Rattle.std.specs.Iterator.Adapters.{enumerate_count}
 use Rattle.reed_solomon_simd.specs.Decoder.{with_recovery}
 use Rattle.reed_solomon_simd.specs.DecoderObject.{state_of}
 use Rattle.reed_solomon_simd.proofs.Giving.{outcome-ok, outcome-err, reaches-err}
@@ -9,35 +9,28 @@ use Rattle.rs_callers.proofs.round_trip.give_received.Goals as goal
 
 pub loop-index-preserved-then-contains : goal.loop-index-preserved-then-contains
 loop-index-preserved-then-contains c =
-    let now = c.loop-index.index-iterator in
-    let after = c.next.new.self in
     let taken_here = c.in-Some.ensures.steps in
     c.loop-index.invariant
     ∙ lost-next (λ s one. with_recovery s one.0 one.1) (is_left c.args.lost.now) (state_of c.loop-index.decoder)
-    (enumerate_count now) (enumerate_count after) c.in-Some.index c.in-Some.shard.now
-    (enumerate_source now) (enumerate_source after) taken_here.0 taken_here.1 taken_here.2
+    (enumerate_count c.loop-index.index-iterator) taken_here.0 taken_here.1 taken_here.2
     (ap not (sym c.contains.ensures.value ∙ c.if-contains.true))
 
 pub loop-index-preserved : goal.loop-index-preserved
 loop-index-preserved c =
     let s = state_of c.loop-index.decoder in
     let next = state_of c.add_recovery_shard.new.self in
-    let now = c.loop-index.index-iterator in
-    let after = c.next.new.self in
     let taken_here = c.in-Some.ensures.steps in
     let taken = outcome-ok s next
     (with_recovery s c.in-Some.index c.in-Some.shard.now) c.in_ok-add_recovery_shard.ensures.answer
     c.add_recovery_shard.ensures.left in
     c.loop-index.invariant
-    ∙ kept-next (λ t one. with_recovery t one.0 one.1) (is_left c.args.lost.now) s next (enumerate_count now)
-    (enumerate_count after) c.in-Some.index c.in-Some.shard.now
-    (enumerate_source now) (enumerate_source after) taken_here.0 taken_here.1 taken_here.2
+    ∙ kept-next (λ t one. with_recovery t one.0 one.1) (is_left c.args.lost.now) s
+    (enumerate_count c.loop-index.index-iterator) taken_here.0 taken_here.1 taken_here.2
     (ap not (sym c.contains.ensures.value ∙ c.if-contains.false)) taken
 
 pub returns-in_err-add_recovery_shard : goal.returns-in_err-add_recovery_shard
 returns-in_err-add_recovery_shard c =
     let s = state_of c.loop-index.decoder in
-    let now = c.loop-index.index-iterator in
     let taken_here = c.in-Some.ensures.steps in
     let e = c.in_err-add_recovery_shard.field-0.0 in
     let told : c.from_residual.result ≡ Err e = search rules in
@@ -47,8 +40,7 @@ returns-in_err-add_recovery_shard c =
     (
     c.loop-index.invariant
     ∙ kept-refused (λ t one. with_recovery t one.0 one.1) (is_left c.args.lost.now) s
-    (enumerate_count now) c.in-Some.index c.in-Some.shard.now (enumerate_source now)
-    (enumerate_source c.next.new.self)
-    e taken_here.0 taken_here.1 (ap not (sym c.contains.ensures.value ∙ c.if-contains.false)) refused
+    (enumerate_count c.loop-index.index-iterator) taken_here.0 taken_here.1
+    (ap not (sym c.contains.ensures.value ∙ c.if-contains.false)) refused
     )
     told

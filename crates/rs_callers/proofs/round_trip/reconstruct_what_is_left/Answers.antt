@@ -1,14 +1,10 @@
-use Rattle.rs_callers.specs.Losing.{items_lent}
 use Rattle.rs_callers.proofs.ReconstructLaws.{restored_only, refused_only}
 use Rattle.rs_callers.proofs.round_trip.reconstruct_what_is_left.Goals as goal
 
 pub returns-clause-restored : goal.returns-clause-restored
 returns-clause-restored c originals recovery coded kept received =
-    restored_only c.args.original_count c.args.recovery_count originals recovery (items_lent c.args.kept.now)
-    (items_lent c.args.received.now) c.args.wanted.now coded kept received c.reconstruct.result c.reconstruct.ensures
+    restored_only c.args.wanted.now coded kept received c.reconstruct.result c.reconstruct.ensures
 
 pub returns-clause-enough : goal.returns-clause-enough
 returns-clause-enough c originals recovery s coded kept received taken lost many =
-    refused_only c.args.original_count c.args.recovery_count originals recovery (items_lent c.args.kept.now)
-    (items_lent c.args.received.now) c.args.wanted.now coded kept received c.reconstruct.result s taken lost many
-    c.reconstruct.ensures
+    refused_only c.args.wanted.now coded kept received c.reconstruct.result s taken lost many c.reconstruct.ensures

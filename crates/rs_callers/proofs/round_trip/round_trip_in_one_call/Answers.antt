@@ -1,4 +1,4 @@
-use Rattle.std.proofs.Common.{rules, ◌≡◌, ◌∙◌, Err, map, not, length, ap, arith}
+use Rattle.std.proofs.Common.{rules, ◌≡◌, Err, map, not, length, arith}
 use Rattle.std.proofs.lemmas.List.{length-map}
 use Rattle.std.proofs.lemmas.List.Elements.{All-map}
 use Rattle.std.proofs.lemmas.Iterator.{YieldsList-from_slice, YieldsList-from_map_by}
@@ -7,9 +7,9 @@ use Rattle.reed_solomon_simd.specs.OneCall.{collected_map}
 use Rattle.reed_solomon_simd.proofs.CallerLemmas.{collected_shards-holds, collected_shards-refused}
 use Rattle.reed_solomon_simd.proofs.Left.{kept_of, kept-left, just-lost, enough-left}
 use Rattle.reed_solomon_simd.proofs.OneRoundTrip.{encodes_in_one_call, restores_in_one_call}
-use Rattle.rs_callers.specs.Losing.{is_lost, left_below}
+use Rattle.rs_callers.specs.Losing.{is_lost}
 use Rattle.rs_callers.proofs.Chains.{numbered, filtered}
-use Rattle.rs_callers.proofs.LeftCount.{left-count}
+use Rattle.rs_callers.proofs.LeftCount.{left-number}
 use Rattle.rs_callers.proofs.round_trip.round_trip_in_one_call.Goals as goal
 
 pub returns-in_err-recovery-clause-enough : goal.returns-in_err-recovery-clause-enough
@@ -54,9 +54,8 @@ returns c =
       enough = λ size valid sized many.
           let long : length originals ≡ length c.args.originals.now =
           length-map c.args.originals.now (λ vector. vector.items) in
-          let own = left-count 0 c.args.lost.now originals ∙ ap (λ n. left_below n c.args.lost.now) long in
-          let coded = left-count 0 c.args.recovery_lost.now recovery
-          ∙ ap (λ n. left_below n c.args.recovery_lost.now) was.coded.shards.length_is in
+          let own = left-number c.args.lost.now originals long in
+          let coded = left-number c.args.recovery_lost.now recovery was.coded.shards.length_is in
           collected_shards-refused c.decode.result (λ e. e ≡ OutOfMemory)
           (enough-left originals (kept_of originals lost) (kept_of recovery recovery_lost)
           (collected_map c.decode.result) back (omega (arith, long, own, coded, many)));

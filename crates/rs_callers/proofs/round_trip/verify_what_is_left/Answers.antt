@@ -4,10 +4,9 @@ use Rattle.rs_callers.proofs.round_trip.verify_what_is_left.Goals as goal
 
 pub returns-clause-passes : goal.returns-clause-passes
 returns-clause-passes c originals recovery coded kept received =
-    codeword_passes c.args.original_count c.args.recovery_count originals recovery (items_lent c.args.kept.now)
-    (items_lent c.args.received.now) c.verify.result coded kept received c.verify.ensures
+    codeword_passes coded kept received c.verify.ensures
 
 pub returns-clause-notices : goal.returns-clause-notices
 returns-clause-notices c s message all received are coded some few =
-    changes_found c.args.original_count c.args.recovery_count (items_lent c.args.kept.now)
-    (items_lent c.args.received.now) s message all c.verify.result received are coded some few c.verify.ensures
+    changes_found c.args.recovery_count (items_lent c.args.kept.now) (items_lent c.args.received.now) received are coded
+    some few c.verify.ensures

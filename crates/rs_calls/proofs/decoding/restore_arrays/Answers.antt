@@ -1,9 +1,12 @@
 use Rattle.std.proofs.Common.{rules, ◌≡◌, [], length, Ok, Err, inl, sym, ap, subst, ◌∙◌, refl, arith}
+use Rattle.std.specs.Option.{option_map}
+use Rattle.std.specs.Result.{result_map_both}
 use Rattle.std.proofs.lemmas.Iterator.{YieldsList-from_slice, YieldsList-from_map_by}
 use Rattle.std.proofs.lemmas.List.{nil_from_length}
 use Rattle.std.proofs.lemmas.List.Elements.{All-nil}
 use Rattle.rs_field.specs.declared.code.error.Error.TheVariants.{OutOfMemory}
 use Rattle.rs_field.proofs.of_code.SupportedCounts.{default_fits}
+use Rattle.rs_rate.specs.objects.Giving.{IsDecoding}
 use Rattle.reed_solomon_simd.specs.declared.room_error.RoomError.TheVariants.{Refused}
 use Rattle.reed_solomon_simd.specs.Into.{DecodesInto}
 use Rattle.reed_solomon_simd.specs.ReceivedState.{received_state}
@@ -12,6 +15,8 @@ use Rattle.reed_solomon_simd.proofs.Giving.{always-both}
 use Rattle.reed_solomon_simd.proofs.OneCall.{decoding-uncounted, decoding-none, decoding-refused}
 use Rattle.rs_calls.specs.Arrays.{items_of, bytes_in}
 use Rattle.rs_calls.proofs.RoomFaults.{nothing-memory}
+use Rattle.rs_calls.proofs.decoding.restore_arrays.Given.{Over}
+use Rattle.rs_calls.proofs.decoding.restore_arrays.Goals.{After-received_shards}
 use Rattle.rs_calls.proofs.decoding.restore_arrays.Goals as goal
 
 pub returns-in_err-counts-clause-answer : goal.returns-in_err-counts-clause-answer
@@ -65,15 +70,24 @@ returns-then-is_empty-clause-memory g c none lacks =
     nothing-memory (bytes_in c.args.restored.now)
     (sym (c.check_rooms.ensures.answer [] refl (All-nil (λ shard. length shard ≡ 0))) ∙ lacks)
 
-pub returns-in_err-received-clause-answer : goal.returns-in_err-received-clause-answer
-returns-in_err-received-clause-answer g c =
+-- Collecting the received shards has the outcome of adding them to a decoder.
+collected : (g : Over) (c : After-received_shards g)
+    → IsDecoding c.args.original_count c.args.recovery_count (items_of c.args.originals.now)
+    (items_of c.args.recovery.now)
+    (result_map_both (λ o. option_map received_state o) (λ e. e) c.received_shards.result)
+collected g c =
     let own = YieldsList-from_map_by _ (λ item. (item.0, item.1.now)) (λ shard. (shard.index, shard.bytes.now))
     (YieldsList-from_slice c.args.originals.now cc) c.map-own.ensures.closure (λ x r q k. search rules) in
     let other = YieldsList-from_map_by _ (λ item. (item.0, item.1.now)) (λ shard. (shard.index, shard.bytes.now))
     (YieldsList-from_slice c.args.recovery.now cc) c.map-other.ensures.closure (λ x r q k. search rules) in
-    let led = always-both (λ item. (item.0, item.1.now)) (λ item. (item.0, item.1.now)) _
-    (rw (c.in_ok-counts.ensures.0, c.in_ok-counts.ensures.1) at c.in_err-received.ensures)
-    (items_of c.args.originals.now) (items_of c.args.recovery.now) own.runs other.runs in
+    always-both (λ item. (item.0, item.1.now)) (λ item. (item.0, item.1.now)) _
+    (rw (c.in_ok-counts.ensures.0, c.in_ok-counts.ensures.1) at c.received_shards.ensures)
+    (items_of c.args.originals.now) (items_of c.args.recovery.now) own.runs other.runs
+
+pub returns-in_err-received-clause-answer : goal.returns-in_err-received-clause-answer
+returns-in_err-received-clause-answer g c =
+    let led = rw c.in_err-received.was at
+    (collected g (goal.at.returns-in_err-received-clause-answer g c).After-received_shards) in
     let e = c.in_err-received.field-0.0 in
     decodes-refused c.args.original_count c.args.recovery_count (items_of c.args.originals.now)
     (items_of c.args.recovery.now) e (bytes_in c.args.restored.now) _
@@ -81,26 +95,16 @@ returns-in_err-received-clause-answer g c =
 
 pub returns-in_default-clause-answer : goal.returns-in_default-clause-answer
 returns-in_default-clause-answer g c =
-    let own = YieldsList-from_map_by _ (λ item. (item.0, item.1.now)) (λ shard. (shard.index, shard.bytes.now))
-    (YieldsList-from_slice c.args.originals.now cc) c.map-own.ensures.closure (λ x r q k. search rules) in
-    let other = YieldsList-from_map_by _ (λ item. (item.0, item.1.now)) (λ shard. (shard.index, shard.bytes.now))
-    (YieldsList-from_slice c.args.recovery.now cc) c.map-other.ensures.closure (λ x r q k. search rules) in
-    let led = always-both (λ item. (item.0, item.1.now)) (λ item. (item.0, item.1.now)) _
-    (rw (c.in_ok-counts.ensures.0, c.in_ok-counts.ensures.1, c.in_default.is) at c.in_ok-received.ensures)
-    (items_of c.args.originals.now) (items_of c.args.recovery.now) own.runs other.runs in
     decodes-nothing c.args.original_count c.args.recovery_count (items_of c.args.originals.now)
-    (items_of c.args.recovery.now) (bytes_in c.args.restored.now) _ led
+    (items_of c.args.recovery.now) (bytes_in c.args.restored.now) _
+    (rw (c.in_ok-received.was, c.in_default.is) at
+    (collected g (goal.at.returns-in_default-clause-answer g c).After-received_shards))
     (c.check_rooms-in_default.ensures.answer [] refl (All-nil (λ shard. length shard ≡ 0)))
 
 pub returns-clause-answer : goal.returns-clause-answer
 returns-clause-answer g c =
-    let own = YieldsList-from_map_by _ (λ item. (item.0, item.1.now)) (λ shard. (shard.index, shard.bytes.now))
-    (YieldsList-from_slice c.args.originals.now cc) c.map-own.ensures.closure (λ x r q k. search rules) in
-    let other = YieldsList-from_map_by _ (λ item. (item.0, item.1.now)) (λ shard. (shard.index, shard.bytes.now))
-    (YieldsList-from_slice c.args.recovery.now cc) c.map-other.ensures.closure (λ x r q k. search rules) in
-    let led = always-both (λ item. (item.0, item.1.now)) (λ item. (item.0, item.1.now)) _
-    (rw (c.in_ok-counts.ensures.0, c.in_ok-counts.ensures.1, c.in-Some.is) at c.in_ok-received.ensures)
-    (items_of c.args.originals.now) (items_of c.args.recovery.now) own.runs other.runs in
     decodes-restored c.args.original_count c.args.recovery_count (items_of c.args.originals.now)
     (items_of c.args.recovery.now) (received_state c.in-Some.received)
-    (bytes_in c.args.restored.now) (bytes_in c.restore_into.new.rooms) _ led c.restore_into.ensures.answer
+    (bytes_in c.args.restored.now) (bytes_in c.restore_into.new.rooms) _
+    (rw (c.in_ok-received.was, c.in-Some.is) at
+    (collected g (goal.at.returns-clause-answer g c).After-received_shards)) c.restore_into.ensures.answer

@@ -5,16 +5,28 @@ use Rattle.rs_field.specs.code.Column.{Shard}
 use Rattle.rs_field.specs.code.Decoder.{DecoderState, NoneAgrees, enough_given}
 use Rattle.rs_field.specs.code.PieceStates.{HoldRestored}
 use Rattle.rs_calls.specs.Buffers.{lost_indexes, marked_map, marked_state, shard_place}
-use Rattle.rs_calls.proofs.MarkedState.{marked-decoder, lost-long}
+use Rattle.rs_calls.proofs.MarkedState.{AreMarked, marked-decoder, lost-long}
 use Rattle.rs_calls.proofs.RestoredBuffer.{buffer-same, rooms-placed, marked-same, length-same, was-done-err}
+use Rattle.rs_calls.proofs.decoding.restore_marked.Given.{Over}
+use Rattle.rs_calls.proofs.decoding.restore_marked.Goals.{In_ok-lost}
 use Rattle.rs_calls.proofs.decoding.restore_marked.Goals as goal
+
+-- The buffers consist of whole shards, and there is a mark for each shard.
+buffers : (g : Over) (c : In_ok-lost g)
+    → AreMarked c.args.counts.original_count c.args.counts.recovery_count c.args.size c.args.marks.0.now
+    c.args.originals.now c.args.marks.1.now c.args.recovery.now
+buffers g c =
+    record {
+      own_number = c.requires.own_marks;
+      other_number = c.requires.other_marks;
+      own_whole = c.requires.own_whole;
+      other_whole = c.requires.other_whole;
+    }
 
 pub restore_buffers-requires-clause-set_up : goal.restore_buffers-requires-clause-set_up
 restore_buffers-requires-clause-set_up g c =
-    marked-decoder c.args.counts.original_count c.args.counts.recovery_count c.args.size c.args.marks.0.now
-    c.args.originals.now c.args.marks.1.now c.args.recovery.now
-    c.requires.own_marks c.requires.other_marks c.requires.own_whole c.requires.other_whole c.are_bytes.ensures.all
-    c.are_bytes-2.ensures.all c.requires.set_up
+    marked-decoder (buffers g (goal.at.restore_buffers-requires-clause-set_up g c).In_ok-lost)
+    c.are_bytes.ensures.all c.are_bytes-2.ensures.all c.requires.set_up
 
 pub restore_buffers-requires-clause-fit : goal.restore_buffers-requires-clause-fit
 restore_buffers-requires-clause-fit g c =
@@ -33,9 +45,8 @@ returns-clause-answer g c =
     (λ _. MatchResult c.restore_buffers.result (λ _. HoldRestored s rooms)
     (λ e. NoneAgrees s e ⊎ (e ≡ OutOfMemory)))
     (λ e. c.restore_buffers.result ≡ Err e))
-    (rooms-placed c.args.counts.original_count c.args.counts.recovery_count c.args.size c.args.marks.0.now
-    c.args.originals.now c.args.marks.1.now c.args.recovery.now _
-    c.restore_buffers.new.buffers c.restore_buffers.ensures.others listed) c.restore_buffers.ensures.answer in
+    (rooms-placed c.restore_buffers.new.buffers c.restore_buffers.ensures.others listed)
+    c.restore_buffers.ensures.answer in
     inl (subst (λ (new : List ℕ). MatchResult (enough_given s) (λ _. MatchResult c.restore_buffers.result
     (λ _. HoldRestored s (map (λ i. shard_place c.args.size new i) (lost_indexes 0 c.args.marks.0.now)))
     (λ e. NoneAgrees s e ⊎ (e ≡ OutOfMemory)))
@@ -45,28 +56,23 @@ pub returns-clause-marked : goal.returns-clause-marked
 returns-clause-marked g c =
     let same : marked_map c.args.size c.args.marks.0.now c.restore_buffers.new.buffers.originals.now
     ≡ marked_map c.args.size c.args.marks.0.now c.args.originals.now =
-    marked-same c.args.counts.original_count c.args.counts.recovery_count c.args.size c.args.marks.0.now
-    c.args.originals.now c.args.marks.1.now c.args.recovery.now _
-    c.restore_buffers.new.buffers c.restore_buffers.ensures.others in
+    marked-same c.restore_buffers.new.buffers c.restore_buffers.ensures.others in
     search rules
 
 pub returns-clause-untouched : goal.returns-clause-untouched
 returns-clause-untouched g c =
     let listed = c.as_slice.ensures.value ∙ c.in_ok-lost.ensures in
     let others = c.restore_buffers.ensures.others in
-    let marked = marked-same c.args.counts.original_count c.args.counts.recovery_count c.args.size c.args.marks.0.now
-    c.args.originals.now c.args.marks.1.now c.args.recovery.now _ c.restore_buffers.new.buffers others in
-    let long = length-same c.args.counts.original_count c.args.counts.recovery_count c.args.size c.args.marks.0.now
-    c.args.originals.now c.args.marks.1.now c.args.recovery.now _ c.restore_buffers.new.buffers others in
-    let placed = rooms-placed c.args.counts.original_count c.args.counts.recovery_count c.args.size c.args.marks.0.now
-    c.args.originals.now c.args.marks.1.now c.args.recovery.now _ c.restore_buffers.new.buffers others listed in
+    let marked = marked-same c.restore_buffers.new.buffers others in
+    let long = length-same c.restore_buffers.new.buffers others in
+    let placed = rooms-placed c.restore_buffers.new.buffers others listed in
     let old : map (λ i. shard_place c.args.size c.args.originals.now i) c.as_slice.result.now
     ≡ map (λ i. shard_place c.args.size c.args.originals.now i) (lost_indexes 0 c.args.marks.0.now) =
     ap (map (λ i. shard_place c.args.size c.args.originals.now i)) listed in
     let fact : OnErr c.restore_buffers.result (c.restore_buffers.new.buffers.originals.now ≡ c.args.originals.now) =
     was-done-err c.restore_buffers.result
-    (λ same. buffer-same c.args.counts.original_count c.args.counts.recovery_count c.args.size c.args.marks.0.now
-    c.args.originals.now c.args.marks.1.now c.args.recovery.now c.restore_buffers.new.buffers.originals.now
-    c.requires.own_marks c.requires.own_whole long marked (sym placed ∙ same ∙ old)) c.restore_buffers.ensures.untouched
+    (λ same. buffer-same c.restore_buffers.new.buffers.originals.now
+    (buffers g (goal.at.returns-clause-untouched g c).In_ok-lost) long marked (sym placed ∙ same ∙ old))
+    c.restore_buffers.ensures.untouched
     in
     subst (λ (new : List ℕ). OnErr c.restore_buffers.result (new ≡ c.args.originals.now)) (search rules) fact

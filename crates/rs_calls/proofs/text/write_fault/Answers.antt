@@ -5,6 +5,6 @@ use Rattle.rs_calls.proofs.text.write_fault.Goals as goal
 
 pub returns-in-WrongNumberOfRooms : goal.returns-in-WrongNumberOfRooms
 returns-in-WrongNumberOfRooms c =
-    let writes = c.write_two-in-WrongNumberOfRooms in
-    let text = text_of (WrongNumberOfRooms c.in-WrongNumberOfRooms.wanted c.in-WrongNumberOfRooms.got) in
-    rw c.in-WrongNumberOfRooms.is (ended text c.args.room.now writes.new.room writes.result writes.ensures)
+    rw c.in-WrongNumberOfRooms.is
+    (ended (text_of (WrongNumberOfRooms c.in-WrongNumberOfRooms.wanted c.in-WrongNumberOfRooms.got)) c.args.room.now
+    c.write_two-in-WrongNumberOfRooms.ensures)

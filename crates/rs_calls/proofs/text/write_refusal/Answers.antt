@@ -7,41 +7,36 @@ use Rattle.rs_calls.proofs.text.write_refusal.Goals as goal
 
 pub returns-in-DuplicateOriginalShardIndex : goal.returns-in-DuplicateOriginalShardIndex
 returns-in-DuplicateOriginalShardIndex c =
-    let writes = c.write_one in
-    let given = c.in-DuplicateOriginalShardIndex in
-    let text = refusal_text (DuplicateOriginalShardIndex given.index) in
-    rw c.in-DuplicateOriginalShardIndex.is (ended text c.args.room.now writes.new.room writes.result writes.ensures)
+    rw c.in-DuplicateOriginalShardIndex.is
+    (ended (refusal_text (DuplicateOriginalShardIndex c.in-DuplicateOriginalShardIndex.index)) c.args.room.now
+    c.write_one.ensures)
 
 pub returns-in-DuplicateRecoveryShardIndex : goal.returns-in-DuplicateRecoveryShardIndex
 returns-in-DuplicateRecoveryShardIndex c =
-    let writes = c.write_one-in-DuplicateRecoveryShardIndex in
-    let given = c.in-DuplicateRecoveryShardIndex in
-    let text = refusal_text (DuplicateRecoveryShardIndex given.index) in
-    rw c.in-DuplicateRecoveryShardIndex.is (ended text c.args.room.now writes.new.room writes.result writes.ensures)
+    rw c.in-DuplicateRecoveryShardIndex.is
+    (ended (refusal_text (DuplicateRecoveryShardIndex c.in-DuplicateRecoveryShardIndex.index)) c.args.room.now
+    c.write_one-in-DuplicateRecoveryShardIndex.ensures)
 
 pub returns-in-InconsistentShards : goal.returns-in-InconsistentShards
 returns-in-InconsistentShards c = rw c.in-InconsistentShards.is (c.write_two-in-InconsistentShards.ensures)
 
 pub returns-in-InvalidOriginalShardIndex : goal.returns-in-InvalidOriginalShardIndex
 returns-in-InvalidOriginalShardIndex c =
-    let writes = c.write_two-in-InvalidOriginalShardIndex in
-    let given = c.in-InvalidOriginalShardIndex in
-    let text = refusal_text (InvalidOriginalShardIndex given.original_count given.index) in
-    rw c.in-InvalidOriginalShardIndex.is (ended text c.args.room.now writes.new.room writes.result writes.ensures)
+    rw c.in-InvalidOriginalShardIndex.is
+    (ended (refusal_text (InvalidOriginalShardIndex c.in-InvalidOriginalShardIndex.original_count
+    c.in-InvalidOriginalShardIndex.index)) c.args.room.now c.write_two-in-InvalidOriginalShardIndex.ensures)
 
 pub returns-in-InvalidRecoveryShardIndex : goal.returns-in-InvalidRecoveryShardIndex
 returns-in-InvalidRecoveryShardIndex c =
-    let writes = c.write_two-in-InvalidRecoveryShardIndex in
-    let given = c.in-InvalidRecoveryShardIndex in
-    let text = refusal_text (InvalidRecoveryShardIndex given.recovery_count given.index) in
-    rw c.in-InvalidRecoveryShardIndex.is (ended text c.args.room.now writes.new.room writes.result writes.ensures)
+    rw c.in-InvalidRecoveryShardIndex.is
+    (ended (refusal_text (InvalidRecoveryShardIndex c.in-InvalidRecoveryShardIndex.recovery_count
+    c.in-InvalidRecoveryShardIndex.index)) c.args.room.now c.write_two-in-InvalidRecoveryShardIndex.ensures)
 
 pub returns-in-NotEnoughShards : goal.returns-in-NotEnoughShards
 returns-in-NotEnoughShards c = rw c.in-NotEnoughShards.is (c.write_three.ensures)
 
 pub returns-in-TooFewOriginalShards : goal.returns-in-TooFewOriginalShards
 returns-in-TooFewOriginalShards c =
-    let writes = c.write_two-in-TooFewOriginalShards in
-    let given = c.in-TooFewOriginalShards in
-    let text = refusal_text (TooFewOriginalShards given.original_count given.original_received_count) in
-    rw c.in-TooFewOriginalShards.is (ended text c.args.room.now writes.new.room writes.result writes.ensures)
+    rw c.in-TooFewOriginalShards.is
+    (ended (refusal_text (TooFewOriginalShards c.in-TooFewOriginalShards.original_count
+    c.in-TooFewOriginalShards.original_received_count)) c.args.room.now c.write_two-in-TooFewOriginalShards.ensures)

@@ -9,7 +9,6 @@ returns c =
     let begin = sym (c.put-at.ensures.end ∙ zero-add (length a)) in
     let first = c.put-at.ensures.written [] old refl (sym (over-nothing old)) in
     let number = c.put_number-at.ensures.written a old begin first in
-    let at = longer a d c.put-at.result c.put_number-at.result begin c.put_number-at.ensures.end.0 in
-    let whole =
-    longer (a ++ d) e c.put_number-at.result c.put.result at c.put.ensures.end in
+    let at = longer a d begin c.put_number-at.ensures.end.0 in
+    let whole = longer (a ++ d) e at c.put.ensures.end in
     (sym whole, c.put.ensures.written (a ++ d) old at number)

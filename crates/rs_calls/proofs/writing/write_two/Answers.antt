@@ -10,11 +10,10 @@ returns c =
     let begin = sym (c.put-at.ensures.end ∙ zero-add (length a)) in
     let first = c.put-at.ensures.written [] old refl (sym (over-nothing old)) in
     let one = c.put_number-at.ensures.written a old begin first in
-    let at1 = longer a d c.put-at.result c.put_number-at.result begin c.put_number-at.ensures.end.0 in
+    let at1 = longer a d begin c.put_number-at.ensures.end.0 in
     let second = c.put-at-2.ensures.written (a ++ d) old at1 one in
-    let at2 = longer (a ++ d) b c.put_number-at.result c.put-at-2.result at1 c.put-at-2.ensures.end in
+    let at2 = longer (a ++ d) b at1 c.put-at-2.ensures.end in
     let two = c.put_number-at-2.ensures.written (a ++ d ++ b) old at2 second in
-    let at3 = longer (a ++ d ++ b) f c.put-at-2.result c.put_number-at-2.result at2 c.put_number-at-2.ensures.end.0 in
-    let whole =
-    longer (a ++ d ++ b ++ f) e c.put_number-at-2.result c.put.result at3 c.put.ensures.end in
+    let at3 = longer (a ++ d ++ b) f at2 c.put_number-at-2.ensures.end.0 in
+    let whole = longer (a ++ d ++ b ++ f) e at3 c.put.ensures.end in
     (sym whole, c.put.ensures.written (a ++ d ++ b ++ f) old at3 two)

@@ -10,7 +10,7 @@ pub returns-then-file-clause-answer : goal.returns-then-file-clause-answer
 returns-then-file-clause-answer c =
     let long : 2 ^ 62 ≤ c.file-item.result.size = omega arith in
     sym (c.loop-file.invariant.same
-    ∙ length_fault c.args.files.now c.loop-file.file-index c.file-item.result c.loop-file-test.true c.file-item.is
+    ∙ length_fault c.args.files.now c.loop-file-test.true c.file-item.is
     c.loop-file.previous.now long)
 
 pub returns-then-not-is_name-clause-answer : goal.returns-then-not-is_name-clause-answer
@@ -18,7 +18,7 @@ returns-then-not-is_name-clause-answer c =
     let short : c.file-item.result.size < 2 ^ 62 = omega arith in
     let bad : is_name c.file-item.result.name.items ≡ false = search rules in
     sym (c.loop-file.invariant.same
-    ∙ name_fault c.args.files.now c.loop-file.file-index c.file-item.result c.loop-file-test.true c.file-item.is
+    ∙ name_fault c.args.files.now c.loop-file-test.true c.file-item.is
     short c.loop-file.previous.now bad)
 
 pub returns-then-not-is_before-clause-answer : goal.returns-then-not-is_before-clause-answer
@@ -27,7 +27,7 @@ returns-then-not-is_before-clause-answer c =
     let good : is_name c.file-item.result.name.items ≡ true = search rules in
     let bad : is_before c.loop-file.previous.now c.file-item.result.name.items ≡ false = search rules in
     sym (c.loop-file.invariant.same
-    ∙ order_fault c.args.files.now c.loop-file.file-index c.file-item.result c.loop-file-test.true c.file-item.is
+    ∙ order_fault c.args.files.now c.loop-file-test.true c.file-item.is
     short c.loop-file.previous.now good bad)
 
 pub loop-file-preserved : goal.loop-file-preserved
@@ -37,7 +37,7 @@ loop-file-preserved c =
     let later : is_before c.loop-file.previous.now c.file-item.result.name.items ≡ true = search rules in
     record {
       same = rw c.as_slice-previous.ensures.value (c.loop-file.invariant.same
-          ∙ passes_at c.args.files.now c.loop-file.file-index c.file-item.result c.loop-file-test.true c.file-item.is
+          ∙ passes_at c.args.files.now c.loop-file-test.true c.file-item.is
           short c.loop-file.previous.now good later);
       sized = λ k d lt. elim (cases_lt k c.loop-file.file-index) [
         | inl less ↦ c.loop-file.invariant.sized k d less

@@ -8,7 +8,7 @@ returns-then-blocks-left c =
     let much : c.loop-file.left < blocks_of c.args.block_bytes c.file-item.result.size =
     omega (arith, c.block_count-blocks.ensures) in
     sym (c.loop-file.invariant.same
-    ∙ overfills_at c.args.files.now c.loop-file.file-index c.file-item.result c.loop-file-test.true c.file-item.is
+    ∙ overfills_at c.args.files.now c.loop-file-test.true c.file-item.is
     c.args.block_bytes c.loop-file.left much)
 
 pub loop-file-preserved : goal.loop-file-preserved
@@ -17,7 +17,7 @@ loop-file-preserved c =
     omega (arith, c.block_count-blocks.ensures) in
     record {
       same = rw c.block_count-blocks.ensures (c.loop-file.invariant.same
-          ∙ fills_at c.args.files.now c.loop-file.file-index c.file-item.result c.loop-file-test.true c.file-item.is
+          ∙ fills_at c.args.files.now c.loop-file-test.true c.file-item.is
           c.args.block_bytes c.loop-file.left fits);
     }
 

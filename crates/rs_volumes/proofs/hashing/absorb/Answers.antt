@@ -9,7 +9,7 @@ returns-clause-hashed c blocks is =
     let held = c.loop-index.invariant in
     let count : length (map (λ p. p.items) c.args.pieces.now) ≡ length c.args.pieces.now =
     length-map c.args.pieces.now _ in
-    absorbed c.args.hashers.now.items c.loop-index.hashers.items blocks (map (λ p. p.items) c.args.pieces.now)
+    absorbed (map (λ p. p.items) c.args.pieces.now)
     (c.requires ∙ sym count) (held.number ∙ sym count)
     (λ i d m h. held.done i d m
     (let at : c.loop-index.index ≡ length c.args.pieces.now = omega arith in omega (arith, count))) is

@@ -1,4 +1,4 @@
-use Rattle.std.proofs.Common.{◌≡◌, ◌/◌, ◌%◌, ◌*◌, ℕ, List, [], ◌∷◌, ◌++◌, sym, ap, ◌∙◌, append_assoc, arith}
+use Rattle.std.proofs.Common.{refl, ◌≡◌, ◌/◌, ◌%◌, ◌*◌, ℕ, List, [], ◌∷◌, ◌++◌, sym, ap, ◌∙◌, append_assoc, arith}
 use Rattle.std.proofs.lemmas.List.{append-nil}
 use Rattle.rs_volumes.specs.declared.placement.Place.{Place}
 use Rattle.rs_volumes.specs.Places.{full_places}
@@ -24,13 +24,11 @@ returns-in_ok-push-2 c =
     let size : ℕ = c.args.size in
     let old : List Place = c.args.places.now.items in
     let full : List Place = full_places c.args.file block (size / block) in
-    let at : c.loop-number.number ≡ size / block = omega arith in
+    let last : c.loop-number.number ≡ size / block = omega arith in
     let place : Place = record { file = c.args.file; offset = size / block * block; bytes = size % block } in
     c.in_ok-push-2.ensures.items
-    ∙ ap (λ (l : List Place). l ++ place ∷ [])
-    (c.loop-number.invariant ∙ ap (λ (n : ℕ). old ++ full_places c.args.file block n) at)
-    ∙ append_assoc old full (place ∷ [])
-    ∙ ap (λ (l : List Place). old ++ (full ++ l)) (sym (rest-some c.args.file block size c.if-bytes-gt0.true))
+    ∙ rw (rest-some c.args.file block size c.if-bytes-gt0.true)
+    (ap (λ (l : List Place). l ++ place ∷ []) (rw last at c.loop-number.invariant) ∙ append_assoc old full (place ∷ []))
 
 pub returns-else-bytes-gt0 : goal.returns-else-bytes-gt0
 returns-else-bytes-gt0 c =
@@ -38,9 +36,7 @@ returns-else-bytes-gt0 c =
     let size : ℕ = c.args.size in
     let old : List Place = c.args.places.now.items in
     let full : List Place = full_places c.args.file block (size / block) in
-    let at : c.loop-number.number ≡ size / block = omega arith in
+    let last : c.loop-number.number ≡ size / block = omega arith in
     let none : size % block ≡ 0 = omega (arith, c.if-bytes-gt0.false) in
     c.loop-number.invariant
-    ∙ ap (λ (n : ℕ). old ++ full_places c.args.file block n) at
-    ∙ ap (λ (l : List Place). old ++ l) (sym (append-nil full))
-    ∙ ap (λ (l : List Place). old ++ (full ++ l)) (sym (rest-none c.args.file block size none))
+    ∙ rw (rest-none c.args.file block size none, append-nil full, last) refl

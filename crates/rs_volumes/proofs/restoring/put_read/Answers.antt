@@ -19,16 +19,14 @@ loop-index-preserved g c =
     let n : ℕ = c.loop-index.index-index in
     let p : ℕ × Vec ℕ = c.loop-index-item.result in
     let more : items_of (take (n + 1) pieces) ≡ items_of (take n pieces) ++ (p.0, p.1.items) ∷ [] =
-    items_more pieces n p c.loop-index-test.true c.loop-index-item.is in
+    items_more pieces c.loop-index-test.true c.loop-index-item.is in
     elim c.if-index-wanted.branch [
       | then-index-wanted+then-wanted-index+in_ok-put_one w ↦
           record {
             number = search rules;
             step = search rules;
             put = λ i bytes is held. rw (w.sink-is, more)
-                (gets_more c.args.wanted.now (items_of (take n pieces)) (p.0, p.1.items)
-                (g.W.BlockSink.written c.args.sink.now) (g.W.BlockSink.written c.loop-index.sink)
-                (g.W.BlockSink.written w.put_one.new.sink) c.loop-index.invariant.put
+                (gets_more c.args.wanted.now (items_of (take n pieces)) (p.0, p.1.items) c.loop-index.invariant.put
                 (λ now so. w.in_ok-put_one.ensures.here now so
                 ∙ ap (λ (x : Shard). Some (now ++ x)) w.as_slice.ensures.value)
                 w.in_ok-put_one.ensures.others i bytes is held);
@@ -38,10 +36,8 @@ loop-index-preserved g c =
             number = search rules;
             step = search rules;
             put = λ i bytes is held. rw (w.sink-is, more)
-                (gets_same c.args.wanted.now (items_of (take n pieces)) (p.0, p.1.items)
-                (g.W.BlockSink.written c.args.sink.now) (g.W.BlockSink.written c.loop-index.sink)
-                (g.W.BlockSink.written c.loop-index.sink)
-                c.loop-index.invariant.put (grind (arith, common_steps)) i bytes is held);
+                (gets_same c.args.wanted.now (items_of (take n pieces)) (p.0, p.1.items) c.loop-index.invariant.put
+                (grind (arith, common_steps)) i bytes is held);
           }
     ]
 

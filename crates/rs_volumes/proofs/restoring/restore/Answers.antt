@@ -1,7 +1,5 @@
-use Rattle.std.proofs.Common.{◌≡◌, ℕ, ◌+◌, List, Bool, Some, sym, ap, subst, ◌∙◌, arith, take}
+use Rattle.std.proofs.Common.{◌≡◌, ℕ, Some, ap, ◌∙◌, arith, take}
 use Rattle.std.proofs.lemmas.Grind.{common_steps}
-use Rattle.rs_field.specs.code.Pieces.{IsStrip}
-use Rattle.rs_volumes.specs.Restoring.{AreRestored}
 use Rattle.rs_volumes.proofs.Coded.{next_strip}
 use Rattle.rs_field.specs.code.Column.{shard_at}
 use Rattle.rs_volumes.proofs.Originals.{block_more, whole_block}
@@ -11,12 +9,8 @@ use Rattle.rs_volumes.proofs.restoring.restore.Goals as goal
 pub loop-start-preserved : goal.loop-start-preserved
 loop-start-preserved g c =
     let held = c.loop-start.invariant in
-    let start : ℕ = c.loop-start.start in
-    let size : ℕ = c.args.shape.block_bytes in
-    let strip : IsStrip start (start + c.min.result) size =
-    subst (λ (n : ℕ). IsStrip start (start + n) size) (sym c.min.ensures)
-    (next_strip start c.args.piece_bytes size held.inside held.begins c.requires.chunks c.requires.some
-    c.loop-start-test.true) in
+    let strip = next_strip held.inside held.begins c.requires.chunks c.requires.some c.loop-start-test.true
+    c.min.ensures in
     record {
       inside = strip.inside;
       begins = strip.ends;
@@ -24,21 +18,16 @@ loop-start-preserved g c =
       step = grind (arith, common_steps);
       kept = c.in_ok-pieces.ensures.kept ∙ held.kept;
       back = λ originals recovery set i is covered none.
-          block_more c.args.shape c.args.plan.now (g.S.BlockSource.blocks c.args.source.now)
-          (g.W.BlockSink.written c.loop-start.sink) (g.W.BlockSink.written c.restore_piece.new.sink) originals recovery
-          start (start + c.min.result) c.in_ok-pieces.pieces.originals.items c.in_ok-pieces.pieces.recovery.items strip
-          set (rw held.kept at c.in_ok-pieces.ensures.originals) (rw held.kept at c.in_ok-pieces.ensures.recovery)
-          c.in_ok-restore_piece.ensures.back i is covered (held.back originals recovery set i is covered none);
+          block_more strip set (rw held.kept at c.in_ok-pieces.ensures.originals)
+          (rw held.kept at c.in_ok-pieces.ensures.recovery) c.in_ok-restore_piece.ensures.back i is covered
+          (held.back originals recovery set i is covered none);
     }
 
 pub returns-clause-digests : goal.returns-clause-digests
 returns-clause-digests g c =
-    subst (λ (l : List Bool).
-    AreRestored l c.args.digests.now (g.W.BlockSink.written c.args.sink.now)
-    (g.W.BlockSink.written c.loop-start.sink)) c.as_slice.ensures.value
-    (restored c.loop-start.hashers.items c.as_slice.result.now c.args.digests.now
-    (g.W.BlockSink.written c.args.sink.now) (g.W.BlockSink.written c.loop-start.sink)
-    c.in_ok-compare.ensures.number c.loop-start.invariant.step c.in_ok-compare.ensures.digest)
+    rw c.as_slice.ensures.value at
+    (restored c.loop-start.hashers.items c.in_ok-compare.ensures.number c.loop-start.invariant.step
+    c.in_ok-compare.ensures.digest)
 
 pub returns-clause-originals : goal.returns-clause-originals
 returns-clause-originals g c originals recovery set =
@@ -48,5 +37,5 @@ returns-clause-originals g c originals recovery set =
       each = λ i is covered none.
           held.back originals recovery set i is covered none
           ∙ ap (λ (n : ℕ). Some (take n (shard_at originals i))) ends
-          ∙ ap Some (whole_block c.args.shape.original_count c.args.shape.block_bytes i originals set.shards);
+          ∙ ap Some (whole_block i set.shards);
     }

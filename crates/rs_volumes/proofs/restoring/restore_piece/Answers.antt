@@ -13,7 +13,7 @@ returns-then-is_empty-clause-back g c size message all shards coded left got i b
     elim covered [
       | inl own ↦
           put i bytes is held
-          ∙ ap (λ (p : Shard). Some (bytes ++ p)) (piece_of-one message read left.own left.once i own)
+          ∙ ap (λ (p : Shard). Some (bytes ++ p)) (piece_of-one left i own)
       | inr some ↦ absurd (grind (arith, common_steps))
     ]
 
@@ -29,5 +29,4 @@ returns-clause-back g c size message all shards coded left got i bytes is covere
     then i (bytes ++ piece_of i read) is (put i bytes is held)
     ∙ ap Some (append_assoc bytes (piece_of i read) (bytes_of (shards_in c.in_ok-restored.restored i))
     ∙ ap (λ (p : Shard). bytes ++ p)
-    (both_pieces c.args.shape.original_count c.args.shape.recovery_count size message all read received
-    (shards_in c.in_ok-restored.restored) shards coded left got some answers i))
+    (both_pieces shards coded left got some answers i))

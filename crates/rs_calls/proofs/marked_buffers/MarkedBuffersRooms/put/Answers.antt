@@ -1,5 +1,5 @@
-use Rattle.std.proofs.Common.{rules, ◌≡◌, ℕ, ◌+◌, ◌<◌, List, [], ◌++◌, length, map, take, drop, get_or, sym, ap, ap₂}
-use Rattle.std.proofs.Common.{subst, ◌∙◌, inl, inr, arith}
+use Rattle.std.proofs.Common.{rules, ◌≡◌, ℕ, ◌+◌, ◌*◌, ◌<◌, ◌≤◌, List, [], ◌++◌, length, map, take, drop, get_or, sym}
+use Rattle.std.proofs.Common.{ap, ap₂, subst, ◌∙◌, inl, inr, arith}
 use Rattle.std.proofs.lemmas.Bool.{cases_lt}
 use Rattle.std.proofs.lemmas.List.{get_or_past, get_or-map, length-map}
 use Rattle.rs_field.specs.code.Given.{Shards}
@@ -8,25 +8,33 @@ use Rattle.rs_calls.specs.Buffers.{marked_map, shard_place}
 use Rattle.rs_calls.proofs.CutLemmas.{room-inside, put-here, put-other, put-long}
 use Rattle.rs_calls.proofs.LostLemmas.{lost-mark, lost-grow, grow-apart}
 use Rattle.rs_calls.proofs.MarkedState.{map-put}
+use Rattle.rs_calls.proofs.marked_buffers.MarkedBuffersRooms.put.Goals.{After-put}
 use Rattle.rs_calls.proofs.marked_buffers.MarkedBuffersRooms.put.Goals as goal
+
+-- The index is that of a lost shard, and the piece is inside the place of this shard and inside the buffer.
+placed : (c : After-put) → let x = c.args.self.now in let many = length c.args.piece.now in
+    (c.args.index < length x.lost.now) × (c.args.start + many ≤ x.size)
+    × (get_or x.lost.now c.args.index 0 * x.size + c.args.start + many ≤ length x.originals.now)
+placed c =
+    let x = c.args.self.now in
+    let some : 0 < length c.args.piece.now = search rules in
+    let many = length-map x.lost.now (λ (i : ℕ). shard_place x.size x.originals.now i) in
+    let inside : c.args.index < length c.args.self.now.lost.now = omega (arith, many, c.requires.room) in
+    let was = get_or-map (λ (i : ℕ). shard_place x.size x.originals.now i) x.lost.now c.args.index 0 [] inside in
+    let room = room-inside x.size (get_or x.lost.now c.args.index 0) c.args.start (length c.args.piece.now)
+    c.requires.fits.0 x.originals.now some c.requires.fits.1 (ap length (sym was) ∙ c.requires.fits.2) in
+    (inside, room.0, room.1)
 
 pub returns-then-not-is_empty-clause-here : goal.returns-then-not-is_empty-clause-here
 returns-then-not-is_empty-clause-here c =
-    let x = c.args.self.now in
     let size : ℕ = c.args.self.now.size in let bytes : List ℕ = c.args.self.now.originals.now in
-    let some : 0 < length c.args.piece.now = search rules in
-    let many = length-map c.args.self.now.lost.now
-    (λ (i : ℕ). shard_place c.args.self.now.size c.args.self.now.originals.now i) in
-    let inside : c.args.index < length c.args.self.now.lost.now = omega (arith, many, c.requires.room) in
+    let (inside, fits, within) = placed (goal.at.returns-then-not-is_empty-clause-here c).After-put in
     let place : ℕ = get_or c.args.self.now.lost.now c.args.index 0 in
     let was = get_or-map (λ (i : ℕ). shard_place size bytes i) c.args.self.now.lost.now c.args.index 0 [] inside in
-    let room = room-inside size place c.args.start
-    (length c.args.piece.now) c.requires.fits.0 bytes some c.requires.fits.1
-    (ap length (sym was) ∙ c.requires.fits.2) in
     get_or-map (λ (i : ℕ). shard_place size c.put.new.buffer i) c.args.self.now.lost.now c.args.index 0 [] inside
     ∙ ap (λ (l : List ℕ). shard_place c.args.self.now.size l (get_or c.args.self.now.lost.now c.args.index 0))
     c.put.ensures
-    ∙ put-here size place c.args.start bytes c.args.piece.now room.0 room.1
+    ∙ put-here size place c.args.start bytes c.args.piece.now fits within
     ∙ ap (λ (s : List ℕ). take c.args.start s ++ (c.args.piece.now ++ drop (c.args.start + length c.args.piece.now) s))
     (sym was)
 
@@ -34,16 +42,11 @@ pub returns-then-not-is_empty-clause-others : goal.returns-then-not-is_empty-cla
 returns-then-not-is_empty-clause-others c = λ i other.
     let size : ℕ = c.args.self.now.size in let bytes : List ℕ = c.args.self.now.originals.now in
     let lost : List ℕ = c.args.self.now.lost.now in
-    let some : 0 < length c.args.piece.now = search rules in
+    let (inside, fits, within) = placed (goal.at.returns-then-not-is_empty-clause-others c).After-put in
     let many = length-map c.args.self.now.lost.now
     (λ (i : ℕ). shard_place c.args.self.now.size c.args.self.now.originals.now i) in
     let now = length-map c.args.self.now.lost.now (λ (i : ℕ). shard_place c.args.self.now.size c.put.new.buffer i) in
-    let inside : c.args.index < length c.args.self.now.lost.now = omega (arith, many, c.requires.room) in
     let place : ℕ = get_or c.args.self.now.lost.now c.args.index 0 in
-    let was = get_or-map (λ (i : ℕ). shard_place size bytes i) c.args.self.now.lost.now c.args.index 0 [] inside in
-    let room = room-inside size place c.args.start
-    (length c.args.piece.now) c.requires.fits.0 bytes some c.requires.fits.1
-    (ap length (sym was) ∙ c.requires.fits.2) in
     elim (cases_lt i (length lost)) [
       | inl there ↦
           let apart : get_or c.args.self.now.lost.now i 0 ≡ (get_or c.args.self.now.lost.now c.args.index 0) → ⊥ =
@@ -53,7 +56,7 @@ returns-then-not-is_empty-clause-others c = λ i other.
           i c.args.index there inside other same) in
           get_or-map (λ (i : ℕ). shard_place size c.put.new.buffer i) c.args.self.now.lost.now i 0 [] there
           ∙ ap (λ (l : List ℕ). shard_place c.args.self.now.size l (get_or c.args.self.now.lost.now i 0)) c.put.ensures
-          ∙ put-other size place c.args.start bytes c.args.piece.now room.0 room.1 (get_or lost i 0) apart
+          ∙ put-other size place c.args.start bytes c.args.piece.now fits within (get_or lost i 0) apart
           ∙ sym (get_or-map (λ (i : ℕ). shard_place size bytes i) c.args.self.now.lost.now i 0 [] there)
       | inr past ↦
           get_or_past (map (λ (i : ℕ). shard_place size c.put.new.buffer i) lost) i [] (omega (arith, now, past))
@@ -62,18 +65,10 @@ returns-then-not-is_empty-clause-others c = λ i other.
 
 pub returns-then-not-is_empty-clause-places : goal.returns-then-not-is_empty-clause-places
 returns-then-not-is_empty-clause-places c =
-    let x = c.args.self.now in
     let size : ℕ = c.args.self.now.size in let bytes : List ℕ = c.args.self.now.originals.now in
     let marks : List ℕ = c.args.self.now.original_marks.now in
-    let some : 0 < length c.args.piece.now = search rules in
-    let many = length-map c.args.self.now.lost.now
-    (λ (i : ℕ). shard_place c.args.self.now.size c.args.self.now.originals.now i) in
-    let inside : c.args.index < length c.args.self.now.lost.now = omega (arith, many, c.requires.room) in
+    let (inside, fits, within) = placed (goal.at.returns-then-not-is_empty-clause-places c).After-put in
     let place : ℕ = get_or c.args.self.now.lost.now c.args.index 0 in
-    let was = get_or-map (λ (i : ℕ). shard_place size bytes i) c.args.self.now.lost.now c.args.index 0 [] inside in
-    let room = room-inside size place c.args.start
-    (length c.args.piece.now) c.requires.fits.0 bytes some c.requires.fits.1
-    (ap length (sym was) ∙ c.requires.fits.2) in
     let (j, (same, below, zero_here)) =
     lost-mark 0 marks c.args.index
     (subst (λ (l : List ℕ). c.args.index < length l) c.args.self.now.listed inside) in
@@ -85,9 +80,9 @@ returns-then-not-is_empty-clause-places c =
     let map_same : marked_map c.args.self.now.size c.args.self.now.original_marks.now c.put.new.buffer
     ≡ marked_map c.args.self.now.size c.args.self.now.original_marks.now c.args.self.now.originals.now =
     ap (marked_map c.args.self.now.size c.args.self.now.original_marks.now) c.put.ensures
-    ∙ map-put size place c.args.start marks bytes c.args.piece.now room.0 room.1 lost in
+    ∙ map-put size place c.args.start marks bytes c.args.piece.now fits within lost in
     let long : length c.put.new.buffer ≡ length c.args.self.now.originals.now =
-    ap length c.put.ensures ∙ put-long size place c.args.start bytes c.args.piece.now room.0 room.1 in
+    ap length c.put.ensures ∙ put-long size place c.args.start bytes c.args.piece.now fits within in
     ap₂ (λ (own : Shards) (n : ℕ). (
       record {
         configuration = default_of c.args.self.now.counts.original_count c.args.self.now.counts.recovery_count
