@@ -1,18 +1,17 @@
 -- Direct sums over a base of received shards: the shards in rows, the base, and the words of the sums.
-use Rattle.std.proofs.Common.{◌≡◌, ℕ, ◌+◌, ◌-◌, ◌<◌, ◌≤◌, ◌⊎◌, Bool, true, false, cond, List, length}
-use Rattle.std.proofs.Common.{refl, sym, ap, ap₂, ◌∙◌, subst, inl, inr, arith, ◌^◌, pow_mono}
-use Rattle.std.specs.Prelude.{Option, Some, None, is_some, nat_le, nat_lt, ◌&&◌, slice_index}
+use Rattle.std.proofs.Common.{rules, ◌≡◌, ℕ, ◌+◌, ◌<◌, ◌≤◌, ◌⊎◌, Bool, true, false, cond, List, length, refl, sym, ap}
+use Rattle.std.proofs.Common.{ap₂, ◌∙◌, inl, inr, arith, pow_mono}
+use Rattle.std.specs.Prelude.{Option, Some, None, is_some, slice_index}
 use Rattle.std.specs.List.{between}
 use Rattle.std.specs.Option.{option_map}
 use Rattle.std.proofs.lemmas.Bool.{cases_Bool}
-use mathlib.Core.Path.{fun_ext}
 use Rattle.rs_field.specs.code.Column.{Shard, column}
 use Rattle.rs_field.specs.code.Counts.{default_rate}
 use Rattle.rs_field.specs.code.Decoder.{DecoderState, IsDecoder, originals_given, recovery_given}
 use Rattle.rs_field.specs.code.DirectLaws.{entry_in, given_at, word_of, word_at, locator_at, summed_word, shard_in_row}
 use Rattle.rs_field.specs.code.Frame.{frame_of, row_count, frame_at}
 use Rattle.rs_field.specs.declared.code.frame.Frame.{Frame}
-use Rattle.rs_field.specs.code.Given.{Shards, count_below}
+use Rattle.rs_field.specs.code.Given.{Shards}
 use Rattle.rs_field.specs.code.PieceStates.{pieces_of, state_of_pieces}
 use Rattle.rs_field.specs.rows.MarkedRows.{is_marked}
 use Rattle.rs_field.specs.words.DirectSum.{direct_factor, direct_sum}
@@ -43,17 +42,7 @@ decoder_frame s is =
 -- There are at most as many surplus shards as rows.
 pub few_surplus : (s : DecoderState) (surplus : ℕ) → IsDecoder default_rate s
     → originals_given s + recovery_given s ≡ s.configuration.original_count + surplus → surplus ≤ 65536
-few_surplus s surplus is enough =
-    let f = decoder_frame s is in
-    let rows : row_count (frame_at s.configuration) ≤ 2 ^ 16 = pow_mono f.few in
-    omega (
-      arith,
-      rows,
-      f.recovery,
-      count_most s.configuration.original_count s.originals,
-      count_most s.configuration.recovery_count s.recovery,
-      enough,
-    )
+few_surplus s surplus is enough = search (rules, decoder_frame, pow_mono, count_most)
 
 -- The frame of counts is that of a decoder of these counts.
 pub frame_same : {frame : Frame} {k r : ℕ} (s : DecoderState) → IsDecoder default_rate s
@@ -75,9 +64,7 @@ sum_row ready w = ap (λ p. row_of p w) (sum_frame ready)
 -- What holds of a frame and counts holds of equal ones.
 pub at_counts : (P : Frame → ℕ → ℕ → Type 0) (frame other : Frame) (k l r t : ℕ) → frame ≡ other → k ≡ l → r ≡ t
     → P frame k r → P other l t
-at_counts P frame other k l r t same own coded holds =
-    subst (λ (p : Frame). P p l t) same
-    (subst (λ (n : ℕ). P frame n t) own (subst (λ (n : ℕ). P frame k n) coded holds))
+at_counts P frame other k l r t same own coded holds = search rules
 
 -- A row that is not among those of a map is not among those of a map at an equal place.
 pub outside-same : (x a b n m : ℕ) → a ≡ b → n ≡ m → (x < a) ⊎ (a + n ≤ x) → (x < b) ⊎ (b + m ≤ x)
@@ -95,19 +82,7 @@ in_row-is s x = refl
 pub in_row-pieces : (start end : ℕ) (s : DecoderState) (x : ℕ)
     → shard_in_row (state_of_pieces start end s) x ≡ option_map (λ shard. between start end shard) (shard_in_row s x)
 unfolding given_at entry_in
-in_row-pieces start end s x =
-    let p = frame_at s.configuration in
-    by_tests (nat_le p.originals_from x && nat_lt x (p.originals_from + s.configuration.original_count))
-    (nat_le p.recovery_from x && nat_lt x (p.recovery_from + s.configuration.recovery_count))
-    (s.originals (x - p.originals_from)) (s.recovery (x - p.recovery_from))
-  where
-    by_tests : (own coded : Bool) (o c : Option Shard)
-        → cond own (option_map (λ shard. between start end shard) o)
-        (cond coded (option_map (λ shard. between start end shard) c) None)
-        ≡ option_map (λ shard. between start end shard) (cond own o (cond coded c None))
-    by_tests true coded o c = refl
-    by_tests false true o c = refl
-    by_tests false false o c = refl
+in_row-pieces start end s x = search rules
 
 -- There is a piece in a row exactly if there is a shard.
 pub some-pieces : (start end : ℕ) (s : DecoderState) (x : ℕ)
@@ -156,44 +131,17 @@ in_row-marked marks s x b is =
 pub base_marks : (marks : List Bool) (s : DecoderState) → MarkBase s marks
     → AreMarksOf (frame_at s.configuration) s.configuration.original_count s.configuration.recovery_count
     (marked_state marks s).originals (marked_state marks s).recovery marks
-base_marks marks s base x inside = elim (cases_Bool (is_marked marks x)) [
-  | inl is ↦ is ∙ sym (ap is_some (in_row-marked marks s x true is) ∙ base.received x is)
-  | inr not ↦ not ∙ sym (ap is_some (in_row-marked marks s x false not))
-]
+base_marks marks s base x inside = search (rules, cases_Bool, in_row-marked)
 
 -- The marked part of pieces are the pieces of the marked part.
 marked-pieces : (start end : ℕ) (marks : List Bool) (from : ℕ) (given : Shards)
     → marked_part marks from (pieces_of start end given) ≡ pieces_of start end (marked_part marks from given)
-marked-pieces start end marks from given =
-    fun_ext (λ i.
-    marked_part-at marks from i (pieces_of start end given) (is_marked marks (from + i)) refl
-    ∙ either (is_marked marks (from + i)) (given i)
-    ∙ ap (option_map (λ shard. between start end shard))
-    (sym (marked_part-at marks from i given (is_marked marks (from + i)) refl)))
-  where
-    either : (b : Bool) (o : Option Shard)
-        → cond b (option_map (λ shard. between start end shard) o) None
-        ≡ option_map (λ shard. between start end shard) (cond b o None)
-    either true o = refl
-    either false o = refl
+marked-pieces start end marks from given = search (rules, marked_part-at)
 
 -- Marks of a base mark a base of the pieces in a strip.
 pub base-pieces : (start end : ℕ) (marks : List Bool) (s : DecoderState) → MarkBase s marks
     → MarkBase (state_of_pieces start end s) marks
-base-pieces start end marks s base =
-    let p = frame_at s.configuration in record {
-      count = base.count;
-      received = λ x is. some-pieces start end s x ∙ base.received x is;
-      enough =
-          ap₂ (λ (a b : Shards).
-          count_below s.configuration.original_count a + count_below s.configuration.recovery_count b)
-          (marked-pieces start end marks p.originals_from s.originals)
-          (marked-pieces start end marks p.recovery_from s.recovery)
-          ∙ ap₂ (λ (a b : ℕ). a + b)
-          (count-pieces start end s.configuration.original_count (marked_part marks p.originals_from s.originals))
-          (count-pieces start end s.configuration.recovery_count (marked_part marks p.recovery_from s.recovery))
-          ∙ base.enough;
-    }
+base-pieces start end marks s base = search (rules, some-pieces, marked-pieces, count-pieces)
 
 -- ---- the sums
 

@@ -1,6 +1,6 @@
 -- Marking a base: the first received shards, as many as there are originals.
-use Rattle.std.proofs.Common.{◌≡◌, ℕ, ◌+◌, ◌<◌, ◌≤◌, Bool, true, false, cond, List, length, set, min, replicate}
-use Rattle.std.proofs.Common.{rules, sym, ap, ap₂, ◌∙◌, inl, inr, arith, add-one}
+use Rattle.std.proofs.Common.{◌≡◌, ℕ, ◌+◌, ◌<◌, ◌≤◌, Bool, true, false, cond, List, length, set, min, replicate, rules}
+use Rattle.std.proofs.Common.{sym, ap, ap₂, ◌∙◌, inl, inr, arith, add-one}
 use Rattle.std.specs.Prelude.{Option, is_some, nat_lt, option_copied}
 use Rattle.std.specs.Borrow.{Bor}
 use Rattle.std.proofs.Math.Nat.{min-eq_left, min-eq_right}
@@ -97,7 +97,4 @@ many-passed n has not =
 
 -- Where no mark is set, no row is marked.
 pub unmarked : (n x : ℕ) → is_marked (replicate n false) x ≡ false
-unmarked n x = elim (cases_lt x n) [
-  | inl inside ↦ get_or-replicate n x false false inside
-  | inr past ↦ get_or_past (replicate n false) x false (omega (arith, past, length-replicate n false))
-]
+unmarked n x = search (rules, cases_lt, get_or-replicate, get_or_past, replicate, length-replicate)

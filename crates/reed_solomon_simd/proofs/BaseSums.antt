@@ -1,8 +1,9 @@
 -- What direct sums over a base of received shards tell of a strip: whether the shards are consistent, and the pieces of
 -- the shards that were not received.
-use Rattle.std.proofs.Common.{◌≡◌, ℕ, ◌+◌, ◌-◌, ◌/◌, ◌<◌, Bool, true, false, cond, List, length, drop}
-use Rattle.std.proofs.Common.{refl, sym, ap, ◌∙◌, subst, inl, inr, arith, All, [], get_or}
-use Rattle.std.specs.Prelude.{Option, Some, None, is_some, ◌↔◌}
+use Rattle.std.proofs.Common.{rules, ◌≡◌, ℕ, ◌+◌, ◌-◌, ◌/◌, ◌<◌, Bool, true, false, List, length, sym, ap, ◌∙◌, inl}
+use Rattle.std.proofs.Common.{inr, arith, All, [], get_or}
+use Rattle.std.proofs.lemmas.Grind.{common_steps}
+use Rattle.std.specs.Prelude.{Some, None, is_some, ◌↔◌}
 use Rattle.std.specs.List.{between}
 use Rattle.std.specs.Option.{option_map}
 use Rattle.std.proofs.lemmas.Bool.{cases_Bool}
@@ -21,8 +22,8 @@ use Rattle.rs_field.specs.code.PieceStates.{pieces_of, state_of_pieces}
 use Rattle.rs_field.specs.rows.MarkedRows.{is_marked}
 use Rattle.rs_field.proofs.of_code.Agreement.{one_message}
 use Rattle.rs_field.proofs.of_code.DirectColumn.{direct_original, direct_recovery}
-use Rattle.rs_field.proofs.of_code.GivenRows.{AreGiven, given_within, given-either, given-below}
-use Rattle.rs_field.proofs.of_code.GivenRows.{shard_in_row-own, shard_in_row-coded}
+use Rattle.rs_field.proofs.of_code.GivenRows.{AreGiven, given_within, given-either, given-below, shard_in_row-own}
+use Rattle.rs_field.proofs.of_code.GivenRows.{shard_in_row-coded}
 use Rattle.rs_field.proofs.of_code.BaseShards.{AreSums, all_located, base_given, agrees_with_part, consistent_by_sums}
 use Rattle.rs_field.proofs.of_code.Columns.{shard_from_columns, shard_in}
 use Rattle.rs_rate.proofs.of_rows.StateLemmas.{valid-supported}
@@ -40,51 +41,22 @@ use Rattle.reed_solomon_simd.proofs.RebuiltStrips.{named_shards}
 -- A piece of a shard is a shard of the size of the piece.
 piece-cut : (start end size : ℕ) (shard : Shard) → IsStrip start end size → IsShard size shard
     → IsShard (end - start) (between start end shard)
-piece-cut start end size shard strip is =
-    let left = length-drop start shard in
-    record {
-      length_is = length-take-le (end - start) (drop start shard) (omega (arith, left, is.length_is, strip.inside));
-      bytes = All-take (λ b. b < 256) (end - start) (drop start shard) (All-drop (λ b. b < 256) start shard is.bytes);
-    }
+piece-cut start end size shard strip is = grind (arith, common_steps, length-drop, length-take-le, All-take, All-drop)
 
 -- The pieces of given shards have the size of a piece, and the indexes of the shards.
 pub within-pieces : (start end n size : ℕ) (given : Shards) → IsStrip start end size → AreWithin n size given
     → AreWithin n (end - start) (pieces_of start end given)
-within-pieces start end n size given strip within =
-    record {
-      none_past = λ i past. ap (option_map (λ s. between start end s)) (within.none_past i past);
-      sized = λ i piece e. of_option (given i) piece (within.sized i) e;
-    }
-  where
-    of_option : (o : Option Shard) (piece : Shard) → ((shard : Shard) → o ≡ Some shard → IsShard size shard)
-        → option_map (λ s. between start end s) o ≡ Some piece → IsShard (end - start) piece
-    of_option None piece sized e = absurd (none-some piece e)
-    of_option (Some shard) piece sized e =
-        let same : between start end shard ≡ piece = cc in
-        subst (IsShard (end - start)) same (piece-cut start end size shard strip (sized shard refl))
+within-pieces start end n size given strip within = search (rules, none-some, piece-cut)
 
 -- ---- the marked part of a map
 
 part-of : (marks : List Bool) (from : ℕ) (given : Shards) → IsPartOf (marked_part marks from given) given
-part-of marks from given =
-    record {
-      entries = λ i shard e. elim (cases_Bool (is_marked marks (from + i))) [
-        | inl is ↦ sym (marked_part-at marks from i given true is) ∙ e
-        | inr not ↦ absurd (none-some shard (sym (marked_part-at marks from i given false not) ∙ e))
-      ];
-    }
+part-of marks from given = search (rules, cases_Bool, marked_part-at, none-some)
 
 -- A shard that is not given is not in the marked part.
 part-missing : (marks : List Bool) (from i : ℕ) (given : Shards) → given i ≡ None
     → is_some (marked_part marks from given i) ≡ false
-part-missing marks from i given none =
-    ap is_some (marked_part-at marks from i given (is_marked marks (from + i)) refl
-    ∙ ap (λ (o : Option Shard). cond (is_marked marks (from + i)) o None) none)
-    ∙ either (is_marked marks (from + i))
-  where
-    either : (b : Bool) → is_some (let o : Option Shard = cond b None None in o) ≡ false
-    either true = refl
-    either false = refl
+part-missing marks from i given none = search (rules, marked_part-at)
 
 module _ (s : DecoderState) (is : IsDecoder default_rate s) (start end : ℕ)
     (strip : IsStrip start end s.configuration.shard_bytes) where
@@ -147,11 +119,7 @@ module _ (s : DecoderState) (is : IsDecoder default_rate s) (start end : ℕ)
     -- If some message agrees with the strip, the pieces outside of the base are the direct sums.
     pub consistent-agrees : IsConsistent (state_of_pieces start end s) → (x : ℕ)
         → AgreesInRow marks (state_of_pieces start end s) x
-    consistent-agrees consistent x piece there not = record {
-      is_shard = in_row-sized x piece there;
-      words = λ j inside.
-          sym (decided.0 consistent x j piece there (sym (marked-chosen x piece there) ∙ not) inside);
-    }
+    consistent-agrees consistent x piece there not = search (rules, in_row-sized, decided, marked-chosen)
 
     -- If all pieces outside of the base are the direct sums, some message agrees with the strip.
     pub agrees-consistent : ((x : ℕ) → x < row_count (frame_at s.configuration)
@@ -222,9 +190,7 @@ module _ (s : DecoderState) (is : IsDecoder default_rate s) (start end : ℕ)
     -- Shards with the direct sums as their words are equal.
     pub sums-same : (x : ℕ) (one other : Shard) → IsBaseSum marks (state_of_pieces start end s) x one
         → IsBaseSum marks (state_of_pieces start end s) x other → one ≡ other
-    sums-same x one other first second =
-        shard_from_columns first.is_shard second.is_shard (even-strip s is start end strip)
-        (λ j inside. first.words j inside ∙ sym (second.words j inside))
+    sums-same x one other first second = search (rules, shard_from_columns, even-strip)
 
     -- A row outside of the base has no mark, if no shard was received in it.
     pub missing-unmarked : (x : ℕ) → shard_in_row (state_of_pieces start end s) x ≡ None → is_marked marks x ≡ false
@@ -251,11 +217,7 @@ module _ (s : DecoderState) (is : IsDecoder default_rate s) (start end : ℕ)
         → n < length wanted → x ≡ row_of (frame_at s.configuration) (get_or wanted n d)
         → IsBaseSum marks (state_of_pieces start end s) x piece
         → (piece ≡ get_or (named_shards message agrees.coded.0 wanted) n []) × (length piece ≡ end - start)
-    wanted-at message agrees wanted n x d piece can inside at sum =
-        let is_named = wanted-piece message agrees (get_or wanted n d) piece (can n d inside)
-        (subst (λ (y : ℕ). IsBaseSum marks (state_of_pieces start end s) y piece) at sum)
-        ∙ sym (get_or-map (shard_named message agrees.coded.0) wanted n d [] inside) in
-        (is_named, sum.is_shard.length_is)
+    wanted-at message agrees wanted n x d piece can inside at sum = search (rules, wanted-piece, get_or-map)
 
 -- The row of a shard that can be rebuilt is a row of a decoder.
 pub row-inside : (s : DecoderState) → IsDecoder default_rate s → (w : ShardIndex) → CanBeRebuilt s w

@@ -1,9 +1,8 @@
 -- Restored originals are entered in a map by their index, one after another.
-use Rattle.std.proofs.Common.{◌≡◌, ℕ, ◌+◌, ◌-◌, ◌<◌, ◌≤◌, Bool, true, cond, List, [], ◌∷◌, length, get_or, Bor, Option}
-use Rattle.std.proofs.Common.{Some, None, refl, sym, ap, ap₂, subst, ◌∙◌, arith}
-use Rattle.std.specs.Prelude.{is_some, not, ◌&&◌}
+use Rattle.std.proofs.Common.{rules, ◌≡◌, ℕ, ◌+◌, ◌-◌, ◌<◌, ◌≤◌, true, List, [], ◌∷◌, length, get_or, Bor, Option, Some}
+use Rattle.std.proofs.Common.{None, refl, sym, ap, ap₂, subst, ◌∙◌, arith}
+use Rattle.std.specs.Prelude.{is_some}
 use Rattle.std.proofs.lemmas.Bool.{lt-ltb}
-use Rattle.std.specs.Option.{option_map}
 use Rattle.std.proofs.lemmas.List.{get_or_default}
 use Rattle.reed_solomon_simd.specs.Received.{given_in}
 use Rattle.rs_field.specs.code.Column.{Shard, shard_at}
@@ -44,10 +43,7 @@ module _ (s : DecoderState) (i : ℕ) (left : List Shard) (vectors : Shards) (ar
   module _ (inside : i < s.configuration.original_count) (free : s.originals i ≡ None) where
     some-here : are.out i ≡ Some (shard_at are.restored.message i)
     unfolding missing_of
-    some-here =
-        are.restored.missing i
-        ∙ ap₂ (λ (a b : Bool). cond (a && not b) (Some (shard_at are.restored.message i)) None)
-        (lt-ltb i s.configuration.original_count inside) (ap is_some free)
+    some-here = search (rules, lt-ltb)
 
     begins : items_from i (s.configuration.original_count - i) are.out
         ≡ (i, shard_at are.restored.message i) ∷ items_from (i + 1) (s.configuration.original_count - (i + 1)) are.out
@@ -55,49 +51,19 @@ module _ (s : DecoderState) (i : ℕ) (left : List Shard) (vectors : Shards) (ar
 
     -- If the original with index i is missing, the list still holds a shard.
     pub entered-short : left ≡ [] → ⊥
-    entered-short none =
-        let both : [] ≡ shard_at are.restored.message i ∷ shards_listed
-        (items_from (i + 1) (s.configuration.original_count - (i + 1)) are.out) =
-        sym none ∙ are.left_is ∙ ap shards_listed begins in
-        let no : ⊥ = cc in no
+    entered-short none = search (rules, begins)
 
     -- If the original with index i is missing, the first shard of the list is entered at index i.
     pub entered-next : (x : Shard) (rest : List Shard) (new : Shards) → left ≡ x ∷ rest
         → ((items others : Items) → items ≡ (i, x) ∷ others → with_entries new others ≡ with_entries vectors items)
         → AreEntered s (i + 1) rest new
-    entered-next x rest new is step =
-        let both : x ∷ rest ≡ shard_at are.restored.message i ∷ shards_listed
-        (items_from (i + 1) (s.configuration.original_count - (i + 1)) are.out) =
-        sym is ∙ are.left_is ∙ ap shards_listed begins in
-        let same : shard_at are.restored.message i ≡ x = cc in
-        record {
-          out = are.out;
-          restored = are.restored;
-          left_is = cc;
-          whole = step (items_from i (s.configuration.original_count - i) are.out)
-              (items_from (i + 1) (s.configuration.original_count - (i + 1)) are.out)
-              (begins ∙ ap (λ (y : Shard).
-              (i, y) ∷ items_from (i + 1) (s.configuration.original_count - (i + 1)) are.out) same)
-              ∙ are.whole;
-        }
+    entered-next x rest new is step = search (rules, begins)
 
   -- If the original with index i was received, the map and the list do not change.
   pub entered-skipped : i < s.configuration.original_count → is_some (s.originals i) ≡ true
       → AreEntered s (i + 1) left vectors
   unfolding missing_of
-  entered-skipped inside some =
-      let none : are.out i ≡ None =
-      are.restored.missing i
-      ∙ ap₂ (λ (a b : Bool). cond (a && not b) (Some (shard_at are.restored.message i)) None)
-      (lt-ltb i s.configuration.original_count inside) some in
-      let same = items_from-none i s.configuration.original_count are.out inside none in
-      record {
-        out = are.out;
-        restored = are.restored;
-        left_is = are.left_is ∙ ap shards_listed same;
-        whole =
-            ap (with_entries vectors) (sym same) ∙ are.whole;
-      }
+  entered-skipped inside some = search (rules, lt-ltb, items_from-none, with_entries)
 
   -- After the last index, the map holds all restored originals.
   pub entered-all : s.configuration.original_count ≤ i → Restored s vectors
@@ -109,9 +75,4 @@ module _ (s : DecoderState) (i : ℕ) (left : List Shard) (vectors : Shards) (ar
 pub some-place : (places : List (Option (Bor Shard))) (i : ℕ) (found : Option (Bor Shard))
     → get_or places i found ≡ found → i < length places → is_some found ≡ true
     → is_some (given_in places i) ≡ true
-some-place places i found is inside some =
-    by_option (get_or places i None) (get_or_default places i None found inside ∙ is)
-  where
-    by_option : (o : Option (Bor Shard)) → o ≡ found → is_some (option_map (λ (s : Bor Shard). s.now) o) ≡ true
-    by_option (Some s) same = refl
-    by_option None same = ap is_some same ∙ some
+some-place places i found is inside some = search (rules, get_or_default)

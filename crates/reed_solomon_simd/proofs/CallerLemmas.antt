@@ -1,5 +1,5 @@
 -- Facts about a valid configuration, and what a decoder returns for the number of its shards.
-use Rattle.std.proofs.Common.{◌≡◌, ℕ, ◌+◌, ◌<◌, Bool, true, cond, ap, ap₂, ◌∙◌, min, max, Ok}
+use Rattle.std.proofs.Common.{rules, ◌≡◌, ℕ, ◌+◌, ◌<◌, true, cond, ap, min, max, Ok}
 use Rattle.std.specs.Prelude.{nat_le, nat_lt, ◌&&◌, Result, Err, is_ok, IfOk, IfErr}
 use Rattle.std.proofs.lemmas.Bool.{and_parts, ltb-true, lt-ltb}
 use Rattle.std.specs.BTreeMap.{BTreeMap}
@@ -39,10 +39,7 @@ by_counts k originals recovery =
 -- A decoder without shards fails with `NotEnoughShards`.
 pub fresh-too_few : (c : Configuration) → validation_outcome c ≡ Ok tt
     → enough_given (fresh_decoder c) ≡ Err (NotEnoughShards c.original_count 0 0)
-fresh-too_few c valid =
-    ap₂ (λ (o r : ℕ). by_counts c.original_count o r) (count-nothing c.original_count) (count-nothing c.recovery_count)
-    ∙ ap (λ (b : Bool). cond b (Err (NotEnoughShards c.original_count 0 0)) (Ok tt))
-    (lt-ltb 0 c.original_count (valid-some c valid))
+fresh-too_few c valid = search (rules, count-nothing, lt-ltb, valid-some)
 
 -- After a round, a decoder has no shards.
 pub ended : (s : DecoderState) → enough_given s ≡ Ok tt → after_decode s ≡ fresh_decoder s.configuration

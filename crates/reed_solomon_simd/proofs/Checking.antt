@@ -1,6 +1,6 @@
 -- Originals in a list are checked one after another.
-use Rattle.std.proofs.Common.{◌≡◌, ℕ, zero, suc, ◌+◌, ◌<◌, ◌≤◌, List, [], ◌∷◌, ◌++◌, length, take, get_or, All, Result}
-use Rattle.std.proofs.Common.{Ok, Err, MatchResult, inl, refl, sym, ap, subst, arith, append_assoc, append-nil}
+use Rattle.std.proofs.Common.{rules, ◌≡◌, ℕ, zero, suc, ◌+◌, ◌<◌, ◌≤◌, List, [], ◌∷◌, ◌++◌, length, take, get_or, All}
+use Rattle.std.proofs.Common.{Result, Ok, Err, MatchResult, refl, sym, ap, subst, arith, append_assoc, append-nil}
 use Rattle.std.proofs.Common.{length-append}
 use Rattle.std.proofs.lemmas.Bool.{lt-leb, lt-ltb, le-ltb, eq-eqb}
 use Rattle.std.proofs.lemmas.List.Elements.{recursion_from_All}
@@ -55,30 +55,13 @@ module _ (k r size : ℕ) (shards : List Shard) (some : 0 < length shards)
   -- If setting up with the size of the first original fails, one call fails with the same error.
   pub checked-unset : (e : Error) → Err e ≡ start_outcome (encoder_rows default_rate k r) (default_of k r size)
       → OneEncodeAnswers k r shards (Err e)
-  checked-unset e refused = by_shards shards some first
-    where
-      by_shards : (shards : List Shard) → 0 < length shards → length (get_or shards 0 []) ≡ size
-          → OneEncodeAnswers k r shards (Err e)
-      by_shards [] some first = absurd (let no : ⊥ = omega (arith, some) in no)
-      by_shards (x ∷ xs) some first =
-          encoding-refused k r (x ∷ xs) e (encoding-unset k r x xs e
-          (inl (subst (λ (n : ℕ). Err e ≡ start_outcome (encoder_rows default_rate k r) (default_of k r n))
-          (sym first) refused)))
+  checked-unset e refused = search (rules, encoding-refused, encoding-unset)
 
   -- If setting up succeeds, the outcome of adding the originals is the outcome of encoding.
   pub checked-led : Ok tt ≡ start_outcome (encoder_rows default_rate k r) (default_of k r size)
       → (o : Result EncoderState Error)
       → with_shards (fresh_encoder (default_of k r size)) shards ≡ o → IsEncoding k r shards o
-  checked-led made o is = by_shards shards some first is
-    where
-      by_shards : (shards : List Shard) → 0 < length shards → length (get_or shards 0 []) ≡ size
-          → with_shards (fresh_encoder (default_of k r size)) shards ≡ o → IsEncoding k r shards o
-      by_shards [] some first is = absurd (let no : ⊥ = omega (arith, some) in no)
-      by_shards (x ∷ xs) some first is =
-          encoding-given k r x xs (fresh_encoder (default_of k r size))
-          (inl (subst (λ (n : ℕ). Ok tt ≡ start_outcome (encoder_rows default_rate k r) (default_of k r n))
-          (sym first) made))
-          (ap (λ (n : ℕ). fresh_encoder (default_of k r n)) (sym first)) o is
+  checked-led made o is = search (rules, encoding-given)
 
   -- If an original cannot be added, one call fails with its error.
   pub checked-refused : Ok tt ≡ start_outcome (encoder_rows default_rate k r) (default_of k r size)
@@ -95,30 +78,16 @@ module _ (k r size : ℕ) (shards : List Shard) (some : 0 < length shards)
       (few : length shards ≤ k) (sized : All (λ s. length s ≡ size) shards) where
     -- If every original can be added, the encoder has all originals.
     pub checked-all : IsEncoding k r shards (Ok (record { configuration = default_of k r size; given = shards }))
-    checked-all = checked-led made _
-        (takes-all shards (fresh_encoder (default_of k r size)) (omega (arith, few))
-        (recursion_from_All (λ s. length s ≡ size) shards sized))
+    checked-all = search (rules, checked-led, takes-all, recursion_from_All)
 
     -- If there are too few originals, one call fails with `TooFewOriginalShards`.
     pub checked-few : length shards < k → OneEncodeAnswers k r shards (Err (TooFewOriginalShards k (length shards)))
-    checked-few less =
-        encoding-answers k r shards (record { configuration = default_of k r size; given = shards }) checked-all
-        (Err (TooFewOriginalShards k (length shards)))
-        (encode_answers-refused (record { configuration = default_of k r size; given = shards })
-        (TooFewOriginalShards k (length shards)) (rw (lt-ltb (length shards) k less) refl))
+    checked-few less = search (rules, encoding-answers, checked-all, encode_answers-refused, lt-ltb)
 
 -- If k shards have a valid size and can be set up, they are checked originals.
 pub are-checked : (k r size : ℕ) (shards : List Shard) → 0 < k → length shards ≡ k → All (IsShard size) shards
     → Ok tt ≡ start_outcome (encoder_rows default_rate k r) (default_of k r size) → AreChecked k r size shards
-are-checked k r size shards some number sized made =
-    let first : 0 < length shards = omega (arith, some, number) in
-    record {
-      led = checked-all k r size shards first (sized 0 [] first).length_is made (omega (arith, number))
-          (λ i d h. (sized i d h).length_is);
-      number = number;
-      sized = sized;
-      set_up = sym made;
-    }
+are-checked k r size shards some number sized made = search (rules, checked-all)
 
 module _ (k r size : ℕ) (shards : List Shard) (is : AreChecked k r size shards) where
   -- The encoder to which the checked originals were added.

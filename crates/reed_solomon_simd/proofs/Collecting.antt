@@ -1,14 +1,12 @@
 -- Listed shards are entered into a map, one after another.
-use Rattle.std.proofs.Common.{◌≡◌, ◌+◌, ◌<◌, ◌≤◌, ◌==◌, ℕ, zero, suc, Bool, true, false, cond, [], ◌∷◌, ◌++◌, Option}
-use Rattle.std.proofs.Common.{Some, None, refl, sym, ap, subst, ◌∙◌, inl, inr, arith}
+use Rattle.std.proofs.Common.{rules, ◌≡◌, ◌+◌, ◌<◌, ◌≤◌, ◌==◌, ℕ, zero, suc, Bool, cond, [], ◌∷◌, ◌++◌, Option, Some}
+use Rattle.std.proofs.Common.{None, refl, sym, ap, subst, ◌∙◌, inl, inr, arith}
 use Rattle.std.proofs.Math.Path.{fun_ext}
 use Rattle.std.proofs.lemmas.Bool.{cases_lt, cases_order, eq-eqb, ne_eqb}
-use Rattle.std.specs.BTreeMap.{BTreeMap, get, IsEmpty, Updates, is_at}
-use Rattle.std.specs.Cmp.{nat_cmp_is}
+use Rattle.std.specs.BTreeMap.{BTreeMap, IsEmpty, Updates, is_at}
 use Rattle.std.specs.Map.{lookup}
 use Rattle.std.specs.Option.{option_map}
 use Rattle.std.specs.Ordering.{nat_cmp, is_eq}
-use Rattle.std.specs.declared.cmp.Ordering.TheVariants.{Less, Equal, Greater}
 use Rattle.std.specs.declared.vec.Vec.{Vec}
 use Rattle.rs_field.specs.code.Column.{Shard}
 use Rattle.rs_field.specs.code.Given.{Shards, nothing, with_entry, items_at, items_from, Lists}
@@ -93,14 +91,7 @@ with_entries-lists given items lists =
 
 -- `nat_cmp` returns `Equal` exactly for equal numbers.
 pub is_eq-nat_cmp : (a b : ℕ) → is_eq (nat_cmp a b) ≡ (b == a)
-is_eq-nat_cmp a b =
-    elim (cases_order a b) [
-      | inl same ↦ ap is_eq (sym (nat_cmp_is a b Equal same)) ∙ sym (eq-eqb b a (sym same))
-      | inr (inl under) ↦ ap is_eq (sym (nat_cmp_is a b Less under))
-          ∙ sym (ne_eqb b a (λ same. let e : b ≡ a = same in omega arith))
-      | inr (inr over) ↦ ap is_eq (sym (nat_cmp_is a b Greater over))
-          ∙ sym (ne_eqb b a (λ same. let e : b ≡ a = same in omega arith))
-    ]
+is_eq-nat_cmp a b = search (rules, cases_order, eq-eqb, ne_eqb)
 
 module _ {Y : Type 0} where
   -- An empty map of vectors has no shards.
@@ -112,16 +103,7 @@ module _ {Y : Type 0} where
       → vector.items ≡ shard → Updates nat_cmp old new index (Some vector)
       → shards_in new ≡ with_entry (shards_in old) index shard
   unfolding with_entry
-  shards_in-inserted old new index vector shard same updates =
-      fun_ext (λ i.
-      ap (option_map (λ v. v.items)) (updates.0 i)
-      ∙ by_test (is_eq (nat_cmp index i)) (get nat_cmp old i)
-      ∙ ap (λ (b : Bool). cond b (Some shard) (shards_in old i)) (is_eq-nat_cmp index i))
-    where
-      by_test : (b : Bool) (o : Option (Vec ℕ Y))
-          → option_map (λ v. v.items) (cond b (Some vector) o) ≡ cond b (Some shard) (option_map (λ v. v.items) o)
-      by_test true o = ap Some same
-      by_test false o = refl
+  shards_in-inserted old new index vector shard same updates = search (rules, fun_ext, is_eq-nat_cmp)
 
   -- Inserting the first of the remaining items into the map leaves the same final map.
   pub with_entries-inserted : (old new : BTreeMap ℕ (Vec ℕ Y)) (index : ℕ) (vector : Vec ℕ Y) (shard : Shard)

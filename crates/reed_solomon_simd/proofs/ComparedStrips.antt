@@ -1,8 +1,8 @@
 -- A strip of a message of which all originals were received: its pieces are consistent exactly if the encoded recovery
 -- pieces are the received ones.
-use Rattle.std.proofs.Common.{◌≡◌, ℕ, zero, suc, ◌+◌, ◌-◌, ◌<◌, ◌≤◌, List, [], ◌∷◌, ◌++◌, length, get_or, All}
-use Rattle.std.proofs.Common.{true, Some, refl, sym, ap, ◌∙◌, subst, arith}
-use Rattle.std.specs.Prelude.{Option, None, is_some, unwrap_or}
+use Rattle.std.proofs.Common.{rules, ◌≡◌, ℕ, zero, suc, ◌+◌, ◌-◌, ◌<◌, ◌≤◌, List, [], ◌∷◌, ◌++◌, length, get_or, All}
+use Rattle.std.proofs.Common.{true, Some, sym, ap, ◌∙◌, subst, arith}
+use Rattle.std.specs.Prelude.{is_some, unwrap_or}
 use Rattle.std.specs.List.{between}
 use Rattle.std.proofs.lemmas.List.{length-map}
 use Rattle.rs_field.specs.code.Code.{AreRecovery}
@@ -71,11 +71,7 @@ module _ (s : DecoderState) (is : IsDecoder default_rate s)
       }
 
   own-at : (i : ℕ) (shard : Shard) → s.originals i ≡ Some shard → shard_at own_message i ≡ shard
-  own-at i shard found =
-      let sized = sized-within is.originals_within in
-      listed-at s.configuration.original_count 0 i s.originals shard
-      (λ j low high. all_some s.configuration.original_count s.originals (omega (arith, all)) j (omega (arith, high)))
-      (sized.each i shard found).0 (ap s.originals (let e : 0 + i ≡ i = omega arith in e) ∙ found)
+  own-at i shard found = search (rules, sized-within, listed-at, all_some)
 
   module _ (start end : ℕ) (strip : IsStrip start end s.configuration.shard_bytes) where
     -- The listed pieces of the originals.
@@ -98,15 +94,7 @@ module _ (s : DecoderState) (is : IsDecoder default_rate s)
     listed-sized i d h = (listed-are.each i d h).length_is
 
     listed-among : AreAmong (pieces_of start end s.originals) listed_pieces
-    listed-among i piece found =
-        ap (λ (l : List Shard). shard_at l i) pieces-are ∙ shard_at-pieces start end i own_message
-        ∙ by_option (s.originals i) refl found
-      where
-        by_option : (o : Option Shard) → s.originals i ≡ o → pieces_of start end (λ _. o) i ≡ Some piece
-            → between start end (shard_at own_message i) ≡ piece
-        by_option (Some shard) own found =
-            ap (λ (x : Shard). between start end x) (own-at i shard own) ∙ ap (λ o. unwrap_or o piece) found
-        by_option None own found = absurd (let no : ⊥ = cc in no)
+    listed-among i piece found = search (rules, pieces-are, shard_at-pieces, own-at)
 
     module _ (made : List Shard) (coded : AreRecovery (state_of_pieces start end s).configuration listed_pieces made)
       where

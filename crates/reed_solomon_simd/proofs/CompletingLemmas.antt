@@ -1,7 +1,7 @@
 -- Received and restored originals in one map, and the originals of a map in order of their index.
-use Rattle.std.proofs.Common.{◌≡◌, ℕ, ◌+◌, ◌<◌, ◌≤◌, false, cond, List, [], ◌∷◌, ◌++◌, length}
-use Rattle.std.proofs.Common.{Option, Some, None, Result, Ok, Err, refl, sym, ap, subst, ◌∙◌, inl, inr, arith, add-one}
-use Rattle.std.specs.Prelude.{is_some, IsOkAnd, MatchResult}
+use Rattle.std.proofs.Common.{rules, ◌≡◌, ℕ, ◌+◌, ◌<◌, ◌≤◌, false, cond, List, [], ◌∷◌, ◌++◌, length, Option, Some}
+use Rattle.std.proofs.Common.{None, Result, Ok, refl, ap, ◌∙◌, arith, add-one}
+use Rattle.std.specs.Prelude.{is_some}
 use Rattle.std.specs.BTreeMap.{BTreeMap, UpdatesBy}
 use Rattle.std.specs.Option.{option_map}
 use Rattle.std.specs.Ordering.{nat_cmp}
@@ -14,7 +14,7 @@ use Rattle.rs_field.specs.code.Given.{Shards, with_entry, count_below}
 use Rattle.rs_field.specs.code.OneCall.{shards_in}
 use Rattle.rs_field.proofs.of_code.Entries.{count_most}
 use Rattle.rs_field.proofs.of_code.Given.{count_below-zero, count_below-suc}
-use Rattle.reed_solomon_simd.specs.Messages.{enter_outcome, whole_outcome, AreInOrder, HasInOrder}
+use Rattle.reed_solomon_simd.specs.Messages.{enter_outcome, whole_outcome, HasInOrder}
 use Rattle.reed_solomon_simd.proofs.Collecting.{is_eq-nat_cmp}
 
 -- ---- one original is entered
@@ -41,11 +41,7 @@ pub record AreTaken (all : Shards) (index : ℕ) (left : Shards) (taken : List S
   pub whole : index ≤ length taken → (i : ℕ) → i < index → all i ≡ Some (shard_at taken i)
 
 pub taken-none : (all left : Shards) → left ≡ all → AreTaken all 0 left []
-taken-none all left is = record {
-  same = λ i past. ap (λ (given : Shards). given i) is;
-  number = sym (count_below-zero all);
-  whole = λ full i inside. absurd (let none : ⊥ = omega arith in none);
-}
+taken-none all left is = search (rules, count_below-zero)
 
 counted-next : (all : Shards) (index : ℕ) (o : Option Shard) → all index ≡ o
     → count_below (index + 1) all ≡ count_below index all + cond (is_some o) 1 0
@@ -62,45 +58,14 @@ module _ (all : Shards) (index : ℕ) (left new : Shards) (taken : List Shard) (
   -- An original with the next index is taken.
   pub taken-one : (shard : Shard) → left index ≡ Some shard → AreTaken all (index + 1) new (taken ++ shard ∷ [])
   taken-one shard is =
-      let here : all index ≡ Some shard = sym (are.same index (omega arith)) ∙ is in
-      let long = length_push taken shard in
-      let count = counted-next all index (Some shard) here in
-      let number = are.number in
-      let most = count_most index all in
-      record {
-        same = kept;
-        number = omega arith;
-        whole = λ full i inside.
-            let exact : length taken ≡ index = omega arith in
-            elim (cases_eq i index) [
-              | inl last ↦ ap all last ∙ here ∙ ap Some (sym (get_or_push taken shard [] i (omega arith)))
-              | inr before ↦ are.whole (omega arith) i (omega arith)
-                  ∙ ap Some (sym (get_or_append_left taken (shard ∷ []) [] i (omega arith)))
-            ];
-      }
+      search (rules, length_push, counted-next, count_most, kept, cases_eq, get_or_push, get_or_append_left)
 
   -- No original has the next index.
   pub taken-skip : left index ≡ None → AreTaken all (index + 1) new taken
-  taken-skip is =
-      let here : all index ≡ None = sym (are.same index (omega arith)) ∙ is in
-      let count = counted-next all index None here in
-      let number = are.number in
-      let most = count_most index all in
-      record {
-        same = kept;
-        number = omega arith;
-        whole = λ full i inside. absurd (let none : ⊥ = omega arith in none);
-      }
+  taken-skip is = search (rules, counted-next, count_most, kept)
 
 module _ (k : ℕ) (all left : Shards) (taken : List Shard) (are : AreTaken all k left taken)
     (result : Result (List Shard) Error) where
   -- If k originals were taken, they are the originals in order.
   pub taken-all : k ≤ length taken → result ≡ Ok taken → HasInOrder k (whole_outcome k all) result
-  taken-all full is =
-      let number = are.number in
-      let most = count_most k all in
-      let whole : whole_outcome k all ≡ Ok all = rw (le-ltb (count_below k all) k (omega arith)) refl in
-      inr (subst (λ (wanted : Result Shards Error).
-      MatchResult wanted (λ map. IsOkAnd result (AreInOrder k map)) (λ e. result ≡ Err e)) (sym whole)
-      (subst (λ (r : Result (List Shard) Error). IsOkAnd r (AreInOrder k all)) (sym is)
-      (record { number = omega arith; each = are.whole full })))
+  taken-all full is = search (rules, count_most, le-ltb)

@@ -1,5 +1,5 @@
 -- Received shards are consistent exactly if their pieces in each strip are consistent.
-use Rattle.std.proofs.Common.{◌≡◌, ℕ, ◌+◌, ◌-◌, ◌/◌, ◌%◌, ◌≤◌, true, inl, inr, subst, arith}
+use Rattle.std.proofs.Common.{rules, ◌≡◌, ℕ, ◌+◌, ◌-◌, ◌/◌, ◌%◌, ◌≤◌, true, inl, inr, subst, arith}
 use Rattle.std.proofs.lemmas.Bool.{cases_lt}
 use Rattle.rs_field.specs.code.Counts.{default_rate, supports}
 use Rattle.rs_field.specs.code.Decoder.{DecoderState, IsDecoder, originals_given, recovery_given, IsConsistent}
@@ -33,12 +33,7 @@ module _ (s : DecoderState) (is : IsDecoder default_rate s) where
 
   -- A strip has an even number of bytes.
   pub even-strip : (start end : ℕ) → IsStrip start end s.configuration.shard_bytes → (end - start) % 2 ≡ 0
-  even-strip start end strip =
-      let whole = even in
-      elim strip.ends [
-        | inl chunks ↦ omega (arith, chunks, strip.begins, strip.order)
-        | inr last ↦ omega (arith, last, whole, strip.begins, strip.order)
-      ]
+  even-strip start end strip = search (rules, even)
 
   -- There are at most 65536 originals.
   pub few-originals : s.configuration.original_count ≤ 65536

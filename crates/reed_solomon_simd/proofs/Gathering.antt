@@ -1,5 +1,5 @@
 -- Gathered originals: the encoder state that they represent, and the result of encoding them.
-use Rattle.std.proofs.Common.{◌≡◌, ℕ, List, Bor, Ok, Err, Result, MatchResult, IfOk, inr, refl, ap, arith}
+use Rattle.std.proofs.Common.{rules, ◌≡◌, ℕ, List, Ok, Err, Result, MatchResult, IfOk, inr, refl, ap, arith}
 use Rattle.std.proofs.lemmas.List.{length-map}
 use Rattle.rs_field.specs.declared.code.error.Error.{Error}
 use Rattle.rs_field.specs.declared.code.error.Error.TheVariants.{OutOfMemory}
@@ -21,16 +21,7 @@ use Rattle.reed_solomon_simd.proofs.SetUp.{started-parts, valid-even}
 
 -- Gathered originals represent a state that an encoder can have.
 pub gathered-is : (x : LentOriginals) → IsEncoder default_rate (lent_state x)
-gathered-is x =
-    let parts = started-parts _ (lent_state x).configuration x.set_up in
-    record {
-      of_rate = refl;
-      valid = parts.0;
-      fits = parts.1;
-      no_more = (let n = length-map x.shards.items (λ (shard : Bor (List ℕ)). shard.now) in let long = x.no_more in
-          let all = x.shards.ok.0 in omega (arith, n, long, all));
-      sized = x.sized;
-    }
+gathered-is x = search (rules, started-parts, length-map)
 
 -- An encoder with all its originals has recovery shards.
 pub has-made : (s : EncoderState) → IsEncoder default_rate s → Ok tt ≡ answer_of (message_of s)

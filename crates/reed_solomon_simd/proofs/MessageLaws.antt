@@ -1,8 +1,7 @@
 -- The originals that are left of a message, and the originals that were restored, are completed to all its originals.
-use Rattle.std.proofs.Common.{◌≡◌, ℕ, zero, suc, ◌+◌, ◌<◌, ◌≤◌, ◌&&◌, ◌||◌, not, nat_eq, Bool, true, false, cond, List}
-use Rattle.std.proofs.Common.{[], ◌∷◌, length, get_or, Some, None, Result, Ok, Err, refl, sym, ap, subst, ◌∙◌, inl, inr}
-use Rattle.std.proofs.Common.{arith}
-use Rattle.std.specs.Prelude.{is_some, nat_lt, MatchResult, IsOkAnd}
+use Rattle.std.proofs.Common.{rules, ◌≡◌, ℕ, zero, suc, ◌+◌, ◌<◌, ◌≤◌, nat_eq, Bool, true, false, cond, List, [], ◌∷◌}
+use Rattle.std.proofs.Common.{length, Some, None, Result, Ok, Err, refl, sym, ap, subst, ◌∙◌, inl, inr, arith}
+use Rattle.std.specs.Prelude.{is_some, MatchResult, IsOkAnd}
 use Rattle.std.specs.List.{AllByRecursion, IsDistinct, list_any}
 use Rattle.std.proofs.lemmas.Bool.{and_right, lt-ltb, le-ltb, eq-eqb, cases_lt}
 use Rattle.std.proofs.lemmas.List.{ext_get_or}
@@ -19,7 +18,7 @@ use Rattle.rs_field.specs.code.RoundTrip.{AreLeft, lost_of}
 use Rattle.rs_field.proofs.of_code.Entries.{entered_all, AreFree, indexes, free-next, among-entered_all}
 use Rattle.rs_field.proofs.of_code.Entries.{some-entered_all}
 use Rattle.rs_field.proofs.of_code.Given.{count_below-zero, count_below-suc}
-use Rattle.reed_solomon_simd.specs.Messages.{enter_outcome, whole_outcome, complete_outcome, AreInOrder, Completes}
+use Rattle.reed_solomon_simd.specs.Messages.{enter_outcome, complete_outcome, AreInOrder, Completes}
 use Rattle.reed_solomon_simd.proofs.CompletingLemmas.{enter-free}
 
 -- Items with distinct free indexes below k are all entered.
@@ -48,29 +47,18 @@ module _ (originals : List Shard) (kept : Items) (restored : Shards) (left : Are
 
   restored-kept : (i : ℕ) → has i ≡ true → restored i ≡ None
   unfolding lost_of
-  restored-kept i there =
-      lost i
-      ∙ ap (λ b. cond b (Some (shard_at originals i)) None)
-      (and_right (nat_lt i (length originals)) (not (has i)) (ap not there))
+  restored-kept i there = search (rules, and_right)
 
   restored-past : (i : ℕ) → length originals ≤ i → restored i ≡ None
   unfolding lost_of
-  restored-past i past =
-      lost i
-      ∙ ap (λ b. cond (b && not (has i)) (Some (shard_at originals i)) None) (le-ltb i (length originals) past)
+  restored-past i past = search (rules, le-ltb)
 
   restored-lost : (i : ℕ) → i < length originals → has i ≡ false → restored i ≡ Some (shard_at originals i)
   unfolding lost_of
-  restored-lost i inside gone =
-      lost i
-      ∙ ap (λ b. cond (b && not (has i)) (Some (shard_at originals i)) None) (lt-ltb i (length originals) inside)
-      ∙ ap (λ b. cond (true && not b) (Some (shard_at originals i)) None) gone
+  restored-lost i inside gone = search (rules, lt-ltb)
 
   free : AreFree restored kept
-  free = recursion_from_All (λ item. restored item.0 ≡ None) kept
-      (λ j d inside. restored-kept (get_or kept j d).0
-      (list_any_at (λ item. nat_eq (get_or kept j d).0 item.0) kept j d inside
-      (eq-eqb (get_or kept j d).0 (get_or kept j d).0 refl)))
+  free = search (rules, recursion_from_All, restored-kept, list_any_at, nat_eq, eq-eqb)
 
   below : AllByRecursion (λ item. item.0 < length originals) kept
   below = recursion_from_All (λ item. item.0 < length originals) kept (λ j d inside. (left.own j d inside).0)
@@ -79,32 +67,14 @@ module _ (originals : List Shard) (kept : Items) (restored : Shards) (left : Are
   own = recursion_from_All (λ item. shard_at originals item.0 ≡ item.1) kept (λ j d inside. (left.own j d inside).1)
 
   among : AreAmong restored originals
-  among i shard is = by_kept (has i) refl
-    where
-      by_kept : (b : Bool) → has i ≡ b → shard_at originals i ≡ shard
-      by_kept true there = absurd (let none = restored-kept i there in let nothing_left : ⊥ = cc in nothing_left)
-      by_kept false gone =
-          elim (cases_lt i (length originals)) [
-            | inl inside ↦ let some = restored-lost i inside gone in
-                let same : Some (shard_at originals i) ≡ Some shard = sym some ∙ is in
-                let e : shard_at originals i ≡ shard = cc in e
-            | inr past ↦ absurd (let none = restored-past i past in let nothing_left : ⊥ = cc in nothing_left)
-          ]
+  among i shard is = search (rules, restored-kept, cases_lt, restored-lost, restored-past)
 
   -- Each original is in the map of the restored and the kept ones.
   all_there : (i : ℕ) → i < length originals → is_some (entered_all restored kept i) ≡ true
-  all_there i inside = some-entered_all kept restored i ∙ by_kept (has i) refl
-    where
-      by_kept : (b : Bool) → has i ≡ b → (is_some (restored i) || has i) ≡ true
-      by_kept true there = ap (λ o. is_some o || has i) (restored-kept i there) ∙ there
-      by_kept false gone = ap (λ o. is_some o || has i) (restored-lost i inside gone)
+  all_there i inside = search (rules, some-entered_all, restored-kept, restored-lost)
 
   whole : complete_outcome (length originals) kept restored ≡ Ok (entered_all restored kept)
-  whole =
-      ap (result_and_then (whole_outcome (length originals)))
-      (all_entered (length originals) kept restored below free left.once)
-      ∙ rw (le-ltb (count_below (length originals) (entered_all restored kept)) (length originals)
-      (let full = count-full (length originals) (entered_all restored kept) all_there in omega arith)) refl
+  whole = search (rules, all_entered, below, free, le-ltb, entered_all, count-full, all_there)
 
   -- Originals in order that are in the map of the restored and the kept ones are the originals of the message.
   in_order : (shards : List Shard) → AreInOrder (length originals) (entered_all restored kept) shards

@@ -1,7 +1,7 @@
 -- Messages: the least size of their shards, shards that are cut from a message, and shards that are laid end to end.
-use Rattle.std.proofs.Common.{◌≡◌, ℕ, ◌+◌, ◌-◌, ◌*◌, ◌%◌, ◌<◌, ◌≤◌, ◌⊎◌, min, Bool, true, false}
-use Rattle.std.proofs.Common.{List, [], ◌∷◌, ◌++◌, length, take, replicate, All, refl, sym, ap, ap₂, subst, ◌∙◌, inl}
-use Rattle.std.proofs.Common.{inr, arith, append_assoc, append-nil}
+use Rattle.std.proofs.Common.{rules, ◌≡◌, ℕ, ◌+◌, ◌-◌, ◌*◌, ◌%◌, ◌<◌, ◌≤◌, ◌⊎◌, min, Bool, true, false, List, [], ◌∷◌}
+use Rattle.std.proofs.Common.{◌++◌, length, take, replicate, All, refl, sym, ap, subst, ◌∙◌, inl, inr, arith}
+use Rattle.std.proofs.Common.{append_assoc, append-nil}
 use Rattle.std.specs.Prelude.{Result, Ok, Err, IsOk, ◌==◌}
 use Rattle.std.specs.Int.{div_ceil}
 use Rattle.std.proofs.Math.Nat.{mul-le-mul_left, mul_comm, lt_of_mul-lt-mul_left}
@@ -30,22 +30,11 @@ quotient-holds total k some =
 
 -- No smaller size holds the bytes.
 quotient-least : (total k size : ℕ) → 0 < k → total ≤ k * size → div_ceil total k ≤ size
-quotient-least total k size some holds =
-    let bounds = div_ceil_times total k some in
-    let below : k * div_ceil total k < k * (size + 1) =
-    omega (arith, bounds.1, mul_comm k (div_ceil total k), holds) in
-    let less = lt_of_mul-lt-mul_left k below in omega arith
+quotient-least total k size some holds = grind (arith, common_steps, div_ceil_times, mul_comm, lt_of_mul-lt-mul_left)
 
 -- Shards that are each longer than the message hold it.
 pub longer-holds : (total k : ℕ) → 0 < k → HoldsMessage k total (total + total % 2 + 2)
-longer-holds total k some = record {
-  shards = some;
-  some = omega arith;
-  even = omega arith;
-  room = let more : (total + total % 2 + 2) * 1 ≤ (total + total % 2 + 2) * k =
-      mul-le-mul_left (total + total % 2 + 2) (omega arith) in
-      omega (arith, more, mul_comm k (total + total % 2 + 2));
-}
+longer-holds total k some = search (rules, mul-le-mul_left, mul_comm)
 
 -- ---- shards laid end to end
 
@@ -77,27 +66,23 @@ module _ (message : List ℕ) (size : ℕ) (shards : List Shard) (rest piece lef
     (are : AreCut message size shards rest) (parts : rest ≡ piece ++ left)
     (is : shard ≡ piece ++ replicate (size - length piece) 0) (fits : length piece ≤ size) where
   cut-long : length shard ≡ size
-  cut-long =
-      let zeros = length-replicate {A = ℕ} (size - length piece) 0 in
-      ap length is ∙ length-append piece (replicate (size - length piece) 0) ∙ omega (arith, zeros, fits)
+  cut-long = search (rules, length-replicate, length-append, replicate)
 
   -- A whole piece of the message is the next shard.
   cut-whole : length piece ≡ size → AreCut message size (shards ++ shard ∷ []) left
   cut-whole full =
-      let none : size - length piece ≡ 0 = omega arith in
-      let same : shard ≡ piece = is ∙ ap (λ n. piece ++ replicate n 0) none ∙ append-nil piece in
-      record {
-        sized = All-push (λ x. length x ≡ size) shards shard are.sized cut-long;
-        zeros = are.zeros;
-        whole = ap (λ xs. xs ++ left) (joined-push shards shard ∙ ap (λ x. joined shards ++ x) same)
-            ∙ append_assoc (joined shards) piece left
-            ∙ ap (λ x. joined shards ++ x) (sym parts)
-            ∙ are.whole;
-        last = λ some.
-            let long = length-append piece left in
-            let none : length (piece ++ left) ≡ 0 = ap length (sym parts ∙ are.last some) in
-            nil_from_length left (omega arith);
-      }
+      grind (
+        arith,
+        common_steps,
+        replicate,
+        append-nil,
+        All-push,
+        cut-long,
+        joined-push,
+        append_assoc,
+        length-append,
+        nil_from_length,
+      )
 
   -- The last piece of the message, and zeros after it, are the next shard.
   cut-last : left ≡ [] → AreCut message size (shards ++ shard ∷ []) left
@@ -127,29 +112,7 @@ module _ (message : List ℕ) (size : ℕ) (shards : List Shard) (rest piece lef
 pub cut-all : (message : List ℕ) (k size : ℕ) (shards : List Shard) (rest : List ℕ) → AreCut message size shards rest
     → length shards ≡ k → IsLeastSize k (length message) size → AreShardsOf k message shards
 cut-all message k size shards rest are number least =
-    let long = joined-long size shards are.sized in
-    let count : length shards * size ≡ k * size = ap (λ n. n * size) number in
-    let both = length-append (joined shards) rest in
-    let whole = ap length are.whole in
-    let zeros = length-append message (replicate are.zeros 0) in
-    let those = length-replicate {A = ℕ} are.zeros 0 in
-    let room = least.holds.room in
-    let none : rest ≡ [] = elim (cases_eq are.zeros 0) [
-      | inl unpadded ↦ nil_from_length rest (omega arith)
-      | inr padded ↦ are.last (omega arith)
-    ] in
-    let empty : length rest ≡ 0 = ap length none in
-    let exact : are.zeros ≡ k * size - length message = omega arith in
-    record {
-      size = size;
-      least = least;
-      number = number;
-      sized = are.sized;
-      padded = sym (append-nil (joined shards))
-          ∙ ap (λ x. joined shards ++ x) (sym none)
-          ∙ are.whole
-          ∙ ap (λ n. message ++ replicate n 0) exact;
-    }
+    search (rules, joined-long, length-append, replicate, length-replicate, cases_eq, nil_from_length, append-nil)
 
 -- ---- shards that are joined
 
@@ -209,18 +172,7 @@ size-valid size (shard ∷ shards) many some even sized =
 -- The shards of a message, joined to its length, are the message.
 pub joined-back : (k : ℕ) (message : List ℕ) (shards : List Shard) → AreShardsOf k message shards
     → join_outcome shards (length message) ≡ Ok message
-joined-back k message shards are =
-    let holds = are.least.holds in
-    let long = joined-long are.size shards are.sized in
-    let count : length shards * are.size ≡ k * are.size = ap (λ n. n * are.size) are.number in
-    let many : 0 < length shards = (let some = holds.shards in let number = are.number in omega arith) in
-    let size = size-valid are.size shards many holds.some holds.even are.sized in
-    let room = holds.room in
-    let enough : length message ≤ length (joined shards) = omega arith in
-    ap (result_and_then (first_bytes shards (length message))) size
-    ∙ rw (le-ltb (length (joined shards)) (length message) enough)
-    (ap (λ bytes. Ok (take (length message) bytes)) are.padded
-    ∙ ap Ok (take_at message (replicate (k * are.size - length message) 0) (length message) refl))
+joined-back k message shards are = search (rules, joined-long, size-valid, le-ltb, take_at, replicate)
 
 -- ---- the loop that joins shards
 
@@ -242,15 +194,7 @@ take-both n xs ys =
 pub taken-next : (total : ℕ) (shards : List Shard) (shard bytes piece : List ℕ) → bytes ≡ take total (joined shards)
     → piece ≡ take (min (total - length bytes) (length shard)) shard
     → bytes ++ piece ≡ take total (joined (shards ++ shard ∷ []))
-taken-next total shards shard bytes piece so_far is =
-    let taken : length bytes ≡ min total (length (joined shards)) =
-    ap length so_far ∙ length-take total (joined shards) in
-    let wanted : total - length bytes ≡ total - length (joined shards) = omega arith in
-    let more : piece ≡ take (total - length (joined shards)) shard =
-    is ∙ take_min (total - length bytes) shard ∙ ap (λ n. take n shard) wanted in
-    ap₂ (λ xs ys. xs ++ ys) so_far more
-    ∙ sym (take-both total (joined shards) shard)
-    ∙ ap (take total) (sym (joined-push shards shard))
+taken-next total shards shard bytes piece so_far is = search (rules, length-take, take_min, take-both, joined-push)
 
 module _ (shards : List Shard) (total size : ℕ) (found : size_of_shards shards ≡ Ok size) where
   joined-size : (0 < size) × (length (joined shards) ≡ length shards * size)
@@ -261,18 +205,7 @@ module _ (shards : List Shard) (total size : ℕ) (found : size_of_shards shards
   -- Fewer shards than are needed hold fewer bytes.
   pub joined-few : (count : ℕ) → count ≡ div_ceil total size → length shards < count
       → join_outcome shards total ≡ Err (TooFewOriginalShards count (length shards))
-  joined-few count is few =
-      let sizes = joined-size in
-      let least : total ≤ size * length shards → div_ceil total size ≤ length shards =
-      λ holds. quotient-least total size (length shards) sizes.0 holds in
-      let short : length (joined shards) < total = elim (cases_lt (length (joined shards)) total) [
-        | inl less ↦ less
-        | inr holds ↦ absurd (let enough = least (omega (arith, holds, sizes.1, mul_comm size (length shards))) in
-            let none : ⊥ = omega arith in none)
-      ] in
-      ap (result_and_then (first_bytes shards total)) found
-      ∙ rw (lt-ltb (length (joined shards)) total short)
-      (ap (λ n. Err (TooFewOriginalShards n (length shards))) (sym is))
+  joined-few count is few = grind (arith, common_steps, joined-size, quotient-least, cases_lt, mul_comm, lt-ltb)
 
   -- Enough shards hold the bytes.
   pub joined-enough : div_ceil total size ≤ length shards

@@ -1,8 +1,8 @@
 -- The names of the missing originals, in order of index, and what rooms hold after these were rebuilt.
-use Rattle.std.proofs.Common.{◌≡◌, ℕ, ◌+◌, ◌<◌, ◌≤◌, Bool, true, false, cond, List, [], ◌∷◌, ◌++◌, length}
-use Rattle.std.proofs.Common.{get_or, Option, Some, None, refl, sym, ap, ap₂, ◌∙◌, inl, inr, arith, append-nil}
-use Rattle.std.proofs.Common.{add-one, subst}
-use Rattle.std.specs.Prelude.{nat_lt, ◌&&◌, not, is_some}
+use Rattle.std.proofs.Common.{rules, ◌≡◌, ℕ, ◌+◌, ◌<◌, ◌≤◌, Bool, true, false, cond, List, [], ◌∷◌, ◌++◌, length}
+use Rattle.std.proofs.Common.{get_or, Option, Some, None, refl, sym, ap, ap₂, ◌∙◌, inl, inr, arith, append-nil, add-one}
+use Rattle.std.proofs.Common.{subst}
+use Rattle.std.specs.Prelude.{◌&&◌, not, is_some}
 use Rattle.std.proofs.lemmas.Bool.{cases_lt, le-ltb}
 use Rattle.std.proofs.lemmas.List.{length-append, get_or_append_left, map-append}
 use Rattle.std.proofs.Math.Seq.{get_or-append_seam}
@@ -23,13 +23,7 @@ use Rattle.reed_solomon_simd.proofs.RebuiltStrips.{missing-there}
 missing-not : (s : DecoderState) (message : List Shard) (i : ℕ) → is_some (s.originals i) ≡ true
     → missing_of s message i ≡ None
 unfolding missing_of
-missing-not s message i some =
-    ap (λ (b : Bool). cond (nat_lt i s.configuration.original_count && not b) (Some (shard_at message i)) None) some
-    ∙ neither (nat_lt i s.configuration.original_count)
-  where
-    neither : (b : Bool) → ◌≡◌ {A = Option Shard} (cond (b && false) (Some (shard_at message i)) None) None
-    neither true = refl
-    neither false = refl
+missing-not s message i some = search rules
 
 missing-past : (s : DecoderState) (message : List Shard) (i : ℕ) → s.configuration.original_count ≤ i
     → missing_of s message i ≡ None
@@ -46,11 +40,7 @@ listed-more n given =
     ∙ ap (λ m. items_below n given ++ items_at m (given m)) (let e : 0 + n ≡ n = omega arith in e)
 
 pub names-none : (s : DecoderState) → NamesMissing 0 s []
-names-none s = record {
-  each = λ i d h. let no : ⊥ = omega (arith, h) in absurd no;
-  number = let none = count_below-zero s.originals in omega (arith, none);
-  named = λ message recovery. sym (ap shards_listed (items_from-zero 0 (missing_of s message)));
-}
+names-none s = search (rules, count_below-zero, items_from-zero)
 
 -- If original n was received, the names below n are those below n + 1.
 pub names-received : (n : ℕ) (s : DecoderState) (wanted : List ShardIndex) → NamesMissing n s wanted

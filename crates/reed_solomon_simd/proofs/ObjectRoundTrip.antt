@@ -1,15 +1,14 @@
 -- The round trip with an encoder and a decoder: shards are added one after another, some are lost, and exactly the lost
 -- originals are restored.
-use Rattle.std.proofs.Common.{◌≡◌, ℕ, ◌+◌, ◌≤◌, ◌&&◌, ◌++◌, ◌∷◌, [], Bool, true, false, cond, List, All, length, refl}
-use Rattle.std.proofs.Common.{sym, ap, subst, ◌∙◌, nat_lt, Some, None, Result, Ok, Err, IfOk, inl, arith, append_assoc}
+use Rattle.std.proofs.Common.{rules, ◌≡◌, ℕ, ◌+◌, ◌≤◌, ◌&&◌, ◌++◌, ◌∷◌, [], Bool, cond, List, All, length, refl, sym}
+use Rattle.std.proofs.Common.{ap, subst, ◌∙◌, nat_lt, Some, None, Result, Ok, Err, IfOk, inl, arith, append_assoc}
 use Rattle.std.proofs.Common.{append-nil, length-append}
 use Rattle.std.specs.List.{AllByRecursion}
-use Rattle.std.specs.Prelude.{MatchResult, IsOkAnd, is_ok}
 use Rattle.std.proofs.lemmas.Bool.{lt-leb, eq-eqb, le-ltb}
 use Rattle.std.proofs.lemmas.List.Elements.{recursion_from_All}
 use Rattle.std.proofs.Math.Path.{fun_ext}
 use Rattle.rs_field.specs.declared.code.error.Error.{Error}
-use Rattle.rs_field.specs.declared.code.error.Error.TheVariants.{TooFewOriginalShards, OutOfMemory}
+use Rattle.rs_field.specs.declared.code.error.Error.TheVariants.{OutOfMemory}
 use Rattle.rs_field.specs.code.Code.{AreRecovery}
 use Rattle.rs_field.specs.code.Column.{Shard, AreShards, shard_at}
 use Rattle.rs_field.specs.code.Counts.{Rate}
@@ -86,10 +85,7 @@ module _ (c : Configuration) (shards : List Shard) (new_encoder : EncoderState) 
     (sized : All (λ shard. length shard ≡ c.shard_bytes) shards) where
   -- A fresh encoder takes a whole message.
   pub takes-message : with_shards new_encoder shards ≡ Ok (record { configuration = c; given = shards })
-  takes-message =
-      ap (λ s. with_shards s shards) fresh
-      ∙ takes-all shards (fresh_encoder c) (omega (arith, count))
-      (recursion_from_All (λ x. length x ≡ c.shard_bytes) shards sized)
+  takes-message = search (rules, takes-all, recursion_from_All)
 
   -- Adding a message to a fresh encoder does not fail.
   pub gives-all : (P : EncoderState → Type 0) (e : Error) → Reaches (with_shards new_encoder shards) (Err e) P → ⊥
@@ -99,31 +95,12 @@ module _ (c : Configuration) (shards : List Shard) (new_encoder : EncoderState) 
   -- Encoding a whole message does not fail.
   pub encodes : (encoder : EncoderState) (e : Error) → with_shards new_encoder shards ≡ Ok encoder
       → EncodeAnswers encoder (Err e) → ⊥
-  encodes encoder e given answers =
-      let taken = takes-message in
-      let is : encoder ≡ record { configuration = c; given = shards } = cc in
-      by_test (nat_lt (length shards) c.original_count) (le-ltb (length shards) c.original_count (omega (arith, count)))
-      (subst (λ (s : EncoderState). EncodeAnswers s (Err e)) is answers)
-    where
-      by_test : (few : Bool) → few ≡ false
-          → MatchResult (cond few (Err (TooFewOriginalShards c.original_count (length shards))) (Ok shards))
-          (λ message. IsOkAnd {T = List Shard} {E = Error} (Err e) (AreRecovery c message))
-          (λ f. ◌≡◌ {A = Result (List Shard) Error} (Err e) (Err f)) → ⊥
-      by_test true whole h = absurd (let no : ⊥ = cc in no)
-      by_test false whole h = h
+  encodes encoder e given answers = search (rules, takes-message, le-ltb)
 
   -- After a round, the encoder has the state that it had before the message was added.
   pub round-ends : (encoder : EncoderState) → with_shards new_encoder shards ≡ Ok encoder
       → after_encode encoder ≡ new_encoder
-  round-ends encoder given =
-      let taken = takes-message in
-      let is : encoder ≡ record { configuration = c; given = shards } = cc in
-      ap after_encode is
-      ∙ ap (λ (few : Bool).
-      cond (is_ok (cond few (Err (TooFewOriginalShards c.original_count (length shards))) (Ok shards)))
-      (fresh_encoder c) (record { configuration = c; given = shards }))
-      (le-ltb (length shards) c.original_count (omega (arith, count)))
-      ∙ sym fresh
+  round-ends encoder given = search (rules, takes-message, le-ltb)
 
 module _ (c : Configuration) (shards recovery : List Shard) (lost recovery_lost : ℕ → Bool) (new_decoder : DecoderState)
     (fresh : new_decoder ≡ fresh_decoder c)

@@ -1,10 +1,10 @@
 -- Reconstructing by strips: the bytes in the rooms after some strips, and the proof that the rooms hold the wanted
 -- shards after all strips.
-use Rattle.std.proofs.Common.{◌≡◌, ℕ, ◌+◌, ◌-◌, ◌<◌, ◌≤◌, Bool, List, [], ◌∷◌, ◌++◌, length, take, drop, get_or, map}
-use Rattle.std.proofs.Common.{All, Ok, suc, true, cond, ◌&&◌, refl, sym, ap, ap₂, ◌∙◌, subst, arith}
-use Rattle.std.specs.Prelude.{Option, Some, None, is_some, not}
+use Rattle.std.proofs.Common.{rules, ◌≡◌, ℕ, ◌+◌, ◌-◌, ◌<◌, ◌≤◌, Bool, List, [], ◌∷◌, ◌++◌, length, take, drop, get_or}
+use Rattle.std.proofs.Common.{map, All, Ok, suc, true, cond, refl, sym, ap, ap₂, ◌∙◌, subst, arith}
+use Rattle.std.proofs.lemmas.Grind.{common_steps}
+use Rattle.std.specs.Prelude.{Option, Some, None}
 use Rattle.std.specs.List.{list_any, between}
-use Rattle.std.specs.Option.{option_map}
 use Rattle.std.proofs.lemmas.Bool.{lt-ltb}
 use Rattle.std.proofs.Math.Seq.{take-add, take-append-add, take-append_seam}
 use Rattle.std.proofs.lemmas.List.{get_or-map, length-map, length-take-le, take_all, ext_get_or}
@@ -26,8 +26,8 @@ use Rattle.reed_solomon_simd.specs.declared.shard_index.ShardIndex.{ShardIndex}
 use Rattle.reed_solomon_simd.specs.declared.shard_index.ShardIndex.TheVariants.{Original, Recovery}
 use Rattle.reed_solomon_simd.specs.Reconstructed.{AreReconstructed, CanBeRebuilt, lent_at}
 use Rattle.reed_solomon_simd.specs.ShardNames.{shard_named, is_recovery}
-use Rattle.reed_solomon_simd.proofs.ConsistentStrips.{checked-none, checked-further, checked-all}
-use Rattle.reed_solomon_simd.proofs.ConsistentStrips.{even-strip, few-originals}
+use Rattle.reed_solomon_simd.proofs.ConsistentStrips.{checked-none, checked-further, checked-all, even-strip}
+use Rattle.reed_solomon_simd.proofs.ConsistentStrips.{few-originals}
 use Rattle.reed_solomon_simd.proofs.SetUp.{valid-even}
 
 -- The wanted shards of a codeword.
@@ -73,11 +73,7 @@ reconstructed-sized s wanted shards are can =
 -- A shard that can be rebuilt from received shards can be rebuilt from their pieces.
 pub can-pieces : (s : DecoderState) (start end : ℕ) (wanted : List ShardIndex) → All (CanBeRebuilt s) wanted
     → All (CanBeRebuilt (state_of_pieces start end s)) wanted
-can-pieces s start end wanted can i d h = by_kind (get_or wanted i d) (can i d h)
-  where
-    by_kind : (w : ShardIndex) → CanBeRebuilt s w → CanBeRebuilt (state_of_pieces start end s) w
-    by_kind (Original i) can = (can.0, ap (option_map (λ x. between start end x)) can.1)
-    by_kind (Recovery i) can = (can.0, ap (option_map (λ x. between start end x)) can.1)
+can-pieces s start end wanted can i d h = search rules
 
 -- The strips below a byte are rebuilt: their pieces are consistent, and each room holds the first bytes of the wanted
 -- shard of each message that agrees.
@@ -101,10 +97,7 @@ rebuilt-none s wanted grows rooms number fit =
 take-joined : (start : ℕ) (old piece rest : Shard) → start ≤ length old
     → take (start + length piece) (take start old ++ (piece ++ rest)) ≡ take start old ++ piece
 take-joined start old piece rest inside =
-    let front = length-take-le start old inside in
-    ap (λ (n : ℕ). take (n + length piece) (take start old ++ (piece ++ rest))) (sym front)
-    ∙ take-append-add (take start old) (piece ++ rest) (length piece)
-    ∙ ap (λ (l : Shard). take start old ++ l) (take-append_seam piece rest)
+    grind (arith, common_steps, length-take-le, take-append-add, take-append_seam)
 
 module _ (s : DecoderState) (is : IsDecoder default_rate s) (wanted : List ShardIndex)
     (can : All (CanBeRebuilt s) wanted) (grows : Bool) (start end : ℕ)
@@ -197,17 +190,13 @@ rebuilt-all s wanted grows rooms is enough can done =
 pub missing-there : (s : DecoderState) (message : List Shard) (i : ℕ) → i < s.configuration.original_count
     → s.originals i ≡ None → missing_of s message i ≡ Some (shard_at message i)
 unfolding missing_of
-missing-there s message i inside none =
-    ap₂ (λ (a b : Bool). cond (a && not b) (Some (get_or message i [])) None)
-    (lt-ltb i s.configuration.original_count inside) (ap is_some none)
+missing-there s message i inside none = search (rules, lt-ltb)
 
 -- Each restored original is the original of each message that agrees.
 pub restored-there : (s : DecoderState) (out : Shards) (message : List Shard) (i : ℕ) → Restored s out
     → IsAgreeing s message → i < s.configuration.original_count → s.originals i ≡ None
     → out i ≡ Some (shard_at message i)
-restored-there s out message i restored agrees inside none =
-    restored.missing i ∙ ap (λ (m : List Shard). missing_of s m i) (sym (restored.only message agrees))
-    ∙ missing-there s message i inside none
+restored-there s out message i restored agrees inside none = search (rules, missing-there)
 
 -- The wanted shards among the restored originals and the encoded recovery shards are those of the codeword.
 module _ (s : DecoderState) (out : Shards) (encoded message : List Shard) (agrees : IsAgreeing s message)

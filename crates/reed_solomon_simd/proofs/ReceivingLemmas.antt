@@ -1,6 +1,7 @@
 -- From shards that were added to a decoder to the result of collecting received shards.
-use Rattle.std.proofs.Common.{◌≡◌, ℕ, Option, Some, None, Result, Ok, Err, true, refl, sym, ap, ◌∙◌, subst, inl, inr}
-use Rattle.std.specs.Prelude.{◌⊎◌, IsOk, is_ok}
+use Rattle.std.proofs.Common.{rules, ◌≡◌, ℕ, Option, Some, None, Result, Ok, Err, true, refl, sym, ap, ◌∙◌, subst, inl}
+use Rattle.std.proofs.Common.{inr}
+use Rattle.std.specs.Prelude.{IsOk, is_ok}
 use Rattle.std.proofs.lemmas.Bool.{false≢true}
 use Rattle.rs_field.specs.declared.code.error.Error.{Error}
 use Rattle.rs_field.specs.declared.code.error.Error.TheVariants.{NotEnoughShards, OutOfMemory}
@@ -8,7 +9,7 @@ use Rattle.rs_field.specs.code.Configuration.{start_outcome, UpToMemory}
 use Rattle.rs_field.specs.code.Counts.{default_rate, supports}
 use Rattle.rs_field.specs.code.Decoder.{DecoderState, fresh_decoder}
 use Rattle.rs_field.specs.code.Frame.{decoder_rows}
-use Rattle.rs_field.specs.code.OneCall.{Items, default_of, with_both, LacksMemory}
+use Rattle.rs_field.specs.code.OneCall.{Items, default_of, with_both}
 use Rattle.rs_field.specs.code.Outcome.{result_and_then}
 use Rattle.reed_solomon_simd.specs.Verified.{received_size, receiving_opening, receiving_outcome, IsReceiving}
 use Rattle.reed_solomon_simd.proofs.SetUp.{started-parts}
@@ -26,11 +27,7 @@ module _ (k r : ℕ) (originals recovery : Items) where
   -- Without a shard, collecting fails with `NotEnoughShards`.
   pub receiving-none : supports default_rate k r ≡ true → None ≡ received_size originals recovery
       → IsReceiving k r originals recovery (Err (NotEnoughShards k 0 0))
-  receiving-none supported none =
-      subst (λ (size : Option ℕ).
-      (Err (NotEnoughShards k 0 0) ≡ receiving_outcome k r size originals recovery)
-      ⊎ LacksMemory {T = DecoderState} (receiving_opening k r size) (Err (NotEnoughShards k 0 0)))
-      none (rw supported (inl refl))
+  receiving-none supported none = search rules
 
   module _ (size : ℕ) (sized : Some size ≡ received_size originals recovery) where
     abbrev opened : Result (Unit {0}) Error

@@ -1,24 +1,7 @@
 -- From the checks and the rebuilt shards to the result of `reconstruct`.
-use Rattle.std.proofs.Common.{
-  ◌≡◌,
-  ℕ,
-  ◌<◌,
-  List,
-  [],
-  length,
-  All,
-  replicate,
-  Option,
-  Some,
-  None,
-  Result,
-  Ok,
-  Err,
-  false,
-  refl,
-}
-use Rattle.std.proofs.Common.{ap, ◌∙◌, subst, inl, inr}
-use Rattle.std.specs.Prelude.{◌⊎◌, MatchResult, IsOk}
+use Rattle.std.proofs.Common.{rules, ◌≡◌, ℕ, List, [], length, All, replicate, Result, Ok, Err, false, refl, ap, ◌∙◌}
+use Rattle.std.proofs.Common.{subst, inl, inr}
+use Rattle.std.specs.Prelude.{◌⊎◌, MatchResult}
 use Rattle.std.specs.Result.{result_map_both}
 use Rattle.std.proofs.lemmas.List.{length-replicate, get_or-replicate}
 use Rattle.rs_field.specs.declared.code.error.Error.{Error}
@@ -32,8 +15,8 @@ use Rattle.reed_solomon_simd.specs.declared.reconstruct_error.ReconstructError.{
 use Rattle.reed_solomon_simd.specs.declared.reconstruct_error.ReconstructError.TheVariants.{Refused}
 use Rattle.reed_solomon_simd.specs.declared.shard_index.ShardIndex.{ShardIndex}
 use Rattle.reed_solomon_simd.specs.Reconstructed.{AreReconstructed, wanted_outcome, ready_outcome, ReconstructAnswers}
-use Rattle.reed_solomon_simd.specs.Reconstructed.{OneReconstructs, Reconstructs, ReconstructsInto, WritesShards}
-use Rattle.reed_solomon_simd.specs.Verified.{received_size, receiving_opening, receiving_outcome, IsReceiving}
+use Rattle.reed_solomon_simd.specs.Reconstructed.{OneReconstructs, Reconstructs, ReconstructsInto}
+use Rattle.reed_solomon_simd.specs.Verified.{IsReceiving}
 use Rattle.reed_solomon_simd.proofs.VerifyingLemmas.{receiving-outcome, receiving-opened}
 
 module _ (k r : ℕ) (originals recovery : Items) (wanted : List ShardIndex)
@@ -41,16 +24,7 @@ module _ (k r : ℕ) (originals recovery : Items) (wanted : List ShardIndex)
   -- If the counts are not supported, reconstructing fails with their error.
   pub reconstructs-uncounted : (e : Error) → (supports default_rate k r ≡ false) × (e ≡ UnsupportedShardCount k r)
       → OneReconstructs k r originals recovery wanted fit (Err (Refused e))
-  reconstructs-uncounted e refused = by_size (received_size originals recovery)
-    where
-      by_size : (size : Option ℕ)
-          → MatchResult (receiving_outcome k r size originals recovery)
-          (λ s. ReconstructAnswers s wanted (fit s.configuration.shard_bytes) (Err (Refused e)))
-          (λ f. ◌≡◌ {A = Result (List Shard) ReconstructError} (Err (Refused e)) (Err (Refused f)))
-          ⊎ (IsOk (receiving_opening k r size)
-          × (◌≡◌ {A = Result (List Shard) ReconstructError} (Err (Refused e)) (Err (Refused OutOfMemory))))
-      by_size None = rw (refused.0, refused.1) (inl refl)
-      by_size (Some size) = rw (refused.0, refused.1) (inl refl)
+  reconstructs-uncounted e refused = search rules
 
   -- An error of collecting the shards is an error of reconstructing.
   pub reconstructs-refused : (e : Error) → IsReceiving k r originals recovery (Err e)
@@ -85,11 +59,7 @@ module _ (k r : ℕ) (originals recovery : Items) (wanted : List ShardIndex)
 pub into-kept : (k r : ℕ) (originals recovery : Items) (wanted : List ShardIndex) (old new : List (List ℕ))
     (e : ReconstructError) (answer : Result (Unit {0}) ReconstructError) → answer ≡ Err e
     → ReconstructsInto k r originals recovery wanted old new answer → new ≡ old
-into-kept k r originals recovery wanted old new e answer failed into = by_made into.0 into.2
-  where
-    by_made : (made : Result (List Shard) ReconstructError) → WritesShards made old new answer → new ≡ old
-    by_made (Ok shards) does = let done = does.0 in absurd (let no : ⊥ = cc in no)
-    by_made (Err f) does = does.1
+into-kept k r originals recovery wanted old new e answer failed into = search rules
 
 module _ (s : DecoderState) (wanted : List ShardIndex) (fit : Result (Unit {0}) ReconstructError) where
   -- `OutOfMemory` of the check of the wanted shards is a result of reconstructing.
@@ -104,10 +74,7 @@ module _ (s : DecoderState) (wanted : List ShardIndex) (fit : Result (Unit {0}) 
       → MatchResult o (λ _. MatchResult result (AreReconstructed s wanted)
       (λ e. (f : Error) × NoneAgrees s f × (e ≡ Refused f))) (λ e. result ≡ Err e)
       → Reconstructs s wanted fit result
-  by_ready result o ready says =
-      inl (subst (λ (o : Result (Unit {0}) ReconstructError).
-      MatchResult o (λ _. MatchResult result (AreReconstructed s wanted)
-      (λ e. (f : Error) × NoneAgrees s f × (e ≡ Refused f))) (λ e. result ≡ Err e)) ready says)
+  by_ready result o ready says = search rules
 
   -- The outcome of the checks, from the outcome of the check for enough shards.
   abbrev after_enough : Result (Unit {0}) Error → Result (Unit {0}) ReconstructError
@@ -153,9 +120,7 @@ pub zeros-number : (n size : ℕ) → length (zeros n size) ≡ n
 zeros-number n size = length-replicate n (replicate {A = ℕ} size 0)
 
 pub zeros-sized : (n size : ℕ) → All (λ shard. length shard ≡ size) (zeros n size)
-zeros-sized n size i d h =
-    ap length (get_or-replicate n i (replicate {A = ℕ} size 0) d
-    (subst (λ (m : ℕ). i < m) (zeros-number n size) h)) ∙ length-replicate {A = ℕ} size 0
+zeros-sized n size i d h = search (rules, get_or-replicate, replicate, zeros-number, length-replicate)
 
 -- If a check can only fail because memory is short, and it succeeds, its outcome is a success.
 pub was-checked : (o : Result (Unit {0}) ReconstructError) (e : ReconstructError)

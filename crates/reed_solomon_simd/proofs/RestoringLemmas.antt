@@ -1,19 +1,16 @@
 -- From rooms that hold the restored originals to the result of decoding into rooms.
-use Rattle.std.proofs.Common.{◌≡◌, ℕ, ◌+◌, ◌==◌, List, [], ◌∷◌, ◌++◌, length, get_or, All, Some, None, Result, Ok, Err}
-use Rattle.std.proofs.Common.{MatchResult, true, false, true≢false, refl, sym, ap, ◌∙◌, subst, inl, inr, arith}
+use Rattle.std.proofs.Common.{rules, ◌≡◌, ℕ, ◌+◌, ◌==◌, List, [], ◌∷◌, ◌++◌, length, get_or, All, Some, None, Result}
+use Rattle.std.proofs.Common.{Ok, Err, MatchResult, true, false, true≢false, refl, sym, ap, ◌∙◌, subst, inl, inr, arith}
 use Rattle.std.proofs.lemmas.List.{append-nil, drop_all, ext_get_or}
 use Rattle.std.proofs.lemmas.Bool.{ne_eqb}
-use Rattle.std.specs.Prelude.{◌⊎◌, OnOk, OnErr, is_ok}
+use Rattle.std.specs.Prelude.{◌⊎◌, OnOk, OnErr}
 use Rattle.rs_field.specs.declared.code.error.Error.{Error}
 use Rattle.rs_field.specs.declared.code.error.Error.TheVariants.{OutOfMemory}
 use Rattle.rs_field.specs.code.Column.{Shard}
 use Rattle.rs_field.specs.code.Decoder.{DecoderState, enough_given, originals_given, Restored, NoneAgrees}
 use Rattle.rs_field.specs.code.Decoder.{DecodeAnswers}
 use Rattle.rs_field.specs.code.Given.{Shards, nothing}
-use Rattle.rs_field.specs.code.Configuration.{Configuration, start_outcome}
-use Rattle.rs_field.specs.code.Counts.{default_rate}
-use Rattle.rs_field.specs.code.OneCall.{Items, default_of, decode_opening, LacksMemory, OneDecodeAnswers}
-use Rattle.rs_field.specs.code.Frame.{decoder_rows}
+use Rattle.rs_field.specs.code.OneCall.{Items, decode_opening, LacksMemory, OneDecodeAnswers}
 use Rattle.rs_rate.specs.objects.Giving.{IsDecoding}
 use Rattle.rs_rate.proofs.of_objects.OneCall.{decoding-led, decoding-answers, decoding-nothing, lists-none}
 use Rattle.reed_solomon_simd.proofs.SetUp.{started-parts, started-of}
@@ -39,9 +36,7 @@ module _ (s : DecoderState) (enough : enough_given s ≡ Ok tt) where
   -- A decoder with enough shards returns the restored originals, or the error that no message agrees.
   pub enough-answers : (result : Result Shards Error) → MatchResult result (Restored s) (NoneAgrees s)
       → DecodeAnswers s result
-  enough-answers result is =
-      subst (λ (o : Result (Unit {0}) Error).
-      MatchResult o (λ _. MatchResult result (Restored s) (NoneAgrees s)) (λ e. result ≡ Err e)) (sym enough) is
+  enough-answers result is = search rules
 
   -- Writing the restored originals into rooms that fit, or returning the error of rooms that do not fit, satisfies
   -- `RestoresInto`.
@@ -74,10 +69,7 @@ module _ (s : DecoderState) (enough : enough_given s ≡ Ok tt) where
 
 -- A decoder with too few shards returns the error of `enough_given`.
 pub few-answers : (s : DecoderState) (e : Error) → Err e ≡ enough_given s → DecodeAnswers s (Err e)
-few-answers s e few =
-    subst (λ (o : Result (Unit {0}) Error).
-    MatchResult o (λ _. MatchResult {T = Shards} (Err e) (Restored s) (NoneAgrees s))
-    (λ f. ◌≡◌ {A = Result Shards Error} (Err e) (Err f))) few refl
+few-answers s e few = search rules
 
 pub restores-few : (s : DecoderState) (e : Error) (old new : List Shard) (answer : Result (Unit {0}) RoomError)
     → Err e ≡ enough_given s
@@ -111,12 +103,7 @@ module _ (k r : ℕ) (originals recovery : Items) (s : DecoderState)
   -- If memory is short after a decoder was set up, one call may fail with `OutOfMemory`.
   pub decoding-short : {T : Type 0} (result : Result T Error) → result ≡ Err OutOfMemory
       → LacksMemory (decode_opening k r recovery) result
-  decoding-short result lacks =
-      let (first, rest, same, led) = decoding-led k r originals recovery s is in
-      let c : Configuration = default_of k r (length first.1) in
-      let (valid, fits) = started-parts (decoder_rows default_rate k r) c
-      (started-of (start_outcome (decoder_rows default_rate k r) c) _ s led) in
-      subst (λ (items : Items). LacksMemory (decode_opening k r items) result) (sym same) (ap is_ok valid, lacks)
+  decoding-short result lacks = search (rules, decoding-led, started-parts, started-of)
 
   -- The result of the decoder, or `OutOfMemory`, is a result of one call.
   pub decoding-answered : (result : Result Shards Error) → DecodeAnswers s result ⊎ (result ≡ Err OutOfMemory)

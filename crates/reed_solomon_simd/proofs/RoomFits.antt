@@ -1,7 +1,7 @@
 -- Lemmas about `rooms_fit`, which checks that rooms have the length of shards of one size, and about vectors of one
 -- size.
-use Rattle.std.proofs.Common.{◌≡◌, ℕ, zero, suc, ◌<◌, List, [], ◌∷◌, length, get_or, All, Result, Ok, Err, MatchResult}
-use Rattle.std.proofs.Common.{Vec, map, ap, subst, refl, ◌∙◌, sym, arith}
+use Rattle.std.proofs.Common.{rules, ◌≡◌, ℕ, zero, suc, ◌<◌, List, [], ◌∷◌, length, get_or, All, Result, Ok, Err}
+use Rattle.std.proofs.Common.{MatchResult, Vec, map, ap, subst, refl, ◌∙◌, sym, arith}
 use Rattle.std.proofs.lemmas.Bool.{eq-eqb, ne_eqb}
 use Rattle.std.proofs.lemmas.List.{length-map, get_or-map}
 use Rattle.rs_field.specs.code.Column.{Shard}
@@ -55,6 +55,4 @@ pub fills : (shards : List Shard) (old new : List (List ℕ)) (answer : Result (
     (o : Result (Unit {0}) RoomError) → o ≡ rooms_fit shards old
     → MatchResult o (λ _. (answer ≡ Ok tt) × (new ≡ shards)) (λ e. (answer ≡ Err e) × (new ≡ old))
     → Fills shards old new answer
-fills shards old new answer o fit does =
-    subst (λ (o : Result (Unit {0}) RoomError).
-    MatchResult o (λ _. (answer ≡ Ok tt) × (new ≡ shards)) (λ e. (answer ≡ Err e) × (new ≡ old))) fit does
+fills shards old new answer o fit does = search rules

@@ -1,6 +1,6 @@
 -- Facts about the configuration of a coder that was set up.
-use Rattle.std.proofs.Common.{◌≡◌, ℕ, ◌-◌, ◌<◌, ◌^◌, ◌%◌, Bool, true, false, cond, Ok, Err, Result, inl, inr, refl}
-use Rattle.std.proofs.Common.{ap, ◌∙◌, arith}
+use Rattle.std.proofs.Common.{rules, ◌≡◌, ℕ, ◌-◌, ◌<◌, ◌^◌, ◌%◌, Bool, true, false, cond, Ok, Err, Result, inl, inr}
+use Rattle.std.proofs.Common.{refl, ap, ◌∙◌, arith}
 use Rattle.std.specs.Prelude.{nat_le}
 use Rattle.std.proofs.lemmas.Bool.{cases_lt, le-leb}
 use Rattle.std.proofs.lemmas.Grind.{common_steps}
@@ -15,24 +15,7 @@ use Rattle.rs_field.specs.code.Outcome.{result_and_then}
 -- If setting up succeeds, the configuration is valid and the size of its rows in bytes fits a `usize`.
 pub started-parts : (rows : ℕ) (c : Configuration) → start_outcome rows c ≡ Ok tt → (validation_outcome c ≡ Ok tt)
     × (bytes_of_rows rows c.shard_bytes < 2 ^ 64)
-started-parts rows c is = by_outcome (validation_outcome c) is
-  where
-    by_test : (many : Bool) → nat_le (2 ^ 64) (bytes_of_rows rows c.shard_bytes) ≡ many
-        → ◌≡◌ {A = Result (Unit {0}) Error} (cond many (Err OutOfMemory) (Ok tt)) (Ok tt)
-        → bytes_of_rows rows c.shard_bytes < 2 ^ 64
-    by_test true same is = absurd (let no : ⊥ = cc in no)
-    by_test false same is = elim (cases_lt (bytes_of_rows rows c.shard_bytes) (2 ^ 64)) [
-      | inl few ↦ few
-      | inr many ↦ let other = le-leb (2 ^ 64) (bytes_of_rows rows c.shard_bytes) many in absurd (let no : ⊥ = cc in no)
-    ]
-
-    by_outcome : (o : Result (Unit {0}) Error)
-        → ◌≡◌ {A = Result (Unit {0}) Error}
-        (result_and_then (λ _. cond (nat_le (2 ^ 64) (bytes_of_rows rows c.shard_bytes)) (Err OutOfMemory) (Ok tt))
-        o) (Ok tt)
-        → (◌≡◌ {A = Result (Unit {0}) Error} o (Ok tt)) × (bytes_of_rows rows c.shard_bytes < 2 ^ 64)
-    by_outcome (Ok u) is = (refl, by_test (nat_le (2 ^ 64) (bytes_of_rows rows c.shard_bytes)) refl is)
-    by_outcome (Err e) is = absurd (let no : ⊥ = cc in no)
+started-parts rows c is = search (rules, cases_lt, le-leb)
 
 -- The shard size of a valid configuration is even.
 pub valid-even : (c : Configuration) → validation_outcome c ≡ Ok tt → c.shard_bytes % 2 ≡ 0

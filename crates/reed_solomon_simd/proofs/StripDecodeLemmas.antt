@@ -1,9 +1,7 @@
 -- A round of a decoder over a strip of each received shard.
-use Rattle.std.proofs.Common.{◌≡◌, ℕ, suc, ◌+◌, ◌-◌, ◌<◌, ◌≤◌, Bool, true, List, [], ◌∷◌, length, drop, get_or, Result}
-use Rattle.std.proofs.Common.{Ok, Err, Option, Some, None, refl, sym, ap, ◌∙◌, subst, inl, inr, arith}
-use Rattle.std.specs.Prelude.{◌⊎◌, unwrap_or, MatchResult}
-use Rattle.std.specs.List.{between}
-use Rattle.std.specs.Option.{option_map}
+use Rattle.std.proofs.Common.{rules, ◌≡◌, ℕ, suc, ◌+◌, ◌-◌, ◌<◌, ◌≤◌, Bool, true, List, [], ◌∷◌, length, drop, get_or}
+use Rattle.std.proofs.Common.{Result, Ok, Err, Some, sym, ap, ◌∙◌, subst, inl, inr, arith}
+use Rattle.std.specs.Prelude.{◌⊎◌, MatchResult}
 use Rattle.std.proofs.lemmas.Option.{none-some}
 use Rattle.std.proofs.lemmas.List.{length-take-le, length-drop, get_or-map, drop_more}
 use Rattle.rs_field.specs.declared.code.error.Error.{Error}
@@ -26,22 +24,11 @@ module _ (start end n count size : ℕ) (given : Shards) (within : AreWithin cou
   -- A piece has the length of the strip.
   piece-sized : (piece : Shard) → start ≤ end → end ≤ size → pieces_of start end given n ≡ Some piece
       → length piece ≡ end - start
-  piece-sized piece order inside found = by_shard (given n) refl found
-    where
-      by_shard : (o : Option Shard) → given n ≡ o → option_map (λ s. between start end s) o ≡ Some piece
-          → length piece ≡ end - start
-      by_shard (Some shard) is found =
-          let long = (within.sized n shard is).length_is in
-          ap length (ap (λ o. unwrap_or o piece) (sym found))
-          ∙ length-take-le (end - start) (drop start shard)
-          (omega (arith, length-drop start shard, long, inside, order))
-      by_shard None is found = absurd (none-some piece found)
+  piece-sized piece order inside found = search (rules, length-take-le, length-drop, none-some)
 
   -- From the count on there are no pieces, so the pieces below the count are all pieces.
   pub pieces-all : count ≤ n → first n (pieces_of start end given) ≡ pieces_of start end given
-  pieces-all all =
-      first-all n (pieces_of start end given) (λ i past.
-      ap (λ o. option_map (λ s. between start end s) o) (within.none_past i (omega (arith, all, past))))
+  pieces-all all = search (rules, first-all)
 
 -- A decoder that has the pieces below n takes piece n.
 module _ (start end n : ℕ) (x s now : DecoderState) (piece : Shard) (order : start ≤ end)
@@ -101,10 +88,7 @@ pub pieces-added : (start end : ℕ) (x : DecoderState) {zero one two : DecoderS
     → one ≡ record zero { originals = pieces_of start end x.originals }
     → two ≡ record one { recovery = pieces_of start end x.recovery }
     → two ≡ state_of_pieces start end x
-pieces-added start end x fresh first second =
-    second
-    ∙ ap (λ (s : DecoderState). record s { recovery = pieces_of start end x.recovery })
-    (first ∙ ap (λ (s : DecoderState). record s { originals = pieces_of start end x.originals }) fresh)
+pieces-added start end x fresh first second = search rules
 
 module _ (start end : ℕ) (x : DecoderState) {state : DecoderState} (is : state ≡ state_of_pieces start end x)
     (enough : enough_given x ≡ Ok tt) where
@@ -113,12 +97,7 @@ module _ (start end : ℕ) (x : DecoderState) {state : DecoderState} (is : state
 
   answers-here : (result : Result Shards Error) → DecodeAnswers state result
       → MatchResult result (Restored (state_of_pieces start end x)) (NoneAgrees (state_of_pieces start end x))
-  answers-here result answers =
-      let here = subst (λ (s : DecoderState). DecodeAnswers s result) is answers in
-      subst (λ (o : Result (Unit {0}) Error).
-      MatchResult o (λ _. MatchResult result (Restored (state_of_pieces start end x))
-      (NoneAgrees (state_of_pieces start end x)))
-      (λ e. result ≡ Err e)) enough-here here
+  answers-here result answers = search (rules, enough-here)
 
   -- A round that succeeds restores the missing pieces.
   pub round-made : (out : Shards) → DecodeAnswers state (Ok out) → Restored (state_of_pieces start end x) out

@@ -1,5 +1,5 @@
 -- A round of an encoder over a strip of each original.
-use Rattle.std.proofs.Common.{◌≡◌, ℕ, ◌-◌, ◌≤◌, List, length, All, Ok, Err}
+use Rattle.std.proofs.Common.{rules, ◌≡◌, ℕ, ◌-◌, ◌≤◌, List, length, All, Ok, Err}
 use Rattle.rs_field.specs.declared.code.error.Error.{Error}
 use Rattle.rs_field.specs.code.Code.{AreRecovery}
 use Rattle.rs_field.specs.code.Column.{Shard}
@@ -24,15 +24,11 @@ module _ (start end r : ℕ) (originals : List Shard) (order : start ≤ end)
   module _ (given : EncoderState) (led : with_shards first (pieces start end originals) ≡ Ok given) where
     -- Encoding the pieces of a strip does not fail.
     pub strip-encoded : (e : Error) → EncodeAnswers given (Err e) → ⊥
-    strip-encoded e =
-        encodes (default_of (length originals) r (end - start)) (pieces start end originals) first fresh
-        (pieces-count start end originals) (pieces-sized start end originals order inside) given e led
+    strip-encoded e = search (rules, encodes, pieces-count, pieces-sized)
 
     -- After encoding a strip, the encoder has the state that it had before.
     pub strip-ends : after_encode given ≡ first
-    strip-ends =
-        round-ends (default_of (length originals) r (end - start)) (pieces start end originals) first fresh
-        (pieces-count start end originals) (pieces-sized start end originals order inside) given led
+    strip-ends = search (rules, round-ends, pieces-count, pieces-sized)
 
     -- Encoding the pieces of a strip makes the recovery pieces of the strip.
     pub strip-codes : (made : List Shard) → IsEncoder default_rate given → EncodeAnswers given (Ok made)

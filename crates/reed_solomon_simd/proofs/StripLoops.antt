@@ -1,5 +1,5 @@
 -- Loops over the strips of shards, from the first bytes of the shards to the last.
-use Rattle.std.proofs.Common.{◌≡◌, ◌⊎◌, ℕ, ◌+◌, ◌-◌, ◌%◌, ◌<◌, ◌≤◌, min, refl, subst, ◌∙◌, inl, arith}
+use Rattle.std.proofs.Common.{rules, ◌≡◌, ◌⊎◌, ℕ, ◌+◌, ◌-◌, ◌%◌, ◌<◌, ◌≤◌, min, refl, inl, arith}
 use Rattle.std.proofs.Math.Nat.{min-eq_right}
 use Rattle.rs_field.specs.code.Pieces.{IsStrip}
 use Rattle.rs_field.proofs.of_code.Pieces.{is_strip}
@@ -25,12 +25,7 @@ pub strip-next : (bytes : ℕ) {start part width size whole : ℕ} → width ≡
     → part ≡ min width (size - start) → bytes % 64 ≡ 0 → IsCut start size → start < size → size ≡ whole
     → IsNext start part width size whole
 strip-next bytes {start} {part} {width} {size} width_is part_is chunks cut more long =
-    let here = is_strip start bytes size width part width_is part_is chunks cut.begins more in
-    record {
-      strip = subst (λ (n : ℕ). IsStrip start (start + part) n) long here;
-      cut = record { inside = here.inside; begins = here.ends };
-      last = λ less left. let last = part_is ∙ min-eq_right (omega (arith, less)) in omega (arith, left, last);
-    }
+    search (rules, is_strip, min-eq_right)
 
 -- If no bytes are left, the strips end where the shards end.
 pub cut-last : {start size whole : ℕ} → IsCut start size → size ≤ start → size ≡ whole → start ≡ whole

@@ -1,14 +1,15 @@
 -- How the change of an original is added to recovery shards, piece by piece.
-use Rattle.std.proofs.Common.{◌≡◌, ℕ, ◌+◌, ◌-◌, ◌*◌, ◌/◌, ◌%◌, ◌<◌, ◌≤◌, ◌⊎◌, List, [], ◌++◌, length, take, drop}
-use Rattle.std.proofs.Common.{min, bit_xor}
-use Rattle.std.proofs.Common.{All, MutBor, get_or, set, append_assoc, refl, sym, ap, ap₂, subst, ◌∙◌, inl, inr, arith}
+use Rattle.std.proofs.Common.{rules, ◌≡◌, ℕ, ◌+◌, ◌-◌, ◌*◌, ◌/◌, ◌%◌, ◌<◌, ◌≤◌, ◌⊎◌, List, [], ◌++◌, length, take, drop}
+use Rattle.std.proofs.Common.{min, bit_xor, All, MutBor, set, append_assoc, refl, sym, ap, ap₂, subst, ◌∙◌, inl, inr}
+use Rattle.std.proofs.Common.{arith}
+use Rattle.std.proofs.lemmas.Grind.{common_steps}
 use Rattle.std.specs.Prelude.{slice_index, Result, Ok, Err, MatchResult, true, false}
 use borrow.Rule.Slice.PartMut.{put_mid}
 use Rattle.std.specs.List.{between}
 use Rattle.std.proofs.lemmas.Slice.{take-put_mid, drop-put_mid}
 use Rattle.std.proofs.lemmas.Bool.{cases_lt}
-use Rattle.std.proofs.lemmas.List.{get_or_past, length-take-le, length-drop, drop-drop}
-use Rattle.std.proofs.lemmas.List.{take-append-drop, map-set, get_or-set_same, get_or-set_other, length-map}
+use Rattle.std.proofs.lemmas.List.{get_or_past, length-take-le, length-drop, drop-drop, take-append-drop, map-set}
+use Rattle.std.proofs.lemmas.List.{get_or-set_same, get_or-set_other, length-map, get_or_default}
 use Rattle.std.proofs.Math.Seq.{take-append_seam, drop-append_seam}
 use Rattle.rs_field.specs.words.Field.{product, power}
 use Rattle.rs_field.specs.code.Column.{Shard, IsShard, shard_at, column, chunk_words}
@@ -17,7 +18,6 @@ use Rattle.rs_field.proofs.of_code.Columns.{column-at, columns-at, byte_lt, shar
 use Rattle.rs_field.proofs.of_code.Pieces.{column-head, column-rest, column-piece, is_strip}
 use Rattle.rs_field.proofs.of_words.Packed.{sum_of_bytes}
 use Rattle.std.specs.Result.{result_map_both}
-use Rattle.std.proofs.lemmas.List.{get_or_default}
 use Rattle.rs_field.specs.declared.code.error.Error.{Error}
 use Rattle.rs_field.specs.declared.code.error.Error.TheVariants.{UnsupportedShardCount, OutOfMemory}
 use Rattle.rs_field.specs.code.Code.{AreRecovery}
@@ -30,8 +30,8 @@ use Rattle.reed_solomon_simd.specs.declared.room_error.RoomError.{RoomError}
 use Rattle.reed_solomon_simd.specs.declared.room_error.RoomError.TheVariants.{Refused}
 use Rattle.reed_solomon_simd.specs.Into.{rooms_fit}
 use Rattle.reed_solomon_simd.specs.Rooms.{bytes_in}
-use Rattle.reed_solomon_simd.specs.Updated.{IsChanged, IsChangedStrip, UpdatesShards, UpdatesInto}
-use Rattle.reed_solomon_simd.specs.Updated.{change_outcome, update_outcome}
+use Rattle.reed_solomon_simd.specs.Updated.{IsChanged, IsChangedStrip, UpdatesShards, UpdatesInto, change_outcome}
+use Rattle.reed_solomon_simd.specs.Updated.{update_outcome}
 use Rattle.reed_solomon_simd.proofs.ReconstructLemmas.{zeros}
 
 -- If each byte of a shard is the XOR of two bytes, each word is the XOR of two words.
@@ -82,14 +82,7 @@ pub record IsChangedBelow (start : ℕ) (old new : Shard) (log : ℕ) (before no
 
 -- No byte is changed at the start.
 pub changed-none : (old new : Shard) (log : ℕ) (before : Shard) → IsChangedBelow 0 old new log before before
-changed-none old new log before =
-    record {
-      length_is = refl;
-      bytes = inl refl;
-      begins = inl refl;
-      below = λ j h. let no : ⊥ = omega (arith, h) in absurd no;
-      above = refl;
-    }
+changed-none old new log before = search rules
 
 -- The bytes of a piece of a shard.
 pub length-piece : (start end : ℕ) (s : Shard) → end ≤ length s → length (between start end s) ≡ end - start
@@ -100,24 +93,13 @@ length-piece start end s within =
 pub put-piece : (start width end : ℕ) (s piece : Shard) → start + width ≡ end → start ≤ length s
     → length piece ≡ width → put_mid start width s piece ≡ take start s ++ (piece ++ drop end s)
 put-piece start width end s piece ends within sized =
-    sym (take-append-drop end (put_mid start width s piece))
-    ∙ ap₂ (λ (l m : Shard). l ++ m) (take-put_mid start width s piece end (omega (arith, ends, sized)) within)
-    (drop-put_mid start width s piece end (omega (arith, ends)) within sized)
-    ∙ append_assoc (take start s) piece (drop end s)
+    grind (arith, common_steps, take-append-drop, take-put_mid, drop-put_mid, append_assoc)
 
 -- Once all bytes are changed, the shard is.
 pub changed-all : (start : ℕ) (old new : Shard) (log : ℕ) (before now : Shard)
     → IsChangedBelow start old new log before now → 0 < length before → length before ≤ start
     → IsChanged old new log before now
-changed-all start old new log before now is some done =
-    record {
-      length_is = is.length_is;
-      bytes = elim is.bytes [
-        | inl none ↦ let no : ⊥ = omega (arith, none, some, done) in absurd no
-        | inr all ↦ all
-      ];
-      words = λ j h. is.below j (omega (arith, h, done));
-    }
+changed-all start old new log before now is some done = search rules
 
 -- The parts of a list whose middle part is replaced.
 module _ (start end : ℕ) (now piece after : Shard) (order : start ≤ end) (within : end ≤ length now)
@@ -129,22 +111,13 @@ module _ (start end : ℕ) (now piece after : Shard) (order : start ≤ end) (wi
   front = length-take-le start now (omega (arith, order, within))
 
   pub head-kept : take start after ≡ take start now
-  head-kept =
-      ap (take start) is
-      ∙ ap (λ (n : ℕ). take n (take start now ++ tail)) (sym front)
-      ∙ take-append_seam (take start now) tail
+  head-kept = search (rules, front, take-append_seam)
 
   behind : drop start after ≡ tail
-  behind =
-      ap (drop start) is
-      ∙ ap (λ (n : ℕ). drop n (take start now ++ tail)) (sym front)
-      ∙ drop-append_seam (take start now) tail
+  behind = search (rules, front, drop-append_seam)
 
   pub middle-is : between start end after ≡ piece
-  middle-is =
-      ap (take (end - start)) behind
-      ∙ ap (λ (n : ℕ). take n tail) (sym sized)
-      ∙ take-append_seam piece (drop end now)
+  middle-is = search (rules, behind, take-append_seam)
 
   pub rest-kept : drop end after ≡ drop end now
   rest-kept =
@@ -212,26 +185,18 @@ changed-more start end old new log before now after is strip same_old same_new (
 -- The next piece of at most 2048 bytes is a strip.
 pub next-strip : (start size width : ℕ) → (start % 64 ≡ 0) ⊎ (start ≡ size) → start < size
     → width ≡ min 2048 (size - start) → IsStrip start (start + width) size
-next-strip start size width begins more is =
-    let part : min 2048 (size - start) ≡ min (min 2048 size) (size - start) = omega arith in
-    is_strip start 2048 size (min 2048 size) width refl (is ∙ part) refl begins more
+next-strip start size width begins more is = search (rules, is_strip)
 
 -- ---- all recovery shards
 
 -- The shards in rooms, after one room was replaced.
 pub shard-set : (rooms : List (MutBor (List ℕ))) (index i : ℕ) (room : MutBor (List ℕ)) → index < length rooms
     → i ≡ index → shard_at (bytes_in (set rooms index room)) i ≡ room.now
-shard-set rooms index i room inside same =
-    let many = length-map rooms (λ room. room.now) in
-    ap (λ (n : ℕ). get_or (bytes_in (set rooms index room)) n []) same
-    ∙ ap (λ (l : List (List ℕ)). get_or l index []) (map-set (λ room. room.now) rooms index room)
-    ∙ get_or-set_same (bytes_in rooms) index room.now [] (omega (arith, inside, many))
+shard-set rooms index i room inside same = search (rules, length-map, set, map-set, get_or-set_same)
 
 pub shard-kept : (rooms : List (MutBor (List ℕ))) (index i : ℕ) (room : MutBor (List ℕ)) → (i ≡ index → ⊥)
     → shard_at (bytes_in (set rooms index room)) i ≡ shard_at (bytes_in rooms) i
-shard-kept rooms index i room other =
-    ap (λ (l : List (List ℕ)). get_or l i []) (map-set (λ room. room.now) rooms index room)
-    ∙ get_or-set_other (bytes_in rooms) index i room.now [] other
+shard-kept rooms index i room other = search (rules, map-set, get_or-set_other)
 
 -- Changed recovery shards are those of the changed message.
 pub updates-changed : (k r index : ℕ) (old new : Shard) (factors : List ℕ) (before after : List Shard)
@@ -278,13 +243,7 @@ module _ (k r index : ℕ) (old new : Shard) (before : List (List ℕ)) where
   -- If an update fails, the rooms are unchanged.
   pub updates-kept : (after : List (List ℕ)) (e : RoomError) (answer : Result (Unit {0}) RoomError) → answer ≡ Err e
       → UpdatesInto k r index old new before after answer → after ≡ before
-  updates-kept after e answer failed updates =
-      by_outcome (update_outcome k r index (length old) (length new) before) updates
-    where
-      by_outcome : (o : Result (Unit {0}) RoomError) → Does after answer o → after ≡ before
-      by_outcome (Ok u) (inl does) = let done = does.0 in absurd (let no : ⊥ = cc in no)
-      by_outcome (Ok u) (inr does) = does.1
-      by_outcome (Err f) does = does.1
+  updates-kept after e answer failed updates = search rules
 
   -- Unsupported counts are the first error.
   pub outcome-uncounted : (e : Error) → (supports default_rate k r ≡ false) × (e ≡ UnsupportedShardCount k r)

@@ -1,4 +1,5 @@
 -- From the result of collecting received shards to the result of `verify`.
+use Rattle.std.proofs.Common.{rules, arith}
 use Rattle.std.proofs.Common.{
   ◌≡◌,
   ℕ,
@@ -19,8 +20,7 @@ use Rattle.std.proofs.Common.{
   inl,
   inr,
 }
-use Rattle.std.proofs.Common.{arith}
-use Rattle.std.specs.Prelude.{◌⊎◌, MatchResult, IsOk, is_ok}
+use Rattle.std.specs.Prelude.{◌⊎◌, MatchResult, IsOk}
 use Rattle.rs_field.specs.declared.code.error.Error.{Error}
 use Rattle.rs_field.specs.declared.code.error.Error.TheVariants.{UnsupportedShardCount, NotEnoughShards, OutOfMemory}
 use Rattle.std.proofs.lemmas.Grind.{common_steps}
@@ -30,8 +30,8 @@ use Rattle.rs_field.specs.code.Counts.{default_rate, supports}
 use Rattle.rs_field.specs.code.Decoder.{DecoderState, enough_given, IsConsistent, NoneAgrees, fresh_decoder}
 use Rattle.rs_field.specs.code.Decoder.{with_original, with_recovery}
 use Rattle.rs_field.specs.code.Frame.{decoder_rows}
-use Rattle.rs_field.specs.code.OneCall.{Items, default_of, counts_outcome, LacksMemory, with_both}
-use Rattle.rs_field.specs.code.OneCall.{one_by_one, with_originals, with_recoveries}
+use Rattle.rs_field.specs.code.OneCall.{Items, default_of, counts_outcome, with_both, one_by_one, with_originals}
+use Rattle.rs_field.specs.code.OneCall.{with_recoveries}
 use Rattle.rs_field.specs.code.Outcome.{result_and_then}
 use Rattle.reed_solomon_simd.specs.Verified.{received_size, receiving_opening, receiving_outcome, IsReceiving}
 use Rattle.reed_solomon_simd.specs.Verified.{VerifyAnswers, OneVerifies}
@@ -43,14 +43,7 @@ module _ (k r : ℕ) (originals recovery : Items) where
   -- If the counts are not supported, `verify` fails with their error.
   pub verifies-uncounted : (e : Error) → (supports default_rate k r ≡ false) × (e ≡ UnsupportedShardCount k r)
       → OneVerifies k r originals recovery (Err e)
-  verifies-uncounted e refused = by_size (received_size originals recovery)
-    where
-      by_size : (size : Option ℕ)
-          → MatchResult (receiving_outcome k r size originals recovery) (λ s. VerifyAnswers s (Err e))
-          (λ f. ◌≡◌ {A = Result (Unit {0}) Error} (Err e) (Err f))
-          ⊎ LacksMemory {T = Unit {0}} (receiving_opening k r size) (Err e)
-      by_size None = rw (refused.0, refused.1) (inl refl)
-      by_size (Some size) = rw (refused.0, refused.1) (inl refl)
+  verifies-uncounted e refused = search rules
 
   -- An error of collecting the shards is an error of `verify`.
   pub verifies-refused : (e : Error) → IsReceiving k r originals recovery (Err e)
@@ -66,48 +59,25 @@ module _ (k r : ℕ) (originals recovery : Items) where
   module _ (s : DecoderState) (is : IsReceiving k r originals recovery (Ok s)) where
     -- The decoder is the outcome of adding the shards.
     pub receiving-outcome : Ok s ≡ receiving_outcome k r (received_size originals recovery) originals recovery
-    receiving-outcome = elim is
-        [ inl same ↦ same | inr lacks ↦ let refused = lacks.1 in absurd (let no : ⊥ = cc in no) ]
+    receiving-outcome = search rules
 
     -- What the decoder says of the shards is the result of `verify`.
     verifies-led : (result : Result (Unit {0}) Error) → VerifyAnswers s result
         → OneVerifies k r originals recovery result
-    verifies-led result answers =
-        inl (subst (λ (o : Result DecoderState Error).
-        MatchResult o (λ s. VerifyAnswers s result) (λ f. result ≡ Err f)) receiving-outcome answers)
+    verifies-led result answers = search (rules, receiving-outcome)
 
     -- The checks before the first allocation found no error.
     pub receiving-opened : IsOk (receiving_opening k r (received_size originals recovery))
-    receiving-opened = by_size (received_size originals recovery) receiving-outcome
-      where
-        by_counts : (o : Result (Unit {0}) Error)
-            → Ok s ≡ result_and_then (λ _. Err (NotEnoughShards k 0 0)) o → ⊥
-        by_counts (Ok u) same = cc
-        by_counts (Err e) same = cc
-
-        by_size : (size : Option ℕ) → Ok s ≡ receiving_outcome k r size originals recovery
-            → IsOk (receiving_opening k r size)
-        by_size None same = absurd (by_counts (counts_outcome k r) same)
-        by_size (Some size) same =
-            let c : Configuration = default_of k r size in
-            let (valid, fits) = started-parts (decoder_rows default_rate k r) c
-            (started-of (start_outcome (decoder_rows default_rate k r) c) _ s (sym same)) in
-            ap is_ok valid
+    receiving-opened = search (rules, receiving-outcome, started-parts, started-of)
 
     -- A decoder with enough shards says whether a message agrees with them.
     enough-says : Ok tt ≡ enough_given s → (result : Result (Unit {0}) Error)
         → MatchResult result (λ _. IsConsistent s) (NoneAgrees s) → VerifyAnswers s result
-    enough-says enough result says =
-        subst (λ (o : Result (Unit {0}) Error).
-        MatchResult o (λ _. MatchResult result (λ _. IsConsistent s) (NoneAgrees s)) (λ f. result ≡ Err f)) enough says
+    enough-says enough result says = search rules
 
     -- The error of too few shards is a result of `verify`.
     pub verifies-few : (e : Error) → Err e ≡ enough_given s → OneVerifies k r originals recovery (Err e)
-    verifies-few e few =
-        verifies-led (Err e)
-        (subst (λ (o : Result (Unit {0}) Error).
-        MatchResult o (λ _. MatchResult {T = Unit {0}} (Err e) (λ _. IsConsistent s) (NoneAgrees s))
-        (λ f. ◌≡◌ {A = Result (Unit {0}) Error} (Err e) (Err f))) few refl)
+    verifies-few e few = search (rules, verifies-led)
 
     -- The result of checking the shards is the result of `verify`.
     pub verifies-checked : Ok tt ≡ enough_given s → (result : Result (Unit {0}) Error)

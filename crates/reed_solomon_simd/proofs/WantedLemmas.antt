@@ -1,8 +1,6 @@
 -- Checking wanted shards one after another.
-use Rattle.std.proofs.Common.{◌≡◌, ℕ, ◌+◌, ◌<◌, Bool, true, false, cond, List, [], ◌∷◌, length, get_or, replicate, drop}
-use Rattle.std.proofs.Common.{Result, Ok, Err, refl, sym, ap, ◌∙◌, inl, inr, arith}
-use Rattle.std.specs.Prelude.{nat_le}
-use Rattle.std.specs.List.{list_any}
+use Rattle.std.proofs.Common.{rules, ◌≡◌, ℕ, ◌+◌, ◌<◌, Bool, false, cond, List, [], ◌∷◌, length, get_or, replicate}
+use Rattle.std.proofs.Common.{drop, Result, Err}
 use Rattle.std.proofs.lemmas.Bool.{cases_lt}
 use Rattle.std.proofs.lemmas.List.{get_or-replicate, get_or_past, length-replicate, drop_more}
 use Rattle.rs_field.specs.code.Decoder.{DecoderState}
@@ -11,8 +9,7 @@ use Rattle.reed_solomon_simd.specs.declared.reconstruct_error.ReconstructError.{
 use Rattle.reed_solomon_simd.specs.declared.reconstruct_error.ReconstructError.TheVariants.{WantedIndexTooLarge}
 use Rattle.reed_solomon_simd.specs.declared.reconstruct_error.ReconstructError.TheVariants.{WantedTwice, WantedReceived}
 use Rattle.reed_solomon_simd.specs.declared.shard_index.ShardIndex.{ShardIndex}
-use Rattle.reed_solomon_simd.specs.Reconstructed.{wanted_outcome, count_of, is_received}
-use Rattle.reed_solomon_simd.specs.ShardNames.{index_of, is_same}
+use Rattle.reed_solomon_simd.specs.Reconstructed.{wanted_outcome}
 use Rattle.reed_solomon_simd.specs.WantedMarks.{AreMarked}
 
 -- The outcome of the three checks of a wanted shard, and of what follows them.
@@ -26,32 +23,13 @@ checked shard count large twice there rest =
 pub wanted-more : (s : DecoderState) (before rest : List ShardIndex) (shard : ShardIndex)
     → wanted_outcome s before (shard ∷ rest)
     ≡ result_and_then (λ _. wanted_outcome s (shard ∷ before) rest) (wanted_outcome s before (shard ∷ []))
-wanted-more s before rest shard =
-    by_tests (nat_le (count_of s shard) (index_of shard)) (list_any (is_same shard) before) (is_received s shard)
-  where
-    by_tests : (large twice there : Bool)
-        → checked shard (count_of s shard) large twice there (wanted_outcome s (shard ∷ before) rest)
-        ≡ result_and_then (λ _. wanted_outcome s (shard ∷ before) rest)
-        (checked shard (count_of s shard) large twice there (Ok tt))
-    by_tests true twice there = refl
-    by_tests false true there = refl
-    by_tests false false true = refl
-    by_tests false false false = refl
+wanted-more s before rest shard = search rules
 
 -- Without wanted shards, no place is marked.
 pub marked-none : (n m : ℕ) (originals recovery : List Bool) → originals ≡ replicate n false
     → recovery ≡ replicate m false → AreMarked [] originals recovery
 marked-none n m originals recovery own coded =
-    record {
-      own = λ i. ap (λ l. get_or l i false) own ∙ all n i;
-      coded = λ i. ap (λ l. get_or l i false) coded ∙ all m i;
-    }
-  where
-    all : (n i : ℕ) → get_or (replicate n false) i false ≡ false
-    all n i = elim (cases_lt i n) [
-      | inl inside ↦ get_or-replicate n i false false inside
-      | inr past ↦ get_or_past (replicate n false) i false (omega (arith, past, length-replicate {A = Bool} n false))
-    ]
+    search (rules, replicate, cases_lt, get_or-replicate, get_or_past, length-replicate)
 
 -- If the next wanted shard was checked, what is left is to check the others after it, or to return its error.
 pub wanted-next : (s : DecoderState) (before wanted : List ShardIndex) (i : ℕ) (d : ShardIndex)
@@ -59,7 +37,4 @@ pub wanted-next : (s : DecoderState) (before wanted : List ShardIndex) (i : ℕ)
     → o ≡ wanted_outcome s before (get_or wanted i d ∷ [])
     → wanted_outcome s before (drop i wanted)
     ≡ result_and_then (λ _. wanted_outcome s (get_or wanted i d ∷ before) (drop (i + 1) wanted)) o
-wanted-next s before wanted i d o inside checks =
-    ap (wanted_outcome s before) (drop_more wanted i d inside)
-    ∙ wanted-more s before (drop (i + 1) wanted) (get_or wanted i d)
-    ∙ ap (result_and_then (λ _. wanted_outcome s (get_or wanted i d ∷ before) (drop (i + 1) wanted))) (sym checks)
+wanted-next s before wanted i d o inside checks = search (rules, drop_more, wanted-more)

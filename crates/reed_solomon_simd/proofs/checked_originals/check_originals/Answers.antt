@@ -1,5 +1,5 @@
-use Rattle.std.proofs.Common.{rules, ◌≡◌, ℕ, ◌<◌, ◌≤◌, List, [], length, take, get_or, All, Bor, Err, inl, inr, refl}
-use Rattle.std.proofs.Common.{sym, ap, subst, arith}
+use Rattle.std.proofs.Common.{rules, ◌≡◌, ℕ, ◌<◌, ◌≤◌, List, [], length, take, get_or, All, Bor, Err, refl, sym, ap}
+use Rattle.std.proofs.Common.{subst, arith}
 use Rattle.std.proofs.lemmas.Bool.{cases_lt}
 use Rattle.std.proofs.lemmas.List.{get_or-map, get_or_default, length-map, length-take-le}
 use Rattle.rs_field.specs.declared.code.error.Error.TheVariants.{TooFewOriginalShards}
@@ -53,21 +53,7 @@ returns-in_err-check_original c =
     search rules
 
 pub loop-index-preserved : goal.loop-index-preserved
-loop-index-preserved c =
-    let d : Bor (List ℕ) = record { ref_ptr = (0, 0); now = [] } in
-    record {
-      few = c.in_ok-check_original.ensures.few;
-      sized = λ j h. elim (cases_lt j c.loop-index.index) [
-        | inl before ↦ c.loop-index.invariant.sized j before
-        | inr not_before ↦
-            let same : j ≡ c.loop-index.index = omega (arith, h, not_before) in
-            subst (λ (n : ℕ). IsShard (length (get_or c.args.originals.now 0 d).now)
-            (get_or (shards_of c.args.originals.now) n [])) (sym same)
-            (subst (IsShard (length (get_or c.args.originals.now 0 d).now))
-            (sym (at c.args.originals.now c.loop-index.index d c.loop-index-test.true))
-            c.in_ok-check_original.ensures.shard)
-      ];
-    }
+loop-index-preserved c = search (rules, cases_lt, at)
 
 pub returns-then-originals-original_count : goal.returns-then-originals-original_count
 returns-then-originals-original_count c =

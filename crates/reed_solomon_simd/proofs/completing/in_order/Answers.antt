@@ -8,10 +8,7 @@ use Rattle.reed_solomon_simd.proofs.completing.in_order.Goals.{in-Some+in_ok-pus
 use Rattle.reed_solomon_simd.proofs.completing.in_order.Goals as goal
 
 pub loop-index-init : goal.loop-index-init
-loop-index-init c =
-    subst (λ xs. AreTaken (shards_in c.args.originals) 0 (shards_in c.args.originals) (map (λ shard. shard.items) xs))
-    (sym c.in_ok-shards.ensures.items)
-    (taken-none (shards_in c.args.originals) (shards_in c.args.originals) refl)
+loop-index-init c = search (rules, taken-none)
 
 pub loop-index-preserved : goal.loop-index-preserved
 loop-index-preserved c =

@@ -7,14 +7,7 @@ use Rattle.reed_solomon_simd.proofs.RestoringLemmas.{decoding-few, decoding-none
 use Rattle.reed_solomon_simd.proofs.one_call.decode.Goals as goal
 
 pub returns-in_err-counts-clause-calls : goal.returns-in_err-counts-clause-calls
-returns-in_err-counts-clause-calls g c = (
-  no-calls c.args.original,
-  no-calls c.args.recovery,
-  λ originals recoveries begins further.
-      let led = decoding-refused c.args.original_count c.args.recovery_count originals recoveries _
-      (decoding-uncounted c.args.original_count c.args.recovery_count originals recoveries _
-      c.in_err-counts.ensures) in search rules,
-)
+returns-in_err-counts-clause-calls g c = search (rules, no-calls, decoding-refused, decoding-uncounted)
 
 pub returns-in_err-counts-clause-answer : goal.returns-in_err-counts-clause-answer
 returns-in_err-counts-clause-answer g c =

@@ -7,13 +7,7 @@ use Rattle.reed_solomon_simd.proofs.Gathering.{gathered-is, encoded-few, encoded
 use Rattle.reed_solomon_simd.proofs.one_call.encode.Goals as goal
 
 pub returns-in_err-counts-clause-calls : goal.returns-in_err-counts-clause-calls
-returns-in_err-counts-clause-calls g c = (
-  no-calls c.args.original,
-  λ items begins.
-      let led = encoding-refused c.args.original_count c.args.recovery_count items _
-      (encoding-uncounted c.args.original_count c.args.recovery_count items _ c.in_err-counts.ensures) in
-      search rules,
-)
+returns-in_err-counts-clause-calls g c = search (rules, no-calls, encoding-refused, encoding-uncounted)
 
 pub returns-in_err-counts-clause-answer : goal.returns-in_err-counts-clause-answer
 returns-in_err-counts-clause-answer g c = always-run (returns-in_err-counts-clause-calls g c)

@@ -6,23 +6,10 @@ use Rattle.reed_solomon_simd.proofs.ReceivingLemmas.{receiving-none, receiving-u
 use Rattle.reed_solomon_simd.proofs.receiving.received_of_size.Goals as goal
 
 pub returns-in_default : goal.returns-in_default
-returns-in_default g c = (
-  no-calls c.args.own,
-  no-calls c.args.other,
-  λ originals recoveries begins further sized.
-      receiving-none c.args.counts.original_count c.args.counts.recovery_count originals recoveries
-      c.args.counts.supported (rw c.in_default.is at sized),
-)
+returns-in_default g c = search (rules, no-calls, receiving-none)
 
 pub returns-in_err-received : goal.returns-in_err-received
-returns-in_err-received g c = (
-  no-calls c.args.own,
-  no-calls c.args.other,
-  λ originals recoveries begins further sized.
-      let led = receiving-unset c.args.counts.original_count c.args.counts.recovery_count originals recoveries
-      c.in-Some.shard_bytes (rw c.in-Some.is at sized) _ c.in_err-received.ensures.answer in
-      search rules,
-)
+returns-in_err-received g c = search (rules, no-calls, receiving-unset)
 
 pub returns-in_err-add_originals : goal.returns-in_err-add_originals
 returns-in_err-add_originals g c = (

@@ -4,7 +4,6 @@ use Rattle.rs_field.specs.code.OneCall.{Items}
 use Rattle.reed_solomon_simd.specs.declared.reconstruct_error.ReconstructError.TheVariants.{Refused}
 use Rattle.reed_solomon_simd.specs.Reconstructed.{rooms_outcome}
 use Rattle.reed_solomon_simd.specs.Rooms.{bytes_in}
-use Rattle.reed_solomon_simd.specs.ReceivedState.{received_state}
 use Rattle.reed_solomon_simd.proofs.ReconstructLemmas.{reconstructs-uncounted, reconstructs-refused, reconstructs-given}
 use Rattle.reed_solomon_simd.proofs.reconstructing.reconstruct_into.Goals as goal
 
@@ -36,11 +35,4 @@ returns-in_err-received-clause-answer g c =
     )
 
 pub returns-clause-answer : goal.returns-clause-answer
-returns-clause-answer g c =
-    let k = c.args.original_count in let r = c.args.recovery_count in
-    let own = lent c.args.original.now in let other = lent c.args.recovery.now in
-    let fit = rooms_outcome (length c.args.wanted.now) (bytes_in c.args.rooms.now) in
-    let s = received_state c.in_ok-received.received in
-    let is = rw (c.in_ok-counts.ensures.0, c.in_ok-counts.ensures.1) at c.in_ok-received.ensures in
-    let (made, answers, writes) = c.reconstruct_received.ensures.answer in
-    (made, reconstructs-given k r own other c.args.wanted.now fit s is made answers, writes)
+returns-clause-answer g c = search (rules, reconstructs-given)

@@ -6,8 +6,8 @@ use Rattle.rs_field.specs.code.Decoder.{DecoderState}
 use Rattle.rs_field.specs.code.OneCall.{shards_in}
 use Rattle.reed_solomon_simd.specs.Received.{given_in}
 use Rattle.reed_solomon_simd.specs.ReceivedState.{received_state}
-use Rattle.reed_solomon_simd.proofs.ByIndex.{entered-none, entered-short, entered-next, entered-skipped}
-use Rattle.reed_solomon_simd.proofs.ByIndex.{entered-all, some-place}
+use Rattle.reed_solomon_simd.proofs.ByIndex.{entered-none, entered-short, entered-next, entered-skipped, entered-all}
+use Rattle.reed_solomon_simd.proofs.ByIndex.{some-place}
 use Rattle.reed_solomon_simd.proofs.Collecting.{shards_in-empty, with_entries-inserted}
 use Rattle.reed_solomon_simd.proofs.restoring.by_index.Goals.{then-is_none+in-Some+in_ok-insert+in-Some-1}
 use Rattle.reed_solomon_simd.proofs.restoring.by_index.Goals.{then-is_none+in-Some+in_ok-insert+in-None-1}
@@ -15,11 +15,7 @@ use Rattle.reed_solomon_simd.proofs.restoring.by_index.Goals.{then-is_none+in_de
 use Rattle.reed_solomon_simd.proofs.restoring.by_index.Goals as goal
 
 pub loop-index-init : goal.loop-index-init
-loop-index-init c =
-    entered-none (received_state c.args.received.now) (map (λ v. v.items) c.args.restored.items)
-    (map (λ v. v.items) (into_iter_items c.into_iter-left.result))
-    (shards_in c.new-vectors.result) c.requires (ap (map (λ v. v.items)) (search rules))
-    (shards_in-empty c.new-vectors.result c.new-vectors.ensures.empty)
+loop-index-init c = search (rules, entered-none, shards_in-empty)
 
 pub loop-index-preserved : goal.loop-index-preserved
 loop-index-preserved c =

@@ -27,13 +27,7 @@ returns-in_err-check_rooms-clause-answer g c =
     (c.in_err-check_rooms.ensures.answer made number (held-sized holds)) (search rules, refl)
 
 pub fill_rooms-requires-clause-number : goal.fill_rooms-requires-clause-number
-fill_rooms-requires-clause-number g c =
-    let s : DecoderState = received_state c.args.received.now in
-    let made : List Shard = map (λ v. v.items) c.in_ok-vectors.vectors.items in
-    let many = held-number c.in_ok-vectors.ensures in
-    let long = length-map c.in_ok-vectors.vectors.items (λ v. v.items) in
-    ap length c.as_slice.ensures.value
-    ∙ omega (arith, many, long, c.missing-missing.ensures, c.in_ok-check_rooms.ensures.number)
+fill_rooms-requires-clause-number g c = search (rules, held-number, length-map)
 
 pub fill_rooms-requires-clause-sized : goal.fill_rooms-requires-clause-sized
 fill_rooms-requires-clause-sized g c =

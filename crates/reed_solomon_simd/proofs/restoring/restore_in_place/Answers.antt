@@ -1,4 +1,4 @@
-use Rattle.std.proofs.Common.{◌≡◌, List, map, length, ap, subst, ◌∙◌, sym, arith}
+use Rattle.std.proofs.Common.{rules, ◌≡◌, List, map, subst, ◌∙◌, sym, arith}
 use Rattle.std.proofs.lemmas.List.{length-map}
 use Rattle.rs_field.specs.code.Column.{Shard}
 use Rattle.rs_field.specs.code.Decoder.{DecoderState}
@@ -9,12 +9,7 @@ use Rattle.reed_solomon_simd.proofs.RestoringLemmas.{put-whole, was-done-if}
 use Rattle.reed_solomon_simd.proofs.restoring.restore_in_place.Goals as goal
 
 pub put_all-requires-clause-number : goal.put_all-requires-clause-number
-put_all-requires-clause-number g c =
-    let s : DecoderState = g.S.Pieces.received c.args.store.now in
-    let made : List Shard = map (λ v. v.items) c.in_ok-vectors.vectors.items in
-    let many = held-number c.in_ok-vectors.ensures in
-    let long = length-map c.in_ok-vectors.vectors.items (λ v. v.items) in
-    ap length c.as_slice.ensures.value ∙ omega (arith, many, long, c.requires.missing, c.requires.number)
+put_all-requires-clause-number g c = search (rules, held-number, length-map)
 
 pub put_all-requires-clause-sized : goal.put_all-requires-clause-sized
 put_all-requires-clause-sized g c =

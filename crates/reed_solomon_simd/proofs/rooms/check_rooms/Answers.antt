@@ -1,4 +1,4 @@
-use Rattle.std.proofs.Common.{rules, ◌≡◌, ℕ, ◌<◌, List, [], length, get_or, MutBor, Err, inl, inr, sym, ap, ◌∙◌, arith}
+use Rattle.std.proofs.Common.{rules, ◌≡◌, ℕ, ◌<◌, List, [], length, get_or, MutBor, Err, sym, ap, ◌∙◌, arith}
 use Rattle.std.proofs.lemmas.Bool.{cases_lt}
 use Rattle.std.proofs.lemmas.List.{get_or-map, length-map}
 use Rattle.reed_solomon_simd.specs.declared.room_error.RoomError.TheVariants.{WrongLength}
@@ -28,16 +28,7 @@ returns-then-rooms-index-clause-answer c = λ shards number sized.
     (omega (arith, inside, all)) c.loop-index.invariant other)
 
 pub loop-index-preserved : goal.loop-index-preserved
-loop-index-preserved c = λ i h.
-    let d : MutBor (List ℕ) = record { ref_ptr = (0, 0); ghost_name = 0; now = [] } in
-    elim (cases_lt i c.loop-index.index) [
-      | inl below ↦ c.loop-index.invariant i below
-      | inr not_below ↦
-          let same : i ≡ c.loop-index.index = omega (arith, h, not_below) in
-          let long : length (get_or c.args.rooms.now c.loop-index.index d).now ≡ c.args.shard_bytes = search rules in
-          ap (λ (n : ℕ). length (get_or (bytes_in c.args.rooms.now) n [])) same
-          ∙ ap length (bytes-at c.loop-index.index c.args.rooms.now d c.loop-index-test.true) ∙ long
-    ]
+loop-index-preserved c = search (rules, cases_lt, bytes-at)
 
 pub returns-clause-answer : goal.returns-clause-answer
 returns-clause-answer c = λ shards number sized.

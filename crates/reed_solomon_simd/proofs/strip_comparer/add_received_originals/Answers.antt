@@ -1,4 +1,4 @@
-use Rattle.std.proofs.Common.{rules, ◌≡◌, ℕ, ◌+◌, ◌-◌, ◌<◌, ◌≤◌, Some, refl, sym, ap, ◌∙◌, arith}
+use Rattle.std.proofs.Common.{rules, ◌≡◌, ℕ, ◌+◌, ◌-◌, ◌<◌, Some, sym, ap, ◌∙◌, arith}
 use Rattle.rs_field.specs.code.Column.{Shard}
 use Rattle.rs_field.specs.code.Counts.{default_rate}
 use Rattle.rs_field.specs.code.Decoder.{DecoderState}
@@ -15,12 +15,7 @@ use Rattle.reed_solomon_simd.proofs.strip_comparer.add_received_originals.Goals.
 use Rattle.reed_solomon_simd.proofs.strip_comparer.add_received_originals.Goals as goal
 
 pub loop-index-init : goal.loop-index-init
-loop-index-init g c =
-    let x : DecoderState = g.P.Pieces.received c.args.received.now in
-    let k : ℕ = x.configuration.original_count in
-    ap (λ (n : ℕ). with_shards (encoder_state default_rate c.args.encoder.now.rows)
-    (shards_listed (items_from 0 n (pieces_of c.args.start c.args.end x.originals))))
-    (let e : x.configuration.original_count ≡ x.configuration.original_count - 0 = omega arith in e)
+loop-index-init g c = search rules
 
 -- Adding the pieces from an index on adds the piece with this index first.
 more : (s : EncoderState) (i k : ℕ) (given : Shards) (piece : Shard) → i < k → given i ≡ Some piece
@@ -71,14 +66,4 @@ loop-index-preserved g c =
     ]
 
 pub returns : goal.returns
-returns g c =
-    let x : DecoderState = g.P.Pieces.received c.args.received.now in
-    let k : ℕ = x.configuration.original_count in
-    let given : Shards = pieces_of c.args.start c.args.end x.originals in
-    let i : ℕ = c.loop-index.index in
-    let now : EncoderState = encoder_state default_rate c.loop-index.encoder.rows in
-    let past : x.configuration.original_count ≤ c.loop-index.index =
-    omega (arith, c.counts-index-end.ensures.originals, c.loop-index-test.false) in
-    reaches-ok _ (λ s. encoder_state default_rate c.loop-index.encoder.rows ≡ s) now
-    (c.loop-index.invariant
-    ∙ ap (λ (items : Items). with_shards now (shards_listed items)) (items_from-past i k given past)) refl
+returns g c = search (rules, reaches-ok, items_from-past)

@@ -7,8 +7,8 @@ use Rattle.rs_field.specs.code.PieceStates.{pieces_of, state_of_pieces}
 use Rattle.rs_rate.proofs.of_objects.Giving.{reached-ok}
 use Rattle.rs_rate.specs.rows.EncoderView.{encoder_state, lent_shards}
 use Rattle.rs_rate.specs.objects.ObjectLaws.{is_encoder}
-use Rattle.reed_solomon_simd.proofs.ComparedStrips.{listed_pieces, listed-number, listed-sized}
-use Rattle.reed_solomon_simd.proofs.ComparedStrips.{compared-consistent, consistent-compared}
+use Rattle.reed_solomon_simd.proofs.ComparedStrips.{listed_pieces, listed-number, listed-sized, compared-consistent}
+use Rattle.reed_solomon_simd.proofs.ComparedStrips.{consistent-compared}
 use Rattle.reed_solomon_simd.proofs.ObjectRoundTrip.{codes-given, gives-all, encodes, round-ends}
 use Rattle.reed_solomon_simd.proofs.strip_comparer.agree_in_strip.Goals as goal
 

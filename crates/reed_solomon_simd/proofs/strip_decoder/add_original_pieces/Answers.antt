@@ -1,4 +1,5 @@
-use Rattle.std.proofs.Common.{◌≤◌, sym, ap, ◌∙◌, arith}
+use Rattle.std.proofs.lemmas.Grind.{common_steps}
+use Rattle.std.proofs.Common.{sym, ap, ◌∙◌, arith}
 use Rattle.rs_field.specs.code.Counts.{default_rate}
 use Rattle.rs_field.specs.code.Decoder.{DecoderState}
 use Rattle.rs_field.specs.code.Given.{Shards}
@@ -47,9 +48,4 @@ loop-index-preserved g c =
     ]
 
 pub returns-clause-added : goal.returns-clause-added
-returns-clause-added g c =
-    let all : (g.P.Pieces.received c.args.received.now).configuration.original_count ≤ c.loop-index.index =
-    omega (arith, c.counts-index-end.ensures.originals, c.loop-index-test.false) in
-    c.loop-index.invariant
-    ∙ ap (given_to (decoder_state default_rate c.args.decoder.now.rows))
-    (pieces-all _ _ c.loop-index.index _ _ _ c.requires.set_up.originals_within all)
+returns-clause-added g c = grind (arith, common_steps, pieces-all)

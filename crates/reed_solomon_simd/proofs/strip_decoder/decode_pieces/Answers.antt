@@ -1,7 +1,7 @@
 use Rattle.std.proofs.Common.{rules, ◌≡◌, Err, sym, ◌∙◌}
 use Rattle.rs_field.specs.code.Counts.{default_rate}
 use Rattle.rs_field.specs.code.PieceStates.{state_of_pieces}
-use Rattle.rs_rate.specs.rows.DecoderView.{decoder_state, restored_by_rows}
+use Rattle.rs_rate.specs.rows.DecoderView.{decoder_state}
 use Rattle.reed_solomon_simd.proofs.StripDecodeLemmas.{pieces-added, round-made, round-refused, round-ends}
 use Rattle.reed_solomon_simd.proofs.strip_decoder.decode_pieces.Given.{Over}
 use Rattle.reed_solomon_simd.proofs.strip_decoder.decode_pieces.Goals.{After-decode_round}
@@ -31,14 +31,7 @@ returns-in_err-restored_count-clause-fresh g c =
     ∙ sym c.requires.fresh
 
 pub returns-clause-restored : goal.returns-clause-restored
-returns-clause-restored g c =
-    round-made c.args.start c.args.end (g.P.Pieces.received c.args.received.now)
-    (added g (goal.at.returns-clause-restored g c).After-decode_round) c.requires.enough
-    (restored_by_rows c.decode_round.new.decoder.rows) c.in_ok-restored_count.ensures.answer
+returns-clause-restored g c = search (rules, pieces-added, round-made)
 
 pub returns-clause-fresh : goal.returns-clause-fresh
-returns-clause-fresh g c =
-    c.in_ok-restored_count.ensures.state
-    ∙ round-ends c.args.start c.args.end (g.P.Pieces.received c.args.received.now)
-    (added g (goal.at.returns-clause-fresh g c).After-decode_round) c.requires.enough
-    ∙ sym c.requires.fresh
+returns-clause-fresh g c = search (rules, pieces-added, round-ends)

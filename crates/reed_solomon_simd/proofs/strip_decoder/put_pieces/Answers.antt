@@ -1,5 +1,5 @@
-use Rattle.std.proofs.Common.{rules, ◌≡◌, ℕ, ◌+◌, ◌<◌, [], ◌∷◌, ◌++◌, length, take, drop, get_or, sym, ap}
-use Rattle.std.proofs.Common.{ap₂, ◌∙◌, inl, inr, arith}
+use Rattle.std.proofs.Common.{rules, ◌≡◌, ℕ, ◌+◌, ◌<◌, [], ◌∷◌, ◌++◌, length, take, drop, get_or, sym, ap, ap₂, ◌∙◌}
+use Rattle.std.proofs.Common.{inl, inr, arith}
 use Rattle.std.proofs.lemmas.Bool.{cases_eq}
 use Rattle.std.proofs.lemmas.List.{length-map}
 use Rattle.rs_field.specs.code.Column.{Shard}
@@ -70,9 +70,4 @@ loop-piece-preserved g c =
     }
 
 pub returns-clause-put : goal.returns-clause-put
-returns-clause-put g c =
-    let held = c.loop-piece.invariant in
-    let none : c.loop-piece.piece-iterator ≡ [] = search rules in
-    let ends = left-none c.loop-piece.room held.items held.most (held.left ∙ none) in
-    let all = c.requires.pieces held.items held.listed in
-    (held.items, held.listed, (held.number, λ i h. held.put i (omega (arith, h, ends, all.0))))
+returns-clause-put g c = search (rules, left-none)

@@ -1,10 +1,8 @@
-use Rattle.std.proofs.Common.{rules, ◌≡◌, ◌<◌, ◌≤◌, List, length, sym, ap, ◌∙◌, refl, arith}
+use Rattle.std.proofs.Common.{rules, ◌≡◌, ◌<◌, List, length, sym, ap, ◌∙◌, arith}
 use Rattle.std.proofs.lemmas.List.{take_all}
 use Rattle.rs_field.specs.code.Column.{Shard}
 use Rattle.rs_field.specs.code.Counts.{default_rate}
 use Rattle.rs_field.specs.code.Encoder.{EncoderState, with_shard}
-use Rattle.rs_field.specs.code.OneCall.{with_shards}
-use Rattle.rs_field.specs.code.Pieces.{pieces}
 use Rattle.rs_field.proofs.of_code.Pieces.{given-next, given-refused}
 use Rattle.rs_rate.specs.rows.EncoderView.{encoder_state}
 use Rattle.rs_rate.proofs.of_objects.Giving.{outcome-ok, outcome-err, reaches-ok, reaches-err}
@@ -36,11 +34,4 @@ loop-index-preserved g c =
     ∙ outcome-ok _ _ _ c.in_ok-add_original_shard.ensures.answer c.in_ok-add_original_shard.ensures.left)
 
 pub returns : goal.returns
-returns g c =
-    let xs : List Shard = g.O.Originals.shards c.args.originals.now in
-    let past : length (g.O.Originals.shards c.args.originals.now) ≤ c.loop-index.index =
-    omega (arith, c.count-index-end.ensures, c.loop-index-test.false) in
-    reaches-ok _ (λ s. encoder_state default_rate c.loop-index.encoder.rows ≡ s) _
-    (ap (λ (l : List Shard). with_shards (encoder_state default_rate c.args.encoder.now.rows)
-    (pieces c.args.start c.args.end l)) (sym (take_all c.loop-index.index xs past))
-    ∙ c.loop-index.invariant) refl
+returns g c = search (rules, reaches-ok, take_all)

@@ -1,6 +1,5 @@
-use Rattle.std.proofs.Common.{rules, ◌≡◌, ℕ, ◌+◌, ◌<◌, ◌≤◌, List, [], ◌∷◌, length, drop, Some, refl, sym, ap, ◌∙◌}
-use Rattle.std.proofs.Common.{arith}
-use Rattle.std.specs.Prelude.{unwrap_or}
+use Rattle.std.proofs.lemmas.Grind.{common_steps}
+use Rattle.std.proofs.Common.{rules, ◌≡◌, ℕ, ◌+◌, ◌<◌, List, length, drop, Some, refl, ap, ◌∙◌, arith}
 use Rattle.std.proofs.lemmas.List.{drop_more, drop_all}
 use Rattle.std.proofs.lemmas.Option.{none-some}
 use Rattle.rs_field.specs.code.Column.{Shard, shard_at}
@@ -18,9 +17,7 @@ more : (s : EncoderState) (message : List Shard) (i : ℕ) (piece : Shard) → i
     → Some piece ≡ Some (shard_at message i)
     → with_shards s (drop i message)
     ≡ result_and_then (λ next. with_shards next (drop (i + 1) message)) (with_shard s piece)
-more s message i piece inside found =
-    ap (with_shards s) (drop_more message i [] inside)
-    ∙ ap (λ (x : Shard). with_shards s (x ∷ drop (i + 1) message)) (sym (ap (λ o. unwrap_or o piece) found))
+more s message i piece inside found = search (rules, drop_more)
 
 pub loop-index-init : goal.loop-index-init
 loop-index-init g c = λ message agrees. refl
@@ -40,26 +37,8 @@ returns-in_err-add_original_shard g c = λ message agrees.
     (search rules)
 
 pub loop-index-preserved : goal.loop-index-preserved
-loop-index-preserved g c = λ message agrees.
-    let i : ℕ = c.loop-index.index in
-    let now : EncoderState = encoder_state default_rate c.loop-index.encoder.rows in
-    let inside : c.loop-index.index < length message =
-    omega (arith, agrees.shards.length_is, c.counts-index-end.ensures.originals, c.loop-index-test.true) in
-    elim c.match-message_piece.branch [
-      | in-Some+in_ok-add_original_shard w ↦
-          c.loop-index.invariant message agrees
-          ∙ more now message i w.in-Some.piece.now inside (w.in-Some.ensures message agrees)
-          ∙ ap (result_and_then (λ next. with_shards next (drop (i + 1) message)))
-          (outcome-ok _ _ _ w.in_ok-add_original_shard.ensures.answer w.in_ok-add_original_shard.ensures.left)
-          ∙ sym (ap (λ e. with_shards (encoder_state default_rate e.rows) (drop (i + 1) message)) w.encoder-is)
-      | in_default w ↦ absurd (none-some (shard_at message i) (w.in_default.ensures message agrees))
-    ]
+loop-index-preserved g c =
+    grind (arith, common_steps, in-Some+in_ok-add_original_shard, more, outcome-ok, in_default, none-some)
 
 pub returns : goal.returns
-returns g c = λ message agrees.
-    let i : ℕ = c.loop-index.index in
-    let now : EncoderState = encoder_state default_rate c.loop-index.encoder.rows in
-    let past : length message ≤ c.loop-index.index =
-    omega (arith, agrees.shards.length_is, c.counts-index-end.ensures.originals, c.loop-index-test.false) in
-    reaches-ok _ (λ s. encoder_state default_rate c.loop-index.encoder.rows ≡ s) now
-    (c.loop-index.invariant message agrees ∙ ap (with_shards now) (drop_all i message past)) refl
+returns g c = search (rules, reaches-ok, drop_all)

@@ -1,4 +1,4 @@
-use Rattle.std.proofs.Common.{rules, ◌≡◌, Err, ap, ◌∙◌, refl, inr, arith}
+use Rattle.std.proofs.Common.{rules, ◌≡◌, Err, ap, ◌∙◌, refl}
 use Rattle.rs_field.specs.code.Counts.{default_rate}
 use Rattle.rs_field.specs.code.Decoder.{DecoderState}
 use Rattle.rs_rate.specs.rows.DecoderView.{decoder_state}
@@ -12,17 +12,7 @@ use Rattle.reed_solomon_simd.proofs.strip_rebuilder.rebuild_by_rounds.Goals.{els
 use Rattle.reed_solomon_simd.proofs.strip_rebuilder.rebuild_by_rounds.Goals as goal
 
 pub loop-start-init : goal.loop-start-init
-loop-start-init g c =
-    record {
-      cut = cut-first c.shard_bytes-shard_bytes.result;
-      fresh = λ more. c.in_ok-decoder.ensures.made.0;
-      fresh_encoder = λ more. c.in_ok-encoder.ensures.made.0;
-      done = rebuilt-none (g.P.Pieces.received c.args.received.now) c.args.wanted.now g.R.Rooms.grows
-          (g.R.Rooms.held c.args.rooms.now) c.requires.number
-          c.requires.fit;
-      places = refl;
-      loan = refl;
-    }
+loop-start-init g c = search (rules, cut-first, rebuilt-none)
 
 pub returns-in_err-rebuild_strip-clause-refused : goal.returns-in_err-rebuild_strip-clause-refused
 returns-in_err-rebuild_strip-clause-refused g c =
@@ -43,16 +33,7 @@ returns-clause-rebuilt g c =
     (rw (cut-last held.cut c.loop-start-test.false c.shard_bytes-shard_bytes.ensures) at held.done)
 
 pub returns-in_err-reset-clause-refused : goal.returns-in_err-reset-clause-refused
-returns-in_err-reset-clause-refused g c =
-    let x : DecoderState = g.P.Pieces.received c.args.received.now in
-    let next = strip-next 2048 c.min-width.ensures refl refl
-    c.loop-start.invariant.cut c.loop-start-test.true refl in
-    let whole = valid-even x.configuration c.requires.set_up.valid in
-    let refused : c.from_residual-in_err-reset.result ≡ Err c.in_err-reset.field-0.0 = search rules in
-    rw refused (inr (left-lacks _ c.counts-counts.result.original_count c.counts-counts.result.recovery_count
-    c.shard_bytes-shard_bytes.result c.loop-start.start c.in_err-reset.field-0.0 c.counts-counts.result.supported
-    (omega (arith, whole, c.shard_bytes-shard_bytes.ensures)) c.loop-start-test.true next.strip.begins
-    c.in_err-reset.ensures.answer))
+returns-in_err-reset-clause-refused g c = search (rules, strip-next, valid-even, left-lacks)
 
 pub loop-start-preserved : goal.loop-start-preserved
 loop-start-preserved g c =

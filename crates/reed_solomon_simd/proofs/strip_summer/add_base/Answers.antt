@@ -1,4 +1,4 @@
-use Rattle.std.proofs.Common.{◌≡◌, ◌%◌, ◌<◌, length, true, sym, ap, ap₂, ◌∙◌, arith, add-one, bit_xor, subst}
+use Rattle.std.proofs.Common.{rules, ◌≡◌, ◌<◌, length, true, sym, ap, ap₂, ◌∙◌, arith, add-one, bit_xor, subst}
 use Rattle.std.specs.Prelude.{is_some, slice_index}
 use Rattle.std.proofs.lemmas.List.{get_or_default}
 use Rattle.rs_field.specs.code.Decoder.{DecoderState}
@@ -6,7 +6,6 @@ use Rattle.rs_field.specs.code.DirectLaws.{locator_at, shard_in_row}
 use Rattle.rs_field.specs.code.Frame.{row_count, frame_at}
 use Rattle.rs_field.specs.code.Given.{Shards}
 use Rattle.rs_field.specs.code.PieceStates.{state_of_pieces}
-use Rattle.rs_field.specs.rows.Layout.{row_len}
 use Rattle.rs_field.specs.rows.MarkedRows.{is_marked}
 use Rattle.rs_field.specs.words.DirectSum.{direct_factor}
 use Rattle.rs_field.specs.words.Transform.{sum_below}
@@ -25,19 +24,10 @@ loop-index-init g c j inside =
     c.requires.zeros j inside ∙ sym (sum_below-zero 0 _ (λ i h. absurd (let no : ⊥ = omega arith in no)))
 
 pub add_times-requires-clause-room : goal.add_times-requires-clause-room
-add_times-requires-clause-room g c =
-    let ready = c.requires.ready in
-    let sized = in_row-sized (g.P.Pieces.received c.args.received.now) ready.set_up c.args.start c.args.end ready.strip
-    c.index-from.result.now c.in-Some.piece.now (sym c.in-Some.ensures) in
-    c.loop-index.auto.sum ∙ c.requires.room ∙ ap row_len (sym sized.length_is)
+add_times-requires-clause-room g c = search (rules, in_row-sized)
 
 pub add_times-requires-clause-even : goal.add_times-requires-clause-even
-add_times-requires-clause-even g c =
-    let ready = c.requires.ready in
-    let sized = in_row-sized (g.P.Pieces.received c.args.received.now) ready.set_up c.args.start c.args.end ready.strip
-    c.index-from.result.now c.in-Some.piece.now (sym c.in-Some.ensures) in
-    ap (λ n. n % 2) sized.length_is
-    ∙ even-strip (g.P.Pieces.received c.args.received.now) ready.set_up c.args.start c.args.end ready.strip
+add_times-requires-clause-even g c = search (rules, in_row-sized, even-strip)
 
 pub loop-index-preserved : goal.loop-index-preserved
 loop-index-preserved g c j inside =

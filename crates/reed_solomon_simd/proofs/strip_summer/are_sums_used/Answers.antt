@@ -1,5 +1,4 @@
-use Rattle.std.proofs.Common.{◌^◌, ◌≤◌, arith, pow_mono}
-use Rattle.rs_field.specs.code.Frame.{row_count}
+use Rattle.std.proofs.Common.{rules, pow_mono}
 use Rattle.rs_rate.proofs.of_passes.ChangeLemmas.{distinct_rows_of}
 use Rattle.reed_solomon_simd.proofs.strip_summer.are_sums_used.Goals as goal
 
@@ -7,22 +6,13 @@ pub row_count-requires : goal.row_count-requires
 row_count-requires c = (distinct_rows_of c.args.counts.framed c.args.counts.supported).few
 
 pub overflow_add-wanted : goal.overflow_add-wanted
-overflow_add-wanted c =
-    let f = distinct_rows_of c.args.counts.framed c.args.counts.supported in
-    let rows : row_count c.args.counts.frame ≤ 2 ^ 16 = pow_mono f.few in
-    omega (arith, rows, c.row_count.ensures, c.if-wanted-row_count.true, c.requires)
+overflow_add-wanted c = search (rules, distinct_rows_of, pow_mono)
 
 pub are_sums_cheaper-requires-clause-few : goal.are_sums_cheaper-requires-clause-few
 are_sums_cheaper-requires-clause-few c = (distinct_rows_of c.args.counts.framed c.args.counts.supported).few
 
 pub are_sums_cheaper-requires-clause-originals : goal.are_sums_cheaper-requires-clause-originals
-are_sums_cheaper-requires-clause-originals c =
-    let f = distinct_rows_of c.args.counts.framed c.args.counts.supported in
-    let rows : row_count c.args.counts.frame ≤ 2 ^ 16 = pow_mono f.few in
-    omega (arith, rows, f.originals)
+are_sums_cheaper-requires-clause-originals c = search (rules, distinct_rows_of, pow_mono)
 
 pub are_sums_cheaper-requires-clause-sums : goal.are_sums_cheaper-requires-clause-sums
-are_sums_cheaper-requires-clause-sums c =
-    let f = distinct_rows_of c.args.counts.framed c.args.counts.supported in
-    let rows : row_count c.args.counts.frame ≤ 2 ^ 16 = pow_mono f.few in
-    omega (arith, rows, c.row_count.ensures, c.if-wanted-row_count.true, c.requires)
+are_sums_cheaper-requires-clause-sums c = search (rules, distinct_rows_of, pow_mono)

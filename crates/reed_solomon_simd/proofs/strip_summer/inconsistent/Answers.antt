@@ -1,7 +1,6 @@
-use Rattle.std.proofs.Common.{◌≡◌, ℕ, ◌+◌, ◌^◌, ◌≤◌, cond, sym, ap, ◌∙◌, arith, add-one, pow_mono}
+use Rattle.std.proofs.Common.{rules, ◌≡◌, ℕ, ◌+◌, cond, sym, ap, ◌∙◌, arith, add-one, pow_mono}
 use Rattle.std.specs.Prelude.{is_some}
 use Rattle.rs_field.specs.code.Decoder.{DecoderState}
-use Rattle.rs_field.specs.code.Frame.{row_count, frame_at}
 use Rattle.rs_field.specs.code.Given.{count_below}
 use Rattle.rs_field.proofs.of_code.Given.{count_below-zero, count_below-suc}
 use Rattle.rs_field.proofs.of_code.Entries.{count_most}
@@ -16,18 +15,7 @@ pub loop-index-init : goal.loop-index-init
 loop-index-init g c = sym (count_below-zero (g.P.Pieces.received c.args.received.now).originals)
 
 pub overflow_add-original_received_count : goal.overflow_add-original_received_count
-overflow_add-original_received_count g c =
-    let s : DecoderState = g.P.Pieces.received c.args.received.now in
-    let held : c.loop-index.original_received_count
-    ≡ count_below c.loop-index.index (g.P.Pieces.received c.args.received.now).originals = c.loop-index.invariant in
-    omega (
-      arith,
-      held,
-      count_most c.loop-index.index s.originals,
-      c.loop-index-test.true,
-      few-originals s c.requires.set_up,
-      c.counts-original_count.ensures.originals,
-    )
+overflow_add-original_received_count g c = search (rules, count_most, few-originals)
 
 pub loop-index-preserved : goal.loop-index-preserved
 loop-index-preserved g c =
@@ -55,17 +43,4 @@ loop-index-preserved g c =
     ]
 
 pub overflow_add-result : goal.overflow_add-result
-overflow_add-result g c =
-    let s : DecoderState = g.P.Pieces.received c.args.received.now in
-    let f = decoder_frame s c.requires.set_up in
-    let rows : row_count (frame_at (g.P.Pieces.received c.args.received.now).configuration) ≤ 2 ^ 16 = pow_mono f.few in
-    omega (
-      arith,
-      rows,
-      f.originals,
-      f.recovery,
-      count_most s.configuration.original_count s.originals,
-      count_most s.configuration.recovery_count s.recovery,
-      c.requires.surplus,
-      c.counts-original_count.ensures.originals,
-    )
+overflow_add-result g c = search (rules, decoder_frame, pow_mono, count_most)

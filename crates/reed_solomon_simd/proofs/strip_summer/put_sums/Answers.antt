@@ -1,15 +1,11 @@
-use Rattle.std.proofs.Common.{◌≡◌, List, ℕ, ◌+◌, ◌-◌, ◌^◌, ◌<◌, ◌≤◌, [], ◌++◌, length, take, drop, get_or, refl, sym}
-use Rattle.std.proofs.Common.{ap}
+use Rattle.std.proofs.Common.{rules, ◌≡◌, List, ℕ, ◌+◌, ◌-◌, ◌<◌, [], ◌++◌, length, take, drop, get_or, refl, sym, ap}
 use Rattle.std.proofs.Common.{ap₂, ◌∙◌, inl, inr, arith, pow_mono}
 use Rattle.std.proofs.lemmas.Bool.{cases_eq}
 use Rattle.rs_field.specs.code.Column.{Shard}
 use Rattle.rs_field.specs.code.Decoder.{DecoderState, IsAgreeing}
-use Rattle.rs_field.specs.code.Frame.{row_count, frame_at}
 use Rattle.rs_rate.specs.rows.ShardRows.{shard_in_order}
 use Rattle.reed_solomon_simd.specs.declared.shard_index.ShardIndex.TheVariants.{Original}
 use Rattle.rs_field.specs.code.PieceStates.{state_of_pieces}
-use Rattle.reed_solomon_simd.specs.declared.shard_index.ShardIndex.{ShardIndex}
-use Rattle.rs_field.specs.code.DirectLaws.{shard_in_row}
 use Rattle.reed_solomon_simd.proofs.BaseLemmas.{decoder_frame, sum_row}
 use Rattle.reed_solomon_simd.proofs.BaseSums.{wanted-at, wanted-missing, missing-unmarked, only-message, row-inside}
 use Rattle.reed_solomon_simd.proofs.RebuiltStrips.{named_shards}
@@ -18,34 +14,13 @@ use Rattle.reed_solomon_simd.proofs.strip_summer.put_sums.Goals.{After-summed_pi
 use Rattle.reed_solomon_simd.proofs.strip_summer.put_sums.Goals as goal
 
 pub row_of-row-requires : goal.row_of-row-requires
-row_of-row-requires g c =
-    let s : DecoderState = g.P.Pieces.received c.args.received.now in
-    let ready = c.requires.ready in
-    let wanted : ShardIndex = get_or c.args.wanted.now c.loop-room.room (Original 0) in
-    let f = decoder_frame s ready.set_up in
-    let rows : row_count (frame_at (g.P.Pieces.received c.args.received.now).configuration) ≤ 2 ^ 16 = pow_mono f.few in
-    let inside = row-inside s ready.set_up wanted
-    (c.requires.can c.loop-room.room (Original 0) c.loop-room-test.true) in
-    omega (arith, rows, inside, sum_row ready wanted)
+row_of-row-requires g c = search (rules, decoder_frame, pow_mono, row-inside, sum_row)
 
 pub sum_piece-requires-clause-row : goal.sum_piece-requires-clause-row
-sum_piece-requires-clause-row g c =
-    let ready = c.requires.ready in
-    let wanted : ShardIndex = get_or c.args.wanted.now c.loop-room.room (Original 0) in
-    let inside = row-inside (g.P.Pieces.received c.args.received.now) ready.set_up wanted
-    (c.requires.can c.loop-room.room (Original 0) c.loop-room-test.true) in
-    omega (arith, inside, c.row_of-row.ensures, sum_row ready wanted)
+sum_piece-requires-clause-row g c = search (rules, row-inside, sum_row)
 
 pub sum_piece-requires-clause-outside : goal.sum_piece-requires-clause-outside
-sum_piece-requires-clause-outside g c =
-    let s : DecoderState = g.P.Pieces.received c.args.received.now in
-    let ready = c.requires.ready in
-    let wanted : ShardIndex = get_or c.args.wanted.now c.loop-room.room (Original 0) in
-    missing-unmarked s ready.set_up c.args.start c.args.end ready.strip c.args.base.now.marks.items ready.marked
-    c.row_of-row.result
-    (ap (shard_in_row (state_of_pieces c.args.start c.args.end s)) (c.row_of-row.ensures ∙ sum_row ready wanted)
-    ∙ wanted-missing s ready.set_up c.args.start c.args.end ready.strip c.args.base.now.marks.items ready.marked wanted
-    (c.requires.can c.loop-room.room (Original 0) c.loop-room-test.true))
+sum_piece-requires-clause-outside g c = search (rules, missing-unmarked, sum_row, wanted-missing)
 
 -- The sum is the piece of the wanted shard.
 summed : (g : Over) (c : After-summed_piece g) (message : List Shard)

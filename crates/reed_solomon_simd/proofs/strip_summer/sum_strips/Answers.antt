@@ -6,15 +6,7 @@ use Rattle.reed_solomon_simd.proofs.StripDecodeLemmas.{strip-refused}
 use Rattle.reed_solomon_simd.proofs.strip_summer.sum_strips.Goals as goal
 
 pub loop-start-init : goal.loop-start-init
-loop-start-init g c =
-    let x : DecoderState = g.P.Pieces.received c.args.received.now in
-    record {
-      cut = cut-first c.shard_bytes-shard_bytes.result;
-      done = rebuilt-none x c.args.wanted.now g.R.Rooms.grows (g.R.Rooms.held c.args.rooms.now) c.requires.number
-          c.requires.fit;
-      places = refl;
-      loan = refl;
-    }
+loop-start-init g c = search (rules, cut-first, rebuilt-none)
 
 pub loop-start-preserved : goal.loop-start-preserved
 loop-start-preserved g c =

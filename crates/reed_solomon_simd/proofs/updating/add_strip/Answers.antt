@@ -1,5 +1,4 @@
-use Rattle.std.proofs.Common.{rules, ◌≡◌, ℕ, ◌+◌, ◌-◌, ◌<◌, List, [], length, get_or, MutBor, inl, inr, sym, ap, ◌∙◌}
-use Rattle.std.proofs.Common.{subst}
+use Rattle.std.proofs.Common.{rules, ◌≡◌, ℕ, ◌+◌, ◌-◌, ◌<◌, List, [], length, get_or, MutBor, inl, inr, sym, ◌∙◌, subst}
 use Rattle.std.proofs.Common.{arith}
 use Rattle.std.specs.Prelude.{slice_index}
 use Rattle.std.proofs.lemmas.Bool.{cases_lt}
@@ -15,26 +14,10 @@ was_held : (rooms initial : List (MutBor (List ℕ))) (index : ℕ) → index < 
     → shard_at (bytes_in rooms) index ≡ shard_at (bytes_in initial) index
     → (get_or rooms index (record { ref_ptr = (0, 0); ghost_name = 0; now = [] })).now
     ≡ shard_at (bytes_in initial) index
-was_held rooms initial index inside same =
-    sym (get_or-map (λ room. room.now) rooms index (record { ref_ptr = (0, 0); ghost_name = 0; now = [] }) [] inside)
-    ∙ same
+was_held rooms initial index inside same = search (rules, get_or-map)
 
 pub add_to_strip-requires-clause-inside : goal.add_to_strip-requires-clause-inside
-add_to_strip-requires-clause-inside g c =
-    let index : ℕ = c.loop-i.i in
-    let held = c.loop-i.invariant in
-    let wide : length c.put_change.new.change ≡ c.args.end - c.args.start = search rules in
-    let below : c.loop-i.i < length c.args.recovery.now = search rules in
-    let was = was_held c.loop-i.recovery c.args.recovery.now index (omega (arith, held.number, below))
-    (held.others index (omega arith)) in
-    omega (
-      arith,
-      ap (λ (s : Shard). length s) was,
-      c.requires.fit index below,
-      wide,
-      c.requires.strip.order,
-      c.requires.strip.inside,
-    )
+add_to_strip-requires-clause-inside g c = search (rules, was_held)
 
 pub loop-i-preserved : goal.loop-i-preserved
 loop-i-preserved g c =

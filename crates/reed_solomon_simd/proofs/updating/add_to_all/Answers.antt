@@ -1,4 +1,4 @@
-use Rattle.std.proofs.Common.{rules, ℕ, ◌+◌, ◌<◌, length, refl, ◌∙◌, inl, subst, sym, arith}
+use Rattle.std.proofs.Common.{rules, ℕ, ◌+◌, length, ◌∙◌, subst, sym, arith}
 use Rattle.std.specs.Prelude.{slice_index}
 use Rattle.rs_field.specs.code.Column.{shard_at}
 use Rattle.rs_field.specs.code.Pieces.{IsStrip}
@@ -7,15 +7,7 @@ use Rattle.reed_solomon_simd.proofs.UpdateLemmas.{changed-none, changed-more, ch
 use Rattle.reed_solomon_simd.proofs.updating.add_to_all.Goals as goal
 
 pub loop-start-init : goal.loop-start-init
-loop-start-init g c = record {
-  inside = omega arith;
-  begins = inl refl;
-  number = refl;
-  kept = refl;
-  changed = λ i h.
-      changed-none c.args.old.now c.args.new.now (slice_index c.args.factors.now i)
-      (shard_at (bytes_in c.args.recovery.now) i);
-}
+loop-start-init g c = search (rules, changed-none)
 
 pub add_strip-requires-clause-strip : goal.add_strip-requires-clause-strip
 add_strip-requires-clause-strip g c =
@@ -23,10 +15,7 @@ add_strip-requires-clause-strip g c =
     (search rules) (search rules)
 
 pub add_strip-requires-clause-fit : goal.add_strip-requires-clause-fit
-add_strip-requires-clause-fit g c i h =
-    let number = c.loop-start.invariant.number in
-    let inside : i < length c.args.recovery.now = omega (arith, h, number) in
-    (c.loop-start.invariant.changed i inside).length_is ∙ c.requires.fit i inside
+add_strip-requires-clause-fit g c i h = search rules
 
 pub loop-start-preserved : goal.loop-start-preserved
 loop-start-preserved g c =
@@ -50,9 +39,4 @@ loop-start-preserved g c =
     }
 
 pub returns-clause-changed : goal.returns-clause-changed
-returns-clause-changed g c i h =
-    let long = c.requires.fit i h in
-    changed-all c.loop-start.start c.args.old.now c.args.new.now (slice_index c.args.factors.now i)
-    (shard_at (bytes_in c.args.recovery.now) i) (shard_at (bytes_in c.loop-start.recovery) i)
-    (c.loop-start.invariant.changed i h) (omega (arith, long, c.requires.some))
-    (omega (arith, long, c.loop-start-test.false))
+returns-clause-changed g c i h = search (rules, changed-all)

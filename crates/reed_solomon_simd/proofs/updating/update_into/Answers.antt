@@ -1,45 +1,23 @@
-use Rattle.std.proofs.Common.{rules, [], length, Ok, Err, refl, ◌∙◌, inl, inr, arith}
+use Rattle.std.proofs.Common.{rules, [], length, Ok, refl, ◌∙◌, inl, arith}
 use Rattle.std.proofs.lemmas.List.{length-map}
 use Rattle.reed_solomon_simd.specs.Rooms.{bytes_in}
 use Rattle.reed_solomon_simd.proofs.ReconstructLemmas.{zeros, zeros-number, zeros-sized}
-use Rattle.reed_solomon_simd.proofs.UpdateLemmas.{updates-by, updates-changed, outcome-uncounted}
-use Rattle.reed_solomon_simd.proofs.UpdateLemmas.{outcome-change, outcome-rooms}
+use Rattle.reed_solomon_simd.proofs.UpdateLemmas.{updates-by, updates-changed, outcome-uncounted, outcome-change}
+use Rattle.reed_solomon_simd.proofs.UpdateLemmas.{outcome-rooms}
 use Rattle.reed_solomon_simd.proofs.updating.update_into.Goals as goal
 
 pub returns-in_err-counts-clause-answer : goal.returns-in_err-counts-clause-answer
-returns-in_err-counts-clause-answer g c =
-    let k = c.args.original_count in let r = c.args.recovery_count in let before = bytes_in c.args.recovery.now in
-    let e = c.in_err-counts.field-0.0 in
-    updates-by k r c.args.index c.args.old.now c.args.new.now before before _ _
-    (outcome-uncounted k r c.args.index c.args.old.now c.args.new.now before e c.in_err-counts.ensures)
-    (search rules, refl)
+returns-in_err-counts-clause-answer g c = search (rules, updates-by, outcome-uncounted)
 
 pub returns-in_err-check_change-clause-answer : goal.returns-in_err-check_change-clause-answer
-returns-in_err-check_change-clause-answer g c =
-    let k = c.args.original_count in let r = c.args.recovery_count in let before = bytes_in c.args.recovery.now in
-    let e = c.in_err-check_change.field-0.0 in
-    updates-by k r c.args.index c.args.old.now c.args.new.now before before _ _
-    (outcome-change k r c.args.index c.args.old.now c.args.new.now before e
-    (rw (c.in_ok-counts.ensures.0, c.in_ok-counts.ensures.1) at c.in_err-check_change.ensures)) (search rules, refl)
+returns-in_err-check_change-clause-answer g c = search (rules, updates-by, outcome-change)
 
 pub returns-in_err-check_rooms-clause-answer : goal.returns-in_err-check_rooms-clause-answer
 returns-in_err-check_rooms-clause-answer g c =
-    let k = c.args.original_count in let r = c.args.recovery_count in let before = bytes_in c.args.recovery.now in
-    let e = c.in_err-check_rooms.field-0.0 in
-    updates-by k r c.args.index c.args.old.now c.args.new.now before before _ _
-    (outcome-rooms k r c.args.index c.args.old.now c.args.new.now before (Err e)
-    (rw (c.in_ok-counts.ensures.0, c.in_ok-counts.ensures.1) at c.in_ok-check_change.ensures)
-    (c.in_err-check_rooms.ensures.answer (zeros r (length c.args.old.now)) (zeros-number r (length c.args.old.now))
-    (zeros-sized r (length c.args.old.now)))) (search rules, refl)
+    search (rules, updates-by, outcome-rooms, zeros, zeros-number, zeros-sized)
 
 pub returns-in_err-factors-clause-answer : goal.returns-in_err-factors-clause-answer
-returns-in_err-factors-clause-answer g c =
-    let k = c.args.original_count in let r = c.args.recovery_count in let before = bytes_in c.args.recovery.now in
-    updates-by k r c.args.index c.args.old.now c.args.new.now before before _ _
-    (outcome-rooms k r c.args.index c.args.old.now c.args.new.now before (Ok tt)
-    (rw (c.in_ok-counts.ensures.0, c.in_ok-counts.ensures.1) at c.in_ok-check_change.ensures)
-    (c.in_ok-check_rooms.ensures.answer (zeros r (length c.args.old.now)) (zeros-number r (length c.args.old.now))
-    (zeros-sized r (length c.args.old.now)))) (inr (search rules, refl))
+returns-in_err-factors-clause-answer g c = search (rules, updates-by, outcome-rooms, zeros, zeros-number, zeros-sized)
 
 pub returns-clause-answer : goal.returns-clause-answer
 returns-clause-answer g c =

@@ -1,20 +1,15 @@
-use Rattle.std.proofs.Common.{rules, ◌≡◌, ℕ, ◌≤◌, ◌∷◌, length, get_or, sym, ap, subst, ◌∙◌, inl, inr, arith}
+use Rattle.std.proofs.lemmas.Grind.{common_steps}
+use Rattle.std.proofs.Common.{rules, ◌≡◌, ℕ, ◌∷◌, get_or, sym, ap, subst, ◌∙◌, inl, inr, arith}
 use Rattle.std.proofs.lemmas.Bool.{cases_lt}
 use Rattle.std.proofs.lemmas.List.{drop_all, get_or_default}
 use Rattle.rs_field.specs.code.Decoder.{DecoderState}
 use Rattle.reed_solomon_simd.specs.ReceivedState.{received_state}
-use Rattle.reed_solomon_simd.specs.Reconstructed.{wanted_outcome, CanBeRebuilt}
+use Rattle.reed_solomon_simd.specs.Reconstructed.{CanBeRebuilt}
 use Rattle.reed_solomon_simd.proofs.WantedLemmas.{wanted-next}
 use Rattle.reed_solomon_simd.proofs.wanted_shards.mark_all.Goals as goal
 
 pub returns-in_err-mark-clause-answer : goal.returns-in_err-mark-clause-answer
-returns-in_err-mark-clause-answer c =
-    let s : DecoderState = received_state c.args.received.now in
-    let held = c.loop-index.invariant in
-    let all = held.led
-    ∙ wanted-next s held.before c.args.wanted.now c.loop-index.index _ _ c.loop-index-test.true
-    (c.in_err-mark.ensures.answer held.before held.marked) in
-    search rules
+returns-in_err-mark-clause-answer c = grind (arith, common_steps, wanted-next)
 
 pub loop-index-preserved : goal.loop-index-preserved
 loop-index-preserved c =
@@ -38,11 +33,7 @@ loop-index-preserved c =
     }
 
 pub returns-clause-answer : goal.returns-clause-answer
-returns-clause-answer c =
-    let s : DecoderState = received_state c.args.received.now in
-    let held = c.loop-index.invariant in
-    let past : length c.args.wanted.now ≤ c.loop-index.index = omega (arith, c.loop-index-test.false) in
-    sym (held.led ∙ ap (wanted_outcome s held.before) (drop_all c.loop-index.index c.args.wanted.now past))
+returns-clause-answer c = search (rules, drop_all)
 
 pub returns-clause-can : goal.returns-clause-can
 returns-clause-can c = λ i d h.

@@ -1,8 +1,7 @@
 use Rattle.std.proofs.Common.{rules}
 use Rattle.rs_field.specs.code.Encoder.{with_shard}
 use Rattle.rs_rate.proofs.of_objects.Giving.{no-calls, ended-calls, ended-run, first-then, outcome-ok, outcome-err}
-use Rattle.rs_rate.proofs.of_objects.Giving.{reached-ok}
-use Rattle.rs_rate.proofs.of_objects.Giving.{reached-err, adds-ok, adds-err}
+use Rattle.rs_rate.proofs.of_objects.Giving.{reached-ok, reached-err, adds-ok, adds-err}
 use Rattle.rs_rate.proofs.of_objects.OneCall.{encoding-unset, encoding-given}
 use Rattle.reed_solomon_simd.proofs.lent_originals.LentOriginals.gather.Goals as goal
 
