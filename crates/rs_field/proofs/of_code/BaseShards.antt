@@ -4,7 +4,6 @@ use Rattle.std.proofs.Common.{inl, inr}
 use Rattle.std.proofs.Math.Nat.{mod-eq_of_lt, mod-lt}
 use Rattle.std.specs.Prelude.{Option, Some, is_some, ◌↔◌}
 use Rattle.std.proofs.lemmas.Bool.{cases_Bool}
-use Rattle.rs_field.specs.words.Locator.{log_sum}
 use Rattle.rs_field.specs.words.DirectSum.{direct_sum}
 use Rattle.rs_field.specs.code.Column.{Shard, shard_at, column}
 use Rattle.rs_field.specs.code.Configuration.{Configuration}
@@ -47,11 +46,7 @@ locator_in s = locator_at (frame_at s.configuration) s.configuration.original_co
 -- The rows of all given shards, and their locator.
 pub all_located : (s : DecoderState) → IsLocated s (λ x. is_some (shard_in_row s x)) (locator_in s)
 unfolding locator_at
-all_located s = record {
-  rows = λ x hx. refl;
-  logarithms = λ x hx. mod-eq_of_lt (mod-lt (log_sum (row_count_of s) (erased_in s) x) (omega arith));
-  most = λ x hx. omega arith;
-}
+all_located s = search (rules, mod-eq_of_lt, mod-lt, row_count_of, erased_in)
 
 -- Each missing word is the direct sum over the given shards.
 pub summed_directly : IsSummedDirectly

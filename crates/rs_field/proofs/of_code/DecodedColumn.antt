@@ -1,5 +1,5 @@
 -- One column of a decode at either rate: whether the words of the given shards are values of a polynomial that codes.
-use Rattle.std.proofs.Common.{◌≡◌, ℕ, ◌+◌, ◌-◌, ◌^◌, ◌<◌, ◌≤◌, List, sym, ap, ◌∙◌, arith, inl, inr, pow_mono}
+use Rattle.std.proofs.Common.{rules, ◌≡◌, ℕ, ◌+◌, ◌-◌, ◌^◌, ◌<◌, ◌≤◌, List, sym, ap, ◌∙◌, arith, inl, inr, pow_mono}
 use Rattle.std.specs.Prelude.{Some, None}
 use Rattle.rs_field.specs.words.Polynomial.{value}
 use Rattle.rs_field.specs.words.Field.{product, power}
@@ -185,8 +185,13 @@ module _ {s : DecoderState} (g : AreGiven s) {j : ℕ} where
         pub restored_word : l ≤ 65535 → power l ≡ power (log_sum (row_count_of s) (erased_in s) x)
             → product (forward (row_count_of s) 0 added x) (power (65535 - l)) ≡ value p x
         restored_word hl same =
-            ap (λ w. product w (power (65535 - l)))
-            (restored_product
-            ∙ product-comm (power (log_sum (row_count_of s) (erased_in s) x)) (value p x)
-            ∙ ap (product (value p x)) (sym same))
-            ∙ residue_undone l (value p x) hl (value_lt p x (words_from p taken.1.coefficients))
+            search (
+              rules,
+              restored_product,
+              product-comm,
+              row_count_of,
+              erased_in,
+              residue_undone,
+              value_lt,
+              words_from,
+            )

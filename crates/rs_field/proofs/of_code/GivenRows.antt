@@ -136,11 +136,7 @@ module _ (s : DecoderState) where
       → i < s.configuration.recovery_count
       → shard_in_row s (recovery_row (frame_at s.configuration) i) ≡ s.recovery i
   unfolding given_at
-  shard_in_row-coded i f hi =
-      let at = frame_at s.configuration in
-      entry_in-other at.originals_from s.configuration.original_count (recovery_row at i) s.originals _
-      (rows_apart at s.configuration.original_count s.configuration.recovery_count i f hi)
-      ∙ entry_in-at at.recovery_from s.configuration.recovery_count i s.recovery None hi
+  shard_in_row-coded i f hi = search (rules, entry_in-other, rows_apart, entry_in-at)
 
   pub shard_in_row-other : (x : ℕ)
       → (x < (frame_at s.configuration).originals_from)
@@ -212,27 +208,17 @@ module _ {s : DecoderState} (g : AreGiven s) where
 
   pub erasures : AreErasures s
   erasures =
-      let at = frame_at s.configuration in
-      let f = distinct in
-      let follow = distinct.follow in
-      record {
-        are_marks = record { mark = λ y hy. erased_in-most s y };
-        own = λ i hi.
-            erased_in-row s (original_row at i) (s.originals i) (inl (omega (arith, follow, hi)))
-            (shard_in_row-own s i hi);
-        coded = λ i hi.
-            erased_in-row s (recovery_row at i) (s.recovery i)
-            (let below = distinct.recovery in
-            elim distinct.order [
-              | inl low ↦ inr ((among (recovery_row at i)).1 (omega (arith, below, hi)) (omega (arith, low.1)))
-              | inr high ↦ inl (omega (arith, high.0, high.1, follow, hi))
-            ])
-            (shard_in_row-coded s i distinct hi);
-        known = λ x above below. erased_in-known s x above ((among x).0 below);
-        other = λ x hx not_own not_coded not_zero.
-            erased_in-row s x None (elim not_zero [ inl before ↦ inl before | inr past ↦ inr ((among x).1 hx past) ])
-            (shard_in_row-other s x not_own not_coded);
-      }
+      search (
+        rules,
+        distinct,
+        erased_in-most,
+        erased_in-row,
+        shard_in_row-own,
+        among,
+        shard_in_row-coded,
+        erased_in-known,
+        shard_in_row-other,
+      )
 
   -- A given recovery shard is in its row.
   pub given-coded : (i : ℕ) (shard : Shard) → i < s.configuration.recovery_count → s.recovery i ≡ Some shard
@@ -272,11 +258,7 @@ module _ {s : DecoderState} (g : AreGiven s) where
   -- No shard is given in the row of a zero point.
   pub given-zero : (x : ℕ) → (frame_at s.configuration).zeros_from ≤ x → x < zeros_end (frame_at s.configuration)
       → shard_in_row s x ≡ None
-  given-zero x above below =
-      let follow = distinct.follow in
-      shard_in_row-other s x (inr (omega (arith, follow, above)))
-      (elim distinct.order
-      [ inl low ↦ inl (omega (arith, low.1, below)) | inr high ↦ inr (omega (arith, high.0, high.1, follow, above)) ])
+  given-zero x above below = search (rules, distinct, shard_in_row-other)
 
   -- A row without a given shard is erased, or is the row of a zero point.
   pub erased-none : (x : ℕ) → x < row_count_of s → shard_in_row s x ≡ None → erased_in s x ≡ 0

@@ -181,11 +181,7 @@ module _ {grows : Bool} {size start end : ℕ} {made old new : List Shard}
     (p : AreStripPut grows size start end made old new) where
   -- Each room had the bytes before the piece.
   pub put-inside : All (λ s. start ≤ length s) old
-  put-inside i d h =
-      let n = p.fit i d h in
-      let order = p.strip.order in
-      let from = room-from grows start size (let le : start ≤ size = omega (arith, order, p.strip.inside) in le) in
-      omega (arith, n, from)
+  put-inside i d h = search (rules, room-from)
 
   at : (i : ℕ) → i < length old
       → get_or new i [] ≡ take start (get_or old i []) ++ (get_or made i [] ++ drop end (get_or old i []))
@@ -203,10 +199,7 @@ module _ {grows : Bool} {size start end : ℕ} {made old new : List Shard}
 
   -- After a piece is put, each room has the length for the end of the strip.
   pub put-fit : All (λ s. length s ≡ room_length grows end size) new
-  put-fit i d h =
-      let here : i < length old = omega (arith, h, p.put.0) in
-      ap length (get_or_default new i d [] h) ∙ put-length i here ∙ ap (λ (n : ℕ). end + (n - end)) (p.fit i [] here)
-      ∙ room-further grows start end size p.strip.order p.strip.inside
+  put-fit i d h = search (rules, get_or_default, put-length, room-further)
 
   -- The bytes before the piece are unchanged in each room.
   pub put-heads : heads start new ≡ heads start old

@@ -1,6 +1,6 @@
 -- The layers of a block of rows, from the effect of butterflies on the range of its chunks.
-use Rattle.std.proofs.Common.{◌≡◌, ℕ, ◌+◌, ◌-◌, ◌*◌, ◌/◌, ◌<◌, ◌≤◌, List, true, false, length, take, drop, get_or, ap}
-use Rattle.std.proofs.Common.{sym, subst, ◌∙◌, arith}
+use Rattle.std.proofs.Common.{rules, ◌≡◌, ℕ, ◌+◌, ◌-◌, ◌*◌, ◌/◌, ◌<◌, ◌≤◌, List, true, false, length, take, drop}
+use Rattle.std.proofs.Common.{get_or, ap, sym, subst, ◌∙◌, arith}
 use Rattle.std.proofs.lemmas.Grind.{common_steps}
 use borrow.Rule.Slice.PartMut.{put_mid}
 use Rattle.rs_field.specs.rows.Rows.{Chunks, chunk}
@@ -57,11 +57,7 @@ module _ (block : Block) (old : ShardsRefMut) (fits : Fits old)
 
     new_cell : (p k r : ℕ) → p < block.size * n → block.pos * n + p ≡ r * n + k → chunk part p ≡ cell new k r
     unfolding cell
-    new_cell p k r below is =
-        of_written old.chunks.now part (block.pos * n) m p end (long ∙ sym whole) (omega (arith, whole, below))
-        ∙ ap (λ i. chunk (put_mid (block.pos * n) m old.chunks.now part) i) is
-        ∙ ap (λ chunks. chunk chunks (r * n + k)) (sym written)
-        ∙ ap (λ l. chunk new.chunks.now (r * l + k)) (sym len)
+    new_cell p k r below is = search (rules, of_written, end, whole)
 
     module _ (large : 1 < block.size) (direction : Direction) (skew : List ℕ) (table : IsSkew skew) (k s : ℕ)
         (hk : k < n) (hs : s < 32) where

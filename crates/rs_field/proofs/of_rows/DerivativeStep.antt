@@ -68,9 +68,7 @@ module _ (e : ℕ) (f : ℕ → ℕ) (p q : List ℕ) (he : e < 16) (low : IsSum
 
   derivative-joined : (x : ℕ) → x < 2 ^ 16 → derivative_value joined x
       ≡ bit_xor (bit_xor (product (subspace e x) (derivative_value q x)) (value q x)) (derivative_value p x)
-  derivative-joined x hx =
-      derivative_add (times (points 0 (2 ^ e)) q) p x
-      ∙ ap (λ k. bit_xor k (derivative_value p x)) (derivative-subspace e q he high.words x hx)
+  derivative-joined x hx = search (rules, derivative_add, times, points, derivative-subspace)
 
 module _ (f a b g : ℕ → ℕ) where
   -- The step of n + n words is made by the steps of both halves, where the old words of the second half are added to
@@ -124,8 +122,7 @@ derivative_one f small p len words at x hx =
 -- The derivative step depends only on the first n words.
 derivative_same : {n : ℕ} {f f' g g' : ℕ → ℕ} → ((q : ℕ) → q < n → f' q ≡ f q) → ((q : ℕ) → q < n → g q ≡ g' q)
     → IsDerivativeAdded n f' g' → IsDerivativeAdded n f g
-derivative_same {n} {f} {f'} {g} {g'} same_f same_g h p size words at x hx =
-    forward-same n 0 g g' x same_g ∙ h p size words (λ y hy. forward-same n 0 f' f y same_f ∙ at y hy) x hx
+derivative_same {n} {f} {f'} {g} {g'} same_f same_g h p size words at x hx = search (rules, forward-same)
 
 -- The words outside of changed rows are the same.
 outside_word : (a b : ℕ) {old new : ShardsRefMut} → SameExtent old new → SameRowsOutside a b old new

@@ -1,4 +1,5 @@
 -- Four runs of chunks are lent: two runs from each of two runs.
+use Rattle.std.proofs.Common.{rules, ap₂}
 use Rattle.rs_field.proofs.Walking.{◌≡◌, refl, sym, ap, ◌∙◌, ℕ, ◌+◌, ◌-◌, arith, [], ◌∷◌, ◌++◌, take, drop_list}
 use Rattle.rs_field.proofs.Walking.{drop-drop, ‵, ◌⊛◌, raw, ◌$◌, ◌∵◌, !, qed, move, join, split, use1, use2, rewrite}
 use Rattle.rs_field.proofs.Walking.{MutBor, RattleType, Array, fres}
@@ -12,7 +13,6 @@ use types.Kit.{by, each, assume}
 use types.Follow.{followed₂}
 use denote.Memory.{mem}
 use denote.Follow.{both_by, followed}
-use Rattle.std.proofs.Common.{ap₂}
 use Rattle.std.proofs.lemmas.List.{append_assoc}
 use Rattle.std.proofs.lemmas.Slice.{between_is}
 use Rattle.rs_field.specs.rows.Rows.{Chunks}
@@ -50,21 +50,13 @@ module _ (xs : Chunks) (i n d : ℕ) where
   ends_of u v = ap₂ (λ g b. u ++ (g ++ (v ++ b))) gap none
 
 joined : (a b c z : Chunks) → (a ++ (b ++ (c ++ []))) ++ z ≡ a ++ (b ++ (c ++ z))
-joined a b c z =
-    append_assoc a (b ++ (c ++ [])) z
-    ∙ ap (λ l. a ++ l) (append_assoc b (c ++ []) z ∙ ap (λ l. b ++ l) (append_assoc c [] z))
+joined a b c z = search (rules, append_assoc)
 
 pub four-runs : (xs : Chunks) (i k n d : ℕ) (u v w z : Chunks)
     → with_two xs i (d + n) k (d + n) (with_two (take (d + n) (drop_list i xs)) 0 n d n u v)
     (with_two (take (d + n) (drop_list k xs)) 0 n d n w z)
     ≡ with_four xs i (i + d) k (k + d) n u v w z
-four-runs xs i k n d u v w z =
-    let first : i + (d + n) ≡ i + d + n = omega arith in let last : k + (d + n) ≡ k + d + n = omega arith in
-    ap₂ (λ f b. with_two xs i (d + n) k (d + n) f b) (ends_of xs i n d u v) (ends_of xs k n d w z)
-    ∙ ap (λ l. take i xs ++ l) (joined u (between (i + n) (i + d) xs) v _
-    ∙ ap₂ (λ (e : ℕ) l. u ++ (between (i + n) (i + d) xs ++ (v ++ (between e k xs ++ l)))) first
-    (joined w (between (k + n) (k + d) xs) z _
-    ∙ ap (λ e. w ++ (between (k + n) (k + d) xs ++ (z ++ drop_list e xs))) last))
+four-runs xs i k n d u v w z = search (rules, ends_of, joined, drop_list)
 
 abbrev pub Four : Type 0 → Type 0
 Four X = X × X × X × X
@@ -104,10 +96,7 @@ module _ {M : Type 1} {𝓤 : Ura M} (𝓛 : Logic 𝓤) (self : MutBor ShardsRe
 
   whole : (u v w z : Chunks) → with_two x.now i (d + n) k (d + n) (with_two r.0.now 0 n d n u v)
       (with_two r.1.now 0 n d n w z) ≡ with_four ch i j k l n u v w z
-  whole u v w z =
-      ap₂ (λ a b. with_two x.now i (d + n) k (d + n) (with_two a 0 n d n u v) (with_two b 0 n d n w z)) first last
-      ∙ four-runs x.now i k n d u v w z ∙ ap (λ c. with_four c i (i + d) k (k + d) n u v w z) ex
-      ∙ ap₂ (λ a b. with_four ch i a k b n u v w z) to on
+  whole u v w z = search (rules, four-runs)
 
   pub lends_four : ent 𝓤 (sep 𝓤 (sem 𝓛 (LendsAll self x)) (sep 𝓤 (sem 𝓛 (LendsParts x i (d + n) k (d + n) r))
       (sep 𝓤 (sem 𝓛 (LendsParts r.0 0 n d n p)) (sem 𝓛 (LendsParts r.1 0 n d n q)))))

@@ -37,14 +37,12 @@ chunk_of size b h = omega arith
 pub laid_out-same : (size : ℕ) (f g : ℕ → List ℕ) → ((k : ℕ) → k < row_len size → f k ≡ g k)
     → laid_out size f ≡ laid_out size g
 unfolding laid_out
-laid_out-same size f g same =
-    up_to-same size _ _ (λ b h. ap (λ c. slice_index c (byte_offset size b)) (same (b / 64) (chunk_of size b h)))
+laid_out-same size f g same = search (rules, up_to-same, chunk_of)
 
 pub in_order-same : (size : ℕ) (f g : ℕ → List ℕ) → ((k : ℕ) → k < row_len size → f k ≡ g k)
     → in_order size f ≡ in_order size g
 unfolding in_order
-in_order-same size f g same =
-    up_to-same size _ _ (λ b h. ap (λ c. slice_index c (b % 64)) (same (b / 64) (chunk_of size b h)))
+in_order-same size f g same = search (rules, up_to-same, chunk_of)
 
 -- If half the bytes of a chunk or of the tail are `half` bytes, the first half is at the beginning of the chunk.
 pub byte_offset-low : (size b half : ℕ) → min 64 (size - b / 64 * 64) / 2 ≡ half → b % 64 < half
@@ -59,7 +57,7 @@ unfolding byte_offset
 byte_offset-high size b half e h = grind (arith, common_steps)
 
 half-whole : (size b : ℕ) → b / 64 * 64 + 64 ≤ size → min 64 (size - b / 64 * 64) / 2 ≡ 32
-half-whole size b h = ap (λ n. n / 2) (min-eq_left (let r : 64 ≤ size - b / 64 * 64 = omega arith in r))
+half-whole size b h = search (rules, min-eq_left)
 
 half-tail : (size b : ℕ) → b / 64 ≡ size / 64 → min 64 (size - b / 64 * 64) / 2 ≡ size % 64 / 2
 half-tail size b h = grind (arith, common_steps)

@@ -1,5 +1,6 @@
 -- Steps of the proofs of functions that lend rows: a list of rows is read, its chunks are lent, and two runs of chunks
 -- are lent from them.
+use Rattle.std.proofs.Common.{rules, ap₂}
 use Rattle.rs_field.proofs.Walking.{◌≡◌, ap, ◌∙◌, ℕ, ◌+◌, ◌^◌, ◌<◌, ◌≤◌, List, [], ◌∷◌, length, take, drop_list, refl}
 use Rattle.rs_field.proofs.Walking.{vcons, vnil, only, feq_i, fpack, within, shape, tuple_type, sym, named, w64, Val}
 use Rattle.rs_field.proofs.Walking.{vstruct, of_list, full_share, Lft, ftrue, flft, fact, fact_i, emp, ‵, ◌⊛◌, raw}
@@ -9,7 +10,6 @@ use Rattle.rs_field.proofs.Walking.{RattleType, owns, Valss, flat, MutBor, MutRe
 use Rattle.rs_field.proofs.Walking.{Room, room, slice_val, mut_slice_vals, mut_slice_at, pure_l, pure_i, nothing, heard}
 use Rattle.rs_field.proofs.Walking.{opens, closes, peeks, owned, fields, lasts, qed, use2, fres, wand, ◌∵◌, !, use1}
 use Rattle.rs_field.proofs.Walking.{id⊢}
-use Rattle.std.proofs.Common.{ap₂}
 use seplogic.Ra.Ura.{Ura}
 use base.Fml.{fsep, Share, Fml, fobs, fauth, fobor}
 use base.Logic.{ent, sep}
@@ -47,9 +47,7 @@ module _ (κs : Lfts 2) (h : ShardsRefMut) (us : List Val) (is : Is (Row κs) h 
       (uint_vals w64 h.shard_count, (uint_vals w64 h.shard_len_64, is.0.1.1)))) ∷ []
 
   is_held : us ≡ held
-  is_held = let word = λ (ws : List Val × List Val).
-      vstruct (of_list (flat (fields (the_type (named_lft 2 1 tt κs))) (ws.0, (ws.1, is.0.1.1)))) ∷ [] in
-      is.1.0 ∙ ap word (λ i. (is.1.1.0.0 i, is.1.1.1.0.0 i))
+  is_held = search (rules, vstruct, of_list, flat, fields, named_lft)
 
 -- The list of rows is open: its machine value lies at its place.
 abbrev Opened : {M : Type 1} {𝓤 : Ura M} → Lfts 2 → MutBor ShardsRefMut → Share → List Val → List Val → List (Item 𝓤)

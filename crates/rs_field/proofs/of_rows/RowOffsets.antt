@@ -1,5 +1,5 @@
 -- The place of row i of rows of n chunks among the chunks, and the chunks outside some rows, which are unchanged.
-use Rattle.std.proofs.Common.{◌≡◌, ℕ, ◌+◌, ◌*◌, ◌<◌, ◌≤◌, ◌⊎◌, ◌≢◌, inl, inr, arith, ap, ◌∙◌, subst}
+use Rattle.std.proofs.Common.{rules, ◌≡◌, ℕ, ◌+◌, ◌*◌, ◌<◌, ◌≤◌, ◌⊎◌, ◌≢◌, inl, inr, arith, ap, ◌∙◌, subst}
 use Rattle.std.proofs.Math.Nat.{mul-le-mul_right}
 use Rattle.std.proofs.lemmas.Bool.{cases_lt}
 use Rattle.rs_field.specs.rows.Rows.{chunk, SameOutside}
@@ -19,21 +19,11 @@ row_within i m k n hi hk = let ends = row_ends i m n hi in omega arith
 
 -- A chunk of a row below a is before row a, and a chunk of a row from b on is at or after row b.
 pub offset_outside : (a b i k n : ℕ) → k < n → (i < a) ⊎ (b ≤ i) → (i * n + k < a * n) ⊎ (b * n ≤ i * n + k)
-offset_outside a b i k n q h =
-    elim h [
-      | inl p ↦ inl (let r = row_ends i a n p in omega arith)
-      | inr p ↦
-          inr (let r = mul-le-mul_right n p in omega arith)
-    ]
+offset_outside a b i k n q h = search (rules, row_ends, mul-le-mul_right)
 
 -- A chunk of another row is outside row a.
 pub offset_apart : (a i k n : ℕ) → k < n → i ≢ a → (i * n + k < a * n) ⊎ (a * n + n ≤ i * n + k)
-offset_apart a i k n q ne =
-    elim (cases_lt i a) [
-      | inl p ↦ inl (let r = row_ends i a n p in omega arith)
-      | inr p ↦
-          inr (let l : a < i = omega arith in let r = row_ends a i n l in omega arith)
-    ]
+offset_apart a i k n q ne = search (rules, cases_lt, row_ends)
 
 -- The chunks of the rows outside the changed rows are unchanged.
 pub outside_cell : {a b : ℕ} {old new : ShardsRefMut} → SameExtent old new → SameRowsOutside a b old new
@@ -59,11 +49,4 @@ outside_both a b c d e f old mid new extent first second ea bf ec df k h =
     ∙ first k (elim h [ inl before ↦ inl (omega arith) | inr after ↦ inr (omega arith) ])
 
 pub extent_then : {old mid new : ShardsRefMut} → SameExtent old mid → SameExtent mid new → SameExtent old new
-extent_then p q =
-    record {
-      name = q.name ∙ p.name;
-      count = q.count ∙ p.count;
-      len_64 = q.len_64 ∙ p.len_64;
-      length =
-          q.length ∙ p.length;
-    }
+extent_then p q = search rules

@@ -1,10 +1,10 @@
 -- A row is zero in each column of its shard exactly if the bytes of its whole chunks and of both halves of its tail are
 -- zero.
+use Rattle.std.proofs.Common.{rules, ◌≡◌, ℕ, ◌+◌, ◌-◌, ◌*◌, ◌/◌, ◌%◌, ◌<◌, ◌≤◌, List, [], length, get_or, take, drop}
+use Rattle.std.proofs.Common.{ap, ap₂, sym, ◌∙◌, arith, inl, inr}
 use Rattle.std.proofs.lemmas.Grind.{common_steps}
 use Rattle.std.proofs.lemmas.Bool.{cases_lt}
 use Rattle.std.proofs.lemmas.List.{get_or-take, get_or-drop, length-take-le, length-drop}
-use Rattle.std.proofs.Common.{◌≡◌, ℕ, ◌+◌, ◌-◌, ◌*◌, ◌/◌, ◌%◌, ◌<◌, ◌≤◌, List, [], length, get_or, take, drop, ap, ap₂}
-use Rattle.std.proofs.Common.{sym, subst, ◌∙◌, arith, inl, inr}
 use Rattle.std.specs.Prelude.{slice_index, EachIndex}
 use Rattle.std.specs.List.{flat_map}
 use Rattle.rs_field.specs.rows.Rows.{Chunks, chunk, symbol}
@@ -40,12 +40,10 @@ part-length : (bytes : List ℕ) (a n : ℕ) → a + n ≤ length bytes → leng
 part-length bytes a n within = let left = length-drop a bytes in length-take-le n (drop a bytes) (omega arith)
 
 pub zero-from : (bytes : List ℕ) (a n : ℕ) → a + n ≤ length bytes → AreZero (take n (drop a bytes)) → ZeroFrom bytes a n
-zero-from bytes a n within zeros i h =
-    sym (part-at bytes a n i h) ∙ zeros i (subst (λ m. i < m) (sym (part-length bytes a n within)) h)
+zero-from bytes a n within zeros i h = search (rules, part-at, part-length)
 
 pub zero-part : (bytes : List ℕ) (a n : ℕ) → a + n ≤ length bytes → ZeroFrom bytes a n → AreZero (take n (drop a bytes))
-zero-part bytes a n within zeros i h =
-    let lt : i < n = subst (λ m. i < m) (part-length bytes a n within) h in part-at bytes a n i lt ∙ zeros i lt
+zero-part bytes a n within zeros i h = search (rules, part-length, part-at)
 
 module _ {size : ℕ} {row : Chunks} {bytes : List ℕ} (is : IsRow size row bytes) where
   byte-of : (q b : ℕ) → b < 64 → slice_index (chunk row q) b ≡ slice_index bytes (q * 64 + b)

@@ -1,17 +1,13 @@
-use Rattle.std.proofs.Common.{sym, ap, ◌∙◌, List}
+use Rattle.std.proofs.Common.{rules}
 use Rattle.std.proofs.Math.Path.{fun_ext}
-use Rattle.rs_field.specs.code.Column.{Shard}
 use Rattle.rs_field.specs.code.CodeLaws.{HasOneRestoration}
-use Rattle.rs_field.specs.code.Decoder.{missing_of}
 use Rattle.rs_field.proofs.of_code.Changes.{changes_noticed}
 use Rattle.rs_field.proofs.of_code.Places.{fixed_by_places}
 use Rattle.rs_field.proofs.code.laws.codeword_laws.Goals as goal
 
 -- Two restorations are equal, since both are the missing shards of the one message that agrees.
 one_restoration : HasOneRestoration
-one_restoration s one other a b =
-    fun_ext (λ i. a.missing i ∙ ap (λ (m : List Shard). missing_of s m i) (b.only a.message a.agrees)
-    ∙ sym (b.missing i))
+one_restoration s one other a b = search (rules, fun_ext)
 
 pub returns : goal.returns
 returns c = record { places = fixed_by_places; restored = one_restoration; changes = changes_noticed }

@@ -1,3 +1,4 @@
+use Rattle.std.proofs.Common.{rules}
 use Rattle.rs_field.proofs.of_code.EqualPowers.{one_code as one}
 use Rattle.rs_field.proofs.of_code.Linearity.{recovery-xor}
 use Rattle.rs_field.proofs.of_code.MadeShards.{has_recovery}
@@ -7,11 +8,4 @@ use Rattle.rs_field.proofs.of_code.Unique.{columns_unique}
 use Rattle.rs_field.proofs.code.laws.recovery_laws.Goals as goal
 
 pub returns : goal.returns
-returns c = record {
-  some = has_recovery;
-  linear = recovery-xor;
-  columns = columns_unique;
-  strips = λ c start end message all. recovery-cut;
-  joined = strips-join;
-  one_code = one;
-}
+returns c = search (rules, has_recovery, recovery-xor, columns_unique, recovery-cut, strips-join, one)

@@ -1,4 +1,4 @@
-use Rattle.std.proofs.Common.{◌≡◌, ℕ, ◌+◌, ◌*◌, ◌/◌, ◌<◌, ◌≤◌, List, [], length, take, drop, get_or, ap, ◌∙◌, arith}
+use Rattle.std.proofs.Common.{rules, ◌≡◌, ℕ, ◌+◌, ◌*◌, ◌/◌, ◌<◌, ◌≤◌, List, [], length, take, get_or, ap, ◌∙◌, arith}
 use Rattle.std.proofs.Common.{sym, length-take-le, get_or-set_same}
 use lib.ListN.{set}
 use Rattle.std.specs.Simd.{first_chunks}
@@ -10,11 +10,7 @@ use Rattle.rs_field.proofs.rows.layout.put_whole.Goals as goal
 byte_of_shard : (count k b : ℕ) (shard : List ℕ) (chunks : List (List ℕ))
     → chunks ≡ first_chunks 64 (length (take (count * 64) shard) / 64) (take (count * 64) shard)
     → count * 64 ≤ length shard → k < count → b < 64 → get_or (get_or chunks k []) b 0 ≡ get_or shard (k * 64 + b) 0
-byte_of_shard count k b shard chunks are within h hb =
-    let bytes = take (count * 64) shard in
-    let long : length bytes ≡ count * 64 = length-take-le (count * 64) shard within in
-    ap (λ l. get_or (get_or l k []) b 0) are ∙ byte_of_chunk (length bytes / 64) k b bytes (omega (arith, long, h)) hb
-    ∙ get_or-take (count * 64) shard (k * 64 + b) 0 (omega (arith, h, hb))
+byte_of_shard count k b shard chunks are within h hb = search (rules, length-take-le, byte_of_chunk, get_or-take)
 
 pub returns-then-whole-eq1 : goal.returns-then-whole-eq1
 returns-then-whole-eq1 c k b h hb =
@@ -29,11 +25,4 @@ returns-then-whole-eq1 c k b h hb =
     ap (λ chunk. get_or chunk b 0) laid ∙ put ∙ ap (λ i. get_or c.args.shard.now (i * 64 + b) 0) (sym first)
 
 pub returns-else-whole-eq1 : goal.returns-else-whole-eq1
-returns-else-whole-eq1 c k b h hb =
-    let laid : length c.copy_from_slice.new.self ≡ c.args.whole =
-    c.copy_from_slice.ensures.len ∙ length-take-le c.args.whole c.args.row.now (omega arith) in
-    ap (λ chunk. get_or chunk b 0)
-    (get_or_append_left c.copy_from_slice.new.self (drop c.args.whole c.args.row.now) [] k (omega arith)
-    ∙ ap (λ chunks. get_or chunks k []) c.copy_from_slice.ensures.after)
-    ∙ byte_of_shard c.args.whole k b c.args.shard.now c.as_chunks.result.0.now c.as_chunks.ensures.front
-    c.requires.within h hb
+returns-else-whole-eq1 c k b h hb = search (rules, length-take-le, get_or_append_left, byte_of_shard)

@@ -1,16 +1,11 @@
-use Rattle.std.proofs.Common.{inl, inr, arith}
+use Rattle.std.proofs.Common.{rules}
 use Rattle.std.proofs.lemmas.Bool.{cases_lt}
 use Rattle.rs_field.specs.rows.View.{cell}
 use Rattle.rs_field.proofs.of_rows.RowOffsets.{row_ends}
 use Rattle.rs_field.proofs.rows.rows.mul_add_row_at.Goals as goal
 
 pub mul_add_runs-requires-clause-apart : goal.mul_add_runs-requires-clause-apart
-mul_add_runs-requires-clause-apart g c =
-    let n = c.args.rows.now.shard_len_64 in
-    elim (cases_lt c.args.to c.args.from) [
-      | inl before ↦ inl (row_ends c.args.to c.args.from n before)
-      | inr after ↦ inr (row_ends c.args.from c.args.to n (omega (arith, c.requires.apart, after)))
-    ]
+mul_add_runs-requires-clause-apart g c = search (rules, cases_lt, row_ends)
 
 pub returns-clause-sums : goal.returns-clause-sums
 unfolding cell

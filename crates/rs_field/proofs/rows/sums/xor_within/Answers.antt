@@ -1,15 +1,10 @@
-use Rattle.std.proofs.Common.{◌≡◌, ◌+◌, ◌*◌, inl, inr, arith}
+use Rattle.std.proofs.Common.{rules, ◌≡◌, ◌+◌, ◌*◌, arith}
 use Rattle.rs_field.specs.rows.View.{cell}
 use Rattle.rs_field.proofs.of_rows.RowOffsets.{row_within, rows_end}
 use Rattle.rs_field.proofs.rows.sums.xor_within.Goals as goal
 
 pub xor_runs-requires-clause-apart : goal.xor_runs-requires-clause-apart
-xor_runs-requires-clause-apart c =
-    let n = c.args.data.now.shard_len_64 in
-    elim c.requires.apart [
-      | inl before ↦ inl (rows_end c.args.x c.args.count c.args.y n before)
-      | inr after ↦ inr (rows_end c.args.y c.args.count c.args.x n after)
-    ]
+xor_runs-requires-clause-apart c = search (rules, rows_end)
 
 pub xor_runs-requires-clause-a_in : goal.xor_runs-requires-clause-a_in
 xor_runs-requires-clause-a_in c = omega (arith, rows_end _ _ _ c.args.data.now.shard_len_64 c.requires.x_in)

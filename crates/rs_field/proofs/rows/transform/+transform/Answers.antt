@@ -1,5 +1,5 @@
 -- The layers, and the transforms of the parts that they leave, make the whole transform.
-use Rattle.std.proofs.Common.{◌≡◌, ℕ, ◌+◌, ◌*◌, ◌/◌, ◌<◌, ◌≤◌, arith, subst, sym, refl}
+use Rattle.std.proofs.Common.{rules, ◌≡◌, ℕ, ◌+◌, ◌*◌, ◌/◌, ◌<◌, arith, subst, sym, refl}
 use Rattle.rs_field.specs.rows.View.{word}
 use Rattle.rs_field.specs.rows.MarkedRows.{is_used, HasMarks}
 use Rattle.rs_field.specs.rows.Directions.{AreTransformed}
@@ -17,11 +17,7 @@ transform-returns-then-are_none-clause-values g t c =
     none_used _ _ c.args.block _ (c.are_none.ensures.none c.if-are_none.true) c.requires.zeros
 
 pub transform_many-transform_parts-requires : goal.transform_many-transform_parts-requires
-transform_many-transform_parts-requires g t c κs within =
-    let extent = c.layers.ensures.extent in let count = extent.count in
-    let fits = fits_kept extent c.requires.fits in
-    let open_rows : 0 ≤ c.args.block.size = omega arith in
-    (omega arith, (within, (fits, (omega arith, (c.requires.marks, (omega arith, rw c.in-Forward.is open_rows))))))
+transform_many-transform_parts-requires g t c κs within = search (rules, fits_kept)
 
 pub transform_many-transform_parts-requires-in-Backward : goal.transform_many-transform_parts-requires-in-Backward
 transform_many-transform_parts-requires-in-Backward g t c κs within =
@@ -44,10 +40,7 @@ transform-returns-then-block-gt1-clause-counts g t c =
     counts_of_layers c.args.block (omega arith) c.layers.ensures.counts
 
 pub transform-returns-else-block-gt1-clause-values : goal.transform-returns-else-block-gt1-clause-values
-transform-returns-else-block-gt1-clause-values g t c k s hk hs =
-    let block = c.args.block in
-    one_used _ _ _ _ _ (omega arith)
-    (λ some. c.row_symbols_are_words.ensures k s (block.pos + 0) hk hs (omega arith))
+transform-returns-else-block-gt1-clause-values g t c k s hk hs = search (rules, one_used)
 
 pub transform_many-returns-in-Forward-clause-values : goal.transform_many-returns-in-Forward-clause-values
 transform_many-returns-in-Forward-clause-values g t c k s hk hs =
