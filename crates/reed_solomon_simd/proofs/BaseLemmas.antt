@@ -1,10 +1,9 @@
 -- Direct sums over a base of received shards: the shards in rows, the base, and the words of the sums.
 use Rattle.std.proofs.Common.{rules, ◌≡◌, ℕ, ◌+◌, ◌<◌, ◌≤◌, ◌⊎◌, Bool, true, false, cond, List, length, refl, sym, ap}
-use Rattle.std.proofs.Common.{ap₂, ◌∙◌, inl, inr, arith, pow_mono}
+use Rattle.std.proofs.Common.{ap₂, ◌∙◌, inl, inr, arith}
 use Rattle.std.specs.Prelude.{Option, Some, None, is_some, slice_index}
 use Rattle.std.specs.List.{between}
 use Rattle.std.specs.Option.{option_map}
-use Rattle.std.proofs.lemmas.Bool.{cases_Bool}
 use Rattle.rs_field.specs.code.Column.{Shard, column}
 use Rattle.rs_field.specs.code.Counts.{default_rate}
 use Rattle.rs_field.specs.code.Decoder.{DecoderState, IsDecoder, originals_given, recovery_given}
@@ -42,7 +41,7 @@ decoder_frame s is =
 -- There are at most as many surplus shards as rows.
 pub few_surplus : (s : DecoderState) (surplus : ℕ) → IsDecoder default_rate s
     → originals_given s + recovery_given s ≡ s.configuration.original_count + surplus → surplus ≤ 65536
-few_surplus s surplus is enough = search (rules, decoder_frame, pow_mono, count_most)
+few_surplus s surplus is enough = search (rules, decoder_frame, count_most)
 
 -- The frame of counts is that of a decoder of these counts.
 pub frame_same : {frame : Frame} {k r : ℕ} (s : DecoderState) → IsDecoder default_rate s
@@ -131,7 +130,7 @@ in_row-marked marks s x b is =
 pub base_marks : (marks : List Bool) (s : DecoderState) → MarkBase s marks
     → AreMarksOf (frame_at s.configuration) s.configuration.original_count s.configuration.recovery_count
     (marked_state marks s).originals (marked_state marks s).recovery marks
-base_marks marks s base x inside = search (rules, cases_Bool, in_row-marked)
+base_marks marks s base x inside = search (rules, in_row-marked)
 
 -- The marked part of pieces are the pieces of the marked part.
 marked-pieces : (start end : ℕ) (marks : List Bool) (from : ℕ) (given : Shards)

@@ -97,4 +97,4 @@ many-passed n has not =
 
 -- Where no mark is set, no row is marked.
 pub unmarked : (n x : ℕ) → is_marked (replicate n false) x ≡ false
-unmarked n x = search (rules, cases_lt, get_or-replicate, get_or_past, replicate, length-replicate)
+unmarked n x = search (rules, get_or-replicate, get_or_past, length-replicate)

@@ -7,9 +7,7 @@ use Rattle.std.specs.Prelude.{Some, None, is_some, ◌↔◌}
 use Rattle.std.specs.List.{between}
 use Rattle.std.specs.Option.{option_map}
 use Rattle.std.proofs.lemmas.Bool.{cases_Bool}
-use Rattle.std.proofs.lemmas.List.{length-drop, length-take-le, get_or-map}
-use Rattle.std.proofs.lemmas.List.Elements.{All-take, All-drop}
-use Rattle.std.proofs.lemmas.Option.{none-some}
+use Rattle.std.proofs.lemmas.List.{get_or-map}
 use Rattle.rs_field.specs.code.Column.{Shard, IsShard, column, shard_at}
 use Rattle.rs_field.specs.code.Counts.{default_rate, supports}
 use Rattle.rs_field.specs.code.Decoder.{DecoderState, IsDecoder, IsAgreeing, IsConsistent, originals_given}
@@ -41,17 +39,17 @@ use Rattle.reed_solomon_simd.proofs.RebuiltStrips.{named_shards}
 -- A piece of a shard is a shard of the size of the piece.
 piece-cut : (start end size : ℕ) (shard : Shard) → IsStrip start end size → IsShard size shard
     → IsShard (end - start) (between start end shard)
-piece-cut start end size shard strip is = grind (arith, common_steps, length-drop, length-take-le, All-take, All-drop)
+piece-cut start end size shard strip is = grind (arith, common_steps)
 
 -- The pieces of given shards have the size of a piece, and the indexes of the shards.
 pub within-pieces : (start end n size : ℕ) (given : Shards) → IsStrip start end size → AreWithin n size given
     → AreWithin n (end - start) (pieces_of start end given)
-within-pieces start end n size given strip within = search (rules, none-some, piece-cut)
+within-pieces start end n size given strip within = search (rules, piece-cut)
 
 -- ---- the marked part of a map
 
 part-of : (marks : List Bool) (from : ℕ) (given : Shards) → IsPartOf (marked_part marks from given) given
-part-of marks from given = search (rules, cases_Bool, marked_part-at, none-some)
+part-of marks from given = search (rules, marked_part-at)
 
 -- A shard that is not given is not in the marked part.
 part-missing : (marks : List Bool) (from i : ℕ) (given : Shards) → given i ≡ None
@@ -190,7 +188,7 @@ module _ (s : DecoderState) (is : IsDecoder default_rate s) (start end : ℕ)
     -- Shards with the direct sums as their words are equal.
     pub sums-same : (x : ℕ) (one other : Shard) → IsBaseSum marks (state_of_pieces start end s) x one
         → IsBaseSum marks (state_of_pieces start end s) x other → one ≡ other
-    sums-same x one other first second = search (rules, shard_from_columns, even-strip)
+    sums-same x one other first second = search (rules, shard_from_columns)
 
     -- A row outside of the base has no mark, if no shard was received in it.
     pub missing-unmarked : (x : ℕ) → shard_in_row (state_of_pieces start end s) x ≡ None → is_marked marks x ≡ false

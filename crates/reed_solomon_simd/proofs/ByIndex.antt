@@ -2,7 +2,6 @@
 use Rattle.std.proofs.Common.{rules, ◌≡◌, ℕ, ◌+◌, ◌-◌, ◌<◌, ◌≤◌, true, List, [], ◌∷◌, length, get_or, Bor, Option, Some}
 use Rattle.std.proofs.Common.{None, refl, sym, ap, ap₂, subst, ◌∙◌, arith}
 use Rattle.std.specs.Prelude.{is_some}
-use Rattle.std.proofs.lemmas.Bool.{lt-ltb}
 use Rattle.std.proofs.lemmas.List.{get_or_default}
 use Rattle.reed_solomon_simd.specs.Received.{given_in}
 use Rattle.rs_field.specs.code.Column.{Shard, shard_at}
@@ -43,7 +42,7 @@ module _ (s : DecoderState) (i : ℕ) (left : List Shard) (vectors : Shards) (ar
   module _ (inside : i < s.configuration.original_count) (free : s.originals i ≡ None) where
     some-here : are.out i ≡ Some (shard_at are.restored.message i)
     unfolding missing_of
-    some-here = search (rules, lt-ltb)
+    some-here = search rules
 
     begins : items_from i (s.configuration.original_count - i) are.out
         ≡ (i, shard_at are.restored.message i) ∷ items_from (i + 1) (s.configuration.original_count - (i + 1)) are.out
@@ -63,7 +62,7 @@ module _ (s : DecoderState) (i : ℕ) (left : List Shard) (vectors : Shards) (ar
   pub entered-skipped : i < s.configuration.original_count → is_some (s.originals i) ≡ true
       → AreEntered s (i + 1) left vectors
   unfolding missing_of
-  entered-skipped inside some = search (rules, lt-ltb, items_from-none, with_entries)
+  entered-skipped inside some = search (rules, items_from-none)
 
   -- After the last index, the map holds all restored originals.
   pub entered-all : s.configuration.original_count ≤ i → Restored s vectors

@@ -1,7 +1,7 @@
 -- Facts about a valid configuration, and what a decoder returns for the number of its shards.
 use Rattle.std.proofs.Common.{rules, ◌≡◌, ℕ, ◌+◌, ◌<◌, true, cond, ap, min, max, Ok}
 use Rattle.std.specs.Prelude.{nat_le, nat_lt, ◌&&◌, Result, Err, is_ok, IfOk, IfErr}
-use Rattle.std.proofs.lemmas.Bool.{and_parts, ltb-true, lt-ltb}
+use Rattle.std.proofs.lemmas.Bool.{and_parts, ltb-true}
 use Rattle.std.specs.BTreeMap.{BTreeMap}
 use Rattle.std.specs.declared.vec.Vec.{Vec}
 use Rattle.rs_field.specs.declared.code.error.Error.{Error}
@@ -39,7 +39,7 @@ by_counts k originals recovery =
 -- A decoder without shards fails with `NotEnoughShards`.
 pub fresh-too_few : (c : Configuration) → validation_outcome c ≡ Ok tt
     → enough_given (fresh_decoder c) ≡ Err (NotEnoughShards c.original_count 0 0)
-fresh-too_few c valid = search (rules, count-nothing, lt-ltb, valid-some)
+fresh-too_few c valid = search (rules, count-nothing, valid-some)
 
 -- After a round, a decoder has no shards.
 pub ended : (s : DecoderState) → enough_given s ≡ Ok tt → after_decode s ≡ fresh_decoder s.configuration

@@ -2,7 +2,7 @@
 use Rattle.std.proofs.Common.{rules, ◌≡◌, ℕ, zero, suc, ◌+◌, ◌<◌, ◌≤◌, List, [], ◌∷◌, ◌++◌, length, take, get_or, All}
 use Rattle.std.proofs.Common.{Result, Ok, Err, MatchResult, refl, sym, ap, subst, arith, append_assoc, append-nil}
 use Rattle.std.proofs.Common.{length-append}
-use Rattle.std.proofs.lemmas.Bool.{lt-leb, lt-ltb, le-ltb, eq-eqb}
+use Rattle.std.proofs.lemmas.Bool.{lt-leb, le-ltb, eq-eqb}
 use Rattle.std.proofs.lemmas.List.Elements.{recursion_from_All}
 use Rattle.rs_field.specs.declared.code.error.Error.{Error}
 use Rattle.rs_field.specs.declared.code.error.Error.TheVariants.{TooFewOriginalShards, OutOfMemory}
@@ -16,8 +16,7 @@ use Rattle.rs_field.specs.code.Outcome.{answer_of}
 use Rattle.rs_field.specs.code.Frame.{encoder_rows}
 use Rattle.rs_rate.specs.objects.Giving.{IsEncoding}
 use Rattle.rs_rate.proofs.of_objects.Giving.{adds-ok, adds-err, outcome-err}
-use Rattle.rs_rate.proofs.of_objects.OneCall.{encoding-unset, encoding-given, encoding-refused, encoding-answers}
-use Rattle.rs_rate.proofs.of_rows.StateLemmas.{encode_answers-refused}
+use Rattle.rs_rate.proofs.of_objects.OneCall.{encoding-refused}
 use Rattle.reed_solomon_simd.proofs.ObjectRoundTrip.{takes-all}
 use Rattle.reed_solomon_simd.proofs.Gathering.{has-made, encoded-all}
 use Rattle.reed_solomon_simd.proofs.SetUp.{started-parts}
@@ -55,13 +54,13 @@ module _ (k r size : ℕ) (shards : List Shard) (some : 0 < length shards)
   -- If setting up with the size of the first original fails, one call fails with the same error.
   pub checked-unset : (e : Error) → Err e ≡ start_outcome (encoder_rows default_rate k r) (default_of k r size)
       → OneEncodeAnswers k r shards (Err e)
-  checked-unset e refused = search (rules, encoding-refused, encoding-unset)
+  checked-unset e refused = search rules
 
   -- If setting up succeeds, the outcome of adding the originals is the outcome of encoding.
   pub checked-led : Ok tt ≡ start_outcome (encoder_rows default_rate k r) (default_of k r size)
       → (o : Result EncoderState Error)
       → with_shards (fresh_encoder (default_of k r size)) shards ≡ o → IsEncoding k r shards o
-  checked-led made o is = search (rules, encoding-given)
+  checked-led made o is = search rules
 
   -- If an original cannot be added, one call fails with its error.
   pub checked-refused : Ok tt ≡ start_outcome (encoder_rows default_rate k r) (default_of k r size)
@@ -82,7 +81,7 @@ module _ (k r size : ℕ) (shards : List Shard) (some : 0 < length shards)
 
     -- If there are too few originals, one call fails with `TooFewOriginalShards`.
     pub checked-few : length shards < k → OneEncodeAnswers k r shards (Err (TooFewOriginalShards k (length shards)))
-    checked-few less = search (rules, encoding-answers, checked-all, encode_answers-refused, lt-ltb)
+    checked-few less = search (rules, checked-all)
 
 -- If k shards have a valid size and can be set up, they are checked originals.
 pub are-checked : (k r size : ℕ) (shards : List Shard) → 0 < k → length shards ≡ k → All (IsShard size) shards

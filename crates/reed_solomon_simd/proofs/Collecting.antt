@@ -2,7 +2,7 @@
 use Rattle.std.proofs.Common.{rules, ◌≡◌, ◌+◌, ◌<◌, ◌≤◌, ◌==◌, ℕ, zero, suc, Bool, cond, [], ◌∷◌, ◌++◌, Option, Some}
 use Rattle.std.proofs.Common.{None, refl, sym, ap, subst, ◌∙◌, inl, inr, arith}
 use Rattle.std.proofs.Math.Path.{fun_ext}
-use Rattle.std.proofs.lemmas.Bool.{cases_lt, cases_order, eq-eqb, ne_eqb}
+use Rattle.std.proofs.lemmas.Bool.{cases_lt, eq-eqb, ne_eqb}
 use Rattle.std.specs.BTreeMap.{BTreeMap, IsEmpty, Updates, is_at}
 use Rattle.std.specs.Map.{lookup}
 use Rattle.std.specs.Option.{option_map}
@@ -91,7 +91,7 @@ with_entries-lists given items lists =
 
 -- `nat_cmp` returns `Equal` exactly for equal numbers.
 pub is_eq-nat_cmp : (a b : ℕ) → is_eq (nat_cmp a b) ≡ (b == a)
-is_eq-nat_cmp a b = search (rules, cases_order, eq-eqb, ne_eqb)
+is_eq-nat_cmp a b = search rules
 
 module _ {Y : Type 0} where
   -- An empty map of vectors has no shards.
@@ -103,7 +103,7 @@ module _ {Y : Type 0} where
       → vector.items ≡ shard → Updates nat_cmp old new index (Some vector)
       → shards_in new ≡ with_entry (shards_in old) index shard
   unfolding with_entry
-  shards_in-inserted old new index vector shard same updates = search (rules, fun_ext, is_eq-nat_cmp)
+  shards_in-inserted old new index vector shard same updates = search rules
 
   -- Inserting the first of the remaining items into the map leaves the same final map.
   pub with_entries-inserted : (old new : BTreeMap ℕ (Vec ℕ Y)) (index : ℕ) (vector : Vec ℕ Y) (shard : Shard)

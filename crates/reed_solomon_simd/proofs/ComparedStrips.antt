@@ -14,7 +14,6 @@ use Rattle.rs_field.specs.code.Given.{Shards, Agrees, AreAmong, nothing, items_a
 use Rattle.rs_field.specs.code.OneCall.{Items}
 use Rattle.rs_field.specs.code.Pieces.{pieces, IsStrip}
 use Rattle.rs_field.specs.code.PieceStates.{pieces_of, state_of_pieces, shards_listed}
-use Rattle.rs_field.proofs.of_code.GivenRows.{sized-within}
 use Rattle.rs_field.proofs.of_code.Agreement.{one_message}
 use Rattle.rs_field.proofs.of_code.Entries.{all_some}
 use Rattle.rs_field.proofs.of_code.Given.{some_of, nothing_among}
@@ -71,7 +70,7 @@ module _ (s : DecoderState) (is : IsDecoder default_rate s)
       }
 
   own-at : (i : ℕ) (shard : Shard) → s.originals i ≡ Some shard → shard_at own_message i ≡ shard
-  own-at i shard found = search (rules, sized-within, listed-at, all_some)
+  own-at i shard found = search (rules, listed-at, all_some)
 
   module _ (start end : ℕ) (strip : IsStrip start end s.configuration.shard_bytes) where
     -- The listed pieces of the originals.

@@ -6,7 +6,7 @@ use Rattle.std.specs.BTreeMap.{BTreeMap, UpdatesBy}
 use Rattle.std.specs.Option.{option_map}
 use Rattle.std.specs.Ordering.{nat_cmp}
 use Rattle.std.specs.declared.vec.Vec.{Vec}
-use Rattle.std.proofs.lemmas.Bool.{cases_eq, lt-leb, le-ltb, ne_eqb}
+use Rattle.std.proofs.lemmas.Bool.{lt-leb, ne_eqb}
 use Rattle.std.proofs.lemmas.List.{length_push, get_or_push, get_or_append_left}
 use Rattle.rs_field.specs.declared.code.error.Error.{Error}
 use Rattle.rs_field.specs.code.Column.{Shard, shard_at}
@@ -57,15 +57,14 @@ module _ (all : Shards) (index : ℕ) (left new : Shards) (taken : List Shard) (
 
   -- An original with the next index is taken.
   pub taken-one : (shard : Shard) → left index ≡ Some shard → AreTaken all (index + 1) new (taken ++ shard ∷ [])
-  taken-one shard is =
-      search (rules, length_push, counted-next, count_most, kept, cases_eq, get_or_push, get_or_append_left)
+  taken-one shard is = search (rules, length_push, counted-next, count_most, get_or_push, get_or_append_left)
 
   -- No original has the next index.
   pub taken-skip : left index ≡ None → AreTaken all (index + 1) new taken
-  taken-skip is = search (rules, counted-next, count_most, kept)
+  taken-skip is = search (rules, counted-next, count_most)
 
 module _ (k : ℕ) (all left : Shards) (taken : List Shard) (are : AreTaken all k left taken)
     (result : Result (List Shard) Error) where
   -- If k originals were taken, they are the originals in order.
   pub taken-all : k ≤ length taken → result ≡ Ok taken → HasInOrder k (whole_outcome k all) result
-  taken-all full is = search (rules, count_most, le-ltb)
+  taken-all full is = search (rules, count_most)

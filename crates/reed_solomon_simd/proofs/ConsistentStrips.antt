@@ -33,7 +33,7 @@ module _ (s : DecoderState) (is : IsDecoder default_rate s) where
 
   -- A strip has an even number of bytes.
   pub even-strip : (start end : ℕ) → IsStrip start end s.configuration.shard_bytes → (end - start) % 2 ≡ 0
-  even-strip start end strip = search (rules, even)
+  even-strip start end strip = search rules
 
   -- There are at most 65536 originals.
   pub few-originals : s.configuration.original_count ≤ 65536

@@ -17,11 +17,11 @@ use Rattle.rs_rate.proofs.of_rows.StateLemmas.{encode_answers-made}
 use Rattle.rs_rate.proofs.of_objects.OneCall.{encoding-answers, encoding-opened, encoding-coded}
 use Rattle.reed_solomon_simd.specs.declared.lent_originals.LentOriginals.{LentOriginals}
 use Rattle.reed_solomon_simd.specs.LentState.{lent_state}
-use Rattle.reed_solomon_simd.proofs.SetUp.{started-parts, valid-even}
+use Rattle.reed_solomon_simd.proofs.SetUp.{valid-even}
 
 -- Gathered originals represent a state that an encoder can have.
 pub gathered-is : (x : LentOriginals) → IsEncoder default_rate (lent_state x)
-gathered-is x = search (rules, started-parts, length-map)
+gathered-is x = search (rules, length-map)
 
 -- An encoder with all its originals has recovery shards.
 pub has-made : (s : EncoderState) → IsEncoder default_rate s → Ok tt ≡ answer_of (message_of s)

@@ -3,7 +3,6 @@ use Rattle.std.proofs.Common.{rules, ◌≡◌, ℕ, zero, suc, ◌+◌, ◌<◌
 use Rattle.std.proofs.Common.{length, Some, None, Result, Ok, Err, refl, sym, ap, subst, ◌∙◌, inl, inr, arith}
 use Rattle.std.specs.Prelude.{is_some, MatchResult, IsOkAnd}
 use Rattle.std.specs.List.{AllByRecursion, IsDistinct, list_any}
-use Rattle.std.proofs.lemmas.Bool.{and_right, lt-ltb, le-ltb, eq-eqb, cases_lt}
 use Rattle.std.proofs.lemmas.List.{ext_get_or}
 use Rattle.std.proofs.lemmas.List.Elements.{recursion_from_All}
 use Rattle.std.proofs.lemmas.List.Folds.{list_any_at}
@@ -47,18 +46,18 @@ module _ (originals : List Shard) (kept : Items) (restored : Shards) (left : Are
 
   restored-kept : (i : ℕ) → has i ≡ true → restored i ≡ None
   unfolding lost_of
-  restored-kept i there = search (rules, and_right)
+  restored-kept i there = search rules
 
   restored-past : (i : ℕ) → length originals ≤ i → restored i ≡ None
   unfolding lost_of
-  restored-past i past = search (rules, le-ltb)
+  restored-past i past = search rules
 
   restored-lost : (i : ℕ) → i < length originals → has i ≡ false → restored i ≡ Some (shard_at originals i)
   unfolding lost_of
-  restored-lost i inside gone = search (rules, lt-ltb)
+  restored-lost i inside gone = search rules
 
   free : AreFree restored kept
-  free = search (rules, recursion_from_All, restored-kept, list_any_at, nat_eq, eq-eqb)
+  free = search (rules, recursion_from_All, restored-kept, list_any_at)
 
   below : AllByRecursion (λ item. item.0 < length originals) kept
   below = recursion_from_All (λ item. item.0 < length originals) kept (λ j d inside. (left.own j d inside).0)
@@ -67,14 +66,14 @@ module _ (originals : List Shard) (kept : Items) (restored : Shards) (left : Are
   own = recursion_from_All (λ item. shard_at originals item.0 ≡ item.1) kept (λ j d inside. (left.own j d inside).1)
 
   among : AreAmong restored originals
-  among i shard is = search (rules, restored-kept, cases_lt, restored-lost, restored-past)
+  among i shard is = search (rules, restored-kept, restored-lost, restored-past)
 
   -- Each original is in the map of the restored and the kept ones.
   all_there : (i : ℕ) → i < length originals → is_some (entered_all restored kept i) ≡ true
-  all_there i inside = search (rules, some-entered_all, restored-kept, restored-lost)
+  all_there i inside = search (rules, some-entered_all, restored-lost)
 
   whole : complete_outcome (length originals) kept restored ≡ Ok (entered_all restored kept)
-  whole = search (rules, all_entered, below, free, le-ltb, entered_all, count-full, all_there)
+  whole = search (rules, all_entered, below, free, count-full, all_there)
 
   -- Originals in order that are in the map of the restored and the kept ones are the originals of the message.
   in_order : (shards : List Shard) → AreInOrder (length originals) (entered_all restored kept) shards

@@ -4,8 +4,8 @@ use Rattle.std.proofs.Common.{◌++◌, length, take, replicate, All, refl, sym,
 use Rattle.std.proofs.Common.{append_assoc, append-nil}
 use Rattle.std.specs.Prelude.{Result, Ok, Err, IsOk, ◌==◌}
 use Rattle.std.specs.Int.{div_ceil}
-use Rattle.std.proofs.Math.Nat.{mul-le-mul_left, mul_comm, lt_of_mul-lt-mul_left}
-use Rattle.std.proofs.lemmas.Bool.{cases_lt, cases_eq, eqb-true, ne_eqb, eq-eqb, le-ltb, lt-ltb}
+use Rattle.std.proofs.Math.Nat.{mul-le-mul_left, mul_comm}
+use Rattle.std.proofs.lemmas.Bool.{cases_lt, eqb-true, ne_eqb, eq-eqb, le-ltb}
 use Rattle.std.proofs.lemmas.Grind.{div_ceil_times, common_steps}
 use Rattle.std.proofs.lemmas.List.{length-append, length-replicate, replicate-append-replicate, nil_from_length}
 use Rattle.std.proofs.lemmas.List.{take_at, take_all, take_min, length-take, take-append-le}
@@ -30,11 +30,11 @@ quotient-holds total k some =
 
 -- No smaller size holds the bytes.
 quotient-least : (total k size : ℕ) → 0 < k → total ≤ k * size → div_ceil total k ≤ size
-quotient-least total k size some holds = grind (arith, common_steps, div_ceil_times, mul_comm, lt_of_mul-lt-mul_left)
+quotient-least total k size some holds = grind (arith, common_steps)
 
 -- Shards that are each longer than the message hold it.
 pub longer-holds : (total k : ℕ) → 0 < k → HoldsMessage k total (total + total % 2 + 2)
-longer-holds total k some = search (rules, mul-le-mul_left, mul_comm)
+longer-holds total k some = search rules
 
 -- ---- shards laid end to end
 
@@ -66,23 +66,11 @@ module _ (message : List ℕ) (size : ℕ) (shards : List Shard) (rest piece lef
     (are : AreCut message size shards rest) (parts : rest ≡ piece ++ left)
     (is : shard ≡ piece ++ replicate (size - length piece) 0) (fits : length piece ≤ size) where
   cut-long : length shard ≡ size
-  cut-long = search (rules, length-replicate, length-append, replicate)
+  cut-long = search (rules, length-replicate, length-append)
 
   -- A whole piece of the message is the next shard.
   cut-whole : length piece ≡ size → AreCut message size (shards ++ shard ∷ []) left
-  cut-whole full =
-      grind (
-        arith,
-        common_steps,
-        replicate,
-        append-nil,
-        All-push,
-        cut-long,
-        joined-push,
-        append_assoc,
-        length-append,
-        nil_from_length,
-      )
+  cut-whole full = grind (arith, common_steps)
 
   -- The last piece of the message, and zeros after it, are the next shard.
   cut-last : left ≡ [] → AreCut message size (shards ++ shard ∷ []) left
@@ -112,7 +100,7 @@ module _ (message : List ℕ) (size : ℕ) (shards : List Shard) (rest piece lef
 pub cut-all : (message : List ℕ) (k size : ℕ) (shards : List Shard) (rest : List ℕ) → AreCut message size shards rest
     → length shards ≡ k → IsLeastSize k (length message) size → AreShardsOf k message shards
 cut-all message k size shards rest are number least =
-    search (rules, joined-long, length-append, replicate, length-replicate, cases_eq, nil_from_length, append-nil)
+    search (rules, joined-long, length-append, length-replicate, nil_from_length)
 
 -- ---- shards that are joined
 
@@ -172,7 +160,7 @@ size-valid size (shard ∷ shards) many some even sized =
 -- The shards of a message, joined to its length, are the message.
 pub joined-back : (k : ℕ) (message : List ℕ) (shards : List Shard) → AreShardsOf k message shards
     → join_outcome shards (length message) ≡ Ok message
-joined-back k message shards are = search (rules, joined-long, size-valid, le-ltb, take_at, replicate)
+joined-back k message shards are = search (rules, joined-long, size-valid, take_at)
 
 -- ---- the loop that joins shards
 
@@ -205,7 +193,7 @@ module _ (shards : List Shard) (total size : ℕ) (found : size_of_shards shards
   -- Fewer shards than are needed hold fewer bytes.
   pub joined-few : (count : ℕ) → count ≡ div_ceil total size → length shards < count
       → join_outcome shards total ≡ Err (TooFewOriginalShards count (length shards))
-  joined-few count is few = grind (arith, common_steps, joined-size, quotient-least, cases_lt, mul_comm, lt-ltb)
+  joined-few count is few = grind (arith, common_steps, joined-size, quotient-least, mul_comm)
 
   -- Enough shards hold the bytes.
   pub joined-enough : div_ceil total size ≤ length shards

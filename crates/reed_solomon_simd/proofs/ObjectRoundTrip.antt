@@ -4,7 +4,7 @@ use Rattle.std.proofs.Common.{rules, ◌≡◌, ℕ, ◌+◌, ◌≤◌, ◌&&�
 use Rattle.std.proofs.Common.{ap, subst, ◌∙◌, nat_lt, Some, None, Result, Ok, Err, IfOk, inl, arith, append_assoc}
 use Rattle.std.proofs.Common.{append-nil, length-append}
 use Rattle.std.specs.List.{AllByRecursion}
-use Rattle.std.proofs.lemmas.Bool.{lt-leb, eq-eqb, le-ltb}
+use Rattle.std.proofs.lemmas.Bool.{lt-leb, eq-eqb}
 use Rattle.std.proofs.lemmas.List.Elements.{recursion_from_All}
 use Rattle.std.proofs.Math.Path.{fun_ext}
 use Rattle.rs_field.specs.declared.code.error.Error.{Error}
@@ -95,12 +95,12 @@ module _ (c : Configuration) (shards : List Shard) (new_encoder : EncoderState) 
   -- Encoding a whole message does not fail.
   pub encodes : (encoder : EncoderState) (e : Error) → with_shards new_encoder shards ≡ Ok encoder
       → EncodeAnswers encoder (Err e) → ⊥
-  encodes encoder e given answers = search (rules, takes-message, le-ltb)
+  encodes encoder e given answers = search (rules, takes-message)
 
   -- After a round, the encoder has the state that it had before the message was added.
   pub round-ends : (encoder : EncoderState) → with_shards new_encoder shards ≡ Ok encoder
       → after_encode encoder ≡ new_encoder
-  round-ends encoder given = search (rules, takes-message, le-ltb)
+  round-ends encoder given = search (rules, takes-message)
 
 module _ (c : Configuration) (shards recovery : List Shard) (lost recovery_lost : ℕ → Bool) (new_decoder : DecoderState)
     (fresh : new_decoder ≡ fresh_decoder c)

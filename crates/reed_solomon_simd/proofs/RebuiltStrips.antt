@@ -6,8 +6,8 @@ use Rattle.std.proofs.lemmas.Grind.{common_steps}
 use Rattle.std.specs.Prelude.{Option, Some, None}
 use Rattle.std.specs.List.{list_any, between}
 use Rattle.std.proofs.lemmas.Bool.{lt-ltb}
-use Rattle.std.proofs.Math.Seq.{take-add, take-append-add, take-append_seam}
-use Rattle.std.proofs.lemmas.List.{get_or-map, length-map, length-take-le, take_all, ext_get_or}
+use Rattle.std.proofs.Math.Seq.{take-add}
+use Rattle.std.proofs.lemmas.List.{get_or-map, length-map, take_all, ext_get_or}
 use Rattle.std.proofs.lemmas.List.Elements.{All-map}
 use Rattle.rs_field.specs.code.Code.{AreRecovery}
 use Rattle.rs_field.specs.code.Column.{Shard, shard_at}
@@ -96,8 +96,7 @@ rebuilt-none s wanted grows rooms number fit =
 -- Joining a piece to the first bytes of a shard gives more first bytes.
 take-joined : (start : ℕ) (old piece rest : Shard) → start ≤ length old
     → take (start + length piece) (take start old ++ (piece ++ rest)) ≡ take start old ++ piece
-take-joined start old piece rest inside =
-    grind (arith, common_steps, length-take-le, take-append-add, take-append_seam)
+take-joined start old piece rest inside = grind (arith, common_steps)
 
 module _ (s : DecoderState) (is : IsDecoder default_rate s) (wanted : List ShardIndex)
     (can : All (CanBeRebuilt s) wanted) (grows : Bool) (start end : ℕ)
@@ -190,7 +189,7 @@ rebuilt-all s wanted grows rooms is enough can done =
 pub missing-there : (s : DecoderState) (message : List Shard) (i : ℕ) → i < s.configuration.original_count
     → s.originals i ≡ None → missing_of s message i ≡ Some (shard_at message i)
 unfolding missing_of
-missing-there s message i inside none = search (rules, lt-ltb)
+missing-there s message i inside none = search rules
 
 -- Each restored original is the original of each message that agrees.
 pub restored-there : (s : DecoderState) (out : Shards) (message : List Shard) (i : ℕ) → Restored s out

@@ -1,11 +1,7 @@
 -- Received shards in places: entering a shard, and the number of shards.
 use Rattle.std.proofs.Common.{rules, ◌≡◌, ℕ, ◌+◌, ◌<◌, ◌≤◌, List, length, set, replicate, Bor, Option, Some, None, ap}
 use Rattle.std.proofs.Common.{◌∙◌, arith}
-use Rattle.std.proofs.Math.Path.{fun_ext}
-use Rattle.std.proofs.lemmas.Bool.{cases_eq, cases_lt, eq-eqb, ne_eqb}
-use Rattle.std.proofs.lemmas.List.{get_or-set_same, get_or-set_other, length-set, get_or-replicate, get_or_past}
-use Rattle.std.proofs.lemmas.List.{length-replicate}
-use Rattle.std.proofs.lemmas.Option.{none-some}
+use Rattle.std.proofs.lemmas.List.{length-set, get_or-replicate, get_or_past, length-replicate}
 use Rattle.rs_field.specs.code.Column.{Shard, IsShard}
 use Rattle.rs_field.specs.code.Given.{Shards, AreWithin, nothing, with_entry, count_below}
 use Rattle.rs_field.proofs.of_code.Given.{entered_cases}
@@ -16,15 +12,14 @@ use Rattle.reed_solomon_simd.specs.Received.{given_in}
 pub places-entered : (places : List (Option (Bor Shard))) (index : ℕ) (shard : Bor Shard) → index < length places
     → given_in (set places index (Some shard)) ≡ with_entry (given_in places) index shard.now
 unfolding with_entry
-places-entered places index shard inside =
-    search (rules, fun_ext, cases_eq, set, get_or-set_same, eq-eqb, get_or-set_other, ne_eqb)
+places-entered places index shard inside = search rules
 
 -- Putting a shard in an empty place adds one to the number of shards.
 pub places-counted : (places : List (Option (Bor Shard))) (index : ℕ) (shard : Bor Shard) → index < length places
     → given_in places index ≡ None
     → count_below (length (set places index (Some shard))) (given_in (set places index (Some shard)))
     ≡ count_below (length places) (given_in places) + 1
-places-counted places index shard inside free = search (rules, set, length-set, places-entered, count-entered)
+places-counted places index shard inside free = search (rules, places-entered, count-entered)
 
 -- If a place is empty, there are fewer shards than places.
 pub places-most : (places : List (Option (Bor Shard))) (index : ℕ) (shard : Bor Shard) → index < length places
@@ -42,12 +37,11 @@ places-none places none = ap (count_below (length places)) none ∙ count-nothin
 
 -- Places that were all made empty hold no shards.
 pub places-empty : (n : ℕ) (places : List (Option (Bor Shard))) → places ≡ replicate n None → given_in places ≡ nothing
-places-empty n places is =
-    search (rules, fun_ext, cases_lt, get_or-replicate, get_or_past, replicate, length-replicate)
+places-empty n places is = search (rules, get_or-replicate, get_or_past, length-replicate)
 
 -- A map without shards is within any bounds.
 pub none-within : (count size : ℕ) (given : Shards) → given ≡ nothing → AreWithin count size given
-none-within count size given none = search (rules, none-some)
+none-within count size given none = search rules
 
 -- Entering a shard of the size at an index below the count keeps a map within its bounds.
 pub entered-within : (count size : ℕ) (given : Shards) (index : ℕ) (shard : Shard) → index < count → IsShard size shard

@@ -120,7 +120,7 @@ pub zeros-number : (n size : ℕ) → length (zeros n size) ≡ n
 zeros-number n size = length-replicate n (replicate {A = ℕ} size 0)
 
 pub zeros-sized : (n size : ℕ) → All (λ shard. length shard ≡ size) (zeros n size)
-zeros-sized n size i d h = search (rules, get_or-replicate, replicate, zeros-number, length-replicate)
+zeros-sized n size i d h = search (rules, get_or-replicate, length-replicate)
 
 -- If a check can only fail because memory is short, and it succeeds, its outcome is a success.
 pub was-checked : (o : Result (Unit {0}) ReconstructError) (e : ReconstructError)

@@ -12,8 +12,7 @@ use Rattle.rs_field.specs.code.Decoder.{DecodeAnswers}
 use Rattle.rs_field.specs.code.Given.{Shards, nothing}
 use Rattle.rs_field.specs.code.OneCall.{Items, decode_opening, LacksMemory, OneDecodeAnswers}
 use Rattle.rs_rate.specs.objects.Giving.{IsDecoding}
-use Rattle.rs_rate.proofs.of_objects.OneCall.{decoding-led, decoding-answers, decoding-nothing, lists-none}
-use Rattle.reed_solomon_simd.proofs.SetUp.{started-parts, started-of}
+use Rattle.rs_rate.proofs.of_objects.OneCall.{decoding-answers, decoding-nothing, lists-none}
 use Rattle.rs_field.specs.code.Pieces.{ArePut}
 use Rattle.rs_field.specs.code.PieceStates.{HoldRestored, shards_listed}
 use Rattle.reed_solomon_simd.specs.declared.room_error.RoomError.{RoomError}
@@ -103,7 +102,7 @@ module _ (k r : ℕ) (originals recovery : Items) (s : DecoderState)
   -- If memory is short after a decoder was set up, one call may fail with `OutOfMemory`.
   pub decoding-short : {T : Type 0} (result : Result T Error) → result ≡ Err OutOfMemory
       → LacksMemory (decode_opening k r recovery) result
-  decoding-short result lacks = search (rules, decoding-led, started-parts, started-of)
+  decoding-short result lacks = search rules
 
   -- The result of the decoder, or `OutOfMemory`, is a result of one call.
   pub decoding-answered : (result : Result Shards Error) → DecodeAnswers s result ⊎ (result ≡ Err OutOfMemory)

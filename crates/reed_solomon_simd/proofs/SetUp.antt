@@ -2,7 +2,6 @@
 use Rattle.std.proofs.Common.{rules, ◌≡◌, ℕ, ◌-◌, ◌<◌, ◌^◌, ◌%◌, Bool, true, false, cond, Ok, Err, Result, inl, inr}
 use Rattle.std.proofs.Common.{refl, ap, ◌∙◌, arith}
 use Rattle.std.specs.Prelude.{nat_le}
-use Rattle.std.proofs.lemmas.Bool.{cases_lt, le-leb}
 use Rattle.std.proofs.lemmas.Grind.{common_steps}
 use Rattle.rs_field.specs.declared.code.error.Error.{Error}
 use Rattle.rs_field.specs.declared.code.error.Error.TheVariants.{OutOfMemory}
@@ -15,7 +14,7 @@ use Rattle.rs_field.specs.code.Outcome.{result_and_then}
 -- If setting up succeeds, the configuration is valid and the size of its rows in bytes fits a `usize`.
 pub started-parts : (rows : ℕ) (c : Configuration) → start_outcome rows c ≡ Ok tt → (validation_outcome c ≡ Ok tt)
     × (bytes_of_rows rows c.shard_bytes < 2 ^ 64)
-started-parts rows c is = search (rules, cases_lt, le-leb)
+started-parts rows c is = search rules
 
 -- The shard size of a valid configuration is even.
 pub valid-even : (c : Configuration) → validation_outcome c ≡ Ok tt → c.shard_bytes % 2 ≡ 0

@@ -2,8 +2,7 @@
 use Rattle.std.proofs.Common.{rules, ◌≡◌, ℕ, suc, ◌+◌, ◌-◌, ◌<◌, ◌≤◌, Bool, true, List, [], ◌∷◌, length, drop, get_or}
 use Rattle.std.proofs.Common.{Result, Ok, Err, Some, sym, ap, ◌∙◌, subst, inl, inr, arith}
 use Rattle.std.specs.Prelude.{◌⊎◌, MatchResult}
-use Rattle.std.proofs.lemmas.Option.{none-some}
-use Rattle.std.proofs.lemmas.List.{length-take-le, length-drop, get_or-map, drop_more}
+use Rattle.std.proofs.lemmas.List.{length-drop, get_or-map, drop_more}
 use Rattle.rs_field.specs.declared.code.error.Error.{Error}
 use Rattle.rs_field.specs.declared.code.error.Error.TheVariants.{OutOfMemory}
 use Rattle.rs_field.specs.code.Column.{Shard}
@@ -16,7 +15,7 @@ use Rattle.rs_field.specs.code.Pieces.{IsStrip, ArePut}
 use Rattle.rs_field.specs.code.PieceStates.{pieces_of, state_of_pieces, shards_listed}
 use Rattle.rs_field.specs.code.OneCall.{Items}
 use Rattle.rs_field.proofs.of_code.RestoredBelow.{IsRestoredBelow, enough-pieces, none-pieces, restored-further}
-use Rattle.rs_rate.proofs.of_rows.FirstShards.{first, first-all, original-taken, recovery-taken}
+use Rattle.rs_rate.proofs.of_rows.FirstShards.{first, original-taken, recovery-taken}
 use Rattle.reed_solomon_simd.proofs.CallerLemmas.{ended}
 
 -- The pieces of a strip of shards that are within bounds.
@@ -24,11 +23,11 @@ module _ (start end n count size : ℕ) (given : Shards) (within : AreWithin cou
   -- A piece has the length of the strip.
   piece-sized : (piece : Shard) → start ≤ end → end ≤ size → pieces_of start end given n ≡ Some piece
       → length piece ≡ end - start
-  piece-sized piece order inside found = search (rules, length-take-le, length-drop, none-some)
+  piece-sized piece order inside found = search (rules, length-drop)
 
   -- From the count on there are no pieces, so the pieces below the count are all pieces.
   pub pieces-all : count ≤ n → first n (pieces_of start end given) ≡ pieces_of start end given
-  pieces-all all = search (rules, first-all)
+  pieces-all all = search rules
 
 -- A decoder that has the pieces below n takes piece n.
 module _ (start end n : ℕ) (x s now : DecoderState) (piece : Shard) (order : start ≤ end)

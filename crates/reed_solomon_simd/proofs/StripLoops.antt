@@ -1,8 +1,6 @@
 -- Loops over the strips of shards, from the first bytes of the shards to the last.
 use Rattle.std.proofs.Common.{rules, ◌≡◌, ◌⊎◌, ℕ, ◌+◌, ◌-◌, ◌%◌, ◌<◌, ◌≤◌, min, refl, inl, arith}
-use Rattle.std.proofs.Math.Nat.{min-eq_right}
 use Rattle.rs_field.specs.code.Pieces.{IsStrip}
-use Rattle.rs_field.proofs.of_code.Pieces.{is_strip}
 
 -- The next strip may begin at `start`: a chunk begins there, or the shards end there.
 pub record IsCut (start size : ℕ) : Type 0 where
@@ -24,8 +22,7 @@ pub record IsNext (start part width size whole : ℕ) : Type 0 where
 pub strip-next : (bytes : ℕ) {start part width size whole : ℕ} → width ≡ min bytes size
     → part ≡ min width (size - start) → bytes % 64 ≡ 0 → IsCut start size → start < size → size ≡ whole
     → IsNext start part width size whole
-strip-next bytes {start} {part} {width} {size} width_is part_is chunks cut more long =
-    search (rules, is_strip, min-eq_right)
+strip-next bytes {start} {part} {width} {size} width_is part_is chunks cut more long = search rules
 
 -- If no bytes are left, the strips end where the shards end.
 pub cut-last : {start size whole : ℕ} → IsCut start size → size ≤ start → size ≡ whole → start ≡ whole

@@ -1,21 +1,19 @@
 -- How the change of an original is added to recovery shards, piece by piece.
 use Rattle.std.proofs.Common.{rules, ◌≡◌, ℕ, ◌+◌, ◌-◌, ◌*◌, ◌/◌, ◌%◌, ◌<◌, ◌≤◌, ◌⊎◌, List, [], ◌++◌, length, take, drop}
-use Rattle.std.proofs.Common.{min, bit_xor, All, MutBor, set, append_assoc, refl, sym, ap, ap₂, subst, ◌∙◌, inl, inr}
-use Rattle.std.proofs.Common.{arith}
+use Rattle.std.proofs.Common.{min, bit_xor, All, MutBor, set, refl, sym, ap, ap₂, subst, ◌∙◌, inl, inr, arith}
 use Rattle.std.proofs.lemmas.Grind.{common_steps}
 use Rattle.std.specs.Prelude.{slice_index, Result, Ok, Err, MatchResult, true, false}
 use borrow.Rule.Slice.PartMut.{put_mid}
 use Rattle.std.specs.List.{between}
-use Rattle.std.proofs.lemmas.Slice.{take-put_mid, drop-put_mid}
 use Rattle.std.proofs.lemmas.Bool.{cases_lt}
-use Rattle.std.proofs.lemmas.List.{get_or_past, length-take-le, length-drop, drop-drop, take-append-drop, map-set}
-use Rattle.std.proofs.lemmas.List.{get_or-set_same, get_or-set_other, length-map, get_or_default}
+use Rattle.std.proofs.lemmas.List.{get_or_past, length-take-le, length-drop, drop-drop, map-set, length-map}
+use Rattle.std.proofs.lemmas.List.{get_or_default}
 use Rattle.std.proofs.Math.Seq.{take-append_seam, drop-append_seam}
 use Rattle.rs_field.specs.words.Field.{product, power}
 use Rattle.rs_field.specs.code.Column.{Shard, IsShard, shard_at, column, chunk_words}
 use Rattle.rs_field.specs.code.Pieces.{IsStrip}
 use Rattle.rs_field.proofs.of_code.Columns.{column-at, columns-at, byte_lt, shards_from_columns}
-use Rattle.rs_field.proofs.of_code.Pieces.{column-head, column-rest, column-piece, is_strip}
+use Rattle.rs_field.proofs.of_code.Pieces.{column-head, column-rest, column-piece}
 use Rattle.rs_field.proofs.of_words.Packed.{sum_of_bytes}
 use Rattle.std.specs.Result.{result_map_both}
 use Rattle.rs_field.specs.declared.code.error.Error.{Error}
@@ -92,8 +90,7 @@ length-piece start end s within =
 -- A shard whose bytes from `start` up to `end` are replaced.
 pub put-piece : (start width end : ℕ) (s piece : Shard) → start + width ≡ end → start ≤ length s
     → length piece ≡ width → put_mid start width s piece ≡ take start s ++ (piece ++ drop end s)
-put-piece start width end s piece ends within sized =
-    grind (arith, common_steps, take-append-drop, take-put_mid, drop-put_mid, append_assoc)
+put-piece start width end s piece ends within sized = grind (arith, common_steps)
 
 -- Once all bytes are changed, the shard is.
 pub changed-all : (start : ℕ) (old new : Shard) (log : ℕ) (before now : Shard)
@@ -185,18 +182,18 @@ changed-more start end old new log before now after is strip same_old same_new (
 -- The next piece of at most 2048 bytes is a strip.
 pub next-strip : (start size width : ℕ) → (start % 64 ≡ 0) ⊎ (start ≡ size) → start < size
     → width ≡ min 2048 (size - start) → IsStrip start (start + width) size
-next-strip start size width begins more is = search (rules, is_strip)
+next-strip start size width begins more is = search rules
 
 -- ---- all recovery shards
 
 -- The shards in rooms, after one room was replaced.
 pub shard-set : (rooms : List (MutBor (List ℕ))) (index i : ℕ) (room : MutBor (List ℕ)) → index < length rooms
     → i ≡ index → shard_at (bytes_in (set rooms index room)) i ≡ room.now
-shard-set rooms index i room inside same = search (rules, length-map, set, map-set, get_or-set_same)
+shard-set rooms index i room inside same = search (rules, length-map, map-set)
 
 pub shard-kept : (rooms : List (MutBor (List ℕ))) (index i : ℕ) (room : MutBor (List ℕ)) → (i ≡ index → ⊥)
     → shard_at (bytes_in (set rooms index room)) i ≡ shard_at (bytes_in rooms) i
-shard-kept rooms index i room other = search (rules, map-set, get_or-set_other)
+shard-kept rooms index i room other = search (rules, map-set)
 
 -- Changed recovery shards are those of the changed message.
 pub updates-changed : (k r index : ℕ) (old new : Shard) (factors : List ℕ) (before after : List Shard)

@@ -64,11 +64,11 @@ module _ (k r : ℕ) (originals recovery : Items) where
     -- What the decoder says of the shards is the result of `verify`.
     verifies-led : (result : Result (Unit {0}) Error) → VerifyAnswers s result
         → OneVerifies k r originals recovery result
-    verifies-led result answers = search (rules, receiving-outcome)
+    verifies-led result answers = search rules
 
     -- The checks before the first allocation found no error.
     pub receiving-opened : IsOk (receiving_opening k r (received_size originals recovery))
-    receiving-opened = search (rules, receiving-outcome, started-parts, started-of)
+    receiving-opened = search rules
 
     -- A decoder with enough shards says whether a message agrees with them.
     enough-says : Ok tt ≡ enough_given s → (result : Result (Unit {0}) Error)
@@ -77,7 +77,7 @@ module _ (k r : ℕ) (originals recovery : Items) where
 
     -- The error of too few shards is a result of `verify`.
     pub verifies-few : (e : Error) → Err e ≡ enough_given s → OneVerifies k r originals recovery (Err e)
-    verifies-few e few = search (rules, verifies-led)
+    verifies-few e few = search rules
 
     -- The result of checking the shards is the result of `verify`.
     pub verifies-checked : Ok tt ≡ enough_given s → (result : Result (Unit {0}) Error)

@@ -1,7 +1,6 @@
 -- Checking wanted shards one after another.
 use Rattle.std.proofs.Common.{rules, ◌≡◌, ℕ, ◌+◌, ◌<◌, Bool, false, cond, List, [], ◌∷◌, length, get_or, replicate}
 use Rattle.std.proofs.Common.{drop, Result, Err}
-use Rattle.std.proofs.lemmas.Bool.{cases_lt}
 use Rattle.std.proofs.lemmas.List.{get_or-replicate, get_or_past, length-replicate, drop_more}
 use Rattle.rs_field.specs.code.Decoder.{DecoderState}
 use Rattle.rs_field.specs.code.Outcome.{result_and_then}
@@ -28,8 +27,7 @@ wanted-more s before rest shard = search rules
 -- Without wanted shards, no place is marked.
 pub marked-none : (n m : ℕ) (originals recovery : List Bool) → originals ≡ replicate n false
     → recovery ≡ replicate m false → AreMarked [] originals recovery
-marked-none n m originals recovery own coded =
-    search (rules, replicate, cases_lt, get_or-replicate, get_or_past, length-replicate)
+marked-none n m originals recovery own coded = search (rules, get_or-replicate, get_or_past, length-replicate)
 
 -- If the next wanted shard was checked, what is left is to check the others after it, or to return its error.
 pub wanted-next : (s : DecoderState) (before wanted : List ShardIndex) (i : ℕ) (d : ShardIndex)
