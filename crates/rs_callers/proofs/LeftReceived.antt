@@ -1,30 +1,12 @@
 -- The decoder with the shards that are left of a codeword.
-use Rattle.std.proofs.Common.{
-  ◌≡◌,
-  ℕ,
-  ◌+◌,
-  ◌^◌,
-  ◌<◌,
-  Bool,
-  true,
-  false,
-  cond,
-  List,
-  [],
-  ◌∷◌,
-  length,
-  Result,
-  Ok,
-  Err,
-  Some,
-}
+use Rattle.std.proofs.Common.{rules, ◌≡◌, ℕ, ◌+◌, ◌<◌, Bool, cond, List, [], ◌∷◌, length, Result, Ok, Err, Some}
 use Rattle.std.proofs.Common.{MatchResult, refl, sym, ap, ap₂, ◌∙◌, subst, inl, inr, arith}
-use Rattle.std.specs.Prelude.{◌⊎◌, nat_le, nat_lt}
+use Rattle.std.specs.Prelude.{◌⊎◌, nat_lt}
 use Rattle.std.proofs.lemmas.List.Elements.{recursion_from_All}
 use Rattle.reed_solomon_simd.specs.declared.Error.{Error}
 use Rattle.reed_solomon_simd.specs.declared.Error.TheVariants.{OutOfMemory, NotEnoughShards}
-use Rattle.reed_solomon_simd.specs.Column.{Shard, shard_at}
-use Rattle.reed_solomon_simd.specs.Configuration.{start_outcome, bytes_of_rows}
+use Rattle.reed_solomon_simd.specs.Column.{Shard}
+use Rattle.reed_solomon_simd.specs.Configuration.{start_outcome}
 use Rattle.reed_solomon_simd.specs.Counts.{default_rate}
 use Rattle.reed_solomon_simd.specs.Decoder.{DecoderState, fresh_decoder, enough_given, IsAgreeing}
 use Rattle.reed_solomon_simd.specs.Frame.{decoder_rows}
@@ -65,20 +47,7 @@ module _ {k r : ℕ} {originals recovery : List Shard} {kept received : Items} (
 
   -- The originals agree with the shards that are left.
   pub left_agrees : IsAgreeing left_state originals
-  left_agrees =
-      record {
-        shards = was.shards;
-        own = among-entered_all kept nothing originals
-            (recursion_from_All (λ (item : ℕ × Shard). shard_at originals item.0 ≡ item.1) kept
-            (λ i d h. (left.own i d h).1)) (nothing_among originals);
-        coded = (
-          recovery,
-          was.coded,
-          among-entered_all received nothing recovery
-              (recursion_from_All (λ (item : ℕ × Shard). shard_at recovery item.0 ≡ item.1) received
-              (λ i d h. (got.own i d h).1)) (nothing_among recovery),
-        );
-      }
+  left_agrees = search (rules, among-entered_all, recursion_from_All, nothing_among)
 
   -- There are enough shards in the decoder exactly if enough shards are left.
   pub left_enough : enough_given left_state ≡ enough_left k kept received
@@ -95,18 +64,7 @@ module _ {k r : ℕ} {originals recovery : List Shard} {kept received : Items} (
   by_start : (A : DecoderState → Type 0) (B : Error → Type 0)
       → Begun A B (start_outcome (decoder_rows default_rate k r) (default_of k r was.size))
       → A left_state ⊎ B OutOfMemory
-  by_start A B holds =
-      by_bytes (nat_le (2 ^ 64) (bytes_of_rows (decoder_rows default_rate k r) was.size))
-      (subst (Begun A B)
-      (ap (result_and_then
-      (λ _. cond (nat_le (2 ^ 64) (bytes_of_rows (decoder_rows default_rate k r) was.size)) (Err OutOfMemory)
-      (Ok tt))) was.valid) holds)
-    where
-      by_bytes : (full : Bool) → Begun A B (cond full (Err OutOfMemory) (Ok tt)) → A left_state ⊎ B OutOfMemory
-      by_bytes true h = inr h
-      by_bytes false h =
-          inl (subst (λ (o : Result DecoderState Error). MatchResult o A B)
-          (all_taken (default_of k r was.size) originals recovery kept received was.shards was.coded left got) h)
+  by_start A B holds = search (rules, all_taken)
 
 module _ {k r : ℕ} {originals recovery : List Shard} (was : AreCoded k r originals recovery) where
   -- A property of the outcome of collecting what is left is a property of the decoder with these shards, or of

@@ -1,8 +1,7 @@
 -- A list of rows is lent for a call, and the list is known again after the call.
 use Rattle.rs_field.proofs.Walking.{ℕ, refl, [], ◌∷◌, named, Lft, flft, full_share, wand, apply∗, GName, fdead, fres}
-use Rattle.rs_field.proofs.Walking.{RattleType, MutBor, MutRef, mut_vals}
-use Rattle.rs_field.proofs.Walking.{‵, ◌⊛◌, raw, some, later, ◌$◌, ◌∵◌, !, ◌≡◌, rewrite, qed, move, keep, split, await}
-use Rattle.rs_field.proofs.Walking.{pick, done, use1, use2, use3}
+use Rattle.rs_field.proofs.Walking.{RattleType, MutBor, MutRef, mut_vals, ‵, ◌⊛◌, raw, some, later, ◌$◌, ◌∵◌, !, ◌≡◌}
+use Rattle.rs_field.proofs.Walking.{rewrite, qed, move, keep, split, await, pick, done, use1, use2, use3}
 use seplogic.Ra.Ura.{Ura}
 use base.Share
 use base.Logic.{ent, sep}

@@ -1,10 +1,8 @@
 -- Lists of lost indexes, and the shards with these indexes.
-use Rattle.std.proofs.Common.{◌≡◌, ℕ, ◌+◌, ◌<◌, ◌&&◌, ◌||◌, not, nat_eq, Bool, true, false, cond, List, [], ◌∷◌}
-use Rattle.std.proofs.Common.{◌++◌, length, map, get_or, Option, Some, None, Ok, Vec, refl, sym, ap, ap₂, ◌∙◌}
-use Rattle.std.proofs.Common.{inl, inr, arith}
+use Rattle.std.proofs.Common.{rules, ◌≡◌, ℕ, ◌+◌, ◌<◌, ◌&&◌, ◌||◌, not, nat_eq, Bool, true, false, cond, List, [], ◌∷◌}
+use Rattle.std.proofs.Common.{◌++◌, length, map, get_or, Option, Some, Ok, Vec, refl, sym, ap, ◌∙◌, arith}
 use Rattle.std.specs.Prelude.{is_some, nat_lt, ◌==◌}
 use Rattle.std.specs.BTreeMap.{BTreeMap, IsFromIterResult}
-use Rattle.std.specs.Cmp.{nat_eq_equiv}
 use Rattle.std.specs.List.{AllByRecursion, IsDistinct, list_any, enumerate_from, zip}
 use Rattle.std.specs.Map.{update, update_all}
 use Rattle.std.specs.Option.{option_map}
@@ -32,7 +30,7 @@ use Rattle.rs_callers.specs.Losing.{is_lost, left_of, lost_at, ListsLost}
 -- No index is below 0.
 pub lists-none : (lost : List ℕ) → ListsLost 0 lost []
 unfolding IsDistinct
-lists-none lost = record { each = λ i. sym (ap (λ b. b && is_lost lost i) (le-ltb i 0 (omega arith))); once = tt }
+lists-none lost = search (rules, le-ltb)
 
 same_or : (b : Bool) → (b || (false || false)) ≡ b
 same_or true = refl
@@ -46,56 +44,15 @@ module _ {n : ℕ} {lost indexes : List ℕ} (lists : ListsLost n lost indexes) 
   -- Whether an index is listed, after the next index was looked at.
   next : (gone : Bool) → is_lost lost n ≡ gone → (i : ℕ)
       → (list_any (nat_eq i) indexes || ((nat_eq i n && gone) || false)) ≡ (nat_lt i (n + 1) && is_lost lost i)
-  next gone is i = elim (cases_order i n) [
-    | inl same ↦
-        ap₂ (λ a b. a || ((b && gone) || false))
-        (lists.each i ∙ ap (λ b. b && is_lost lost i) (le-ltb i n (omega (arith, same)))) (eq-eqb i n same)
-        ∙ or_false gone ∙ sym is ∙ ap (is_lost lost) (sym same)
-        ∙ sym (ap (λ b. b && is_lost lost i) (lt-ltb i (n + 1) (omega (arith, same))))
-    | inr (inl under) ↦
-        ap₂ (λ a b. a || ((b && gone) || false))
-        (lists.each i ∙ ap (λ b. b && is_lost lost i) (lt-ltb i n under))
-        (ne_eqb i n (λ same. let e : i ≡ n = same in omega arith))
-        ∙ same_or (is_lost lost i)
-        ∙ sym (ap (λ b. b && is_lost lost i) (lt-ltb i (n + 1) (omega arith)))
-    | inr (inr over) ↦
-        ap₂ (λ a b. a || ((b && gone) || false))
-        (lists.each i ∙ ap (λ b. b && is_lost lost i) (le-ltb i n (omega arith)))
-        (ne_eqb i n (λ same. let e : i ≡ n = same in omega arith))
-        ∙ sym (ap (λ b. b && is_lost lost i) (le-ltb i (n + 1) (omega arith)))
-  ]
-    where
-      or_false : (b : Bool) → (b || false) ≡ b
-      or_false true = refl
-      or_false false = refl
+  next gone is i = search (rules, cases_order, le-ltb, eq-eqb, lt-ltb, ne_eqb, same_or)
 
   -- A lost index is added to the list.
   pub lists-lost : is_lost lost n ≡ true → ListsLost (n + 1) lost (indexes ++ n ∷ [])
-  lists-lost gone =
-      record {
-        each = λ i. list_any-append (nat_eq i) indexes (n ∷ [])
-            ∙ ap (λ b. list_any (nat_eq i) indexes || (b || false)) (sym (and_true (nat_eq i n)))
-            ∙ next true gone i;
-        once = IsDistinct-push nat_eq_equiv indexes n lists.once not_yet;
-      }
-    where
-      and_true : (b : Bool) → (b && true) ≡ b
-      and_true true = refl
-      and_true false = refl
+  lists-lost gone = search (rules, list_any-append, nat_eq, next, IsDistinct-push, not_yet)
 
   -- The list stays as it is if an index is not lost.
   pub lists-left : is_lost lost n ≡ false → ListsLost (n + 1) lost indexes
-  lists-left kept =
-      record {
-        each = λ i. sym (same_or (list_any (nat_eq i) indexes))
-            ∙ ap (λ b. list_any (nat_eq i) indexes || (b || false)) (sym (and_false (nat_eq i n)))
-            ∙ next false kept i;
-        once = lists.once;
-      }
-    where
-      and_false : (b : Bool) → (b && false) ≡ false
-      and_false true = refl
-      and_false false = refl
+  lists-left kept = search (rules, same_or, nat_eq, next)
 
 -- ---- the names of lost originals
 
@@ -189,7 +146,4 @@ module _ {Y : Type 0} (originals : List Shard) where
       → map (λ v. v.items) vectors ≡ map (shard_at originals) indexes
       → IsFromIterResult nat_cmp (zip indexes vectors) m
       → (i : ℕ) → shards_in m i ≡ lost_at originals lost i
-  lost-mapped lost indexes vectors m lists same made i =
-      ap (option_map (λ v. v.items)) (made.0 i)
-      ∙ entered indexes vectors (λ j. None) i same
-      ∙ ap (λ b. cond b (Some (shard_at originals i)) None) (lists.each i)
+  lost-mapped lost indexes vectors m lists same made i = search (rules, entered)

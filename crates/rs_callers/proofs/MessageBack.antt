@@ -1,14 +1,13 @@
 -- The last steps of a round trip of a message: its originals are completed and joined.
-use Rattle.std.proofs.Common.{◌≡◌, ℕ, ◌+◌, ◌<◌, ◌≤◌, ◌%◌, Bool, true, false, cond, List, map, length, Ok, Err, Result}
-use Rattle.std.proofs.Common.{Vec, Bor, refl, sym, ap, subst, ◌∙◌, inl, inr, arith}
-use Rattle.std.specs.Prelude.{All, IfOk, IfErr, MatchResult, ◌==◌}
+use Rattle.std.proofs.Common.{rules, ◌≡◌, ℕ, ◌+◌, ◌<◌, ◌≤◌, ◌%◌, List, map, length, Ok, Err, Result, Vec, Bor, refl}
+use Rattle.std.proofs.Common.{sym, ap, subst, ◌∙◌, inl, inr, arith}
+use Rattle.std.specs.Prelude.{All, IfOk, IfErr, MatchResult}
 use Rattle.std.proofs.lemmas.Bool.{cases_eq, ne_eqb}
 use Rattle.std.proofs.lemmas.List.{length-map}
 use Rattle.reed_solomon_simd.specs.declared.Error.{Error}
-use Rattle.reed_solomon_simd.specs.declared.Error.TheVariants.{OutOfMemory, UnsupportedShardCount}
+use Rattle.reed_solomon_simd.specs.declared.Error.TheVariants.{OutOfMemory}
 use Rattle.reed_solomon_simd.specs.Column.{Shard}
 use Rattle.reed_solomon_simd.specs.Configuration.{UpToMemory, validation_outcome}
-use Rattle.reed_solomon_simd.specs.Counts.{default_rate, supports}
 use Rattle.reed_solomon_simd.specs.Messages.{AreShardsOf, join_outcome, collected_bytes, Completes}
 use Rattle.reed_solomon_simd.specs.OneCall.{counts_outcome, default_of}
 use Rattle.reed_solomon_simd.specs.Given.{Shards}
@@ -40,19 +39,7 @@ message-joined {k = k} {message = message} {originals = originals} {all = all} r
 -- Supported counts and a valid size are a valid configuration.
 counted-valid : (k r size : ℕ) → counts_outcome k r ≡ Ok tt → 0 < size → size % 2 ≡ 0
     → validation_outcome (default_of k r size) ≡ Ok tt
-counted-valid k r size counted some even = by_test (supports default_rate k r) refl counted
-  where
-    not_empty : (size == 0) ≡ false
-    not_empty = ne_eqb size 0 (λ none. let wrong : ⊥ = omega arith in wrong)
-
-    not_odd : (size % 2 == 1) ≡ false
-    not_odd = ne_eqb (size % 2) 1 (λ odd. let wrong : ⊥ = omega arith in wrong)
-
-    by_test : (b : Bool) → supports default_rate k r ≡ b
-        → cond b (let made : Result (Unit {0}) Error = Ok tt in made) (Err (UnsupportedShardCount k r)) ≡ Ok tt
-        → validation_outcome (default_of k r size) ≡ Ok tt
-    by_test true is counted = rw (is, not_empty, not_odd) refl
-    by_test false is counted = absurd (let wrong : ⊥ = cc in wrong)
+counted-valid k r size counted some even = search (rules, ne_eqb)
 
 -- If counts are supported, there is an original.
 pub counted-some : (k r : ℕ) → counts_outcome k r ≡ Ok tt → 0 < k

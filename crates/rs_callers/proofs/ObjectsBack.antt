@@ -1,5 +1,5 @@
 -- A round trip with an encoder and a decoder, in terms of what the contracts of its calls state.
-use Rattle.std.proofs.Common.{◌≡◌, ℕ, ◌+◌, ◌≤◌, List, Result, Ok, Err, IfOk, arith}
+use Rattle.std.proofs.Common.{rules, ◌≡◌, ℕ, ◌+◌, ◌≤◌, List, Result, Ok, Err, IfOk}
 use Rattle.reed_solomon_simd.specs.declared.Error.{Error}
 use Rattle.reed_solomon_simd.specs.declared.Error.TheVariants.{OutOfMemory}
 use Rattle.reed_solomon_simd.specs.Code.{AreRecovery}
@@ -56,11 +56,7 @@ module _ {rate : Rate} {c : Configuration} {new_encoder encoder : EncoderState} 
       pub only-memory : (e : Error) → DecodeAnswers decoder (Err e)
           → c.original_count ≤ left_below c.original_count lost + left_below c.recovery_count recovery_lost
           → e ≡ OutOfMemory
-      only-memory e answer many =
-          let own = left-number lost originals all.0.length_is in
-          let other = left-number recovery_lost recovery all.1.shards.length_is in
-          restores originals (left_of originals lost) (left_of recovery recovery_lost) e (back (Err e) answer)
-          (omega (arith, all.0.length_is, own, other, many))
+      only-memory e answer many = search (rules, left-number, all, restores, back)
 
       -- Copies of the restored originals are copies of the lost originals.
       pub copies-back : {V : Type 0} (out : Shards) (result : Result V Error) (items : V → List (ℕ × Shard))

@@ -1,67 +1,29 @@
 -- From an encode into rooms and an update of the rooms to the recovery shards of the changed message.
-use Rattle.std.proofs.Common.{◌≡◌, ℕ, ◌<◌, ◌==◌, Bool, true, false, cond, List, [], length, get_or, set, All}
-use Rattle.std.proofs.Common.{Result, Ok, Err, MatchResult, inl, inr, refl, sym, ap, subst, ◌∙◌}
-use Rattle.std.specs.Prelude.{◌⊎◌, OnOk, nat_le}
-use Rattle.std.specs.Result.{result_map_both}
+use Rattle.std.proofs.Common.{rules, ◌≡◌, ℕ, ◌<◌, List, [], length, get_or, set, All, Result, Ok, Err, MatchResult, inl}
+use Rattle.std.proofs.Common.{inr, refl, sym, ap, subst, ◌∙◌}
+use Rattle.std.specs.Prelude.{◌⊎◌, OnOk}
 use Rattle.std.proofs.lemmas.Bool.{cases_eq, ne_eqb}
 use Rattle.std.proofs.lemmas.List.{get_or-set_same, get_or-set_other, length-set}
-use Rattle.rs_field.specs.declared.code.error.Error.{Error}
-use Rattle.rs_field.specs.declared.code.error.Error.TheVariants.{
-  InvalidOriginalShardIndex,
-  DifferentShardSize,
-  OutOfMemory,
-}
+use Rattle.rs_field.specs.declared.code.error.Error.TheVariants.{OutOfMemory}
 use Rattle.rs_field.specs.code.Code.{AreRecovery}
 use Rattle.rs_field.specs.code.Column.{Shard, IsShard, AreShards, shard_at}
-use Rattle.rs_field.specs.code.Configuration.{validation_outcome}
-use Rattle.rs_field.specs.code.OneCall.{default_of, OneEncodeAnswers}
-use Rattle.rs_field.specs.code.Outcome.{result_and_then}
+use Rattle.rs_field.specs.code.OneCall.{default_of}
 use Rattle.rs_field.specs.code.RoundTrip.{AreCoded}
 use Rattle.rs_field.proofs.of_code.OneRoundTrip.{codes_in_one_call}
 use Rattle.reed_solomon_simd.specs.declared.room_error.RoomError.{RoomError}
 use Rattle.reed_solomon_simd.specs.declared.room_error.RoomError.TheVariants.{Refused}
-use Rattle.reed_solomon_simd.specs.Into.{EncodesInto, Fills, rooms_fit}
+use Rattle.reed_solomon_simd.specs.Into.{EncodesInto}
 use Rattle.reed_solomon_simd.specs.Updated.{UpdatesInto, UpdatesShards, update_outcome}
 
 -- After an encode that succeeds, the rooms hold the recovery shards.
 encoded : (k r : ℕ) (originals before after : List Shard) → All (All (λ b. b < 256)) originals
     → EncodesInto k r originals before after (Ok tt) → AreCoded k r originals after
-encoded k r originals before after bytes into = by_coded into.0 into.1 into.2
-  where
-    by_fit : (shards : List Shard) (o : Result (Unit {0}) RoomError)
-        → MatchResult o (λ _. (◌≡◌ {A = Result (Unit {0}) RoomError} (Ok tt) (Ok tt)) × (after ≡ shards))
-        (λ e. (◌≡◌ {A = Result (Unit {0}) RoomError} (Ok tt) (Err e)) × (after ≡ before)) → after ≡ shards
-    by_fit shards (Ok u) does = does.1
-    by_fit shards (Err e) does = let done = does.0 in absurd (let no : ⊥ = cc in no)
-
-    by_coded : (coded : Result (List Shard) Error) → OneEncodeAnswers k r originals coded
-        → MatchResult coded (λ shards. Fills shards before after (Ok tt))
-        (λ e. (◌≡◌ {A = Result (Unit {0}) RoomError} (Ok tt) (Err (Refused e))) × (after ≡ before))
-        → AreCoded k r originals after
-    by_coded (Ok shards) answers fills =
-        subst (AreCoded k r originals) (sym (by_fit shards (rooms_fit shards before) fills))
-        (codes_in_one_call k r originals shards bytes answers)
-    by_coded (Err e) answers does = let done = does.0 in absurd (let no : ⊥ = cc in no)
+encoded k r originals before after bytes into = search (rules, codes_in_one_call)
 
 -- If the checks of an update find no error, the new original has the size of the old one.
 same-size : (k r index size other : ℕ) (rooms : List Shard) → update_outcome k r index size other rooms ≡ Ok tt
     → other ≡ size
-same-size k r index size other rooms is =
-    let told = by_steps (validation_outcome (default_of k r size)) (nat_le k index) (other == size) _ is in
-    elim (cases_eq other size) [
-      | inl same ↦ same
-      | inr apart ↦ let no = ne_eqb other size apart in absurd (let wrong : ⊥ = cc in wrong)
-    ]
-  where
-    by_steps : (v : Result (Unit {0}) Error) (past equal : Bool) (fit : Result (Unit {0}) RoomError)
-        → result_and_then (λ (u : Unit {0}). fit) (result_map_both (λ u. u) Refused
-        (result_and_then (λ (u : Unit {0}). cond {A = Result (Unit {0}) Error} past
-        (Err (InvalidOriginalShardIndex k index)) (cond {A = Result (Unit {0}) Error} equal (Ok tt)
-        (Err (DifferentShardSize size other)))) v)) ≡ Ok tt → equal ≡ true
-    by_steps (Err e) past equal fit is = absurd (let no : ⊥ = cc in no)
-    by_steps (Ok u) true equal fit is = absurd (let no : ⊥ = cc in no)
-    by_steps (Ok u) false true fit is = refl
-    by_steps (Ok u) false false fit is = absurd (let no : ⊥ = cc in no)
+same-size k r index size other rooms is = search (rules, cases_eq, ne_eqb)
 
 -- After an encode and an update, the rooms hold the recovery shards of the changed message.
 pub encoded-updated : (r index : ℕ) (originals before coded after : List Shard) (new : Shard)

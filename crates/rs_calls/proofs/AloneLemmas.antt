@@ -1,7 +1,7 @@
 -- Lemmas about indexes that are noted as bits of words.
-use Rattle.std.proofs.Common.{◌≡◌, ◌≢◌, ℕ, ◌+◌, ◌*◌, ◌/◌, ◌%◌, ◌^◌, ◌<◌, ◌≤◌, ◌||◌, Bool, true, false, List, [], ◌∷◌}
-use Rattle.std.proofs.Common.{length, drop, if◌then◌else◌, nat_eq, nat_le, nat_lt, get_or, set, replicate, bit_or, w64}
-use Rattle.std.proofs.Common.{Result, Ok, Err, MatchResult, inl, inr, refl, sym, ap, subst, ◌∙◌, arith}
+use Rattle.std.proofs.Common.{rules, ◌≡◌, ◌≢◌, ℕ, ◌+◌, ◌*◌, ◌/◌, ◌%◌, ◌^◌, ◌<◌, ◌≤◌, ◌||◌, Bool, false, List, [], ◌∷◌}
+use Rattle.std.proofs.Common.{length, drop, if◌then◌else◌, nat_eq, nat_lt, get_or, set, replicate, bit_or, w64, Result}
+use Rattle.std.proofs.Common.{Ok, Err, MatchResult, inl, inr, refl, sym, ap, subst, ◌∙◌, arith}
 use Rattle.std.specs.Int.{bit_at}
 use Rattle.std.specs.List.{list_any}
 use Rattle.std.proofs.lemmas.Bool.{cases_eq, cases_lt, eq-eqb, ne_eqb, lt-leb}
@@ -21,23 +21,14 @@ use Rattle.rs_calls.specs.Arrays.{items_of}
 -- Before the first index is noted, no bit is 1.
 pub note_outcome-none : (n : ℕ) → AreNoted [] (replicate n 0)
 note_outcome-none n i =
-    ap (λ word. bit_at word (i % 64)) (elim (cases_lt (i / 64) n) [
-      | inl inside ↦ get_or-replicate n (i / 64) 0 0 inside
-      | inr outside ↦
-          get_or-eq_default (replicate n 0) 0 (subst (λ (m : ℕ). m ≤ i / 64) (sym (length-replicate n 0)) outside)
-    ])
-    ∙ bit_at-zero (i % 64)
+    search (rules, cases_lt, get_or-replicate, get_or-eq_default, replicate, length-replicate, bit_at-zero)
 
 module _ (k index : ℕ) (indexes words : List ℕ) (inside : index < k) (few : k ≤ 65536) (size : length words ≡ 1024)
     (are : AreNoted indexes words)
     (free : bit_at (get_or words (index / 64) 0) (index % 64) ≢ 1) where
   -- If the bit of an index is not 1, the index was not noted before.
   is-new : list_any (nat_eq index) indexes ≡ false
-  is-new = by_test (list_any (nat_eq index) indexes) (are index)
-    where
-      by_test : (b : Bool) → bit_at (get_or words (index / 64) 0) (index % 64) ≡ (if b then 1 else 0) → b ≡ false
-      by_test true taken = absurd (free taken)
-      by_test false none = refl
+  is-new = search (rules, nat_eq)
 
   -- If the index is below k and its bit is not 1, noting the index succeeds.
   pub note_outcome-next : note_outcome k indexes index ≡ Ok (index ∷ indexes)
@@ -105,23 +96,12 @@ notes k index indexes new result is done are =
 pub notes-ok : (k index : ℕ) (indexes new : List ℕ) (result : Result (Unit {0}) Error)
     → Notes k indexes index new result → result ≡ Ok tt
     → (note_outcome k indexes index ≡ Ok (index ∷ indexes)) × AreNoted (index ∷ indexes) new
-notes-ok k index indexes new result leads done = by_tests (nat_le k index) (list_any (nat_eq index) indexes) leads
-  where
-    by_tests : (outside taken : Bool)
-        → Leads (noted_by k indexes index outside taken) new result
-        → (noted_by k indexes index outside taken ≡ Ok (index ∷ indexes)) × AreNoted (index ∷ indexes) new
-    by_tests true taken refused = absurd (let no : ⊥ = cc in no)
-    by_tests false true refused = absurd (let no : ⊥ = cc in no)
-    by_tests false false led = (refl, led.1)
+notes-ok k index indexes new result leads done = search (rules, nat_eq)
 
 -- If the result is an error, it is the error of the outcome.
 pub notes-err : (k index : ℕ) (indexes new : List ℕ) (result : Result (Unit {0}) Error) (e : Error)
     → Notes k indexes index new result → result ≡ Err e → note_outcome k indexes index ≡ Err e
-notes-err k index indexes new result e leads refused = by_outcome (note_outcome k indexes index) leads
-  where
-    by_outcome : (o : Result (List ℕ) Error) → Leads o new result → o ≡ Err e
-    by_outcome (Ok all) led = let done = led.0 in absurd (let no : ⊥ = cc in no)
-    by_outcome (Err f) same = let is : f ≡ e = cc in ap Err is
+notes-err k index indexes new result e leads refused = search rules
 
 -- the outcome of noting the indexes of shards, if some indexes were noted before
 abbrev pub noting : ℕ → List ℕ → List RsShard → Result (List ℕ) Error
@@ -138,10 +118,7 @@ pub noting-done : (k : ℕ) (indexes : List ℕ) (shards : List RsShard)
     → noting k [] shards ≡ noting k indexes (drop (length shards) shards) → length indexes ≡ length shards
     → originals_alone k (items_of shards)
     ≡ (if nat_lt (length shards) k then Err (NotEnoughShards k (length shards) 0) else Ok tt)
-noting-done k indexes shards leads number =
-    ap (result_and_then (λ given. if nat_lt (length given) k then Err (NotEnoughShards k (length given) 0) else Ok tt))
-    (leads ∙ ap (noting k indexes) (drop_all (length shards) shards (omega arith)))
-    ∙ ap (λ (n : ℕ). if nat_lt n k then Err (NotEnoughShards k n 0) else Ok tt) number
+noting-done k indexes shards leads number = search (rules, drop_all)
 
 -- If noting an index fails, the decode fails with the same error.
 pub noting-refused : (k : ℕ) (shards : List RsShard) (e : Error)

@@ -1,6 +1,6 @@
 -- Lemmas about the shards that a buffer is cut into, and about a piece that is written into one of these shards.
-use Rattle.std.proofs.Common.{◌≡◌, ℕ, zero, suc, ◌+◌, ◌-◌, ◌*◌, ◌<◌, ◌≤◌, List, [], ◌∷◌, ◌++◌, length, take, drop}
-use Rattle.std.proofs.Common.{get_or, refl, sym, ap, ap₂, ◌∙◌, inl, inr, arith, All}
+use Rattle.std.proofs.Common.{rules, ◌≡◌, ℕ, zero, suc, ◌+◌, ◌-◌, ◌*◌, ◌<◌, ◌≤◌, List, [], ◌∷◌, ◌++◌, length, take}
+use Rattle.std.proofs.Common.{drop, get_or, refl, sym, ap, ap₂, ◌∙◌, inl, inr, arith, All}
 use Rattle.std.proofs.Math.Nat.{suc-mul, mul-le-mul_right}
 use Rattle.std.proofs.Math.Seq.{take-append-add}
 use Rattle.std.proofs.lemmas.Bool.{cases_lt, cases_order}
@@ -28,10 +28,7 @@ cut-at (suc n) size bytes (suc i) inside =
 
 -- If a buffer has the length of n shards, each of its shards ends inside the buffer.
 pub cut-inside : (n size i : ℕ) (bytes : List ℕ) → length bytes ≡ n * size → i < n → i * size + size ≤ length bytes
-cut-inside n size i bytes whole inside =
-    let more = suc-mul i size in
-    let below = mul-le-mul_right size (let k : suc i ≤ n = omega (arith, inside) in k) in
-    omega (arith, whole, below, more)
+cut-inside n size i bytes whole inside = search (rules, suc-mul, mul-le-mul_right)
 
 -- If a buffer has the length of n shards, its n shards, one after the other, are the buffer.
 pub joined-cut : (n size : ℕ) (bytes : List ℕ) → length bytes ≡ n * size
@@ -63,18 +60,7 @@ cut-same n size one other whole long same = sym (joined-cut n size one whole) �
 pub room-inside : (size i start m whole : ℕ) (bytes : List ℕ) → 0 < m → start + m ≤ whole
     → length (take size (drop (i * size) bytes)) ≡ whole
     → (start + m ≤ size) × (i * size + start + m ≤ length bytes)
-room-inside size i start m whole bytes some fits is =
-    let left = length-drop (i * size) bytes in
-    elim (cases_lt (length (drop (i * size) bytes)) size) [
-      | inl short ↦
-          let all : length (take size (drop (i * size) bytes)) ≡ length (drop (i * size) bytes) =
-          ap length (take_all size (drop (i * size) bytes)
-          (let le : length (drop (i * size) bytes) ≤ size = omega (arith, short) in le)) in
-          (omega (arith, all, is, short, fits), omega (arith, all, is, left, some, fits))
-      | inr enough ↦
-          let cutoff = length-take-le size (drop (i * size) bytes) enough in
-          (omega (arith, cutoff, is, fits), omega (arith, cutoff, is, enough, left, some, fits))
-    ]
+room-inside size i start m whole bytes some fits is = search (rules, length-drop, cases_lt, take_all, length-take-le)
 
 module _ (size i start : ℕ) (bytes piece : List ℕ) (fits : start + length piece ≤ size)
     (inside : i * size + start + length piece ≤ length bytes) where
@@ -87,22 +73,12 @@ module _ (size i start : ℕ) (bytes piece : List ℕ) (fits : start + length pi
 
   -- Writing the piece does not change the length of the buffer.
   pub put-long : length with_piece ≡ length bytes
-  put-long =
-      let back = length-drop (i * size + start + length piece) bytes in
-      let middle = length-append piece (drop (i * size + start + length piece) bytes) in
-      length-append (take (i * size + start) bytes) (piece ++ drop (i * size + start + length piece) bytes)
-      ∙ omega (arith, front, back, middle, inside)
+  put-long = search (rules, length-drop, length-append, front)
 
   -- the bytes of the new buffer from shard i on
   from-shard : drop (i * size) with_piece ≡ take start (drop (i * size) bytes)
       ++ (piece ++ drop (start + length piece) (drop (i * size) bytes))
-  from-shard =
-      drop-append-le (i * size) (take (i * size + start) bytes) (piece ++ drop (i * size + start + length piece) bytes)
-      (omega (arith, front))
-      ∙ ap₂ (λ (a b : List ℕ). a ++ (piece ++ b)) (drop-take (i * size) start bytes)
-      (ap (λ (m : ℕ). drop m bytes)
-      (let e : i * size + start + length piece ≡ i * size + (start + length piece) = omega arith in e)
-      ∙ sym (drop-drop (start + length piece) (i * size) bytes))
+  from-shard = search (rules, drop-append-le, front, drop-take, drop-drop)
 
   -- Shard i of the new buffer is the old shard i with the piece written into it.
   pub put-here : take size (drop (i * size) with_piece)

@@ -1,6 +1,6 @@
 -- Lemmas that lead from the results of inner calls to the result of a decode over buffers.
-use Rattle.std.proofs.Common.{◌≡◌, ℕ, zero, suc, ◌+◌, ◌*◌, ◌==◌, true, not, List, [], ◌∷◌, ◌++◌, length, take, drop}
-use Rattle.std.proofs.Common.{None, Result, Ok, inl, inr, sym, ap, ◌∙◌, refl, arith}
+use Rattle.std.proofs.Common.{rules, ◌≡◌, ℕ, zero, suc, ◌+◌, ◌*◌, ◌==◌, true, not, List, [], ◌∷◌, ◌++◌, length, take}
+use Rattle.std.proofs.Common.{drop, None, Result, Ok, inl, inr, sym, ap, ◌∙◌, refl, arith}
 use Rattle.std.proofs.lemmas.Bool.{cases_eq, eq-eqb, ne_eqb}
 use Rattle.std.proofs.Math.Nat.{suc-mul}
 use Rattle.std.proofs.lemmas.List.{length-drop, take-append-drop, nil_from_length}
@@ -34,10 +34,7 @@ pub decodes-unmarked : (k r size : ℕ) (own other old recovery : List ℕ) (o :
     → IsDecoding k r (marked_shards 0 size own old) (marked_shards 0 size other recovery)
     (result_and_then (λ _. Ok None) o)
 decodes-unmarked k r size own other old recovery o supported many none is =
-    rw (marked-none 0 size other recovery (count-present other ∙ none))
-    (decoding-none k r (marked_shards 0 size own old) o supported
-    (inl (is ∙ ap (λ (n : ℕ). all_or_refused n (count_by (λ mark. not (mark == 0)) own)) many
-    ∙ sym (originals_alone-marked k size own old many))))
+    search (rules, marked-none, count-present, decoding-none, originals_alone-marked)
 
 -- If nothing is restored, the buffer is unchanged.
 pub with-nothing : (i size n : ℕ) (bytes : List ℕ) → length bytes ≡ n * size

@@ -1,6 +1,6 @@
 -- Lemmas that lead from the results of inner calls to the result of an encode over buffers.
-use Rattle.std.proofs.Common.{◌≡◌, inl, inr, ℕ, ◌*◌, ◌<◌, true, List, [], length, Result, Ok, Err, All, sym}
-use Rattle.std.proofs.Common.{subst, ◌∙◌, refl, arith}
+use Rattle.std.proofs.Common.{rules, ◌≡◌, ℕ, ◌*◌, ◌<◌, true, List, [], length, Result, Ok, Err, All, sym, subst, ◌∙◌}
+use Rattle.std.proofs.Common.{refl, arith}
 use Rattle.std.proofs.lemmas.Bool.{cases_eq, ne_eqb}
 use Rattle.std.proofs.lemmas.List.{get_or_default}
 use Rattle.rs_field.specs.declared.code.error.Error.{Error}
@@ -20,10 +20,7 @@ use Rattle.rs_calls.proofs.MarkedState.{place-long, place-bytes}
 
 -- If the check of a length finds no fault, the length is right.
 pub fits-length : (place count size got : ℕ) → Ok tt ≡ length_outcome place count size got → got ≡ count * size
-fits-length place count size got is = elim (cases_eq (count * size) got) [
-  | inl same ↦ sym same
-  | inr other ↦ let refused = rw (ne_eqb (count * size) got other) at is in absurd (let no : ⊥ = cc in no)
-]
+fits-length place count size got is = search (rules, cases_eq, ne_eqb)
 
 -- If the counts are supported and the checks of both lengths find no fault, the checks before the library is called
 -- succeed.
@@ -56,10 +53,7 @@ pub buffer-unset : (k r size : ℕ) (bytes : List ℕ) (e : Error) → supports 
     → Err e ≡ start_outcome (encoder_rows default_rate k r) (default_of k r size)
     → OneEncodeAnswers k r (shards_in_buffer k size bytes) (Err e)
 buffer-unset k r size bytes e supported whole refused =
-    let some = some_originals default_rate k r supported in
-    let number = cut-length k size bytes in
-    checked-unset k r size (shards_in_buffer k size bytes) (omega (arith, some, number))
-    (cut-sized k size bytes whole 0 [] (omega (arith, some, number))) e refused
+    search (rules, some_originals, cut-length, checked-unset, cut-sized)
 
 -- If the counts and lengths are right, the result of the encode over buffers is the result of one call.
 pub encodes : (k r size : ℕ) (originals old new : List ℕ) (answer : Result (Unit {0}) Fault)

@@ -1,5 +1,5 @@
 -- Lemmas about the indexes of marks that are 0, and about the places of their shards in a buffer.
-use Rattle.std.proofs.Common.{◌≡◌, ℕ, zero, suc, ◌+◌, ◌*◌, ◌<◌, ◌≤◌, Bool, cond, List, [], ◌∷◌, ◌++◌, length, map, take}
+use Rattle.std.proofs.Common.{rules, ◌≡◌, ℕ, zero, suc, ◌+◌, ◌*◌, ◌<◌, ◌≤◌, List, [], ◌∷◌, ◌++◌, length, map, take}
 use Rattle.std.proofs.Common.{drop, get_or, refl, sym, ap, ◌∙◌, inl, inr, arith}
 use Rattle.std.proofs.Math.Nat.{suc-mul}
 use Rattle.std.proofs.lemmas.Bool.{cases_eq, cases_order, eq-eqb, ne_eqb}
@@ -21,25 +21,17 @@ lost-count i (mark ∷ marks) = elim (cases_eq mark 0) [
 -- If mark i is 0, i is the next lost index.
 pub lost-next : (i : ℕ) (marks so_far : List ℕ) → i < length marks → get_or marks i 0 ≡ 0
     → (so_far ++ (i ∷ [])) ++ lost_indexes (i + 1) (drop (i + 1) marks) ≡ so_far ++ lost_indexes i (drop i marks)
-lost-next i marks so_far inside lost =
-    append_assoc so_far (i ∷ []) (lost_indexes (i + 1) (drop (i + 1) marks))
-    ∙ ap (λ (l : List ℕ). so_far ++ l) (sym (ap (lost_indexes i) (drop_more marks i 0 inside)
-    ∙ ap (λ (b : Bool). cond b (i ∷ lost_indexes (i + 1) (drop (i + 1) marks))
-    (lost_indexes (i + 1) (drop (i + 1) marks))) (eq-eqb (get_or marks i 0) 0 lost)))
+lost-next i marks so_far inside lost = search (rules, append_assoc, drop_more, eq-eqb)
 
 -- If mark i is not 0, i is no lost index.
 pub kept-next : (i : ℕ) (marks : List ℕ) → i < length marks → (get_or marks i 0 ≡ 0 → ⊥)
     → lost_indexes (i + 1) (drop (i + 1) marks) ≡ lost_indexes i (drop i marks)
-kept-next i marks inside kept =
-    sym (ap (lost_indexes i) (drop_more marks i 0 inside)
-    ∙ ap (λ (b : Bool). cond b (i ∷ lost_indexes (i + 1) (drop (i + 1) marks))
-    (lost_indexes (i + 1) (drop (i + 1) marks))) (ne_eqb (get_or marks i 0) 0 kept))
+kept-next i marks inside kept = search (rules, drop_more, ne_eqb)
 
 -- After the last mark, all lost indexes are found.
 pub lost-end : (i : ℕ) (marks found : List ℕ) → length marks ≤ i
     → found ++ lost_indexes i (drop i marks) ≡ lost_indexes 0 marks → found ≡ lost_indexes 0 marks
-lost-end i marks found past is =
-    sym (append-nil found) ∙ ap (λ (l : List ℕ). found ++ lost_indexes i l) (sym (drop_all i marks past)) ∙ is
+lost-end i marks found past is = search (rules, append-nil, drop_all)
 
 -- a lost index is the index of a mark that is 0
 abbrev IsLost : ℕ → List ℕ → ℕ → ℕ → Type 0
@@ -92,11 +84,7 @@ lost-grow i (mark ∷ marks) = elim (cases_eq mark 0) [
 -- If each number of a list is larger than the numbers before it, numbers at different places are different.
 pub grow-apart : (indexes : List ℕ) → Grow indexes → (n m : ℕ) → n < length indexes → m < length indexes → (n ≡ m → ⊥)
     → get_or indexes n 0 ≡ get_or indexes m 0 → ⊥
-grow-apart indexes grow n m inside there other same = elim (cases_order n m) [
-  | inl here ↦ other here
-  | inr (inl before) ↦ let less = grow n m before there in omega (arith, less, same)
-  | inr (inr after) ↦ let less = grow m n after inside in omega (arith, less, same)
-]
+grow-apart indexes grow n m inside there other same = search (rules, cases_order)
 
 -- If two functions have the same values on the list of lost indexes, they have the same value at each lost index.
 module _ {T : Type 0} (f g : ℕ → T) where
@@ -127,14 +115,11 @@ module _ {T : Type 0} (f g : ℕ → T) where
 
 -- Place j of the buffer without its first shard is place j + 1 of the whole buffer.
 pub place-next : (size j : ℕ) (bytes : List ℕ) → shard_place size (drop size bytes) j ≡ shard_place size bytes (suc j)
-place-next size j bytes =
-    let more = suc-mul j size in
-    ap (take size) (drop-drop (j * size) size bytes
-    ∙ ap (λ (m : ℕ). drop m bytes) (let e : size + j * size ≡ suc j * size = omega (arith, more) in e))
+place-next size j bytes = search (rules, suc-mul, drop-drop)
 
 -- Place 0 of a buffer consists of its first bytes.
 pub place-first : (size : ℕ) (bytes : List ℕ) → shard_place size bytes 0 ≡ take size bytes
-place-first size bytes = ap (λ (m : ℕ). take size (drop m bytes)) (let e : 0 * size ≡ 0 = omega arith in e)
+place-first size bytes = search rules
 
 -- If each place of a buffer holds the restored original of its index, or what the old buffer holds if there is none,
 -- the buffer is the old buffer with the restored originals.

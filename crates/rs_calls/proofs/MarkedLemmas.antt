@@ -1,5 +1,5 @@
 -- Marked originals are noted one after another, and none of them is an error.
-use Rattle.std.proofs.Common.{◌≡◌, ℕ, ◌+◌, ◌≤◌, ◌<◌, ◌==◌, ◌||◌, Bool, true, false, suc, not, List, [], ◌∷◌, length}
+use Rattle.std.proofs.Common.{rules, ◌≡◌, ℕ, ◌+◌, ◌≤◌, ◌<◌, ◌==◌, Bool, true, false, suc, not, List, [], ◌∷◌, length}
 use Rattle.std.proofs.Common.{take, drop, ◌*◌, cond, sym, nat_eq, inl, inr, Ok, ap, ◌∙◌, refl, arith}
 use Rattle.std.proofs.lemmas.Bool.{cases_eq, eq-eqb, ne_eqb, lt-leb}
 use Rattle.std.proofs.Math.Nat.{suc-mul}
@@ -64,9 +64,7 @@ note_outcome-next k i given inside below = rw (lt-leb k i inside, below i (omega
 
 -- If no index from i on was noted, then after i was noted no index from i + 1 on was noted.
 below-next : (i : ℕ) (given : List ℕ) → IsBelow i given → IsBelow (i + 1) (i ∷ given)
-below-next i given below j h =
-    ap (λ (b : Bool). b || list_any (nat_eq j) given) (ne_eqb j i (λ same. omega (arith, same, h)))
-    ∙ below j (omega (arith, h))
+below-next i given below j h = search (rules, nat_eq, ne_eqb)
 
 -- noting the indexes of these items succeeds, and `count` more indexes are noted afterwards
 abbrev NotesAll : ℕ → List ℕ → Items → ℕ → Type 0

@@ -1,8 +1,8 @@
 -- Lemmas about the state of a decoder to which the marked shards of two buffers were added.
-use Rattle.std.proofs.Common.{◌≡◌, ℕ, zero, suc, ◌+◌, ◌*◌, ◌<◌, ◌≤◌, ◌==◌, Bool, true, false, not, cond, List, [], ◌∷◌}
-use Rattle.std.proofs.Common.{◌++◌, length, map, take, drop, get_or, All, Result, Ok, Err, Some, None, refl, sym, ap}
-use Rattle.std.proofs.Common.{ap₂, subst, ◌∙◌, inl, inr, arith}
-use Rattle.std.specs.Prelude.{◌⊎◌, OnOk, IfErr, MatchResult, nat_lt, is_some, unwrap_or}
+use Rattle.std.proofs.Common.{rules, ◌≡◌, ℕ, zero, suc, ◌+◌, ◌*◌, ◌<◌, ◌≤◌, ◌==◌, Bool, true, false, not, cond, List}
+use Rattle.std.proofs.Common.{[], ◌∷◌, ◌++◌, length, map, take, drop, get_or, All, Result, Ok, Err, Some, None, refl}
+use Rattle.std.proofs.Common.{sym, ap, ap₂, ◌∙◌, inl, inr, arith}
+use Rattle.std.specs.Prelude.{OnOk, IfErr, MatchResult, nat_lt, is_some}
 use Rattle.std.proofs.Math.Path.{fun_ext}
 use Rattle.std.proofs.Math.Nat.{suc-mul, mul-le-mul_right}
 use Rattle.std.proofs.lemmas.Bool.{cases_eq, cases_lt, eq-eqb, ne_eqb}
@@ -11,7 +11,7 @@ use Rattle.std.proofs.lemmas.List.{get_or-map, length-map, length-take, length-t
 use Rattle.std.proofs.lemmas.List.{get_or-take, get_or-drop}
 use Rattle.rs_field.specs.declared.code.error.Error.{Error}
 use Rattle.rs_field.specs.declared.code.error.Error.TheVariants.{NotEnoughShards}
-use Rattle.rs_field.specs.code.Column.{Shard, IsShard}
+use Rattle.rs_field.specs.code.Column.{Shard}
 use Rattle.rs_field.specs.code.Configuration.{start_outcome}
 use Rattle.rs_field.specs.code.Counts.{default_rate}
 use Rattle.rs_field.specs.code.Decoder.{DecoderState, IsDecoder, fresh_decoder, with_original, with_recovery}
@@ -46,63 +46,27 @@ map-kept size marks bytes i kept = rw (ne_eqb (get_or marks i 0) 0 kept) refl
 -- A place whose index is below the number of shards is as long as a shard.
 pub place-long : (size : ℕ) (bytes : List ℕ) (count i : ℕ) → length bytes ≡ count * size → i < count
     → length (shard_place size bytes i) ≡ size
-place-long size bytes count i whole inside =
-    let more = suc-mul i size in
-    let below = mul-le-mul_right size (let k : suc i ≤ count = omega (arith, inside) in k) in
-    let left = length-drop (i * size) bytes in
-    length-take-le size (drop (i * size) bytes) (omega (arith, left, whole, below, more))
+place-long size bytes count i whole inside = search (rules, suc-mul, mul-le-mul_right, length-drop, length-take-le)
 
 -- Each byte of a place is below 256.
 pub place-bytes : (size : ℕ) (bytes : List ℕ) (i : ℕ) → All (λ b. b < 256) bytes
     → length (shard_place size bytes i) ≡ size → All (λ b. b < 256) (shard_place size bytes i)
 place-bytes size bytes i all long k d inside =
-    let below : k < size = omega (arith, inside, long) in
-    let here : get_or (shard_place size bytes i) k d ≡ get_or bytes (i * size + k) d =
-    get_or-take size (drop (i * size) bytes) k d below ∙ get_or-drop (i * size) bytes k d in
-    subst (λ (b : ℕ). b < 256) (sym here) (by_place (cases_lt (i * size + k) (length bytes)))
-  where
-    by_place : (i * size + k < length bytes) ⊎ (length bytes ≤ i * size + k) → get_or bytes (i * size + k) d < 256
-    by_place (inl there) = all (i * size + k) d there
-    by_place (inr past) =
-        let left = length-drop (i * size) bytes in
-        let cut = length-take size (drop (i * size) bytes) in
-        absurd (let no : ⊥ = omega (arith, left, cut, past, inside) in no)
+    search (rules, get_or-take, get_or-drop, cases_lt, length-drop, length-take)
 
 -- Each marked shard has an index below the number of shards, the shard size, and bytes below 256.
 pub map-within : (count size : ℕ) (marks bytes : List ℕ) → length marks ≡ count → length bytes ≡ count * size
     → All (λ b. b < 256) bytes
     → AreWithin count size (marked_map size marks bytes)
 map-within count size marks bytes number whole all =
-    record {
-      none_past = λ i past. map-lost size marks bytes i (get_or_past marks i 0 (omega (arith, past, number)));
-      sized = λ i shard found. by_mark i shard (cases_eq (get_or marks i 0) 0) found;
-    }
-  where
-    by_mark : (i : ℕ) (shard : Shard) → (get_or marks i 0 ≡ 0) ⊎ (get_or marks i 0 ≡ 0 → ⊥)
-        → marked_map size marks bytes i ≡ Some shard → IsShard size shard
-    by_mark i shard (inl lost) found = absurd (none-some shard (sym (map-lost size marks bytes i lost) ∙ found))
-    by_mark i shard (inr kept) found = elim (cases_lt i count) [
-      | inl inside ↦
-          let same : shard_place size bytes i ≡ shard =
-          ap (λ o. unwrap_or o shard) (sym (map-kept size marks bytes i kept) ∙ found) in
-          let long = place-long size bytes count i whole inside in
-          subst (λ (x : Shard). IsShard size x) same
-          (record { length_is = long; bytes = place-bytes size bytes i all long })
-      | inr past ↦ absurd (kept (get_or_past marks i 0 (omega (arith, past, number))))
-    ]
+    search (rules, map-lost, get_or_past, cases_eq, none-some, cases_lt, map-kept, place-long, place-bytes)
 
 -- Writing a piece into the place of a lost shard changes no marked shard.
 pub map-put : (size i start : ℕ) (marks bytes piece : List ℕ) → start + length piece ≤ size
     → i * size + start + length piece ≤ length bytes → get_or marks i 0 ≡ 0
     → marked_map size marks (take (i * size + start) bytes ++ (piece ++ drop (i * size + start + length piece) bytes))
     ≡ marked_map size marks bytes
-map-put size i start marks bytes piece fits inside lost = fun_ext (λ j. elim (cases_eq j i) [
-  | inl here ↦
-      let none : get_or marks j 0 ≡ 0 = ap (λ (m : ℕ). get_or marks m 0) here ∙ lost in
-      map-lost size marks _ j none ∙ sym (map-lost size marks bytes j none)
-  | inr other ↦ ap (λ (x : Shard). cond (get_or marks j 0 == 0) None (Some x))
-      (put-other size i start bytes piece fits inside j other)
-])
+map-put size i start marks bytes piece fits inside lost = search (rules, fun_ext, cases_eq, map-lost, put-other)
 
 -- The place of each lost original is as long as a shard.
 pub lost-long : (size count : ℕ) (marks bytes : List ℕ) → length marks ≡ count → length bytes ≡ count * size
@@ -145,25 +109,17 @@ map-count (mark ∷ marks) given each =
 
 pub map-some : (size : ℕ) (marks bytes : List ℕ) (j : ℕ)
     → is_some (marked_map size marks bytes j) ≡ not (get_or marks j 0 == 0)
-map-some size marks bytes j = by_mark (get_or marks j 0 == 0)
-  where
-    by_mark : (zero_here : Bool) → is_some (cond zero_here None (Some (shard_place size bytes j))) ≡ not zero_here
-    by_mark true = refl
-    by_mark false = refl
+map-some size marks bytes j = search rules
 
 -- The number of given originals is the number of marks of originals that are not 0.
 pub marked-originals : (k r size : ℕ) (own originals other recovery : List ℕ) → length own ≡ k
     → originals_given (marked_state k r size own originals other recovery) ≡ present own
-marked-originals k r size own originals other recovery number =
-    ap (λ (n : ℕ). count_below n (marked_map size own originals)) (sym number)
-    ∙ map-count own (marked_map size own originals) (λ j inside. map-some size own originals j)
+marked-originals k r size own originals other recovery number = search (rules, map-count, map-some)
 
 -- The number of given recovery shards is the number of marks of recovery shards that are not 0.
 pub marked-recovery : (k r size : ℕ) (own originals other recovery : List ℕ) → length other ≡ r
     → recovery_given (marked_state k r size own originals other recovery) ≡ present other
-marked-recovery k r size own originals other recovery number =
-    ap (λ (n : ℕ). count_below n (marked_map size other recovery)) (sym number)
-    ∙ map-count other (marked_map size other recovery) (λ j inside. map-some size other recovery j)
+marked-recovery k r size own originals other recovery number = search (rules, map-count, map-some)
 
 -- ---- one call for the marked shards
 
@@ -265,15 +221,7 @@ module _ {k r size : ℕ} {own originals other recovery : List ℕ}
   pub marked-decoder : All (λ b. b < 256) originals → All (λ b. b < 256) recovery
       → start_outcome (decoder_rows default_rate k r) (default_of k r size) ≡ Ok tt
       → IsDecoder default_rate state
-  marked-decoder own_bytes other_bytes made =
-      let parts = started-parts (decoder_rows default_rate k r) (default_of k r size) made in
-      record {
-        of_rate = refl;
-        valid = parts.0;
-        fits = parts.1;
-        originals_within = map-within k size own originals buffers.own_number buffers.own_whole own_bytes;
-        recovery_within = map-within r size other recovery buffers.other_number buffers.other_whole other_bytes;
-      }
+  marked-decoder own_bytes other_bytes made = search (rules, started-parts, map-within)
 
   -- If a recovery shard is marked, there is a first marked recovery shard, and it has the shard size.
   module _ (some : 0 < present other) where
@@ -296,23 +244,7 @@ module _ {k r size : ℕ} {own originals other recovery : List ℕ}
     pub marked-led : (o : Result (Unit {0}) Error)
         → start_outcome (decoder_rows default_rate k r) (default_of k r size) ≡ o
         → IsDecoding k r kept received (result_and_then (λ _. Ok (Some state)) o)
-    marked-led o made =
-        let (item, items, is, sized) = first-marked in
-        let both : with_both empty kept (item ∷ items) ≡ Ok state =
-        ap (λ (l : Items). with_both empty kept l) (sym is) ∙ both-added in
-        subst (λ (l : Items). IsDecoding k r kept l (result_and_then (λ _. Ok (Some state)) o)) (sym is)
-        (inl (sym (ap (λ (n : ℕ). result_and_then (λ s. Ok (Some s))
-        (result_and_then (λ _. with_both (fresh_decoder (default_of k r n)) kept (item ∷ items))
-        (start_outcome (decoder_rows default_rate k r) (default_of k r n)))) sized
-        ∙ ap (λ (outcome : Result (Unit {0}) Error). result_and_then (λ s. Ok (Some s))
-        (result_and_then (λ _. with_both empty kept (item ∷ items)) outcome)) made
-        ∙ by_outcome (item ∷ items) o both)))
-      where
-        by_outcome : (items : Items) (o : Result (Unit {0}) Error) → with_both empty kept items ≡ Ok state
-            → result_and_then (λ s. Ok (Some s)) (result_and_then (λ _. with_both empty kept items) o)
-            ≡ result_and_then (λ _. Ok (Some state)) o
-        by_outcome items (Ok u) both = ap (result_and_then (λ s. Ok (Some s))) both
-        by_outcome items (Err e) both = refl
+    marked-led o made = search (rules, first-marked, both-added)
 
 -- ---- the number of shards in a struct of buffers
 
@@ -335,10 +267,7 @@ pub enough-marked : (x : MarkedBuffers) (own other : ℕ) → own ≡ present x.
     → enough_given (state_in x)
     ≡ cond (nat_lt (own + other) x.counts.original_count) (Err (NotEnoughShards x.counts.original_count own other))
     (Ok tt)
-enough-marked x own other own_is other_is =
-    ap₂ (λ (a b : ℕ). cond (nat_lt (a + b) x.counts.original_count) (Err (NotEnoughShards x.counts.original_count a b))
-    (Ok tt))
-    (originals-counted x ∙ sym own_is) (recovery-counted x ∙ sym other_is)
+enough-marked x own other own_is other_is = search (rules, originals-counted, recovery-counted)
 
 -- A fact about the successes of a call and a fact about its errors, as one fact about its result.
 pub both-outcomes : (P : Type 0) (Q : Error → Type 0) (result : Result (Unit {0}) Error) → OnOk result P

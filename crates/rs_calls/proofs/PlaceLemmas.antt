@@ -1,6 +1,6 @@
 -- Lemmas about the place of the first shard of another size.
-use Rattle.std.proofs.Common.{◌≡◌, ℕ, ◌+◌, ◌<◌, Bool, cond, List, [], ◌∷◌, ◌++◌, length, map, drop, get_or, refl}
-use Rattle.std.proofs.Common.{ap, ap₂, sym, ◌∙◌, inl, inr, arith}
+use Rattle.std.proofs.Common.{rules, ◌≡◌, ℕ, ◌+◌, ◌<◌, List, [], ◌∷◌, ◌++◌, length, map, drop, get_or, refl, ap, ap₂}
+use Rattle.std.proofs.Common.{sym, inl, inr, arith}
 use Rattle.std.proofs.lemmas.Bool.{cases_eq, eq-eqb, ne_eqb}
 use Rattle.std.proofs.lemmas.List.{drop_more}
 use Rattle.rs_field.specs.code.Column.{Shard}
@@ -11,18 +11,12 @@ use Rattle.rs_calls.specs.Places.{place_of_other}
 -- If shard i has another size, the search from it on ends at once.
 pub other-here : (size i : ℕ) (shards : List Shard) → i < length shards → (length (get_or shards i []) ≡ size → ⊥)
     → place_of_other size (drop i shards) ≡ 0
-other-here size i shards inside other =
-    ap (place_of_other size) (drop_more shards i [] inside)
-    ∙ ap (λ (b : Bool). cond b (place_of_other size (drop (i + 1) shards) + 1) 0)
-    (ne_eqb (length (get_or shards i [])) size other)
+other-here size i shards inside other = search (rules, drop_more, ne_eqb)
 
 -- If shard i has the size, the search goes on with the next shard.
 pub other-later : (size i : ℕ) (shards : List Shard) → i < length shards → length (get_or shards i []) ≡ size
     → place_of_other size (drop i shards) ≡ place_of_other size (drop (i + 1) shards) + 1
-other-later size i shards inside same =
-    ap (place_of_other size) (drop_more shards i [] inside)
-    ∙ ap (λ (b : Bool). cond b (place_of_other size (drop (i + 1) shards) + 1) 0)
-    (eq-eqb (length (get_or shards i [])) size same)
+other-later size i shards inside same = search (rules, drop_more, eq-eqb)
 
 -- If a list has a shard of another size, this shard is also the first one of the list with others after it.
 pub other-first : (size : ℕ) (first second : List Shard) → place_of_other size first < length first

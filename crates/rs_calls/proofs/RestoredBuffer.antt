@@ -1,8 +1,7 @@
 -- Lemmas about a buffer whose lost originals were restored in their places.
-use Rattle.std.proofs.Common.{◌≡◌, ℕ, suc, ◌+◌, ◌<◌, ◌==◌, ◌&&◌, Bool, true, false, not, cond, List, [], ◌∷◌, ◌++◌}
-use Rattle.std.proofs.Common.{length, map, get_or, Option, Some, None, Result, Ok, Err, MatchResult, refl, sym, ap, ap₂}
-use Rattle.std.proofs.Common.{◌∙◌, inl, inr, arith}
-use Rattle.std.specs.Prelude.{◌⊎◌, OnErr, is_some, unwrap_or}
+use Rattle.std.proofs.Common.{rules, ◌≡◌, ℕ, suc, ◌+◌, ◌<◌, ◌==◌, cond, List, [], ◌∷◌, ◌++◌, length, map, get_or}
+use Rattle.std.proofs.Common.{Option, Some, None, Result, Ok, Err, MatchResult, refl, sym, ap, ◌∙◌, inl, inr, arith}
+use Rattle.std.specs.Prelude.{◌⊎◌, OnErr, unwrap_or}
 use Rattle.std.proofs.lemmas.Bool.{cases_eq, eq-eqb, ne_eqb, lt-ltb}
 use Rattle.rs_field.specs.declared.code.error.Error.{Error}
 use Rattle.rs_field.specs.declared.code.error.Error.TheVariants.{OutOfMemory}
@@ -74,17 +73,7 @@ module _ {k r size : ℕ} {own originals other recovery : List ℕ} (new : List 
       → missing_of (marked_state k r size own originals other recovery) message j
       ≡ cond (get_or own j 0 == 0) (Some (shard_at message j)) None
   unfolding missing_of
-  missing-mark message j inside =
-      ap (λ (b : Bool). cond (b && not (is_some (marked_map size own originals j))) (Some (shard_at message j)) None)
-      (lt-ltb j k inside)
-      ∙ by_mark (get_or own j 0 == 0)
-    where
-      by_mark : (zero_here : Bool)
-          → cond (not (is_some (cond zero_here None (Some (shard_place size originals j)))))
-          (Some (shard_at message j)) None
-          ≡ cond zero_here (Some (shard_at message j)) None
-      by_mark true = refl
-      by_mark false = refl
+  missing-mark message j inside = search (rules, lt-ltb)
 
   -- If the places of the lost originals hold the restored originals, the whole buffer is the old buffer with the
   -- restored originals.
@@ -214,16 +203,11 @@ module _ {s : DecoderState} {own lost : List ℕ} {len : ℕ} (y : MarkedBuffers
   -- The rooms are the places of the lost indexes.
   pub rooms-placed : lost ≡ lost_indexes 0 own
       → rooms_in y ≡ map (λ i. shard_place s.configuration.shard_bytes y.originals.now i) (lost_indexes 0 own)
-  rooms-placed listed =
-      ap (λ (n : ℕ). map (λ i. shard_place n y.originals.now i) y.lost.now) size-same
-      ∙ ap (λ (l : List ℕ). map (λ i. shard_place s.configuration.shard_bytes y.originals.now i) l)
-      (ap (λ t. t.2) same ∙ listed)
+  rooms-placed listed = search (rules, size-same)
 
   -- The marked originals are those of the state.
   pub marked-same : marked_map s.configuration.shard_bytes own y.originals.now ≡ s.originals
-  marked-same =
-      ap₂ (λ (n : ℕ) (marks : List ℕ). marked_map n marks y.originals.now) (sym size-same) (sym (ap (λ t. t.1) same))
-      ∙ ap (λ t. t.0.originals) same
+  marked-same = search (rules, size-same)
 
   -- The buffer of the originals has the same length.
   pub length-same : length y.originals.now ≡ len

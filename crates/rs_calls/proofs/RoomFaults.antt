@@ -1,22 +1,18 @@
 -- The results of calls that write into rooms, with each error replaced by its fault.
-use Rattle.std.proofs.Common.{◌≡◌, ℕ, ◌==◌, Bool, true, false, cond, List, [], ◌∷◌, ◌++◌, length, map, Result, Ok, Err}
-use Rattle.std.proofs.Common.{MatchResult, MutBor, refl, sym, ap, subst, ◌∙◌}
-use Rattle.rs_field.specs.declared.code.error.Error.{Error}
+use Rattle.std.proofs.Common.{rules, ◌≡◌, ℕ, ◌==◌, Bool, true, false, cond, List, [], ◌∷◌, ◌++◌, length, map, Result}
+use Rattle.std.proofs.Common.{Ok, Err, MatchResult, MutBor, refl, sym, ap, subst, ◌∙◌}
 use Rattle.rs_field.specs.declared.code.error.Error.TheVariants.{OutOfMemory}
 use Rattle.rs_field.specs.code.Column.{Shard}
-use Rattle.rs_field.specs.code.Given.{Shards, Lists}
 use Rattle.rs_field.specs.code.OneCall.{Items}
-use Rattle.rs_field.specs.code.Outcome.{result_and_then}
 use Rattle.reed_solomon_simd.specs.declared.room_error.RoomError.{RoomError}
 use Rattle.reed_solomon_simd.specs.declared.room_error.RoomError.TheVariants.{Refused as refused}
 use Rattle.reed_solomon_simd.specs.declared.room_error.RoomError.TheVariants.{WrongLength as wrong_length}
-use Rattle.reed_solomon_simd.specs.declared.room_error.RoomError.TheVariants.{WrongNumberOfRooms as wrong_number}
 use Rattle.reed_solomon_simd.specs.Into.{EncodesInto, DecodesInto, Fills as fills_rooms, rooms_fit as fit_rooms}
 use Rattle.reed_solomon_simd.specs.Into.{lengths_fit as fit_lengths}
 use Rattle.reed_solomon_simd.specs.Rooms.{loans_of}
 use Rattle.rs_calls.specs.declared.fault.Fault.{Fault}
 use Rattle.rs_calls.specs.Arrays.{EncodesArrays, DecodesArrays, Fills, rooms_fit, lengths_fit, shards_in, KeepsRooms}
-use Rattle.rs_calls.specs.Places.{placed, placed_refusal}
+use Rattle.rs_calls.specs.Places.{placed}
 
 -- a result of a call over these shards and rooms, with its error replaced by its fault
 abbrev pub told : List Shard → List (List ℕ) → Result (Unit {0}) RoomError → Result (Unit {0}) Fault
@@ -39,16 +35,7 @@ lengths-told given all (shard ∷ shards) (room ∷ rooms) =
 
 fit-told : (given shards : List Shard) (rooms : List (List ℕ))
     → rooms_fit shards rooms ≡ told given rooms (fit_rooms shards rooms)
-fit-told given shards rooms = by_test (length shards == length rooms)
-  where
-    by_test : (same : Bool) → ◌≡◌ {A = Result (Unit {0}) Fault}
-        (result_and_then (λ _. lengths_fit rooms shards rooms)
-        (cond {A = Result (Unit {0}) Fault} same (Ok tt)
-        (Err (placed given rooms (wrong_number (length shards) (length rooms))))))
-        (told given rooms (result_and_then (λ _. fit_lengths shards rooms)
-        (cond {A = Result (Unit {0}) RoomError} same (Ok tt) (Err (wrong_number (length shards) (length rooms))))))
-    by_test true = lengths-told given rooms shards rooms
-    by_test false = refl
+fit-told given shards rooms = search (rules, lengths-told)
 
 fills-told : (given shards : List Shard) (old new : List (List ℕ)) (answer : Result (Unit {0}) RoomError)
     → fills_rooms shards old new answer → Fills shards old new (told given old answer)
@@ -70,17 +57,7 @@ pub encodes-told : (k r : ℕ) (originals : List Shard) (old new : List (List �
     (other : Result (Unit {0}) Fault)
     → other ≡ told originals old answer → EncodesInto k r originals old new answer
     → EncodesArrays k r originals old new other
-encodes-told k r originals old new answer other is encodes =
-    subst (λ (o : Result (Unit {0}) Fault). EncodesArrays k r originals old new o) (sym is)
-    (encodes.0, encodes.1, by_coded encodes.0 encodes.2)
-  where
-    by_coded : (coded : Result (List Shard) Error)
-        → MatchResult coded (λ shards. fills_rooms shards old new answer)
-        (λ e. (answer ≡ Err (refused e)) × (new ≡ old))
-        → MatchResult coded (λ shards. Fills shards old new (told originals old answer))
-        (λ e. (told originals old answer ≡ Err (placed_refusal originals e)) × (new ≡ old))
-    by_coded (Ok shards) fills = fills-told originals shards old new answer fills
-    by_coded (Err e) does = (ap (told originals old) does.0, does.1)
+encodes-told k r originals old new answer other is encodes = search (rules, fills-told)
 
 -- A result of `decode_into`, with its error replaced by its fault, is a result of a decode over arrays.
 pub decodes-told : (k r : ℕ) (originals recovery : Items) (old new : List (List ℕ))
@@ -88,22 +65,7 @@ pub decodes-told : (k r : ℕ) (originals recovery : Items) (old new : List (Lis
     → other ≡ told (shards_in originals ++ shards_in recovery) old answer
     → DecodesInto k r originals recovery old new answer
     → DecodesArrays k r originals recovery old new other
-decodes-told k r originals recovery old new answer other is decodes =
-    subst (λ (o : Result (Unit {0}) Fault). DecodesArrays k r originals recovery old new o) (sym is)
-    (decodes.0, decodes.1, by_decoded decodes.0 decodes.2)
-  where
-    by_decoded : (decoded : Result Shards Error)
-        → MatchResult decoded
-        (λ restored. (items : Items) × Lists restored items × fills_rooms (map (λ item. item.1) items) old new answer)
-        (λ e. (answer ≡ Err (refused e)) × (new ≡ old))
-        → MatchResult decoded
-        (λ restored. (items : Items) × Lists restored items
-        × Fills (shards_in items) old new (told (shards_in originals ++ shards_in recovery) old answer))
-        (λ e. (told (shards_in originals ++ shards_in recovery) old answer
-        ≡ Err (placed_refusal (shards_in originals ++ shards_in recovery) e)) × (new ≡ old))
-    by_decoded (Ok restored) (items, listing, fills) =
-        (items, listing, fills-told (shards_in originals ++ shards_in recovery) (shards_in items) old new answer fills)
-    by_decoded (Err e) does = (ap (told (shards_in originals ++ shards_in recovery) old) does.0, does.1)
+decodes-told k r originals recovery old new answer other is decodes = search (rules, fills-told)
 
 -- If a call over rooms fails, the rooms are unchanged.
 kept-by : (old new : List (List ℕ)) (e : RoomError) (answer : Result (Unit {0}) RoomError) → answer ≡ Err e
@@ -115,40 +77,17 @@ kept-by old new e answer failed P (Err f) does = does.1
 -- If an encode fails, the rooms are unchanged.
 pub encodes-kept : (k r : ℕ) (originals : List Shard) (old new : List (List ℕ)) (e : RoomError)
     (answer : Result (Unit {0}) RoomError) → answer ≡ Err e → EncodesInto k r originals old new answer → new ≡ old
-encodes-kept k r originals old new e answer failed encodes = by_coded encodes.0 encodes.2
-  where
-    by_coded : (coded : Result (List Shard) Error)
-        → MatchResult coded (λ shards. fills_rooms shards old new answer)
-        (λ f. (answer ≡ Err (refused f)) × (new ≡ old)) → new ≡ old
-    by_coded (Ok shards) fills = kept-by old new e answer failed (new ≡ shards) (fit_rooms shards old) fills
-    by_coded (Err f) does = does.1
+encodes-kept k r originals old new e answer failed encodes = search (rules, kept-by)
 
 -- If a decode fails, the rooms are unchanged.
 pub decodes-kept : (k r : ℕ) (originals recovery : Items) (old new : List (List ℕ)) (e : RoomError)
     (answer : Result (Unit {0}) RoomError) → answer ≡ Err e → DecodesInto k r originals recovery old new answer
     → new ≡ old
-decodes-kept k r originals recovery old new e answer failed decodes = by_decoded decodes.0 decodes.2
-  where
-    by_decoded : (decoded : Result Shards Error)
-        → MatchResult decoded
-        (λ restored. (items : Items) × Lists restored items
-        × fills_rooms (map (λ item. item.1) items) old new answer)
-        (λ f. (answer ≡ Err (refused f)) × (new ≡ old)) → new ≡ old
-    by_decoded (Ok restored) (items, listing, fills) =
-        kept-by old new e answer failed (new ≡ map (λ (item : ℕ × Shard). item.1) items)
-        (fit_rooms (map (λ (item : ℕ × Shard). item.1) items) old) fills
-    by_decoded (Err f) does = does.1
+decodes-kept k r originals recovery old new e answer failed decodes = search (rules, kept-by)
 
 -- The check of rooms for nothing never fails because memory is lacking.
 pub nothing-memory : (rooms : List (List ℕ)) → fit_rooms [] rooms ≡ Err (refused OutOfMemory) → ⊥
-nothing-memory rooms is = by_test (0 == length rooms) is
-  where
-    by_test : (same : Bool)
-        → result_and_then (λ _. fit_lengths [] rooms)
-        (cond {A = Result (Unit {0}) RoomError} same (Ok tt) (Err (wrong_number 0 (length rooms))))
-        ≡ Err (refused OutOfMemory) → ⊥
-    by_test true is = cc
-    by_test false is = cc
+nothing-memory rooms is = search rules
 
 -- If the loans of the rooms are the same as before, the array still points to the same rooms.
 pub keeps-rooms : (old new : List (MutBor (List ℕ))) → loans_of new ≡ loans_of old → KeepsRooms old new

@@ -1,6 +1,6 @@
 -- Lemmas about pieces of a text that are written into a room one after another.
-use Rattle.std.proofs.Common.{◌≡◌, ℕ, ◌+◌, ◌-◌, ◌<◌, ◌≤◌, min, List, [], ◌++◌, length, take, drop, sym, ap, subst, ◌∙◌}
-use Rattle.std.proofs.Common.{inl, inr, arith, append_assoc, append-nil}
+use Rattle.std.proofs.Common.{rules, ◌≡◌, ℕ, ◌+◌, ◌-◌, ◌<◌, ◌≤◌, min, List, [], ◌++◌, length, take, drop, sym, ap}
+use Rattle.std.proofs.Common.{subst, ◌∙◌, arith, append_assoc, append-nil}
 use Rattle.std.proofs.Math.Seq.{take-nil, take-append-add, take-append_seam, drop-append_seam}
 use Rattle.std.proofs.lemmas.Bool.{cases_lt}
 use Rattle.std.proofs.lemmas.List.{take_all, drop_all, take-append-le, length-append, length-take, length-drop}
@@ -14,43 +14,23 @@ over-nothing room = ap (λ l. l ++ room) (take-nil (length room))
 -- A piece that begins after the end of the room changes nothing.
 pub over-past : (text piece old : List ℕ) → length old ≤ length text
     → text_over (text ++ piece) old ≡ text_over text old
-over-past text piece old past =
-    ap (λ l. l ++ drop (length (text ++ piece)) old) (take-append-le (length old) text piece past)
-    ∙ ap (λ l. take (length old) text ++ l)
-    (drop_all (length (text ++ piece)) old (let long = length-append text piece in omega (arith, past, long))
-    ∙ sym (drop_all (length text) old past))
+over-past text piece old past = search (rules, take-append-le, drop_all, length-append)
 
 -- A piece that begins inside the room is written as far as it fits.
 module _ (text piece old room : List ℕ) (at fits : ℕ) (sized : length text ≡ at) (is : room ≡ text_over text old)
     (inside : at < length old)
     (fit : fits ≡ min (length piece) (length old - at)) where
   begins : room ≡ text ++ drop at old
-  begins =
-      is ∙ ap (λ l. l ++ drop (length text) old) (take_all (length old) text (omega (arith, sized, inside)))
-      ∙ ap (λ n. text ++ drop n old) sized
+  begins = search (rules, take_all)
 
   front : take at room ≡ text
-  front = ap (take at) begins ∙ ap (λ n. take n (text ++ drop at old)) (sym sized) ∙ take-append_seam text (drop at old)
+  front = search (rules, begins, take-append_seam)
 
   back : drop fits (drop at room) ≡ drop (at + fits) old
-  back =
-      ap (λ l. drop fits (drop at l)) begins ∙ ap (λ n. drop fits (drop n (text ++ drop at old))) (sym sized)
-      ∙ ap (drop fits) (drop-append_seam text (drop at old)) ∙ drop-drop fits at old
+  back = search (rules, begins, drop-append_seam, drop-drop)
 
   middle : take fits piece ++ drop (at + fits) old ≡ take (length old - at) piece ++ drop (at + length piece) old
-  middle = elim (cases_lt (length piece) (length old - at)) [
-    | inl short ↦
-        let all : fits ≡ length piece = fit ∙ omega (arith, short) in
-        ap (λ n. take n piece ++ drop (at + n) old) all
-        ∙ ap (λ l. l ++ drop (at + length piece) old)
-        (take_all (length piece) piece (omega arith) ∙ sym (take_all (length old - at) piece (omega (arith, short))))
-    | inr long ↦
-        let most : fits ≡ length old - at = fit ∙ omega (arith, long) in
-        ap (λ n. take n piece ++ drop (at + n) old) most
-        ∙ ap (λ l. take (length old - at) piece ++ l)
-        (drop_all (at + (length old - at)) old (omega arith)
-        ∙ sym (drop_all (at + length piece) old (omega (arith, long, inside))))
-  ]
+  middle = search (rules, cases_lt, take_all, drop_all)
 
   pub over-inside : take at room ++ (take fits piece ++ drop fits (drop at room)) ≡ text_over (text ++ piece) old
   over-inside =
@@ -82,7 +62,4 @@ ended-at text old {known = known} {new = new} {told = told} is writes =
 
 -- Writing a text into a room does not change the length of the room.
 pub length-over : (text old : List ℕ) → length (text_over text old) ≡ length old
-length-over text old =
-    let front = length-take (length old) text in
-    let back = length-drop (length text) old in
-    length-append (take (length old) text) (drop (length text) old) ∙ omega (arith, front, back)
+length-over text old = search (rules, front, length-take, back, length-drop, length-append)

@@ -1,6 +1,6 @@
 -- Pieces that were coded, and then written by two calls.
-use Rattle.std.proofs.Common.{◌≡◌, ◌⊎◌, ℕ, ◌+◌, ◌-◌, ◌<◌, ◌≤◌, ◌%◌, List, [], ◌++◌, length, All, Some, sym, ap, ◌∙◌}
-use Rattle.std.proofs.Common.{get_or, inl, inr, zero-add, arith}
+use Rattle.std.proofs.Common.{rules, ◌≡◌, ◌⊎◌, ℕ, ◌+◌, ◌-◌, ◌<◌, ◌≤◌, ◌%◌, List, [], ◌++◌, length, All, Some, sym, ap}
+use Rattle.std.proofs.Common.{◌∙◌, get_or, zero-add, arith}
 use Rattle.std.specs.Prelude.{min, map, ◌≢◌}
 use Rattle.std.specs.Global.{Vec}
 use Rattle.std.proofs.lemmas.Bool.Decides.{eqb_tells}
@@ -38,47 +38,13 @@ module _ {k r : ℕ} {pieces made : List Shard} {before between after : Shards} 
       → Puts 0 pieces before between → Puts k made between after
       → (i : ℕ) (block : Shard) → i < k + r → before i ≡ Some block
       → after i ≡ Some (block ++ shard_at (pieces ++ made) i)
-  put_both one two first second i block lt is =
-      elim (cases_lt i k) [
-        | inl front ↦
-            let inside : i < length pieces = omega (arith, front, one) in
-            let here : before (0 + i) ≡ Some block = ap before (zero-add i) ∙ is in
-            second.others i (inl front) ∙ ap between (sym (zero-add i)) ∙ first.put i block inside here
-            ∙ ap (λ (x : Shard). Some (block ++ x)) (sym (get_or-append pieces made [] i inside))
-        | inr back ↦
-            let inside : i - k < length made = omega (arith, back, lt, two) in
-            let place : k + (i - k) ≡ i = omega (arith, back) in
-            let past : 0 + length pieces ≤ i = omega (arith, back, one) in
-            let here : between (k + (i - k)) ≡ Some block = ap between place ∙ first.others i (inr past) ∙ is in
-            ap after (sym place) ∙ second.put (i - k) block inside here
-            ∙ ap (λ (x : Shard). Some (block ++ x)) (sym (get_or-append_right pieces made k i [] one back))
-      ]
+  put_both one two first second i block lt is = search (rules, cases_lt, zero-add, get_or-append, get_or-append_right)
 
 module _ {start piece size width : ℕ} where
   -- the next piece is a strip
   pub next_strip : start ≤ size → (start % 64 ≡ 0) ⊎ (start ≡ size) → piece % 64 ≡ 0 → 0 < piece → start < size
       → width ≡ min piece (size - start) → IsStrip start (start + width) size
-  next_strip inside begins chunks some less is =
-      let from : start % 64 ≡ 0 =
-      elim begins [ inl whole ↦ whole | inr last ↦ absurd (let no : ⊥ = omega (arith, last, less) in no) ] in
-      elim (cases_lt piece (size - start)) [
-        | inl lt ↦
-            let whole : width ≡ piece = omega arith in
-            record {
-              order = omega arith;
-              inside = omega (arith, whole, lt, less);
-              begins = from;
-              ends = inl (omega (arith, whole, from, chunks));
-            }
-        | inr le ↦
-            let left : width ≡ size - start = omega arith in
-            record {
-              order = omega arith;
-              inside = omega (arith, left, less);
-              begins = from;
-              ends = inr (omega (arith, left, less));
-            }
-      ]
+  next_strip inside begins chunks some less is = search (rules, cases_lt)
 
 -- the pieces of vectors, as a call writes them
 pub puts_from : {first : ℕ} (vectors : List (Vec ℕ)) {before after : Shards}
@@ -86,12 +52,7 @@ pub puts_from : {first : ℕ} (vectors : List (Vec ℕ)) {before after : Shards}
     → after (first + i) ≡ Some (block ++ shard_at (map (λ p. p.items) vectors) i))
     → ((i : ℕ) → (i < first) ⊎ (first + length vectors ≤ i) → after i ≡ before i)
     → Puts first (map (λ p. p.items) vectors) before after
-puts_from vectors put others =
-    let count : length (map (λ (p : Vec ℕ). p.items) vectors) ≡ length vectors = length-map vectors _ in
-    record {
-      put = λ i block lt is. put i block (omega (arith, lt, count)) is;
-      others = λ i side. others i (elim side [ inl lt ↦ inl lt | inr le ↦ inr (omega (arith, le, count)) ]);
-    }
+puts_from vectors put others = search (rules, length-map)
 
 -- the pieces of the blocks up to number n, and then the next one
 module _ {first n : ℕ} (pieces : List Shard) {piece : Shard} {before now after : Shards}
@@ -104,23 +65,7 @@ module _ {first n : ℕ} (pieces : List Shard) {piece : Shard} {before now after
   pub done_next : ((i : ℕ) (block : Shard) → i < n + 1 → before (first + i) ≡ Some block
       → after (first + i) ≡ Some (block ++ shard_at pieces i))
       × ((i : ℕ) → (i < first) ⊎ (first + (n + 1) ≤ i) → after i ≡ before i)
-  done_next = (
-    λ i block lt held. elim (eqb_tells i n) [
-      | inl same ↦
-          let at : i ≡ n = same.1 in
-          let place : first + i ≡ first + n = omega (arith, at) in
-          let past : first + n ≤ first + n = omega arith in
-          ap after place ∙ here block (rest (first + n) (inr past) ∙ ap before (sym place) ∙ held)
-          ∙ ap (λ (x : Shard). Some (block ++ x)) (is ∙ ap (shard_at pieces) (sym at))
-      | inr other ↦
-          let less : i < n = omega (arith, lt, other.1) in
-          others (first + i) (λ e. other.1 (omega (arith, e))) ∙ done i block less held
-    ],
-    λ i side. elim side [
-      | inl lt ↦ others i (λ e. let no : ⊥ = omega (arith, lt, e) in no) ∙ rest i (inl lt)
-      | inr le ↦ others i (λ e. let no : ⊥ = omega (arith, le, e) in no) ∙ rest i (inr (omega (arith, le)))
-    ],
-  )
+  done_next = search (rules, eqb_tells)
 
 -- a vector in a list
 pub piece_at : (vectors : List (Vec ℕ)) {n : ℕ} {v : Vec ℕ} → n < length vectors → v ≡ get_or vectors n v

@@ -1,13 +1,14 @@
 -- A set that is created piece by piece.
-use Rattle.std.proofs.Common.{◌≡◌, ℕ, zero, suc, ◌+◌, ◌-◌, ◌<◌, ◌≤◌, ◌⊎◌, List, [], ◌++◌, length, get_or}
-use Rattle.std.proofs.Common.{take, Some, refl, sym, ap, subst, ◌∙◌, inl, inr, arith}
+use Rattle.std.proofs.Common.{rules, ◌≡◌, ℕ, zero, suc, ◌+◌, ◌-◌, ◌<◌, ◌≤◌, ◌⊎◌, List, [], ◌++◌, length, take, Some}
+use Rattle.std.proofs.Common.{refl, sym, ap, ◌∙◌, arith}
+use Rattle.std.proofs.lemmas.Grind.{common_steps}
 use Rattle.std.specs.List.{flat_map}
 use Rattle.std.proofs.lemmas.Bool.{cases_lt}
 use Rattle.std.proofs.lemmas.List.{take_all, get_or-append_right, get_or_default}
 use Rattle.std.proofs.Math.ListN.{get_or-append}
 use Rattle.sha2.specs.Sha256.{sha256}
 use Rattle.sha2.specs.declared.Sha256.{Sha256}
-use Rattle.rs_field.specs.code.Column.{Shard, IsShard, AreShards, shard_at}
+use Rattle.rs_field.specs.code.Column.{Shard, AreShards, shard_at}
 use Rattle.rs_field.specs.code.Given.{Shards}
 use Rattle.rs_field.specs.code.OneCall.{default_of}
 use Rattle.rs_field.specs.code.Pieces.{IsStrip}
@@ -43,29 +44,15 @@ shard_at-empty (suc n) zero = refl
 shard_at-empty (suc n) (suc i) = shard_at-empty n i
 
 empty_shards : (n : ℕ) → AreShards n 0 (empty_blocks n)
-empty_shards n =
-    record {
-      length_is = length-empty n;
-      each = λ i d h.
-          let is : get_or (empty_blocks n) i d ≡ [] = get_or_default (empty_blocks n) i d [] h ∙ shard_at-empty n i in
-          subst (IsShard 0) (sym is) (record { length_is = refl; bytes = λ j e lt. absurd (omega arith) });
-    }
+empty_shards n = grind (arith, common_steps, length-empty, get_or_default, shard_at-empty)
 
 -- block i of two lists, of which the first has n blocks
 split_at : (n : ℕ) (xs ys : List Shard) (i : ℕ) → length xs ≡ n → ((i < n) × (shard_at (xs ++ ys) i ≡ shard_at xs i))
     ⊎ ((n ≤ i) × (shard_at (xs ++ ys) i ≡ shard_at ys (i - n)))
-split_at n xs ys i len =
-    elim (cases_lt i n) [
-      | inl lt ↦ inl (lt, get_or-append xs ys [] i (omega arith))
-      | inr le ↦ inr (le, get_or-append_right xs ys n i [] len le)
-    ]
+split_at n xs ys i len = search (rules, cases_lt, get_or-append, get_or-append_right)
 
 empty_block : (k r i : ℕ) → shard_at (empty_blocks k ++ empty_blocks r) i ≡ []
-empty_block k r i =
-    elim (split_at k (empty_blocks k) (empty_blocks r) i (length-empty k)) [
-      | inl front ↦ front.1 ∙ shard_at-empty k i
-      | inr back ↦ back.1 ∙ shard_at-empty r (i - k)
-    ]
+empty_block k r i = search (rules, split_at, length-empty, shard_at-empty)
 
 -- Before the first piece, nothing was read, coded, hashed or written.
 pub created_none : {shape : Shape} {known before : Shards} {hashers recovery_hashers : List Sha256}
@@ -92,18 +79,7 @@ joined_block : (k r : ℕ) (xs ys ps qs : List Shard) (i : ℕ) → length xs �
     → length qs ≡ r → i < k + r
     → shard_at (joined xs ps ++ joined ys qs) i ≡ shard_at (xs ++ ys) i ++ shard_at (ps ++ qs) i
 joined_block k r xs ys ps qs i a b c d lt =
-    elim (split_at k (joined xs ps) (joined ys qs) i (length-joined xs ps ∙ a)) [
-      | inl front ↦
-          let one : i < length xs = omega (arith, front.0) in
-          let two : i < length ps = omega (arith, front.0) in
-          rw (get_or-append xs ys [] i one, get_or-append ps qs [] i two)
-          (front.1 ∙ shard_at-joined xs ps i one two)
-      | inr back ↦
-          let one : i - k < length ys = omega (arith, back.0) in
-          let two : i - k < length qs = omega (arith, back.0) in
-          rw (get_or-append_right xs ys k i [] a back.0, get_or-append_right ps qs k i [] c back.0)
-          (back.1 ∙ shard_at-joined ys qs (i - k) one two)
-    ]
+    search (rules, split_at, length-joined, get_or-append, shard_at-joined, get_or-append_right)
 
 module _ {shape : Shape} {start end : ℕ} {known before now after : Shards} {h h' r r' : List Sha256} where
   -- If the first `start` bytes of each block were read, coded, hashed and written, and then the piece from `start` to

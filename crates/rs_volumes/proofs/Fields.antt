@@ -1,7 +1,6 @@
 -- A field that is read is the field that was written, and what was written is read again.
-use Rattle.std.proofs.Common.{◌≡◌, ℕ, ◌+◌, ◌^◌, ◌<◌, ◌≤◌, Bool, true, false, cond, eqb, ltb, List, ◌++◌}
-use Rattle.std.proofs.Common.{length, get_or, take, drop, Result, Ok, Err, refl, sym, ap, subst}
-use Rattle.std.proofs.Common.{◌∙◌, append_assoc, arith, inl, inr}
+use Rattle.std.proofs.Common.{rules, ◌≡◌, ℕ, ◌+◌, ◌^◌, ◌<◌, ◌≤◌, Bool, true, false, cond, eqb, ltb, List, ◌++◌, length}
+use Rattle.std.proofs.Common.{get_or, take, drop, Result, Ok, Err, refl, sym, ap, subst, ◌∙◌, append_assoc, arith}
 use Rattle.std.specs.Int.{Width, w16, w32, w64, byte_len, from_le_bytes, to_le_bytes}
 use Rattle.std.proofs.lemmas.Bool.{cases_lt, ltb-false, le-ltb, eqb-true, eq-eqb}
 use Rattle.std.proofs.lemmas.List.{take_at, drop_at, take-append-drop, length-append, length-take, get_or-drop}
@@ -20,11 +19,7 @@ pub IsBytes-drop : (n : ℕ) (bytes : List ℕ) → IsBytes bytes → IsBytes (d
 IsBytes-drop n bytes h i = rw get_or-drop (h (n + i))
 
 IsBytes-take : (n : ℕ) (bytes : List ℕ) → IsBytes bytes → IsBytes (take n bytes)
-IsBytes-take n bytes h i =
-    elim (cases_lt i n) [
-      | inl lt ↦ rw (get_or-take n bytes i 0 lt) (h i)
-      | inr le ↦ rw (get_or_past (take n bytes) i 0 (omega (arith, length-take n bytes))) (omega arith)
-    ]
+IsBytes-take n bytes h i = search (rules, cases_lt, get_or-take, get_or_past, length-take)
 
 -- If two steps succeed, the first step returned a value, and the second one succeeded with this value.
 pub bind_ok : {A B : Type 0} {r : Result A Fault} {f : A → Result B Fault} {y : B} → (r >>= f) ≡ Ok y → (x : A)
@@ -74,28 +69,13 @@ pub record IsWide (w : Width) (limit : ℕ) : Type 0 where
   pub below : (bytes : List ℕ) → IsBytes bytes → from_le_bytes w bytes < limit
 
 pub wide16 : IsWide w16 (2 ^ 16)
-wide16 = record {
-  len = λ n. refl;
-  back = λ bytes len fits. le_bytes_2 bytes _ len fits refl;
-  again = λ n lt. from_le_bytes-to_le_bytes_2 n lt;
-  below = λ bytes fits. omega (arith, fits 0, fits 1);
-}
+wide16 = search (rules, le_bytes_2, from_le_bytes-to_le_bytes_2)
 
 pub wide32 : IsWide w32 (2 ^ 32)
-wide32 = record {
-  len = λ n. refl;
-  back = λ bytes len fits. le_bytes_4 bytes _ len fits refl;
-  again = λ n lt. from_le_bytes-to_le_bytes_4 n lt;
-  below = λ bytes fits. omega (arith, fits 0, fits 1, fits 2, fits 3);
-}
+wide32 = search (rules, le_bytes_4, from_le_bytes-to_le_bytes_4)
 
 pub wide64 : IsWide w64 (2 ^ 64)
-wide64 = record {
-  len = λ n. refl;
-  back = λ bytes len fits. le_bytes_8 bytes _ len fits refl;
-  again = λ n lt. from_le_bytes-to_le_bytes_8 n lt;
-  below = λ bytes fits. omega (arith, fits 0, fits 1, fits 2, fits 3, fits 4, fits 5, fits 6, fits 7);
-}
+wide64 = search (rules, le_bytes_8, from_le_bytes-to_le_bytes_8)
 
 module _ {w : Width} {limit : ℕ} (wide : IsWide w limit) where
   -- A number that is read has the bytes that were taken as its spelling, and it fits its field.
@@ -185,13 +165,4 @@ name_takes {bytes = bytes} fits e =
 pub name_again : (name rest : List ℕ) → length name < 2 ^ 16 → name_at (name_spelling name ++ rest) ≡ Ok (name, rest)
 unfolding name_at
 name_again name rest lt =
-    let long : ltb (length (name ++ rest)) (length name) ≡ false =
-    le-ltb _ _ (omega (arith, length-append name rest)) in
-    ap name_at (append_assoc (to_le_bytes w16 (length name)) name rest)
-    ∙ rw (
-      number_again wide16 lt (name ++ rest),
-      long,
-      take_at name rest
-          (length name) refl,
-      drop_at name rest (length name) refl,
-    ) refl
+    search (rules, ltb, le-ltb, length-append, append_assoc, number_again, wide16, take_at, drop_at)

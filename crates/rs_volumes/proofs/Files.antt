@@ -1,11 +1,11 @@
 -- What is read is spelled so, and what is spelled so is read.
-use Rattle.std.proofs.Common.{◌≡◌, ℕ, zero, suc, ◌+◌, ◌*◌, ◌^◌, ◌<◌, ◌≤◌, false, ltb, List, [], ◌∷◌, ◌++◌, length, Ok}
-use Rattle.std.proofs.Common.{refl, sym, ap, subst, ◌∙◌, append_assoc, arith}
+use Rattle.std.proofs.Common.{rules, ◌≡◌, ℕ, zero, suc, ◌+◌, ◌*◌, ◌^◌, ◌<◌, ltb, List, [], ◌∷◌, ◌++◌, length, Ok, refl}
+use Rattle.std.proofs.Common.{ap, subst, ◌∙◌, append_assoc, arith}
 use Rattle.std.specs.List.{flat_map, AllByRecursion}
 use Rattle.std.specs.Int.{w32, w64, to_le_bytes}
 use Rattle.std.proofs.lemmas.Bool.{ltb-false, le-ltb}
 use Rattle.std.proofs.lemmas.List.Concat.{flat_map-cons}
-use Rattle.rs_volumes.specs.declared.fault.Fault.TheVariants.{Short, Trailing, Code, Digest}
+use Rattle.rs_volumes.specs.declared.fault.Fault.TheVariants.{Code, Digest}
 use Rattle.rs_volumes.specs.Description.{SetFile, FileSet, name_spelling, file_spelling, opening_spelling, spelling}
 use Rattle.rs_volumes.specs.Description.{FileFits, Fits}
 use Rattle.rs_volumes.specs.Reading.{file_at, files_at, Opening, opening_at, digests_in, description_in}
@@ -122,20 +122,11 @@ opening_again o rest fits =
 digests_take : (blocks : ℕ) (bytes digests : List ℕ) → digests_in blocks bytes ≡ Ok digests → (bytes ≡ digests)
     × (length digests ≡ 32 * blocks)
 unfolding digests_in
-digests_take blocks bytes digests e =
-    let g = guard_ok Short e in
-    let h = guard_ok Trailing g.1 in
-    let low : 32 * blocks ≤ length bytes = ltb-false _ _ g.0 in
-    let high : length bytes ≤ 32 * blocks = ltb-false _ _ h.0 in
-    let same : length bytes ≡ 32 * blocks = omega arith in
-    (ok_is h.1, ap length (sym (ok_is h.1)) ∙ same)
+digests_take blocks bytes digests e = search (rules, guard_ok, ltb-false, ok_is)
 
 digests_again : (blocks : ℕ) (digests : List ℕ) → length digests ≡ 32 * blocks → digests_in blocks digests ≡ Ok digests
 unfolding digests_in
-digests_again blocks digests len =
-    let low : ltb (length digests) (32 * blocks) ≡ false = le-ltb _ _ (omega arith) in
-    let high : ltb (32 * blocks) (length digests) ≡ false = le-ltb _ _ (omega arith) in
-    rw (low, high) refl
+digests_again blocks digests len = search (rules, ltb, le-ltb)
 
 -- ---- a description
 

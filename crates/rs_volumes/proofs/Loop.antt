@@ -1,6 +1,6 @@
 -- Reading files one after the other, as a loop does.
-use Rattle.std.proofs.Common.{◌≡◌, ℕ, suc, ◌-◌, ◌+◌, ◌≤◌, ◌<◌, List, [], ◌∷◌, ◌++◌, Result, Ok, Err, refl, sym, ap, ◌∙◌}
-use Rattle.std.proofs.Common.{append_assoc, arith}
+use Rattle.std.proofs.Common.{rules, ◌≡◌, ℕ, suc, ◌-◌, ◌+◌, ◌≤◌, ◌<◌, List, [], ◌∷◌, ◌++◌, Result, Ok, Err, refl, sym}
+use Rattle.std.proofs.Common.{ap, ◌∙◌, append_assoc, arith}
 use Rattle.std.proofs.lemmas.List.{append-nil}
 use Rattle.rs_volumes.specs.declared.fault.Fault.{Fault}
 use Rattle.rs_volumes.specs.declared.fault.ReadError.{ReadError}
@@ -43,8 +43,4 @@ module _ (front : List SetFile) (count i : ℕ) (bytes : List ℕ) {total : Resu
   -- All files were read.
   pub is_done : count ≤ i → total ≡ Ok (front, bytes)
   unfolding files_at
-  is_done le =
-      let k : count - i ≡ 0 = omega arith in
-      let one : with_front front (files_at (count - i) bytes) ≡ Ok (front, bytes) =
-      rw k (ap (λ (fs : List SetFile). Ok (fs, bytes)) (append-nil front)) in
-      sym so_far ∙ one
+  is_done le = search (rules, append-nil)

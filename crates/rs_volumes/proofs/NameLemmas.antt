@@ -1,7 +1,7 @@
 -- The steps of the loops that check names and files.
-use Rattle.std.proofs.Common.{◌≡◌, ◌≢◌, ℕ, suc, ◌+◌, ◌-◌, ◌^◌, ◌<◌, ◌≤◌, Bool, true, false, eqb, ltb}
-use Rattle.std.proofs.Common.{List, [], ◌∷◌, ◌++◌, length, get_or, take, drop, drop-cons, Ok, Err, refl}
-use Rattle.std.proofs.Common.{sym, ap, ◌∙◌, add-one, arith, inl, inr}
+use Rattle.std.proofs.Common.{rules, ◌≡◌, ◌≢◌, ℕ, ◌+◌, ◌-◌, ◌^◌, ◌<◌, ◌≤◌, Bool, true, false, eqb, ltb, List, [], ◌∷◌}
+use Rattle.std.proofs.Common.{◌++◌, length, get_or, take, drop, drop-cons, Ok, Err, refl, ap, ◌∙◌, add-one, arith, inl}
+use Rattle.std.proofs.Common.{inr}
 use Rattle.std.specs.List.{between}
 use Rattle.std.proofs.lemmas.Bool.{ne_eqb, eq-eqb, lt-ltb, le-ltb, cases_lt, le-leb, lt-leb}
 use Rattle.std.proofs.lemmas.List.{take_more, get_or-drop, length-drop, drop_all}
@@ -34,10 +34,7 @@ slash_ends part name i h z p = rw (drop-cons name i 0 h, z, p) refl
 pub byte_goes : (part name : List ℕ) (i : ℕ) → i < length name → get_or name i 0 ≢ 0 → get_or name i 0 ≢ 47
     → has_parts part (drop i name) ≡ has_parts (part ++ get_or name i 0 ∷ []) (drop (i + 1) name)
 unfolding has_parts
-byte_goes part name i h z s =
-    let one : eqb (get_or name i 0) 0 ≡ false = ne_eqb _ _ z in
-    let two : eqb (get_or name i 0) 47 ≡ false = ne_eqb _ _ s in
-    rw (drop-cons name i 0 h, one, two, add-one) refl
+byte_goes part name i h z s = search (rules, ne_eqb, drop-cons, add-one)
 
 pub between_further : (name : List ℕ) (start i : ℕ) → start ≤ i → i < length name
     → between start (i + 1) name ≡ between start i name ++ get_or name i 0 ∷ []
@@ -63,17 +60,13 @@ pub before_further : (one other : List ℕ) (i : ℕ) → i < length one → i <
     → get_or one i 0 ≡ get_or other i 0
     → is_before (drop i one) (drop i other) ≡ is_before (drop (i + 1) one) (drop (i + 1) other)
 unfolding is_before
-before_further one other i h k e =
-    let same : eqb (get_or one i 0) (get_or other i 0) ≡ true = eq-eqb _ _ e in
-    rw (drop-cons one i 0 h, drop-cons other i 0 k, same, add-one) refl
+before_further one other i h k e = search (rules, eq-eqb, drop-cons, add-one)
 
 pub before_differs : (one other : List ℕ) (i : ℕ) → i < length one → i < length other
     → get_or one i 0 ≢ get_or other i 0
     → is_before (drop i one) (drop i other) ≡ ltb (get_or one i 0) (get_or other i 0)
 unfolding is_before
-before_differs one other i h k e =
-    let differ : eqb (get_or one i 0) (get_or other i 0) ≡ false = ne_eqb _ _ e in
-    rw (drop-cons one i 0 h, drop-cons other i 0 k, differ) refl
+before_differs one other i h k e = search (rules, ne_eqb, drop-cons)
 
 pub before_longer : (one other : List ℕ) (i : ℕ) → i < length one → length other ≤ i
     → is_before (drop i one) (drop i other) ≡ false
@@ -112,15 +105,10 @@ is_no_text bs never = by_test (is_utf8 bs) (λ e. never (IsUtf8-from_is_utf8 bs 
 
 drop_item : {X : Type 0} (xs : List X) (i : ℕ) (x : X) → i < length xs → x ≡ get_or xs i x
     → drop i xs ≡ x ∷ drop (i + 1) xs
-drop_item xs i x h e = drop-cons xs i x h ∙ ap (λ (y : _). y ∷ drop (suc i) xs) (sym e)
-    ∙ ap (λ (n : ℕ). x ∷ drop n xs) (sym (add-one i))
+drop_item xs i x h e = search (rules, drop-cons, add-one)
 
 equal_after : (a b left : ℕ) → a ≤ left → eqb (a + b) left ≡ eqb b (left - a)
-equal_after a b left h =
-    elim (eqb_tells b (left - a)) [
-      | inl same ↦ eq-eqb _ _ (omega (arith, same.1)) ∙ sym same.0
-      | inr other ↦ ne_eqb _ _ (λ e. other.1 (omega arith)) ∙ sym other.0
-    ]
+equal_after a b left h = search (rules, eqb_tells, eq-eqb, ne_eqb)
 
 fills_further : (block : ℕ) (file : SetFile) (rest : List SetFile) (left : ℕ) → blocks_of block file.size ≤ left
     → eqb (blocks_in block (file ∷ rest)) left ≡ eqb (blocks_in block rest) (left - blocks_of block file.size)
@@ -130,17 +118,11 @@ fills_further block file rest left h = equal_after (blocks_of block file.size) (
 fills_not : (block : ℕ) (file : SetFile) (rest : List SetFile) (left : ℕ) → left < blocks_of block file.size
     → eqb (blocks_in block (file ∷ rest)) left ≡ false
 unfolding blocks_in
-fills_not block file rest left h =
-    ne_eqb _ _ (λ e. let far : left < blocks_of block file.size + blocks_in block rest = omega arith in
-    absurd (omega (arith, e)))
+fills_not block file rest left h = search (rules, ne_eqb)
 
 fills_end : (block left : ℕ) → eqb (blocks_in block []) left ≡ eqb left 0
 unfolding blocks_in
-fills_end block left =
-    elim (eqb_tells left 0) [
-      | inl same ↦ eq-eqb _ _ (sym same.1) ∙ sym same.0
-      | inr other ↦ ne_eqb _ _ (λ e. other.1 (sym e)) ∙ sym other.0
-    ]
+fills_end block left = search (rules, eqb_tells, eq-eqb, ne_eqb)
 
 -- ---- a file in a list of entries
 
@@ -152,13 +134,11 @@ module _ (files : List FileEntry) {i : ℕ} {file : FileEntry} (h : i < length f
   pub fills_at : (block left : ℕ) → blocks_of block file.size ≤ left
       → eqb (blocks_in block (files_of (drop i files))) left ≡ eqb (blocks_in block (files_of (drop (i + 1) files)))
       (left - blocks_of block file.size)
-  fills_at block left le = ap (λ (fs : List SetFile). eqb (blocks_in block fs) left) cut
-      ∙ fills_further block (file_of file) (files_of (drop (i + 1) files)) left le
+  fills_at block left le = search (rules, cut, fills_further)
 
   pub overfills_at : (block left : ℕ) → left < blocks_of block file.size
       → eqb (blocks_in block (files_of (drop i files))) left ≡ false
-  overfills_at block left lt = ap (λ (fs : List SetFile). eqb (blocks_in block fs) left) cut
-      ∙ fills_not block (file_of file) (files_of (drop (i + 1) files)) left lt
+  overfills_at block left lt = search (rules, cut, fills_not)
 
   pub length_fault : (previous : List ℕ) → 2 ^ 62 ≤ file.size
       → files_outcome previous (files_of (drop i files)) ≡ Err Length

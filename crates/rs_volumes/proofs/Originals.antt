@@ -1,7 +1,7 @@
 -- Blocks that are written from pieces of a set are the originals of the set.
-use Rattle.std.proofs.Common.{◌≡◌, ◌⊎◌, ℕ, suc, ◌+◌, ◌-◌, ◌<◌, ◌≤◌, Bool, true, false, cond, eqb, List, []}
-use Rattle.std.proofs.Common.{◌∷◌, ◌++◌, length, get_or, take, All, Some, None, Option, Result, Ok, Err, refl, sym, ap}
-use Rattle.std.proofs.Common.{subst, ◌∙◌, inl, inr, arith}
+use Rattle.std.proofs.Common.{rules, ◌≡◌, ◌⊎◌, ℕ, suc, ◌+◌, ◌-◌, ◌<◌, ◌≤◌, Bool, true, false, cond, eqb, List, [], ◌∷◌}
+use Rattle.std.proofs.Common.{◌++◌, length, get_or, take, All, Some, None, Result, Ok, Err, refl, sym, ap, subst, ◌∙◌}
+use Rattle.std.proofs.Common.{inl, inr, arith}
 use Rattle.std.specs.Prelude.{map, nat_eq, nat_lt, not, ◌&&◌, ◌||◌, MatchResult}
 use Rattle.std.specs.Global.{Vec}
 use Rattle.std.specs.List.{between, list_any, IsDistinct, AllByRecursion}
@@ -115,9 +115,7 @@ module _ {k r size : ℕ} {message all : List Shard} {read received : Items} {ou
   -- a piece that was read, and a piece that was restored, are together the piece of the message
   pub both_pieces : (i : ℕ) → piece_of i read ++ bytes_of (out i) ≡ shard_at message i
   unfolding lost_of
-  both_pieces i =
-      ap (λ (o : Option Shard). piece_of i read ++ bytes_of o) (lost i)
-      ∙ by_tests i (nat_lt i (length message)) (has i read) refl refl
+  both_pieces i = search (rules, lost, by_tests)
 
 -- ---- the pieces of a plan
 

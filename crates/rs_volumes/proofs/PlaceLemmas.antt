@@ -1,6 +1,7 @@
 -- The places of blocks, file by file.
-use Rattle.std.proofs.Common.{◌≡◌, ℕ, zero, suc, ◌+◌, ◌-◌, ◌*◌, ◌/◌, ◌%◌, ◌<◌, ◌≤◌, List, [], ◌∷◌, ◌++◌, length, get_or}
-use Rattle.std.proofs.Common.{take, map, refl, sym, ap, ◌∙◌, inl, inr, append_assoc, add-one, arith}
+use Rattle.std.proofs.Common.{rules, ◌≡◌, ℕ, zero, suc, ◌+◌, ◌-◌, ◌*◌, ◌/◌, ◌%◌, ◌<◌, ◌≤◌, List, [], ◌∷◌, ◌++◌, length}
+use Rattle.std.proofs.Common.{get_or, take, map, refl, sym, ap, ◌∙◌, append_assoc, add-one, arith}
+use Rattle.std.proofs.lemmas.Grind.{common_steps, flat_map-append}
 use Rattle.std.specs.List.{concat, flat_map}
 use Rattle.std.proofs.Math.Nat.{suc-mul, zero-mul}
 use Rattle.std.proofs.lemmas.Nat.{div-add-mod'}
@@ -8,7 +9,6 @@ use Rattle.std.proofs.lemmas.Bool.{eq-eqb, ne_eqb}
 use Rattle.std.proofs.lemmas.Bool.Decides.{eqb_tells}
 use Rattle.std.proofs.lemmas.List.{append-nil, take_more, take_all, map-append, length-map, length-take, length-append}
 use Rattle.std.proofs.lemmas.List.{get_or-append_right}
-use Rattle.std.proofs.lemmas.Grind.{flat_map-append}
 use Rattle.rs_field.specs.code.Column.{Shard, shard_at}
 use Rattle.rs_volumes.specs.declared.description.FileEntry.{FileEntry}
 use Rattle.rs_volumes.specs.declared.placement.Place.{Place}
@@ -47,11 +47,7 @@ pub places_next : (block : ℕ) (files : List FileEntry) (n : ℕ) (file : FileE
     → set_places 0 block (files_of (take (n + 1) files)) ≡ set_places 0 block (files_of (take n files))
     ++ file_places n block file.size
 places_next block files n file h e =
-    let count : 0 + length (files_of (take n files)) ≡ n = (
-    let long = length-map (take n files) file_of in let front = length-take n files in omega (arith, long, front, h)
-    ) in
-    ap (λ (fs : List SetFile). set_places 0 block fs) (files_further files h e)
-    ∙ places-append 0 block (files_of (take n files)) (file_of file) ∙ rw count refl
+    grind (arith, common_steps, length-map, length-take, files_further, places-append)
 
 -- a file whose last block is full has no further block, and another file has one
 pub rest-none : (file block size : ℕ) → size % block ≡ 0 → rest_place file block size ≡ []
@@ -81,27 +77,11 @@ rest-covers : (contents : List Shard) (file block size : ℕ) → length (shard_
     → take (size / block * block) (shard_at contents file) ++ flat_map (bytes_at contents) (rest_place file block size)
     ≡ shard_at contents file
 rest-covers contents file block size long =
-    let x : Shard = shard_at contents file in
-    let sum = div-add-mod' size block in
-    elim (eqb_tells (size % block) 0) [
-      | inl none ↦
-          let e = none.1 in
-          rw (rest-none file block size e, append-nil (take (size / block * block) x))
-          (take_all (size / block * block) x (omega (arith, sum, e, long)))
-      | inr some ↦
-          let place : Place = record { file = file; offset = size / block * block; bytes = size % block } in
-          let order : size / block * block ≤ size / block * block + size % block = omega arith in
-          let more : 0 < size % block = (let e = some.1 in omega (arith, e)) in
-          rw (rest-some file block size more, append-nil (bytes_at contents place))
-          (take-further (size / block * block) (size / block * block + size % block) x order
-          ∙ take_all (size / block * block + size % block) x (omega (arith, sum, long)))
-    ]
+    search (rules, div-add-mod', eqb_tells, rest-none, append-nil, take_all, rest-some, take-further)
 
 file-covers : (contents : List Shard) (file block size : ℕ) → length (shard_at contents file) ≡ size
     → flat_map (bytes_at contents) (file_places file block size) ≡ shard_at contents file
-file-covers contents file block size long =
-    flat_map-append (bytes_at contents) (full_places file block (size / block)) (rest_place file block size)
-    ∙ rw (full-covers contents file block (size / block)) (rest-covers contents file block size long)
+file-covers contents file block size long = search (rules, flat_map-append, full-covers, rest-covers)
 
 set-covers : (block : ℕ) (files : List SetFile) (before contents : List Shard)
     → map (λ bytes. length bytes) contents ≡ map (λ file. file.size) files

@@ -1,11 +1,11 @@
 -- Blocks that grow by a piece each, and the strips in which their recovery blocks are known.
-use Rattle.std.proofs.Common.{◌≡◌, ℕ, ◌+◌, ◌-◌, ◌<◌, ◌≤◌, List, [], ◌∷◌, ◌++◌, length, get_or}
-use Rattle.std.proofs.Common.{take, drop, refl, sym, ap, subst, ◌∙◌, inl, inr, arith}
+use Rattle.std.proofs.Common.{rules, ◌≡◌, ℕ, ◌+◌, ◌-◌, ◌<◌, ◌≤◌, List, [], ◌∷◌, ◌++◌, length, get_or, take, refl, sym}
+use Rattle.std.proofs.Common.{ap, subst, ◌∙◌, inl, inr, arith}
 use Rattle.std.specs.List.{between, AllByRecursion}
 use Rattle.std.proofs.Math.Seq.{take-add}
 use Rattle.std.proofs.lemmas.Bool.{cases_lt}
-use Rattle.std.proofs.lemmas.List.{drop-append-le, take-append-le, take_all, drop_at, length-append}
-use Rattle.std.proofs.lemmas.List.{length-drop, get_or_default}
+use Rattle.std.proofs.lemmas.List.{drop-append-le, take-append-le, take_all, drop_at, length-append, length-drop}
+use Rattle.std.proofs.lemmas.List.{get_or_default}
 use Rattle.std.proofs.lemmas.List.Elements.{All-append, recursion_from_All}
 use Rattle.rs_field.specs.code.Column.{Shard, IsShard, AreShards}
 use Rattle.rs_field.specs.code.Code.{AreRecovery}
@@ -18,15 +18,11 @@ use Rattle.rs_volumes.proofs.Hashes.{length-joined, shard_at-joined}
 
 between-front : (s e start : ℕ) (x p : Shard) → s ≤ e → e ≤ start → length x ≡ start
     → between s e (x ++ p) ≡ between s e x
-between-front s e start x p order le len =
-    let first : s ≤ length x = omega arith in
-    let inside : e - s ≤ length (drop s x) = omega (arith, length-drop s x) in
-    ap (λ (y : Shard). take (e - s) y) (drop-append-le s x p first) ∙ take-append-le (e - s) (drop s x) p inside
+between-front s e start x p order le len = search (rules, length-drop, drop-append-le, take-append-le)
 
 between-back : (start end : ℕ) (x p : Shard) → length x ≡ start → length p ≡ end - start
     → between start end (x ++ p) ≡ p
-between-back start end x p len other =
-    ap (λ (y : Shard). take (end - start) y) (drop_at x p start len) ∙ take_all (end - start) p (omega arith)
+between-back start end x p len other = search (rules, drop_at, take_all)
 
 pub take-further : (start end : ℕ) (x : Shard) → start ≤ end → take start x ++ between start end x ≡ take end x
 take-further start end x le =

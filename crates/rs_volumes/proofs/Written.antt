@@ -1,4 +1,5 @@
 -- Pieces that are written to the blocks with their numbers.
+use Rattle.std.proofs.Common.{rules, Some, refl, sym, ap, ◌∙◌, inl, inr, append_assoc}
 use Rattle.std.proofs.Common.{
   ◌≡◌,
   ◌≢◌,
@@ -18,7 +19,6 @@ use Rattle.std.proofs.Common.{
   get_or,
   take,
 }
-use Rattle.std.proofs.Common.{Some, refl, sym, ap, subst, ◌∙◌, inl, inr, arith, append_assoc}
 use Rattle.std.specs.Prelude.{if◌then◌else◌}
 use Rattle.std.specs.Global.{Vec}
 use Rattle.std.proofs.lemmas.Bool.{eq-eqb, ne_eqb}
@@ -40,9 +40,7 @@ piece_of-append i (x ∷ xs) ys =
 more-own : (i : ℕ) (items : Items) (item : ℕ × Shard) → i ≡ item.0
     → piece_of i (items ++ item ∷ []) ≡ piece_of i items ++ item.1
 unfolding piece_of
-more-own i items item same =
-    piece_of-append i items (item ∷ [])
-    ∙ ap (λ (s : Shard). piece_of i items ++ s) (rw (eq-eqb i item.0 same) (append-nil item.1))
+more-own i items item same = search (rules, piece_of-append, eq-eqb, append-nil)
 
 -- a further piece changes no piece with another number
 more-other : (i : ℕ) (items : Items) (item : ℕ × Shard) → i ≢ item.0
@@ -70,11 +68,7 @@ module _ (wanted : List Bool) (items : Items) (item : ℕ × Shard) {before now 
   -- the next piece is not wanted
   pub gets_same : (get_or wanted item.0 false ≡ true → ⊥) → Gets wanted (λ i. piece_of i (items ++ item ∷ [])) before
       now
-  gets_same unwanted i bytes is held =
-      elim (eqb_tells i item.0) [
-        | inl same ↦ absurd (unwanted (subst (λ (n : ℕ). get_or wanted n false ≡ true) same.1 is))
-        | inr other ↦ rw (more-other i items item other.1) (so_far i bytes is held)
-      ]
+  gets_same unwanted i bytes is held = search (rules, eqb_tells, more-other)
 
 -- the pieces up to number n, and then the next one
 pub items_more : (pieces : List (ℕ × Vec ℕ)) {n : ℕ} {p : ℕ × Vec ℕ} → n < length pieces → p ≡ get_or pieces n p
@@ -99,18 +93,4 @@ module _ (wanted : List Bool) (piece : ℕ → Shard) {n : ℕ} {before now afte
       → ((i : ℕ) (bytes : Shard) → i < n + 1 → get_or wanted i false ≡ true → before i ≡ Some bytes
       → after i ≡ Some (bytes ++ piece i))
       × ((i : ℕ) → n + 1 ≤ i → after i ≡ before i)
-  got_next here = (
-    λ i bytes lt is held. elim (eqb_tells i n) [
-      | inl same ↦
-          let at : i ≡ n = same.1 in
-          let own : get_or wanted n false ≡ true = subst (λ (m : ℕ). get_or wanted m false ≡ true) at is in
-          ap after at ∙ here own bytes (rest n (omega arith) ∙ ap before (sym at) ∙ held)
-          ∙ ap (λ (m : ℕ). Some (bytes ++ piece m)) (sym at)
-      | inr other ↦
-          let less : i < n = omega (arith, lt, other.1) in
-          others i other.1 ∙ done i bytes less is held
-    ],
-    λ i le.
-        let past : n ≤ i = omega (arith, le) in
-        others i (λ e. let no : ⊥ = omega (arith, le, e) in no) ∙ rest i past,
-  )
+  got_next here = search (rules, eqb_tells)

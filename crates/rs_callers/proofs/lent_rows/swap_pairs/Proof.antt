@@ -1,13 +1,13 @@
 use Rattle.rs_field.proofs.Walking.{◌≡◌, refl, sym, ap, ◌∙◌, ◌+◌, ◌*◌, ◌<◌, ◌≤◌, arith, [], ◌∷◌, length, named, w64}
-use Rattle.rs_field.proofs.Walking.{id⊢, emp, Lft, ftrue, flft, fact, fact_i, tables, proved, ‵, ◌⊛◌, raw, some}
-use Rattle.rs_field.proofs.Walking.{later, ◌$◌, ◌∵◌, !, qed, move, keep, drop, split, split3, join, fsplit, fjoin}
-use Rattle.rs_field.proofs.Walking.{feq_l, feq_i, use0, use1, use2, await, pick, suffices, done, stop, addr, of_opd}
-use Rattle.rs_field.proofs.Walking.{returns, enter, no_more, and_then, alloc_all, pass_all, free_all, look_at, get}
-use Rattle.rs_field.proofs.Walking.{through, sets, lands_as, usize, yes, Is, shows, uint_vals, uint_Tells, uint_Makes}
+use Rattle.rs_field.proofs.Walking.{id⊢, emp, Lft, ftrue, flft, fact, fact_i, tables, proved, ‵, ◌⊛◌, raw, some, later}
+use Rattle.rs_field.proofs.Walking.{◌$◌, ◌∵◌, !, qed, move, keep, drop, split, split3, join, fsplit, fjoin, feq_l}
+use Rattle.rs_field.proofs.Walking.{feq_i, use0, use1, use2, await, pick, suffices, done, stop, addr, of_opd, returns}
+use Rattle.rs_field.proofs.Walking.{enter, no_more, and_then, alloc_all, pass_all, free_all, look_at, get, through}
+use Rattle.rs_field.proofs.Walking.{sets, lands_as, usize, yes, Is, shows, uint_vals, uint_Tells, uint_Makes}
 use Rattle.rs_field.proofs.Walking.{RattleType, owns, Valss, MutBor, MutRef, mut_vals, mut_Tells, plain, named_lft}
 use Rattle.rs_field.proofs.Walking.{Array, nothing, heard, only, peeks, owned, calls_at, lasts, triple_of, framed}
-use Rattle.rs_field.proofs.Walking.{Stays, stay_dropped, walk_of, ends_at, says, Goes-dropped, use3, unit_lit}
-use Rattle.rs_field.proofs.Walking.{stay_ref, Goes-ref, unit, fres, GName, vunit}
+use Rattle.rs_field.proofs.Walking.{Stays, stay_dropped, walk_of, ends_at, says, Goes-dropped, use3, unit_lit, stay_ref}
+use Rattle.rs_field.proofs.Walking.{Goes-ref, unit, fres, GName, vunit}
 use base.Share
 use Rattle.rs_field.proofs.of_rows.FourRuns.{followed₄}
 use Rattle.rs_field.proofs.of_rows.LentChunks.{E, Bare, Fours, fours}

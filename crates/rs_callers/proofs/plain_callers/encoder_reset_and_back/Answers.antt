@@ -1,10 +1,9 @@
-use Rattle.std.proofs.Common.{◌≡◌, ap, ap₂, subst, arith, ◌∙◌}
+use Rattle.std.proofs.lemmas.Grind.{common_steps}
+use Rattle.std.proofs.Common.{◌≡◌, subst, arith}
 use Rattle.std.specs.Prelude.{OnOk}
-use Rattle.reed_solomon_simd.specs.Counts.{default_rate}
 use Rattle.reed_solomon_simd.specs.EncoderObject.{state_of}
 use Rattle.reed_solomon_simd.specs.Encoder.{fresh_encoder}
 use Rattle.reed_solomon_simd.specs.OneCall.{default_of}
-use Rattle.reed_solomon_simd.specs.Frame.{encoder_rows}
 use Rattle.reed_solomon_simd.specs.ChunkCounts.{chunk_count}
 use Rattle.reed_solomon_simd.proofs.ObjectLaws.{valid-encoder, own_room-encoder}
 use Rattle.reed_solomon_simd.proofs.ShardRowsLemmas.{chunk_count-size}
@@ -14,18 +13,7 @@ use Rattle.rs_callers.proofs.plain_callers.encoder_reset_and_back.Goals as goal
 pub returns-clause-answer : goal.returns-clause-answer
 unfolding chunk_count
 returns-clause-answer c =
-    let own = (state_of c.args.encoder.now).configuration in
-    let rows = encoder_rows default_rate c.args.original_count c.args.recovery_count in
-    let same : rows ≡ encoder_rows default_rate own.original_count own.recovery_count =
-    ap₂ (encoder_rows default_rate) c.requires.within.0 c.requires.within.1 in
-    let chunks = ap (λ n. chunk_count n own.shard_bytes) same in
-    let less = chunk_count-size rows c.args.shard_bytes own.shard_bytes c.requires.within.2 in
-    let room = own_room-encoder c.args.encoder.now in
-    let fits = (valid-encoder c.args.encoder.now).fits in
-    c.reset-2.ensures.roomy (omega (arith, chunks, less, room, c.reset.ensures.grown))
-    ∙ start_outcome-roomy rows
-    (default_of c.args.original_count c.args.recovery_count c.args.shard_bytes) c.requires.valid
-    (omega (arith, chunks, less, fits))
+    grind (arith, common_steps, chunk_count-size, own_room-encoder, valid-encoder, start_outcome-roomy)
 
 pub returns-clause-state : goal.returns-clause-state
 returns-clause-state c =

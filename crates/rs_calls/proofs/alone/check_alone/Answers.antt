@@ -1,8 +1,7 @@
-use Rattle.std.proofs.Common.{rules, ◌≡◌, ℕ, ◌+◌, [], ◌∷◌, List, length, drop, Ok, Err, get_or, ap, sym, refl, ◌∙◌}
-use Rattle.std.proofs.Common.{arith}
+use Rattle.std.proofs.lemmas.Grind.{common_steps}
+use Rattle.std.proofs.Common.{◌≡◌, ℕ, [], List, length, drop, Ok, Err, ap, sym, refl, ◌∙◌, arith}
 use Rattle.std.proofs.lemmas.Bool.{cond_below, cond_above}
 use Rattle.rs_field.specs.declared.code.error.Error.TheVariants.{NotEnoughShards}
-use Rattle.rs_field.specs.code.Outcome.{result_and_then}
 use Rattle.rs_calls.specs.declared.layouts.RsShard.{RsShard}
 use Rattle.rs_calls.proofs.AloneLemmas.{note_outcome-none, notes-ok, notes-err, noting, noting-next, noting-done}
 use Rattle.rs_calls.proofs.AloneLemmas.{noting-refused}
@@ -17,37 +16,12 @@ loop-shard-init c = ([], note_outcome-none 1024, refl, refl)
 
 pub loop-shard-preserved : goal.loop-shard-preserved
 unfolding nothing
-loop-shard-preserved c =
-    let k : ℕ = c.args.original_count in
-    let i : ℕ = c.loop-shard.shard-index in
-    let shards : List RsShard = c.args.originals.now in
-    let so_far : List ℕ = c.loop-shard.invariant.0 in
-    let index : ℕ = (get_or shards i nothing).index in
-    let leads = c.note.ensures.answer so_far c.loop-shard.invariant.1 in
-    let led = notes-ok k index so_far c.note.new.bits c.note.result leads c.in_ok-note.was in (
-      index ∷ so_far,
-      led.1,
-      omega (arith, c.loop-shard.invariant.2),
-      c.loop-shard.invariant.3 ∙ noting-next k i so_far shards nothing c.loop-shard-test.true
-          ∙ ap (result_and_then (λ next. noting k next (drop (i + 1) shards))) led.0,
-    )
+loop-shard-preserved c = grind (arith, common_steps, nothing, notes-ok, noting-next, noting)
 
 pub returns-in_err-note-clause-answer : goal.returns-in_err-note-clause-answer
 unfolding nothing
 returns-in_err-note-clause-answer c =
-    let k : ℕ = c.args.original_count in
-    let i : ℕ = c.loop-shard.shard-index in
-    let shards : List RsShard = c.args.originals.now in
-    let so_far : List ℕ = c.loop-shard.invariant.0 in
-    let index : ℕ = (get_or shards i nothing).index in
-    let e = c.in_err-note.field-0.0 in
-    let leads = c.note.ensures.answer so_far c.loop-shard.invariant.1 in
-    let refused = notes-err k index so_far c.note.new.bits c.note.result e leads c.in_err-note.was in
-    let told : c.from_residual.result ≡ Err e = search rules in
-    told
-    ∙ sym (noting-refused k shards e
-    (c.loop-shard.invariant.3 ∙ noting-next k i so_far shards nothing c.loop-shard-test.true
-    ∙ ap (result_and_then (λ next. noting k next (drop (i + 1) shards))) refused))
+    grind (arith, common_steps, nothing, notes-err, noting-refused, noting-next, noting)
 
 pub returns-then-original_received_count-original_count-clause-answer :
     goal.returns-then-original_received_count-original_count-clause-answer
@@ -63,13 +37,4 @@ returns-then-original_received_count-original_count-clause-answer c =
     ∙ sym (noting-done k so_far shards led (c.loop-shard.invariant.2 ∙ all))
 
 pub returns-clause-answer : goal.returns-clause-answer
-returns-clause-answer c =
-    let k : ℕ = c.args.original_count in
-    let shards : List RsShard = c.args.originals.now in
-    let so_far : List ℕ = c.loop-shard.invariant.0 in
-    let all : c.loop-shard.shard-index ≡ length shards =
-    omega (arith, c.loop-shard-test.false, c.loop-shard.auto.shard-index-end) in
-    let led = c.loop-shard.invariant.3 ∙ ap (λ n. noting k so_far (drop n shards)) all in
-    let few = Err (NotEnoughShards k (length shards) 0) in
-    cond_above (length shards) k few (Ok tt) (Ok tt) c.if-original_received_count-original_count.false refl
-    ∙ sym (noting-done k so_far shards led (c.loop-shard.invariant.2 ∙ all))
+returns-clause-answer c = grind (arith, common_steps, noting, cond_above, noting-done)

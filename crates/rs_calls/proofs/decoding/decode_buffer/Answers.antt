@@ -1,5 +1,5 @@
-use Rattle.std.proofs.Common.{rules, subst, ◌≡◌, ℕ, ◌+◌, ◌*◌, ◌<◌, ◌==◌, not, List, length, map, take, drop, Ok, Err}
-use Rattle.std.proofs.Common.{sym, ap, ◌∙◌, refl, arith, true}
+use Rattle.std.proofs.Common.{rules, subst, ◌≡◌, ℕ, ◌<◌, ◌==◌, not, List, length, map, take, drop, Ok, Err, sym, ap}
+use Rattle.std.proofs.Common.{◌∙◌, refl, arith, true}
 use Rattle.std.specs.List.{count_by}
 use Rattle.std.proofs.lemmas.List.{length-take-le, length-drop}
 use Rattle.rs_field.specs.code.Counts.{default_rate, supports}
@@ -34,23 +34,7 @@ record IsDivided (k r size : ℕ) (marks own other old recovery : List ℕ) : Ty
 divided : (g : Over) (c : After-split_at g)
     → IsDivided c.args.original_count c.args.recovery_count c.args.shard_bytes c.args.marks.now
     c.split_at.result.0.now c.split_at.result.1.now c.args.originals.now c.args.recovery.now
-divided g c =
-    let k = c.args.original_count in let r = c.args.recovery_count in let size = c.args.shard_bytes in
-    let marks = c.args.marks.now in
-    let front : c.split_at.result.0.now ≡ take k marks = search rules in
-    let back : c.split_at.result.1.now ≡ drop k marks = search rules in
-    let many : length marks ≡ (k + r) * 1 = fits-length 2 (k + r) 1 (length marks) c.in_ok-check_length-3.ensures in
-    record {
-      supported = rw (c.in_ok-counts.ensures.0, c.in_ok-counts.ensures.1) at c.in_ok-counts.counts.supported;
-      own_marks = front;
-      other_marks = back;
-      buffers = record {
-        own_number = ap length front ∙ length-take-le k marks (omega (arith, many));
-        other_number = ap length back ∙ length-drop k marks ∙ omega (arith, many);
-        own_whole = fits-length 0 k size (length c.args.originals.now) c.in_ok-check_length.ensures;
-        other_whole = fits-length 1 r size (length c.args.recovery.now) c.in_ok-check_length-2.ensures;
-      };
-    }
+divided g c = search (rules, fits-length, length-take-le, length-drop)
 
 pub returns-in_err-check_all_marked-clause-answer : goal.returns-in_err-check_all_marked-clause-answer
 returns-in_err-check_all_marked-clause-answer g c =

@@ -1,13 +1,11 @@
-use Rattle.std.proofs.Common.{rules, ◌≡◌, [], length, Ok, Err, inl, sym, ap, subst, ◌∙◌, refl, arith}
+use Rattle.std.proofs.Common.{rules, ◌≡◌, [], length, Ok, Err, inl, sym, subst, ◌∙◌, refl, arith}
 use Rattle.std.specs.Option.{option_map}
 use Rattle.std.specs.Result.{result_map_both}
 use Rattle.std.proofs.lemmas.Iterator.{YieldsList-from_slice, YieldsList-from_map_by}
 use Rattle.std.proofs.lemmas.List.{nil_from_length}
 use Rattle.std.proofs.lemmas.List.Elements.{All-nil}
-use Rattle.rs_field.specs.declared.code.error.Error.TheVariants.{OutOfMemory}
 use Rattle.rs_field.proofs.of_code.SupportedCounts.{default_fits}
 use Rattle.rs_rate.specs.objects.Giving.{IsDecoding}
-use Rattle.reed_solomon_simd.specs.declared.room_error.RoomError.TheVariants.{Refused}
 use Rattle.reed_solomon_simd.specs.Into.{DecodesInto}
 use Rattle.reed_solomon_simd.specs.ReceivedState.{received_state}
 use Rattle.reed_solomon_simd.proofs.RestoringLemmas.{decodes-refused, decodes-nothing, decodes-restored}
@@ -47,10 +45,7 @@ returns-in_err-check_alone-clause-answer g c =
     (decodes-refused k r own [] e (bytes_in c.args.restored.now) _ (decoding-refused k r own [] e led) (search rules))
 
 pub returns-in_err-check_alone-clause-memory : goal.returns-in_err-check_alone-clause-memory
-returns-in_err-check_alone-clause-memory g c none lacks =
-    let e = c.in_err-check_alone.field-0.0 in
-    let failed : c.from_residual-in_err-check_alone.result ≡ Err (Refused e) = search rules in
-    let same : e ≡ OutOfMemory = cc in c.in_err-check_alone.ensures.memory (ap Err same)
+returns-in_err-check_alone-clause-memory g c none lacks = search rules
 
 pub returns-then-is_empty-clause-answer : goal.returns-then-is_empty-clause-answer
 returns-then-is_empty-clause-answer g c =

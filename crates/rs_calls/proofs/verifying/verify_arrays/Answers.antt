@@ -1,21 +1,12 @@
-use Rattle.std.proofs.Common.{◌++◌, List, Err, sym, ap, ◌∙◌}
+use Rattle.std.proofs.Common.{rules, ◌++◌, sym, ap}
 use Rattle.std.specs.Result.{result_map_both}
-use Rattle.rs_field.specs.code.Column.{Shard}
 use Rattle.rs_calls.specs.Arrays.{items_of, shards_in}
 use Rattle.rs_calls.specs.Places.{placed_refusal}
 use Rattle.rs_calls.proofs.PlaceLemmas.{both-shards}
 use Rattle.rs_calls.proofs.verifying.verify_arrays.Goals as goal
 
 pub returns-in-Err : goal.returns-in-Err
-returns-in-Err g c =
-    let given = both-shards c.args.originals.now c.args.recovery.now in (
-      c.verify_received-answer.result,
-      c.verify_received-answer.ensures,
-      ap Err (c.placed_fault.ensures ∙ ap (λ (l : List Shard). placed_refusal l c.in-Err.error) given)
-          ∙ sym (ap (result_map_both (λ u. u)
-          (placed_refusal (shards_in (items_of c.args.originals.now) ++ shards_in (items_of c.args.recovery.now))))
-          c.in-Err.is),
-    )
+returns-in-Err g c = search (rules, both-shards)
 
 pub returns : goal.returns
 returns g c = (

@@ -19,12 +19,7 @@ returns-in_err-received g c =
     search rules
 
 pub returns-in_err-surplus : goal.returns-in_err-surplus
-returns-in_err-surplus g c =
-    let led = verifies-few c.args.original_count c.args.recovery_count (items_of c.args.originals.now)
-    (items_of c.args.recovery.now) (received_state c.in_ok-received.received)
-    (rw (c.in_ok-counts.ensures.0, c.in_ok-counts.ensures.1) at c.in_ok-received.ensures)
-    c.in_err-surplus.field-0.0 c.in_err-surplus.ensures.answer in
-    search rules
+returns-in_err-surplus g c = search (rules, verifies-few)
 
 pub returns : goal.returns
 returns g c =

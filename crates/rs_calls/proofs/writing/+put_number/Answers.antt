@@ -1,5 +1,5 @@
-use Rattle.std.proofs.Common.{◌≡◌, ℕ, ◌+◌, ◌<◌, ◌≤◌, ◌^◌, ◌/◌, ◌%◌, [], ◌∷◌, ◌++◌, length, decimal, sym, ap, ◌∙◌, arith}
-use Rattle.std.proofs.Common.{append_assoc, lit<}
+use Rattle.std.proofs.Common.{rules, ◌≡◌, ℕ, ◌+◌, ◌<◌, ◌≤◌, ◌^◌, ◌/◌, ◌%◌, [], ◌∷◌, ◌++◌, length, decimal, sym, ap, ◌∙◌}
+use Rattle.std.proofs.Common.{arith, append_assoc, lit<}
 use Rattle.std.proofs.lemmas.Fmt.{decimal_digit, decimal_step, length-decimal-le}
 use Rattle.std.proofs.lemmas.List.{length-append}
 use Rattle.rs_calls.specs.Texts.{text_over}
@@ -7,13 +7,10 @@ use Rattle.rs_calls.proofs.writing.+put_number.Goals as goal
 
 -- The decimal text of a number below ten is one digit.
 last-digit : (n : ℕ) → n < 10 → decimal n ≡ (48 + n % 10) ∷ []
-last-digit n small =
-    decimal_digit n small ∙ ap (λ d. (48 + d) ∷ []) (let same : n ≡ n % 10 = omega (arith, small) in same)
+last-digit n small = search (rules, decimal_digit)
 
 pub returns-then-number-lt10-clause-end : goal.returns-then-number-lt10-clause-end
-returns-then-number-lt10-clause-end t c =
-    let one : length (decimal c.args.number) ≡ 1 = ap length (last-digit c.args.number c.if-number-lt10.true) in
-    (omega (arith, c.put_bytes.ensures.end, one), omega (arith, c.put_bytes.ensures.end))
+returns-then-number-lt10-clause-end t c = search (rules, decimal, last-digit)
 
 pub returns-then-number-lt10-clause-written : goal.returns-then-number-lt10-clause-written
 returns-then-number-lt10-clause-written t c text old sized is =
@@ -34,12 +31,4 @@ returns-clause-end t c =
     )
 
 pub returns-clause-written : goal.returns-clause-written
-returns-clause-written t c text old sized is =
-    let n = c.args.number in
-    let front = decimal (n / 10) in
-    let ends : length (text ++ front) ≡ c.put_number-end.result =
-    length-append text front ∙ ap (λ m. m + length front) sized ∙ sym c.put_number-end.ensures.end.0 in
-    c.put_bytes-2.ensures.written (text ++ front) old ends (c.put_number-end.ensures.written text old sized is)
-    ∙ ap (λ whole. text_over whole old)
-    (append_assoc text front ((48 + n % 10) ∷ [])
-    ∙ ap (λ digits. text ++ digits) (sym (decimal_step n c.if-number-lt10.false (omega (arith, c.ranges.number)))))
+returns-clause-written t c text old sized is = search (rules, decimal, length-append, append_assoc, decimal_step)

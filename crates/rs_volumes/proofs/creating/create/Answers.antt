@@ -1,4 +1,4 @@
-use Rattle.std.proofs.Common.{◌≡◌, ℕ, List, ◌++◌, refl, ap, ◌∙◌, inl, arith}
+use Rattle.std.proofs.Common.{rules, ◌≡◌, ℕ, List, ◌++◌, ap, ◌∙◌, arith}
 use Rattle.std.specs.List.{flat_map}
 use Rattle.sha2.specs.Sha256.{sha256}
 use Rattle.rs_volumes.proofs.Coded.{next_strip}
@@ -6,15 +6,7 @@ use Rattle.rs_volumes.proofs.Created.{length-empty, created_none, created_more, 
 use Rattle.rs_volumes.proofs.creating.create.Goals as goal
 
 pub loop-start-init : goal.loop-start-init
-loop-start-init g c =
-    record {
-      inside = omega arith;
-      begins = inl refl;
-      originals = c.in_ok-new_hashers.ensures.number ∙ length-empty c.args.shape.original_count;
-      recovery = c.in_ok-new_hashers-2.ensures.number ∙ length-empty c.args.shape.recovery_count;
-      kept = refl;
-      done = created_none c.in_ok-new_hashers.ensures c.in_ok-new_hashers-2.ensures;
-    }
+loop-start-init g c = search (rules, length-empty, created_none)
 
 pub loop-start-preserved : goal.loop-start-preserved
 loop-start-preserved g c =

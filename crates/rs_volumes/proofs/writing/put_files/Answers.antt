@@ -1,4 +1,4 @@
-use Rattle.std.proofs.Common.{◌≡◌, ℕ, ◌+◌, ◌<◌, List, [], ◌∷◌, ◌++◌, length, get_or, take, sym, ap, ◌∙◌, append_assoc}
+use Rattle.std.proofs.Common.{rules, ◌≡◌, ℕ, ◌+◌, ◌<◌, List, [], ◌∷◌, ◌++◌, length, get_or, take, ap, ◌∙◌, append_assoc}
 use Rattle.std.specs.List.{flat_map}
 use Rattle.std.proofs.lemmas.List.{append-nil}
 use Rattle.std.proofs.lemmas.Grind.{flat_map-append}
@@ -22,12 +22,4 @@ spelled_further files i file h e =
     (flat_map-cons file_spelling (file_of file) [] ∙ append-nil (file_spelling (file_of file)))
 
 pub loop-file-preserved : goal.loop-file-preserved
-loop-file-preserved c =
-    c.in_ok-put_file.ensures
-    ∙ ap (λ (bytes : List ℕ). bytes ++ file_spelling (file_of c.file-item.result)) c.loop-file.invariant
-    ∙ append_assoc c.args.out.now.items
-    (flat_map file_spelling (files_of (take c.loop-file.file-index c.args.files.now)))
-    (file_spelling (file_of c.file-item.result))
-    ∙ ap (λ (bytes : List ℕ). c.args.out.now.items ++ bytes)
-    (sym (spelled_further c.args.files.now c.loop-file.file-index c.file-item.result c.loop-file-test.true
-    c.file-item.is))
+loop-file-preserved c = search (rules, append_assoc, spelled_further)

@@ -1,5 +1,5 @@
-use Rattle.std.proofs.Common.{rules, ℕ, ◌+◌, ◌*◌, ◌<◌, ◌≤◌, List, [], ◌++◌, length, take, drop, sym, ap, ◌∙◌, inl, inr}
-use Rattle.std.proofs.Common.{arith}
+use Rattle.std.proofs.lemmas.Grind.{common_steps}
+use Rattle.std.proofs.Common.{ℕ, ◌+◌, ◌*◌, ◌<◌, ◌≤◌, List, [], ◌++◌, length, take, drop, sym, ap, ◌∙◌, inl, inr, arith}
 use Rattle.std.proofs.lemmas.Bool.{cases_lt}
 use Rattle.std.proofs.lemmas.List.{get_or_past}
 use Rattle.rs_calls.specs.Buffers.{shards_in_buffer}
@@ -8,13 +8,7 @@ use Rattle.rs_calls.proofs.buffer_rooms.BufferRoomsRooms.put.Goals.{After-put}
 use Rattle.rs_calls.proofs.buffer_rooms.BufferRoomsRooms.put.Goals as goal
 
 pub put-requires : goal.put-requires
-put-requires c =
-    let n = c.args.self.now.count in let size = c.args.self.now.size in let bytes = c.args.self.now.bytes.now in
-    let some : 0 < length c.args.piece.now = search rules in
-    let all = cut-length n size bytes in
-    let inside : c.args.index < c.args.self.now.count = omega (arith, all, c.requires.room) in
-    (room-inside size c.args.index c.args.start (length c.args.piece.now) c.requires.fits.0 bytes some c.requires.fits.1
-    (ap length (sym (cut-at n size bytes c.args.index inside)) ∙ c.requires.fits.2)).1
+put-requires c = grind (arith, common_steps, cut-length, room-inside, cut-at)
 
 pub returns-then-not-is_empty-clause-number : goal.returns-then-not-is_empty-clause-number
 returns-then-not-is_empty-clause-number c =
@@ -25,14 +19,7 @@ returns-then-not-is_empty-clause-number c =
 placed : (c : After-put) → let x = c.args.self.now in let many = length c.args.piece.now in
     (c.args.index < x.count) × (c.args.start + many ≤ x.size)
     × (c.args.index * x.size + c.args.start + many ≤ length x.bytes.now)
-placed c =
-    let x = c.args.self.now in
-    let some : 0 < length c.args.piece.now = search rules in
-    let all = cut-length x.count x.size x.bytes.now in
-    let inside : c.args.index < c.args.self.now.count = omega (arith, all, c.requires.room) in
-    let room = room-inside x.size c.args.index c.args.start (length c.args.piece.now) c.requires.fits.0 x.bytes.now some
-    c.requires.fits.1 (ap length (sym (cut-at x.count x.size x.bytes.now c.args.index inside)) ∙ c.requires.fits.2) in
-    (inside, room.0, room.1)
+placed c = grind (arith, common_steps, cut-length, room-inside, cut-at)
 
 pub returns-then-not-is_empty-clause-here : goal.returns-then-not-is_empty-clause-here
 returns-then-not-is_empty-clause-here c =

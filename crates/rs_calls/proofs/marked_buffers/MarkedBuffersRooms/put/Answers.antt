@@ -1,5 +1,6 @@
-use Rattle.std.proofs.Common.{rules, ◌≡◌, ℕ, ◌+◌, ◌*◌, ◌<◌, ◌≤◌, List, [], ◌++◌, length, map, take, drop, get_or, sym}
-use Rattle.std.proofs.Common.{ap, ap₂, subst, ◌∙◌, inl, inr, arith}
+use Rattle.std.proofs.lemmas.Grind.{common_steps}
+use Rattle.std.proofs.Common.{◌≡◌, ℕ, ◌+◌, ◌*◌, ◌<◌, ◌≤◌, List, [], ◌++◌, length, map, take, drop, get_or, sym, ap, ap₂}
+use Rattle.std.proofs.Common.{subst, ◌∙◌, inl, inr, arith}
 use Rattle.std.proofs.lemmas.Bool.{cases_lt}
 use Rattle.std.proofs.lemmas.List.{get_or_past, get_or-map, length-map}
 use Rattle.rs_field.specs.code.Given.{Shards}
@@ -15,15 +16,7 @@ use Rattle.rs_calls.proofs.marked_buffers.MarkedBuffersRooms.put.Goals as goal
 placed : (c : After-put) → let x = c.args.self.now in let many = length c.args.piece.now in
     (c.args.index < length x.lost.now) × (c.args.start + many ≤ x.size)
     × (get_or x.lost.now c.args.index 0 * x.size + c.args.start + many ≤ length x.originals.now)
-placed c =
-    let x = c.args.self.now in
-    let some : 0 < length c.args.piece.now = search rules in
-    let many = length-map x.lost.now (λ (i : ℕ). shard_place x.size x.originals.now i) in
-    let inside : c.args.index < length c.args.self.now.lost.now = omega (arith, many, c.requires.room) in
-    let was = get_or-map (λ (i : ℕ). shard_place x.size x.originals.now i) x.lost.now c.args.index 0 [] inside in
-    let room = room-inside x.size (get_or x.lost.now c.args.index 0) c.args.start (length c.args.piece.now)
-    c.requires.fits.0 x.originals.now some c.requires.fits.1 (ap length (sym was) ∙ c.requires.fits.2) in
-    (inside, room.0, room.1)
+placed c = grind (arith, common_steps, length-map, get_or-map, room-inside)
 
 pub returns-then-not-is_empty-clause-here : goal.returns-then-not-is_empty-clause-here
 returns-then-not-is_empty-clause-here c =
