@@ -1,6 +1,5 @@
 use Rattle.std.proofs.Common.{rules, ◌≡◌, ℕ, ◌<◌, ◌≤◌, List, [], length, take, get_or, All, Bor, Err, refl, sym, ap}
 use Rattle.std.proofs.Common.{subst, arith}
-use Rattle.std.proofs.lemmas.Bool.{cases_lt}
 use Rattle.std.proofs.lemmas.List.{get_or-map, get_or_default, length-map, length-take-le}
 use Rattle.rs_field.specs.declared.code.error.Error.TheVariants.{TooFewOriginalShards}
 use Rattle.rs_field.specs.code.Column.{Shard, IsShard}
@@ -53,7 +52,7 @@ returns-in_err-check_original c =
     search rules
 
 pub loop-index-preserved : goal.loop-index-preserved
-loop-index-preserved c = search (rules, cases_lt, at)
+loop-index-preserved c = search (rules, at)
 
 pub returns-then-originals-original_count : goal.returns-then-originals-original_count
 returns-then-originals-original_count c =

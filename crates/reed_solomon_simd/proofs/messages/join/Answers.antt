@@ -1,6 +1,6 @@
 use Rattle.std.proofs.lemmas.Grind.{common_steps}
 use Rattle.std.proofs.Common.{rules, ◌≡◌, sym, map, length, inl, arith}
-use Rattle.std.proofs.lemmas.List.{length-map, map_more, take_all}
+use Rattle.std.proofs.lemmas.List.{length-map, take_all}
 use Rattle.reed_solomon_simd.proofs.MessageLemmas.{found-sized, joined-few, joined-enough, joined-lacks, taken-next}
 use Rattle.reed_solomon_simd.proofs.messages.join.Goals as goal
 
@@ -25,7 +25,7 @@ pub returns-in_err-extend_from_slice : goal.returns-in_err-extend_from_slice
 returns-in_err-extend_from_slice g c = search (rules, length-map, joined-lacks)
 
 pub loop-shard-preserved : goal.loop-shard-preserved
-loop-shard-preserved g c = grind (arith, common_steps, taken-next, map_more)
+loop-shard-preserved g c = grind (arith, common_steps, taken-next)
 
 pub returns : goal.returns
 returns g c = search (rules, length-map, joined-enough, take_all)

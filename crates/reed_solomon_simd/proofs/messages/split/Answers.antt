@@ -1,6 +1,5 @@
 use Rattle.std.proofs.Common.{rules, ◌∙◌, map, length, arith}
-use Rattle.std.proofs.lemmas.Bool.{cases_lt}
-use Rattle.std.proofs.lemmas.List.{length-map, map_push, nil_from_length, take-append-drop}
+use Rattle.std.proofs.lemmas.List.{length-map, map_push, nil_from_length}
 use Rattle.reed_solomon_simd.proofs.MessageLemmas.{longer-holds, cut-next, cut-all}
 use Rattle.reed_solomon_simd.proofs.messages.split.Goals as goal
 
@@ -10,7 +9,7 @@ returns-in_default-clause-shards c some =
     absurd (omega (arith, large))
 
 pub loop-preserved : goal.loop-preserved
-loop-preserved c = search (rules, take-append-drop, cases_lt, nil_from_length, cut-next, map_push)
+loop-preserved c = search (rules, nil_from_length, cut-next, map_push)
 
 pub returns-clause-shards : goal.returns-clause-shards
 returns-clause-shards c some =

@@ -2,12 +2,12 @@ use Rattle.std.proofs.Common.{rules, Ok, sym, subst}
 use Rattle.rs_field.specs.code.OneCall.{OneDecodeAnswers}
 use Rattle.reed_solomon_simd.proofs.Collecting.{shards_in-empty}
 use Rattle.rs_rate.proofs.of_objects.Giving.{no-calls, always-both}
-use Rattle.rs_rate.proofs.of_objects.OneCall.{decoding-uncounted, decoding-refused, decoding-nothing}
+use Rattle.rs_rate.proofs.of_objects.OneCall.{decoding-refused, decoding-nothing}
 use Rattle.reed_solomon_simd.proofs.RestoringLemmas.{decoding-few, decoding-none-agrees, decoding-restored}
 use Rattle.reed_solomon_simd.proofs.one_call.decode.Goals as goal
 
 pub returns-in_err-counts-clause-calls : goal.returns-in_err-counts-clause-calls
-returns-in_err-counts-clause-calls g c = search (rules, no-calls, decoding-refused, decoding-uncounted)
+returns-in_err-counts-clause-calls g c = search (rules, no-calls)
 
 pub returns-in_err-counts-clause-answer : goal.returns-in_err-counts-clause-answer
 returns-in_err-counts-clause-answer g c =

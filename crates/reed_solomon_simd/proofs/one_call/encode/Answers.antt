@@ -2,12 +2,12 @@ use Rattle.std.proofs.Common.{rules, IfOk}
 use Rattle.rs_field.specs.code.RoundTrip.{AreCoded}
 use Rattle.rs_field.specs.code.OneCall.{collected_shards}
 use Rattle.rs_rate.proofs.of_objects.Giving.{no-calls, always-run}
-use Rattle.rs_rate.proofs.of_objects.OneCall.{encoding-uncounted, encoding-refused}
+use Rattle.rs_rate.proofs.of_objects.OneCall.{encoding-refused}
 use Rattle.reed_solomon_simd.proofs.Gathering.{gathered-is, encoded-few, encoded-all, encoded-coded}
 use Rattle.reed_solomon_simd.proofs.one_call.encode.Goals as goal
 
 pub returns-in_err-counts-clause-calls : goal.returns-in_err-counts-clause-calls
-returns-in_err-counts-clause-calls g c = search (rules, no-calls, encoding-refused, encoding-uncounted)
+returns-in_err-counts-clause-calls g c = search (rules, no-calls)
 
 pub returns-in_err-counts-clause-answer : goal.returns-in_err-counts-clause-answer
 returns-in_err-counts-clause-answer g c = always-run (returns-in_err-counts-clause-calls g c)

@@ -2,14 +2,14 @@ use Rattle.std.proofs.Common.{rules}
 use Rattle.reed_solomon_simd.specs.ReceivedState.{received_state}
 use Rattle.rs_rate.proofs.of_objects.Giving.{no-calls, reached-ok, reached-err}
 use Rattle.rs_rate.proofs.of_objects.OneCall.{both-ok, both-err}
-use Rattle.reed_solomon_simd.proofs.ReceivingLemmas.{receiving-none, receiving-unset, receiving-given}
+use Rattle.reed_solomon_simd.proofs.ReceivingLemmas.{receiving-given}
 use Rattle.reed_solomon_simd.proofs.receiving.received_of_size.Goals as goal
 
 pub returns-in_default : goal.returns-in_default
-returns-in_default g c = search (rules, no-calls, receiving-none)
+returns-in_default g c = search (rules, no-calls)
 
 pub returns-in_err-received : goal.returns-in_err-received
-returns-in_err-received g c = search (rules, no-calls, receiving-unset)
+returns-in_err-received g c = search (rules, no-calls)
 
 pub returns-in_err-add_originals : goal.returns-in_err-add_originals
 returns-in_err-add_originals g c = (

@@ -2,9 +2,6 @@ use Rattle.std.proofs.Common.{rules, ℕ, List, map, Bor, Result, Ok}
 use Rattle.rs_field.specs.code.Column.{Shard}
 use Rattle.rs_field.specs.code.OneCall.{Items}
 use Rattle.reed_solomon_simd.specs.declared.reconstruct_error.ReconstructError.{ReconstructError}
-use Rattle.reed_solomon_simd.proofs.ReconstructLemmas.{reconstructs-uncounted, reconstructs-refused, reconstructs-given}
-use Rattle.reed_solomon_simd.proofs.ReconstructLemmas.{rebuilds-lacking, rebuilds-few, rebuilds-unwanted, rebuilds-made}
-use Rattle.reed_solomon_simd.proofs.ReconstructLemmas.{was-checked}
 use Rattle.reed_solomon_simd.proofs.reconstructing.reconstruct.Goals as goal
 
 -- The shards of borrowed items, with their indexes.
@@ -16,19 +13,19 @@ abbrev no_rooms : ℕ → Result (Unit {0}) ReconstructError
 no_rooms size = Ok tt
 
 pub returns-in_err-counts : goal.returns-in_err-counts
-returns-in_err-counts g c = search (rules, reconstructs-uncounted)
+returns-in_err-counts g c = search rules
 
 pub returns-in_err-received : goal.returns-in_err-received
-returns-in_err-received g c = search (rules, reconstructs-refused)
+returns-in_err-received g c = search rules
 
 pub returns-in_err-surplus : goal.returns-in_err-surplus
-returns-in_err-surplus g c = search (rules, reconstructs-given, rebuilds-few)
+returns-in_err-surplus g c = search rules
 
 pub returns-in_err-check_wanted : goal.returns-in_err-check_wanted
-returns-in_err-check_wanted g c = search (rules, reconstructs-given, rebuilds-unwanted, rebuilds-lacking)
+returns-in_err-check_wanted g c = search rules
 
 pub returns-in_err-vectors : goal.returns-in_err-vectors
-returns-in_err-vectors g c = search (rules, was-checked, reconstructs-given, rebuilds-made)
+returns-in_err-vectors g c = search rules
 
 pub returns : goal.returns
-returns g c = search (rules, was-checked, reconstructs-given, rebuilds-made)
+returns g c = search rules

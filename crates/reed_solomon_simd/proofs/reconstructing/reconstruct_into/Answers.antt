@@ -4,7 +4,7 @@ use Rattle.rs_field.specs.code.OneCall.{Items}
 use Rattle.reed_solomon_simd.specs.declared.reconstruct_error.ReconstructError.TheVariants.{Refused}
 use Rattle.reed_solomon_simd.specs.Reconstructed.{rooms_outcome}
 use Rattle.reed_solomon_simd.specs.Rooms.{bytes_in}
-use Rattle.reed_solomon_simd.proofs.ReconstructLemmas.{reconstructs-uncounted, reconstructs-refused, reconstructs-given}
+use Rattle.reed_solomon_simd.proofs.ReconstructLemmas.{reconstructs-uncounted, reconstructs-refused}
 use Rattle.reed_solomon_simd.proofs.reconstructing.reconstruct_into.Goals as goal
 
 -- The shards of borrowed items, with their indexes.
@@ -35,4 +35,4 @@ returns-in_err-received-clause-answer g c =
     )
 
 pub returns-clause-answer : goal.returns-clause-answer
-returns-clause-answer g c = search (rules, reconstructs-given)
+returns-clause-answer g c = search rules

@@ -8,14 +8,14 @@ use Rattle.reed_solomon_simd.specs.Received.{given_in}
 use Rattle.reed_solomon_simd.specs.ReceivedState.{received_state}
 use Rattle.reed_solomon_simd.proofs.ByIndex.{entered-none, entered-short, entered-next, entered-skipped, entered-all}
 use Rattle.reed_solomon_simd.proofs.ByIndex.{some-place}
-use Rattle.reed_solomon_simd.proofs.Collecting.{shards_in-empty, with_entries-inserted}
+use Rattle.reed_solomon_simd.proofs.Collecting.{with_entries-inserted}
 use Rattle.reed_solomon_simd.proofs.restoring.by_index.Goals.{then-is_none+in-Some+in_ok-insert+in-Some-1}
 use Rattle.reed_solomon_simd.proofs.restoring.by_index.Goals.{then-is_none+in-Some+in_ok-insert+in-None-1}
 use Rattle.reed_solomon_simd.proofs.restoring.by_index.Goals.{then-is_none+in_default, else-is_none}
 use Rattle.reed_solomon_simd.proofs.restoring.by_index.Goals as goal
 
 pub loop-index-init : goal.loop-index-init
-loop-index-init c = search (rules, entered-none, shards_in-empty)
+loop-index-init c = search (rules, entered-none)
 
 pub loop-index-preserved : goal.loop-index-preserved
 loop-index-preserved c =

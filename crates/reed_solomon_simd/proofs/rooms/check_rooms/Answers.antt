@@ -1,5 +1,4 @@
 use Rattle.std.proofs.Common.{rules, ◌≡◌, ℕ, ◌<◌, List, [], length, get_or, MutBor, Err, sym, ap, ◌∙◌, arith}
-use Rattle.std.proofs.lemmas.Bool.{cases_lt}
 use Rattle.std.proofs.lemmas.List.{get_or-map, length-map}
 use Rattle.reed_solomon_simd.specs.declared.room_error.RoomError.TheVariants.{WrongLength}
 use Rattle.reed_solomon_simd.specs.Rooms.{bytes_in}
@@ -28,7 +27,7 @@ returns-then-rooms-index-clause-answer c = λ shards number sized.
     (omega (arith, inside, all)) c.loop-index.invariant other)
 
 pub loop-index-preserved : goal.loop-index-preserved
-loop-index-preserved c = search (rules, cases_lt, bytes-at)
+loop-index-preserved c = search (rules, bytes-at)
 
 pub returns-clause-answer : goal.returns-clause-answer
 returns-clause-answer c = λ shards number sized.

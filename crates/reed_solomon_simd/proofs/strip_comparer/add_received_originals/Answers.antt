@@ -8,7 +8,7 @@ use Rattle.rs_field.specs.code.OneCall.{Items, with_shards}
 use Rattle.rs_field.specs.code.Outcome.{result_and_then}
 use Rattle.rs_field.specs.code.PieceStates.{pieces_of, shards_listed}
 use Rattle.rs_field.proofs.of_code.Listed.{items_from-some, items_from-none, items_from-past}
-use Rattle.rs_rate.proofs.of_objects.Giving.{outcome-ok, outcome-err, reaches-ok, reaches-err}
+use Rattle.rs_rate.proofs.of_objects.Giving.{outcome-ok, outcome-err, reaches-err}
 use Rattle.rs_rate.specs.rows.EncoderView.{encoder_state}
 use Rattle.reed_solomon_simd.proofs.strip_comparer.add_received_originals.Goals.{in-Some+in_ok-add_original_shard}
 use Rattle.reed_solomon_simd.proofs.strip_comparer.add_received_originals.Goals.{in_default}
@@ -66,4 +66,4 @@ loop-index-preserved g c =
     ]
 
 pub returns : goal.returns
-returns g c = search (rules, reaches-ok, items_from-past)
+returns g c = search (rules, items_from-past)

@@ -6,7 +6,7 @@ use Rattle.rs_field.specs.code.Given.{Shards}
 use Rattle.rs_field.specs.code.Outcome.{answer_of, state_after}
 use Rattle.rs_rate.specs.rows.DecoderView.{decoder_state}
 use Rattle.rs_rate.proofs.of_rows.FirstShards.{first-none, first-skipped}
-use Rattle.reed_solomon_simd.proofs.StripDecodeLemmas.{pieces-all, original-piece-taken}
+use Rattle.reed_solomon_simd.proofs.StripDecodeLemmas.{original-piece-taken}
 use Rattle.reed_solomon_simd.proofs.strip_decoder.add_original_pieces.Goals.{in-Some+in_ok-add_original_shard}
 use Rattle.reed_solomon_simd.proofs.strip_decoder.add_original_pieces.Goals.{in_default}
 use Rattle.reed_solomon_simd.proofs.strip_decoder.add_original_pieces.Goals as goal
@@ -48,4 +48,4 @@ loop-index-preserved g c =
     ]
 
 pub returns-clause-added : goal.returns-clause-added
-returns-clause-added g c = grind (arith, common_steps, pieces-all)
+returns-clause-added g c = grind (arith, common_steps)

@@ -2,7 +2,7 @@ use Rattle.std.proofs.Common.{rules, ◌≡◌, Err, sym, ◌∙◌}
 use Rattle.rs_field.specs.code.Counts.{default_rate}
 use Rattle.rs_field.specs.code.PieceStates.{state_of_pieces}
 use Rattle.rs_rate.specs.rows.DecoderView.{decoder_state}
-use Rattle.reed_solomon_simd.proofs.StripDecodeLemmas.{pieces-added, round-made, round-refused, round-ends}
+use Rattle.reed_solomon_simd.proofs.StripDecodeLemmas.{pieces-added, round-refused, round-ends}
 use Rattle.reed_solomon_simd.proofs.strip_decoder.decode_pieces.Given.{Over}
 use Rattle.reed_solomon_simd.proofs.strip_decoder.decode_pieces.Goals.{After-decode_round}
 use Rattle.reed_solomon_simd.proofs.strip_decoder.decode_pieces.Goals as goal
@@ -31,7 +31,7 @@ returns-in_err-restored_count-clause-fresh g c =
     ∙ sym c.requires.fresh
 
 pub returns-clause-restored : goal.returns-clause-restored
-returns-clause-restored g c = search (rules, pieces-added, round-made)
+returns-clause-restored g c = search rules
 
 pub returns-clause-fresh : goal.returns-clause-fresh
-returns-clause-fresh g c = search (rules, pieces-added, round-ends)
+returns-clause-fresh g c = search rules

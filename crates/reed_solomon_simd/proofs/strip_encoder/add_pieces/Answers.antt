@@ -5,7 +5,7 @@ use Rattle.rs_field.specs.code.Counts.{default_rate}
 use Rattle.rs_field.specs.code.Encoder.{EncoderState, with_shard}
 use Rattle.rs_field.proofs.of_code.Pieces.{given-next, given-refused}
 use Rattle.rs_rate.specs.rows.EncoderView.{encoder_state}
-use Rattle.rs_rate.proofs.of_objects.Giving.{outcome-ok, outcome-err, reaches-ok, reaches-err}
+use Rattle.rs_rate.proofs.of_objects.Giving.{outcome-ok, outcome-err, reaches-err}
 use Rattle.reed_solomon_simd.proofs.strip_encoder.add_pieces.Goals as goal
 
 pub returns-in_err-add_original_shard : goal.returns-in_err-add_original_shard
@@ -34,4 +34,4 @@ loop-index-preserved g c =
     ∙ outcome-ok _ _ _ c.in_ok-add_original_shard.ensures.answer c.in_ok-add_original_shard.ensures.left)
 
 pub returns : goal.returns
-returns g c = search (rules, reaches-ok, take_all)
+returns g c = search (rules, take_all)

@@ -1,13 +1,12 @@
 use Rattle.std.proofs.lemmas.Grind.{common_steps}
 use Rattle.std.proofs.Common.{rules, ◌≡◌, ℕ, ◌+◌, ◌<◌, List, length, drop, Some, refl, ap, ◌∙◌, arith}
 use Rattle.std.proofs.lemmas.List.{drop_more, drop_all}
-use Rattle.std.proofs.lemmas.Option.{none-some}
 use Rattle.rs_field.specs.code.Column.{Shard, shard_at}
 use Rattle.rs_field.specs.code.Counts.{default_rate}
 use Rattle.rs_field.specs.code.Encoder.{EncoderState, with_shard}
 use Rattle.rs_field.specs.code.OneCall.{with_shards}
 use Rattle.rs_field.specs.code.Outcome.{result_and_then}
-use Rattle.rs_rate.proofs.of_objects.Giving.{outcome-ok, outcome-err, reaches-ok, reaches-err}
+use Rattle.rs_rate.proofs.of_objects.Giving.{outcome-err, reaches-err}
 use Rattle.rs_rate.specs.rows.EncoderView.{encoder_state}
 use Rattle.reed_solomon_simd.proofs.strip_rebuilder.add_message.Goals.{in-Some+in_ok-add_original_shard, in_default}
 use Rattle.reed_solomon_simd.proofs.strip_rebuilder.add_message.Goals as goal
@@ -37,8 +36,7 @@ returns-in_err-add_original_shard g c = λ message agrees.
     (search rules)
 
 pub loop-index-preserved : goal.loop-index-preserved
-loop-index-preserved g c =
-    grind (arith, common_steps, in-Some+in_ok-add_original_shard, more, outcome-ok, in_default, none-some)
+loop-index-preserved g c = grind (arith, common_steps)
 
 pub returns : goal.returns
-returns g c = search (rules, reaches-ok, drop_all)
+returns g c = search (rules, drop_all)

@@ -1,7 +1,5 @@
 use Rattle.std.proofs.Common.{rules, ◌≡◌, ℕ, ◌-◌, ◌<◌, ◌≤◌, [], length, get_or, sym, ap, ◌∙◌, arith}
 use Rattle.std.specs.Prelude.{unwrap_or}
-use Rattle.std.proofs.lemmas.Bool.{cases_eq}
-use Rattle.std.proofs.lemmas.Option.{none-some}
 use Rattle.rs_rate.specs.objects.ResultView.{recovery_shards, restored_originals}
 use Rattle.reed_solomon_simd.proofs.RebuiltStrips.{piece-there}
 use Rattle.reed_solomon_simd.proofs.strip_rebuilder.put_wanted.Goals.{in-Some+in_ok-put, in_default}
@@ -26,4 +24,4 @@ put-requires-clause-fits g c =
     )
 
 pub loop-room-preserved : goal.loop-room-preserved
-loop-room-preserved g c = search (rules, piece-there, in-Some+in_ok-put, cases_eq, in_default, none-some)
+loop-room-preserved g c = search (rules, piece-there)

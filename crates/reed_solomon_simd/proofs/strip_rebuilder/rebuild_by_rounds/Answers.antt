@@ -3,16 +3,15 @@ use Rattle.rs_field.specs.code.Counts.{default_rate}
 use Rattle.rs_field.specs.code.Decoder.{DecoderState}
 use Rattle.rs_rate.specs.rows.DecoderView.{decoder_state}
 use Rattle.rs_rate.specs.rows.EncoderView.{encoder_state}
-use Rattle.reed_solomon_simd.proofs.StripLoops.{cut-first, strip-next, cut-last}
-use Rattle.reed_solomon_simd.proofs.RebuiltStrips.{rebuilt-none, rebuilt-further, rebuilt-all}
+use Rattle.reed_solomon_simd.proofs.StripLoops.{strip-next, cut-last}
+use Rattle.reed_solomon_simd.proofs.RebuiltStrips.{rebuilt-further, rebuilt-all}
 use Rattle.reed_solomon_simd.proofs.StripDecodeLemmas.{strip-refused}
-use Rattle.reed_solomon_simd.proofs.SetUp.{left-lacks, valid-even}
 use Rattle.reed_solomon_simd.proofs.strip_rebuilder.rebuild_by_rounds.Goals.{then-left-width+in_ok-reset+in_ok-reset-2}
 use Rattle.reed_solomon_simd.proofs.strip_rebuilder.rebuild_by_rounds.Goals.{else-left-width}
 use Rattle.reed_solomon_simd.proofs.strip_rebuilder.rebuild_by_rounds.Goals as goal
 
 pub loop-start-init : goal.loop-start-init
-loop-start-init g c = search (rules, cut-first, rebuilt-none)
+loop-start-init g c = search rules
 
 pub returns-in_err-rebuild_strip-clause-refused : goal.returns-in_err-rebuild_strip-clause-refused
 returns-in_err-rebuild_strip-clause-refused g c =
@@ -33,7 +32,7 @@ returns-clause-rebuilt g c =
     (rw (cut-last held.cut c.loop-start-test.false c.shard_bytes-shard_bytes.ensures) at held.done)
 
 pub returns-in_err-reset-clause-refused : goal.returns-in_err-reset-clause-refused
-returns-in_err-reset-clause-refused g c = search (rules, strip-next, valid-even, left-lacks)
+returns-in_err-reset-clause-refused g c = search rules
 
 pub loop-start-preserved : goal.loop-start-preserved
 loop-start-preserved g c =

@@ -15,7 +15,6 @@ use Rattle.reed_solomon_simd.specs.Base.{marked_state}
 use Rattle.reed_solomon_simd.proofs.BaseLemmas.{sum_frame, at_counts, base_marks, base-pieces, base_term, term-of}
 use Rattle.reed_solomon_simd.proofs.BaseLemmas.{base_sum-listed}
 use Rattle.reed_solomon_simd.proofs.BaseSums.{in_row-sized}
-use Rattle.reed_solomon_simd.proofs.ConsistentStrips.{even-strip}
 use Rattle.reed_solomon_simd.proofs.strip_summer.add_base.Goals.{in-Some, in_default}
 use Rattle.reed_solomon_simd.proofs.strip_summer.add_base.Goals as goal
 
@@ -27,7 +26,7 @@ pub add_times-requires-clause-room : goal.add_times-requires-clause-room
 add_times-requires-clause-room g c = search (rules, in_row-sized)
 
 pub add_times-requires-clause-even : goal.add_times-requires-clause-even
-add_times-requires-clause-even g c = search (rules, in_row-sized, even-strip)
+add_times-requires-clause-even g c = search (rules, in_row-sized)
 
 pub loop-index-preserved : goal.loop-index-preserved
 loop-index-preserved g c j inside =

@@ -1,4 +1,4 @@
-use Rattle.std.proofs.Common.{rules, ◌≡◌, ℕ, ◌+◌, cond, sym, ap, ◌∙◌, arith, add-one, pow_mono}
+use Rattle.std.proofs.Common.{rules, ◌≡◌, ℕ, ◌+◌, cond, sym, ap, ◌∙◌, arith, add-one}
 use Rattle.std.specs.Prelude.{is_some}
 use Rattle.rs_field.specs.code.Decoder.{DecoderState}
 use Rattle.rs_field.specs.code.Given.{count_below}
@@ -7,7 +7,6 @@ use Rattle.rs_field.proofs.of_code.Entries.{count_most}
 use Rattle.rs_field.proofs.of_code.PieceStates.{is_some-map}
 use Rattle.reed_solomon_simd.proofs.BaseLemmas.{decoder_frame}
 use Rattle.reed_solomon_simd.proofs.BaseMarks.{some-copied}
-use Rattle.reed_solomon_simd.proofs.ConsistentStrips.{few-originals}
 use Rattle.reed_solomon_simd.proofs.strip_summer.inconsistent.Goals.{then-is_some, else-is_some}
 use Rattle.reed_solomon_simd.proofs.strip_summer.inconsistent.Goals as goal
 
@@ -15,7 +14,7 @@ pub loop-index-init : goal.loop-index-init
 loop-index-init g c = sym (count_below-zero (g.P.Pieces.received c.args.received.now).originals)
 
 pub overflow_add-original_received_count : goal.overflow_add-original_received_count
-overflow_add-original_received_count g c = search (rules, count_most, few-originals)
+overflow_add-original_received_count g c = search (rules, count_most)
 
 pub loop-index-preserved : goal.loop-index-preserved
 loop-index-preserved g c =
@@ -43,4 +42,4 @@ loop-index-preserved g c =
     ]
 
 pub overflow_add-result : goal.overflow_add-result
-overflow_add-result g c = search (rules, decoder_frame, pow_mono, count_most)
+overflow_add-result g c = search (rules, decoder_frame, count_most)

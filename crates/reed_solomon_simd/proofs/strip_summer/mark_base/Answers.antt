@@ -1,7 +1,6 @@
-use Rattle.std.proofs.Common.{rules, ◌≡◌, ◌+◌, ◌≤◌, set, sym, ap, vec_len, ◌∙◌, arith, pow_mono}
-use Rattle.std.proofs.Math.Nat.{min-eq_left, min-eq_right}
-use Rattle.std.proofs.lemmas.List.{get_or-set_other, length-replicate}
-use Rattle.std.proofs.lemmas.Bool.{cases_eq}
+use Rattle.std.proofs.Common.{rules, ◌≡◌, ◌+◌, ◌≤◌, sym, ap, ◌∙◌, arith}
+use Rattle.std.proofs.Math.Nat.{min-eq_right}
+use Rattle.std.proofs.lemmas.List.{length-replicate}
 use Rattle.rs_field.specs.code.Decoder.{DecoderState, originals_given, recovery_given}
 use Rattle.rs_field.specs.code.Frame.{row_count, frame_at}
 use Rattle.rs_field.specs.rows.MarkedRows.{is_marked}
@@ -9,37 +8,22 @@ use Rattle.rs_rate.specs.rows.Marks.{how_many}
 use Rattle.rs_rate.proofs.of_rows.HowMany.{how_many-zero, how_many-most}
 use Rattle.rs_rate.proofs.of_rows.DecoderRows.{enough-least}
 use Rattle.reed_solomon_simd.proofs.BaseLemmas.{decoder_frame, frame_same, some-pieces}
-use Rattle.reed_solomon_simd.proofs.BaseMarks.{some-copied, all-found, base-count, marked-more, many-more, many-passed}
-use Rattle.reed_solomon_simd.proofs.BaseMarks.{unmarked}
+use Rattle.reed_solomon_simd.proofs.BaseMarks.{all-found, base-count, marked-more, many-more, many-passed, unmarked}
 use Rattle.reed_solomon_simd.proofs.strip_summer.mark_base.Given.{Over}
 use Rattle.reed_solomon_simd.proofs.strip_summer.mark_base.Goals.{After-loop-row, then-is_some, else-is_some}
 use Rattle.reed_solomon_simd.proofs.strip_summer.mark_base.Goals as goal
 
 pub row_count-row_count-requires : goal.row_count-row_count-requires
-row_count-row_count-requires g c = search (rules, frame_same, decoder_frame)
+row_count-row_count-requires g c = search (rules, decoder_frame)
 
 pub loop-row-init : goal.loop-row-init
-loop-row-init g c = search (rules, unmarked, length-replicate, how_many-zero, min-eq_left)
+loop-row-init g c = search (rules, unmarked, length-replicate, how_many-zero)
 
 pub overflow_add-found : goal.overflow_add-found
-overflow_add-found g c = search (rules, frame_same, decoder_frame, pow_mono, how_many-most)
+overflow_add-found g c = search (rules, how_many-most)
 
 pub loop-row-preserved : goal.loop-row-preserved
-loop-row-preserved g c =
-    search (
-      rules,
-      some-copied,
-      some-pieces,
-      then-is_some,
-      set,
-      get_or-set_other,
-      vec_len,
-      many-more,
-      cases_eq,
-      marked-more,
-      else-is_some,
-      many-passed,
-    )
+loop-row-preserved g c = search (rules, some-pieces, many-more, marked-more, many-passed)
 
 -- At the end of the loop, all received shards were counted, and they are enough.
 total : (g : Over) (c : After-loop-row g) → let s : DecoderState = g.P.Pieces.received c.args.received.now in

@@ -17,10 +17,10 @@ pub row_of-row-requires : goal.row_of-row-requires
 row_of-row-requires g c = search (rules, decoder_frame, pow_mono, row-inside, sum_row)
 
 pub sum_piece-requires-clause-row : goal.sum_piece-requires-clause-row
-sum_piece-requires-clause-row g c = search (rules, row-inside, sum_row)
+sum_piece-requires-clause-row g c = search (rules, row-inside)
 
 pub sum_piece-requires-clause-outside : goal.sum_piece-requires-clause-outside
-sum_piece-requires-clause-outside g c = search (rules, missing-unmarked, sum_row, wanted-missing)
+sum_piece-requires-clause-outside g c = search (rules, missing-unmarked, wanted-missing)
 
 -- The sum is the piece of the wanted shard.
 summed : (g : Over) (c : After-summed_piece g) (message : List Shard)

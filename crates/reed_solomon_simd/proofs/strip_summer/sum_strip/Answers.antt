@@ -11,11 +11,4 @@ pub returns-then-not-agree_in_strip-clause-refused : goal.returns-then-not-agree
 returns-then-not-agree_in_strip-clause-refused g c = search (rules, count-pieces)
 
 pub put_sums-requires-clause-consistent : goal.put_sums-requires-clause-consistent
-put_sums-requires-clause-consistent g c =
-    search (
-      rules,
-      else-surplus-gt0-via-then-surplus-gt0+else-not-agree_in_strip,
-      else-surplus-gt0-via-else-surplus-gt0,
-      consistent-cut,
-      exact-consistent,
-    )
+put_sums-requires-clause-consistent g c = search (rules, consistent-cut, exact-consistent)

@@ -1,12 +1,12 @@
 use Rattle.std.proofs.Common.{rules, ◌≡◌, Err, ◌∙◌, refl}
 use Rattle.rs_field.specs.code.Decoder.{DecoderState}
-use Rattle.reed_solomon_simd.proofs.StripLoops.{cut-first, strip-next, cut-last}
-use Rattle.reed_solomon_simd.proofs.RebuiltStrips.{rebuilt-none, rebuilt-further, rebuilt-all}
+use Rattle.reed_solomon_simd.proofs.StripLoops.{strip-next, cut-last}
+use Rattle.reed_solomon_simd.proofs.RebuiltStrips.{rebuilt-further, rebuilt-all}
 use Rattle.reed_solomon_simd.proofs.StripDecodeLemmas.{strip-refused}
 use Rattle.reed_solomon_simd.proofs.strip_summer.sum_strips.Goals as goal
 
 pub loop-start-init : goal.loop-start-init
-loop-start-init g c = search (rules, cut-first, rebuilt-none)
+loop-start-init g c = search rules
 
 pub loop-start-preserved : goal.loop-start-preserved
 loop-start-preserved g c =

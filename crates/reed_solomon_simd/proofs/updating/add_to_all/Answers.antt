@@ -3,11 +3,11 @@ use Rattle.std.specs.Prelude.{slice_index}
 use Rattle.rs_field.specs.code.Column.{shard_at}
 use Rattle.rs_field.specs.code.Pieces.{IsStrip}
 use Rattle.reed_solomon_simd.specs.Rooms.{bytes_in}
-use Rattle.reed_solomon_simd.proofs.UpdateLemmas.{changed-none, changed-more, changed-all, next-strip}
+use Rattle.reed_solomon_simd.proofs.UpdateLemmas.{changed-more, next-strip}
 use Rattle.reed_solomon_simd.proofs.updating.add_to_all.Goals as goal
 
 pub loop-start-init : goal.loop-start-init
-loop-start-init g c = search (rules, changed-none)
+loop-start-init g c = search rules
 
 pub add_strip-requires-clause-strip : goal.add_strip-requires-clause-strip
 add_strip-requires-clause-strip g c =
@@ -39,4 +39,4 @@ loop-start-preserved g c =
     }
 
 pub returns-clause-changed : goal.returns-clause-changed
-returns-clause-changed g c i h = search (rules, changed-all)
+returns-clause-changed g c i h = search rules

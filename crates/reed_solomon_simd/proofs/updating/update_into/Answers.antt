@@ -2,22 +2,20 @@ use Rattle.std.proofs.Common.{rules, [], length, Ok, refl, ◌∙◌, inl, arith
 use Rattle.std.proofs.lemmas.List.{length-map}
 use Rattle.reed_solomon_simd.specs.Rooms.{bytes_in}
 use Rattle.reed_solomon_simd.proofs.ReconstructLemmas.{zeros, zeros-number, zeros-sized}
-use Rattle.reed_solomon_simd.proofs.UpdateLemmas.{updates-by, updates-changed, outcome-uncounted, outcome-change}
-use Rattle.reed_solomon_simd.proofs.UpdateLemmas.{outcome-rooms}
+use Rattle.reed_solomon_simd.proofs.UpdateLemmas.{updates-by, updates-changed, outcome-rooms}
 use Rattle.reed_solomon_simd.proofs.updating.update_into.Goals as goal
 
 pub returns-in_err-counts-clause-answer : goal.returns-in_err-counts-clause-answer
-returns-in_err-counts-clause-answer g c = search (rules, updates-by, outcome-uncounted)
+returns-in_err-counts-clause-answer g c = search rules
 
 pub returns-in_err-check_change-clause-answer : goal.returns-in_err-check_change-clause-answer
-returns-in_err-check_change-clause-answer g c = search (rules, updates-by, outcome-change)
+returns-in_err-check_change-clause-answer g c = search rules
 
 pub returns-in_err-check_rooms-clause-answer : goal.returns-in_err-check_rooms-clause-answer
-returns-in_err-check_rooms-clause-answer g c =
-    search (rules, updates-by, outcome-rooms, zeros, zeros-number, zeros-sized)
+returns-in_err-check_rooms-clause-answer g c = search (rules, zeros-number, zeros-sized)
 
 pub returns-in_err-factors-clause-answer : goal.returns-in_err-factors-clause-answer
-returns-in_err-factors-clause-answer g c = search (rules, updates-by, outcome-rooms, zeros, zeros-number, zeros-sized)
+returns-in_err-factors-clause-answer g c = search (rules, zeros-number, zeros-sized)
 
 pub returns-clause-answer : goal.returns-clause-answer
 returns-clause-answer g c =

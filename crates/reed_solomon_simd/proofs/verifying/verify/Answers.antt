@@ -2,8 +2,7 @@ use Rattle.std.proofs.Common.{rules, ℕ, List, map, Bor}
 use Rattle.rs_field.specs.code.Column.{Shard}
 use Rattle.rs_field.specs.code.OneCall.{Items}
 use Rattle.reed_solomon_simd.specs.ReceivedState.{received_state}
-use Rattle.reed_solomon_simd.proofs.VerifyingLemmas.{verifies-uncounted, verifies-refused, verifies-few}
-use Rattle.reed_solomon_simd.proofs.VerifyingLemmas.{verifies-checked}
+use Rattle.reed_solomon_simd.proofs.VerifyingLemmas.{verifies-uncounted, verifies-refused, verifies-checked}
 use Rattle.reed_solomon_simd.proofs.verifying.verify.Goals as goal
 
 -- The shards of borrowed items, with their indexes.
@@ -24,7 +23,7 @@ returns-in_err-received g c =
     search rules
 
 pub returns-in_err-surplus : goal.returns-in_err-surplus
-returns-in_err-surplus g c = search (rules, verifies-few)
+returns-in_err-surplus g c = search rules
 
 pub returns : goal.returns
 returns g c =

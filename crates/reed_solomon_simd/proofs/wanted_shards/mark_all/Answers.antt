@@ -9,7 +9,7 @@ use Rattle.reed_solomon_simd.proofs.WantedLemmas.{wanted-next}
 use Rattle.reed_solomon_simd.proofs.wanted_shards.mark_all.Goals as goal
 
 pub returns-in_err-mark-clause-answer : goal.returns-in_err-mark-clause-answer
-returns-in_err-mark-clause-answer c = grind (arith, common_steps, wanted-next)
+returns-in_err-mark-clause-answer c = grind (arith, common_steps)
 
 pub loop-index-preserved : goal.loop-index-preserved
 loop-index-preserved c =
