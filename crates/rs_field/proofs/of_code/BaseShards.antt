@@ -1,7 +1,6 @@
 -- Any k of the given shards, the base, decide whether some message agrees with all given shards.
 use Rattle.std.proofs.Common.{rules, ◌≡◌, ℕ, ◌+◌, ◌/◌, ◌%◌, ◌<◌, Bool, false, List, refl, sym, ap, ◌∙◌, subst, arith}
 use Rattle.std.proofs.Common.{inl, inr}
-use Rattle.std.proofs.Math.Nat.{mod-eq_of_lt, mod-lt}
 use Rattle.std.specs.Prelude.{Option, Some, is_some, ◌↔◌}
 use Rattle.std.proofs.lemmas.Bool.{cases_Bool}
 use Rattle.rs_field.specs.words.DirectSum.{direct_sum}
@@ -14,8 +13,8 @@ use Rattle.rs_field.specs.code.Frame.{original_row, recovery_row, frame_at}
 use Rattle.rs_field.specs.code.Given.{Shards, AreAmong, Agrees}
 use Rattle.rs_field.proofs.of_code.Given.{some_of}
 use Rattle.rs_field.proofs.of_code.Columns.{shard_from_columns, shard_in}
-use Rattle.rs_field.proofs.of_code.GivenRows.{AreGiven, state_with, given_within, erased_in, words_in, row_count_of}
-use Rattle.rs_field.proofs.of_code.GivenRows.{distinct, shard_in_row-own, shard_in_row-coded, given-own, given-coded}
+use Rattle.rs_field.proofs.of_code.GivenRows.{AreGiven, state_with, given_within, words_in, row_count_of, distinct}
+use Rattle.rs_field.proofs.of_code.GivenRows.{shard_in_row-own, shard_in_row-coded, given-own, given-coded}
 use Rattle.rs_field.proofs.of_code.GivenRows.{given-either}
 use Rattle.rs_field.proofs.of_code.DirectColumn.{IsLocated, direct_original, direct_recovery}
 use Rattle.rs_field.proofs.of_code.AnyShards.{any_consistent}
@@ -46,7 +45,7 @@ locator_in s = locator_at (frame_at s.configuration) s.configuration.original_co
 -- The rows of all given shards, and their locator.
 pub all_located : (s : DecoderState) → IsLocated s (λ x. is_some (shard_in_row s x)) (locator_in s)
 unfolding locator_at
-all_located s = search (rules, mod-eq_of_lt, mod-lt, row_count_of, erased_in)
+all_located s = search rules
 
 -- Each missing word is the direct sum over the given shards.
 pub summed_directly : IsSummedDirectly

@@ -184,14 +184,4 @@ module _ {s : DecoderState} (g : AreGiven s) {j : ℕ} where
         -- A power for 65535 minus any residue of the locator, times this value, is the wanted word.
         pub restored_word : l ≤ 65535 → power l ≡ power (log_sum (row_count_of s) (erased_in s) x)
             → product (forward (row_count_of s) 0 added x) (power (65535 - l)) ≡ value p x
-        restored_word hl same =
-            search (
-              rules,
-              restored_product,
-              product-comm,
-              row_count_of,
-              erased_in,
-              residue_undone,
-              value_lt,
-              words_from,
-            )
+        restored_word hl same = search (rules, restored_product, product-comm, residue_undone, value_lt, words_from)

@@ -1,6 +1,6 @@
 -- The shards that were given to a decoder, by their rows, and the words of a column in these rows.
 use Rattle.std.proofs.Common.{rules, ◌≡◌, ℕ, ◌+◌, ◌-◌, ◌<◌, ◌≤◌, ◌⊎◌, true, cond, refl, sym, ap, ◌∙◌, subst, arith, inl}
-use Rattle.std.proofs.Common.{inr, pow_mono}
+use Rattle.std.proofs.Common.{inr}
 use Rattle.std.specs.Prelude.{Option, Some, None, is_some}
 use Rattle.std.proofs.lemmas.Bool.{cases_lt}
 use Rattle.std.proofs.lemmas.Option.{none-some}
@@ -24,7 +24,7 @@ pub record AreSized (count size : ℕ) (given : Shards) : Type 0 where
 
 -- Given shards that are within bounds have indexes below the count.
 pub sized-within : {count size : ℕ} {given : Shards} → AreWithin count size given → AreSized count size given
-sized-within {count} within = search (rules, cases_lt, none-some)
+sized-within {count} within = search rules
 
 -- The shards of a decoder for supported counts: all have the size, and their indexes are below the counts.
 pub record AreGiven (s : DecoderState) : Type 0 where
@@ -136,7 +136,7 @@ module _ (s : DecoderState) where
       → i < s.configuration.recovery_count
       → shard_in_row s (recovery_row (frame_at s.configuration) i) ≡ s.recovery i
   unfolding given_at
-  shard_in_row-coded i f hi = search (rules, entry_in-other, rows_apart, entry_in-at)
+  shard_in_row-coded i f hi = search (rules, entry_in-other, entry_in-at)
 
   pub shard_in_row-other : (x : ℕ)
       → (x < (frame_at s.configuration).originals_from)
@@ -194,7 +194,7 @@ pub record AreErasures (s : DecoderState) : Type 0 where
 -- Below the last row, the zero points among the rows are all zero points.
 zeros_among : (frame : Frame) (k r x : ℕ) → HasDistinctRows frame k r
     → (x < zeros_end frame → x < frame.zeros_to) × (x < row_count frame → zeros_end frame ≤ x → frame.zeros_to ≤ x)
-zeros_among frame k r x f = search (rules, pow_mono)
+zeros_among frame k r x f = search rules
 
 module _ {s : DecoderState} (g : AreGiven s) where
   pub distinct : HasDistinctRows (frame_at s.configuration) s.configuration.original_count
@@ -211,10 +211,8 @@ module _ {s : DecoderState} (g : AreGiven s) where
       search (
         rules,
         distinct,
-        erased_in-most,
         erased_in-row,
         shard_in_row-own,
-        among,
         shard_in_row-coded,
         erased_in-known,
         shard_in_row-other,

@@ -2,8 +2,6 @@
 use Rattle.std.proofs.Common.{◌≡◌, ℕ, ◌+◌, ◌-◌, ◌*◌, ◌/◌, ◌%◌, ◌<◌, true, cond, List, [], length, min, sym, ap, ◌∙◌}
 use Rattle.std.proofs.Common.{subst, arith}
 use Rattle.std.specs.Prelude.{slice_index, nat_lt}
-use Rattle.std.proofs.lemmas.Bool.{cases_lt}
-use Rattle.std.proofs.lemmas.List.{get_or_past}
 use Rattle.std.proofs.lemmas.Grind.{common_steps}
 use Rattle.rs_field.specs.code.Column.{Shard, IsShard, AreShards, column, columns}
 use Rattle.rs_field.specs.code.Counts.{Rate, supports}
@@ -69,8 +67,7 @@ shards_of n size w words = (
 
 recovery_lt : (rate : Rate) (k r : ℕ) (words recovery : List ℕ) → length recovery ≡ r
     → AreRecoveryWords rate k r words recovery → (i : ℕ) → slice_index recovery i < 65536
-recovery_lt rate k r words recovery size (p, codes, at) i =
-    grind (arith, common_steps, cases_lt, value_lt, words_from, get_or_past)
+recovery_lt rate k r words recovery size (p, codes, at) i = grind (arith, common_steps, value_lt, words_from)
 
 -- Every message of a configuration with supported counts and an even size has recovery shards.
 pub has_recovery : (c : Configuration) (message : List Shard) → supports c.rate c.original_count c.recovery_count ≡ true

@@ -3,7 +3,7 @@
 use Rattle.std.proofs.Common.{rules, ◌≡◌, ◌≢◌, ℕ, zero, suc, ◌+◌, ◌/◌, ◌<◌, ◌≤◌, ◌⊎◌, Bool, true, false, cond, List}
 use Rattle.std.proofs.Common.{refl, sym, ap, ap₂, ◌∙◌, subst, arith, inl, inr, bit_xor}
 use Rattle.std.specs.Prelude.{Some, None, is_some, nat_lt}
-use Rattle.std.proofs.lemmas.Bool.{cases_lt, lt-ltb, le-ltb}
+use Rattle.std.proofs.lemmas.Bool.{lt-ltb, le-ltb}
 use Rattle.std.proofs.lemmas.Option.{none-some}
 use Rattle.rs_field.specs.words.Field.{product, power}
 use Rattle.rs_field.specs.words.DirectSum.{direct_factor, direct_sum}
@@ -39,7 +39,7 @@ all_of-past k i shards past = ap (λ (b : Bool). cond b (Some (shard_at shards i
 -- A shard of the map is the shard of the list.
 all_of-some : (k i : ℕ) (shards : List Shard) (shard : Shard) → all_of k shards i ≡ Some shard
     → (i < k) × (shard_at shards i ≡ shard)
-all_of-some k i shards shard is = search (rules, cases_lt, all_of-in, none-some, all_of-past)
+all_of-some k i shards shard is = search (rules, all_of-in, all_of-past)
 
 count-all_of : (n k : ℕ) (shards : List Shard) → n ≤ k → count_below n (all_of k shards) ≡ n
 count-all_of zero k shards few = count_below-zero (all_of k shards)

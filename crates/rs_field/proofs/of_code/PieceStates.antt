@@ -5,7 +5,6 @@ use Rattle.std.proofs.Common.{◌∙◌, subst, arith}
 use Rattle.std.specs.Prelude.{Option, Some, None, is_some, unwrap_or}
 use Rattle.std.specs.List.{between}
 use Rattle.std.specs.Option.{option_map}
-use Rattle.std.proofs.lemmas.Bool.{cases_lt}
 use Rattle.std.proofs.lemmas.List.{get_or-map, get_or_past, length-map, length-drop, length-take-le, take_all, drop_all}
 use Rattle.std.proofs.lemmas.List.Elements.{All-map, All-take, All-drop}
 use Rattle.rs_field.specs.code.Column.{Shard, IsShard, AreShards, shard_at, column, columns}
@@ -26,7 +25,7 @@ module _ (start end : ℕ) where
 
   -- Piece i of a list of shards is a piece of shard i.
   pub shard_at-pieces : (i : ℕ) (xs : List Shard) → shard_at (pieces start end xs) i ≡ between start end (shard_at xs i)
-  shard_at-pieces i xs = search (rules, length-map, cases_lt, get_or-map, get_or_past, none)
+  shard_at-pieces i xs = search (rules, length-map, get_or-map, get_or_past)
 
   -- Each piece in a map is a piece of a shard in the map.
   whole_of : (o : Option Shard) (p : Shard) → option_map (λ s. between start end s) o ≡ Some p → (s : Shard)
@@ -43,7 +42,7 @@ module _ (start end : ℕ) where
       → missing_of (state_of_pieces start end s) (pieces start end message) i
       ≡ option_map (λ x. between start end x) (missing_of s message i)
   unfolding missing_of
-  missing-cut s message i = search (rules, is_some-map, shard_at-pieces)
+  missing-cut s message i = search (rules, shard_at-pieces)
 
 -- ---- strips
 

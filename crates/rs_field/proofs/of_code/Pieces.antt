@@ -3,7 +3,6 @@ use Rattle.std.proofs.Common.{rules, ◌≡◌, ◌⊎◌, ℕ, suc, ◌+◌, �
 use Rattle.std.proofs.Common.{take, drop, get_or, min, Bool, true, false, refl, sym, ap, ap₂, ◌∙◌, subst, inl, inr}
 use Rattle.std.proofs.Common.{arith, All}
 use Rattle.std.specs.List.{between}
-use Rattle.std.proofs.Math.Nat.{min-eq_left, min-eq_right}
 use Rattle.std.proofs.lemmas.Bool.{cases_lt}
 use Rattle.std.proofs.lemmas.List.{get_or-take, get_or-drop, get_or-map, get_or_default, length-take-le, length-drop}
 use Rattle.std.proofs.lemmas.List.{length-map, length-append, take_all, take_at, drop_at, take_more, drop_more}
@@ -181,7 +180,7 @@ module _ {grows : Bool} {size start end : ℕ} {made old new : List Shard}
     (p : AreStripPut grows size start end made old new) where
   -- Each room had the bytes before the piece.
   pub put-inside : All (λ s. start ≤ length s) old
-  put-inside i d h = search (rules, room-from)
+  put-inside i d h = search rules
 
   at : (i : ℕ) → i < length old
       → get_or new i [] ≡ take start (get_or old i []) ++ (get_or made i [] ++ drop end (get_or old i []))
@@ -195,11 +194,11 @@ module _ {grows : Bool} {size start end : ℕ} {made old new : List Shard}
 
   -- After a piece is put, each room ends at the end of the piece, or where it ended before.
   put-length : (i : ℕ) → i < length old → length (get_or new i []) ≡ end + (length (get_or old i []) - end)
-  put-length i h = search (rules, front, long, length-drop, length-append, at)
+  put-length i h = search (rules, length-drop, length-append)
 
   -- After a piece is put, each room has the length for the end of the strip.
   pub put-fit : All (λ s. length s ≡ room_length grows end size) new
-  put-fit i d h = search (rules, get_or_default, put-length, room-further)
+  put-fit i d h = search (rules, get_or_default, put-length)
 
   -- The bytes before the piece are unchanged in each room.
   pub put-heads : heads start new ≡ heads start old
@@ -249,8 +248,7 @@ module _ {grows : Bool} {size start end : ℕ} {made old new : List Shard}
 pub is_strip : (start strip size width part : ℕ) → width ≡ min strip size → part ≡ min width (size - start)
     → strip % 64 ≡ 0
     → (start % 64 ≡ 0) ⊎ (start ≡ size) → start < size → IsStrip start (start + part) size
-is_strip start strip size width part width_is part_is chunks begins less =
-    search (rules, cases_lt, min-eq_left, min-eq_right)
+is_strip start strip size width part width_is part_is chunks begins less = search rules
 
 -- There are as many rooms as recovery shards, and they hold the first bytes of the recovery shards.
 pub record IsDone (k r size end : ℕ) (grows : Bool) (rate : Rate) (originals rooms : List Shard) : Type 0 where

@@ -15,7 +15,7 @@ low_distinct k r fit most =
 -- The frame of the high rate.
 pub high_distinct : (k r : ℕ) → next_power r + k ≤ 65536 → r ≤ next_power r → HasDistinctRows (high_frame k r) k r
 unfolding high_frame zeros_end coefficient_count
-high_distinct k r fit most = search (rules, exponent-small, pow_mono)
+high_distinct k r fit most = search (rules, exponent-small)
 
 -- A frame by its rate, if the counts fit.
 distinct_by_rate : (rate : Rate) (k r : ℕ) → (is_low rate k r ≡ true → next_power k + r ≤ 65536)

@@ -8,9 +8,9 @@ use Rattle.std.specs.Prelude.{Some, None, is_some, unwrap_or, not, ◌&&◌, nat
 use Rattle.std.specs.List.{between}
 use Rattle.std.specs.Option.{option_map}
 use Rattle.std.proofs.Math.Path.{fun_ext}
-use Rattle.std.proofs.Math.Seq.{take-add, take-append-add, take-append_seam}
+use Rattle.std.proofs.Math.Seq.{take-add}
 use Rattle.std.proofs.lemmas.Bool.{cases_lt, lt-ltb, le-ltb}
-use Rattle.std.proofs.lemmas.List.{get_or-map, length-map, length-take-le, take_all, ext_get_or}
+use Rattle.std.proofs.lemmas.List.{get_or-map, length-map, take_all, ext_get_or}
 use Rattle.rs_field.specs.declared.code.error.Error.{Error}
 use Rattle.rs_field.specs.declared.code.error.Error.TheVariants.{InconsistentShards, NotEnoughShards}
 use Rattle.rs_field.specs.code.Column.{Shard}
@@ -70,7 +70,7 @@ none-pieces {start} {end} s strip none =
 some-missing : (s : DecoderState) (message : List Shard) (i : ℕ) → i < s.configuration.original_count
     → is_some (missing_of s message i) ≡ not (is_some (s.originals i))
 unfolding missing_of
-some-missing s message i inside = search (rules, lt-ltb)
+some-missing s message i inside = search rules
 
 pub missing-past : (s : DecoderState) (message : List Shard) (i : ℕ) → s.configuration.original_count ≤ i
     → missing_of s message i ≡ None
@@ -155,8 +155,7 @@ pub record IsRestoredBelow (s : DecoderState) (grows : Bool) (bound : ℕ) (room
 -- Joining a piece to the first bytes of a shard gives more first bytes.
 take-joined : (start : ℕ) (old piece rest : Shard) → start ≤ length old
     → take (start + length piece) (take start old ++ (piece ++ rest)) ≡ take start old ++ piece
-take-joined start old piece rest inside =
-    grind (arith, common_steps, length-take-le, take-append-add, take-append_seam)
+take-joined start old piece rest inside = grind (arith, common_steps)
 
 module _ (s : DecoderState) (start end : ℕ) {out : Shards} {items : Items}
     (restored : Restored (state_of_pieces start end s) out) (listing : Lists out items) where

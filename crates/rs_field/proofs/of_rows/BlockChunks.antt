@@ -44,7 +44,7 @@ module _ (block : Block) (old : ShardsRefMut) (fits : Fits old)
   end = omega (arith, whole, rows_end block.pos block.size old.shard_count n within, fits)
 
   pub block_long : length given ≡ block.size * n
-  block_long = grind (arith, common_steps, whole, end)
+  block_long = grind (arith, common_steps)
 
   module _ (new : ShardsRefMut) (part : Chunks) (len : new.shard_len_64 ≡ n)
       (written : new.chunks.now ≡ put_mid (block.pos * n) m old.chunks.now part)
@@ -57,7 +57,7 @@ module _ (block : Block) (old : ShardsRefMut) (fits : Fits old)
 
     new_cell : (p k r : ℕ) → p < block.size * n → block.pos * n + p ≡ r * n + k → chunk part p ≡ cell new k r
     unfolding cell
-    new_cell p k r below is = search (rules, of_written, end, whole)
+    new_cell p k r below is = search (rules, of_written, end)
 
     module _ (large : 1 < block.size) (direction : Direction) (skew : List ℕ) (table : IsSkew skew) (k s : ℕ)
         (hk : k < n) (hs : s < 32) where

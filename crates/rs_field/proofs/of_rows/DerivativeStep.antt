@@ -68,7 +68,7 @@ module _ (e : ℕ) (f : ℕ → ℕ) (p q : List ℕ) (he : e < 16) (low : IsSum
 
   derivative-joined : (x : ℕ) → x < 2 ^ 16 → derivative_value joined x
       ≡ bit_xor (bit_xor (product (subspace e x) (derivative_value q x)) (value q x)) (derivative_value p x)
-  derivative-joined x hx = search (rules, derivative_add, times, points, derivative-subspace)
+  derivative-joined x hx = search (rules, derivative_add, derivative-subspace)
 
 module _ (f a b g : ℕ → ℕ) where
   -- The step of n + n words is made by the steps of both halves, where the old words of the second half are added to

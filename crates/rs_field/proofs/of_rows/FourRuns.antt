@@ -56,7 +56,7 @@ pub four-runs : (xs : Chunks) (i k n d : ℕ) (u v w z : Chunks)
     → with_two xs i (d + n) k (d + n) (with_two (take (d + n) (drop_list i xs)) 0 n d n u v)
     (with_two (take (d + n) (drop_list k xs)) 0 n d n w z)
     ≡ with_four xs i (i + d) k (k + d) n u v w z
-four-runs xs i k n d u v w z = search (rules, ends_of, joined, drop_list)
+four-runs xs i k n d u v w z = search (rules, ends_of, joined)
 
 abbrev pub Four : Type 0 → Type 0
 Four X = X × X × X × X

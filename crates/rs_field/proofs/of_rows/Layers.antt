@@ -12,7 +12,7 @@ use Rattle.rs_field.specs.rows.Pairs.{IsForwardTwo, IsBackwardTwo}
 use Rattle.rs_field.specs.rows.TwoLayers.{forward_first, forward_second, backward_first, backward_second, IsForwardFour}
 use Rattle.rs_field.specs.rows.TwoLayers.{IsBackwardFour}
 use Rattle.rs_field.specs.rows.Layers.{ArePartsOf}
-use Rattle.rs_field.proofs.of_words.Combination.{forward-same, lower_half, upper_half}
+use Rattle.rs_field.proofs.of_words.Combination.{lower_half, upper_half}
 use Rattle.rs_field.proofs.of_words.Halves.{half_power, few_halves, shift_half, table_factor, xor_undo}
 
 -- The size of a block, its position among the points, and its table of factors.
@@ -90,7 +90,7 @@ as_part : (size n shift j i to at : ℕ) (f g : ℕ → ℕ) (place : ℕ → �
     → ((q : ℕ) → j * n + q ≡ place q)
     → forward n to (λ q. g (place q)) i ≡ forward size shift f at
     → forward n (shift + j * n) (λ q. g (j * n + q)) i ≡ forward size shift f (j * n + i)
-as_part size n shift j i to at f g place e is same r = search (rules, forward-same)
+as_part size n shift j i to at f g place e is same r = search rules
 
 -- One layer leaves two parts of the transform.
 pub one_layer : {skew : List ℕ} {n shift : ℕ} {f g : ℕ → ℕ} → IsBlock skew (n + n) shift → IsLayer skew n shift f g
@@ -194,7 +194,7 @@ undo_first : (log_m x y : ℕ) → forward_first log_m (backward_first log_m x y
 undo_first log_m x y = grind (arith, common_steps)
 
 undo_second : (log_m x y : ℕ) → forward_second log_m (backward_first log_m x y) (backward_second x y) ≡ y
-undo_second log_m x y = grind (arith, common_steps, undo_first, xor_undo)
+undo_second log_m x y = grind (arith, common_steps, xor_undo)
 
 -- Two forward layers undo two backward layers.
 pub backward_undone : (m02 m01 m23 x0 x1 x2 x3 y0 y1 y2 y3 : ℕ) → IsBackwardFour m02 m01 m23 x0 x1 x2 x3 y0 y1 y2 y3

@@ -5,7 +5,6 @@ use Rattle.std.proofs.Common.{get_or, min, take, drop, All, sym, ap, ap₂, ◌�
 use Rattle.std.proofs.Common.{length-append}
 use Rattle.std.specs.Prelude.{slice_index}
 use Rattle.std.specs.Simd.{first_chunks}
-use Rattle.std.proofs.Math.Nat.{min-eq_left, min-eq_right}
 use Rattle.std.proofs.lemmas.Bool.{cases_lt}
 use Rattle.std.proofs.lemmas.List.{get_or_append_left, get_or-append_right, get_or-take, get_or-drop, length-take-le}
 use Rattle.std.proofs.lemmas.Grind.{common_steps}
@@ -37,12 +36,12 @@ chunk_of size b h = omega arith
 pub laid_out-same : (size : ℕ) (f g : ℕ → List ℕ) → ((k : ℕ) → k < row_len size → f k ≡ g k)
     → laid_out size f ≡ laid_out size g
 unfolding laid_out
-laid_out-same size f g same = search (rules, up_to-same, chunk_of)
+laid_out-same size f g same = search (rules, up_to-same)
 
 pub in_order-same : (size : ℕ) (f g : ℕ → List ℕ) → ((k : ℕ) → k < row_len size → f k ≡ g k)
     → in_order size f ≡ in_order size g
 unfolding in_order
-in_order-same size f g same = search (rules, up_to-same, chunk_of)
+in_order-same size f g same = search (rules, up_to-same)
 
 -- If half the bytes of a chunk or of the tail are `half` bytes, the first half is at the beginning of the chunk.
 pub byte_offset-low : (size b half : ℕ) → min 64 (size - b / 64 * 64) / 2 ≡ half → b % 64 < half
@@ -57,14 +56,14 @@ unfolding byte_offset
 byte_offset-high size b half e h = grind (arith, common_steps)
 
 half-whole : (size b : ℕ) → b / 64 * 64 + 64 ≤ size → min 64 (size - b / 64 * 64) / 2 ≡ 32
-half-whole size b h = search (rules, min-eq_left)
+half-whole size b h = search rules
 
 half-tail : (size b : ℕ) → b / 64 ≡ size / 64 → min 64 (size - b / 64 * 64) / 2 ≡ size % 64 / 2
 half-tail size b h = grind (arith, common_steps)
 
 -- The bytes of a whole chunk have the same places in the shard and in the row.
 pub byte_offset-whole : (size b : ℕ) → b / 64 < size / 64 → byte_offset size b ≡ b % 64
-byte_offset-whole size b h = grind (arith, common_steps, cases_lt, byte_offset-low, half-whole, byte_offset-high)
+byte_offset-whole size b h = grind (arith, common_steps, byte_offset-low, byte_offset-high)
 
 pub byte_offset-tail_low : (size b : ℕ) → b / 64 ≡ size / 64 → b % 64 < size % 64 / 2 → byte_offset size b ≡ b % 64
 byte_offset-tail_low size b q h = byte_offset-low size b (size % 64 / 2) (half-tail size b q) h
@@ -74,14 +73,13 @@ pub byte_offset-tail_high : (size b : ℕ) → b / 64 ≡ size / 64 → size % 6
 byte_offset-tail_high size b q h = byte_offset-high size b (size % 64 / 2) (half-tail size b q) h
 
 byte_offset_lt : (size b : ℕ) → b < size → byte_offset size b < 64
-byte_offset_lt size b h =
-    grind (arith, common_steps, cases_lt, byte_offset-whole, byte_offset-tail_low, byte_offset-tail_high)
+byte_offset_lt size b h = grind (arith, common_steps, byte_offset-whole, byte_offset-tail_low, byte_offset-tail_high)
 
 module _ (size : ℕ) (chunks : ℕ → List ℕ)
     (small : (k b : ℕ) → k < row_len size → b < 64 → slice_index (chunks k) b < 256) where
   bytes-laid_out : All (λ b. b < 256) (laid_out size chunks)
   unfolding laid_out
-  bytes-laid_out i d h = grind (arith, common_steps, length-laid_out, get-up_to, chunk_of, byte_offset_lt)
+  bytes-laid_out i d h = grind (arith, common_steps, length-laid_out, get-up_to, byte_offset_lt)
 
   pub shard-laid_out : IsShard size (laid_out size chunks)
   shard-laid_out = record { length_is = length-laid_out size chunks; bytes = bytes-laid_out }
@@ -89,7 +87,7 @@ module _ (size : ℕ) (chunks : ℕ → List ℕ)
   -- A shard whose tail was moved is a shard of the size.
   pub shard-in_order : IsShard size (in_order size chunks)
   unfolding in_order
-  shard-in_order = grind (arith, common_steps, length-in_order, get-up_to, chunk_of)
+  shard-in_order = grind (arith, common_steps, length-in_order, get-up_to)
 
 -- Word i of chunk q has its low byte in the first half and its high byte in the second half.
 word-laid_out : (size q i half : ℕ) (chunks : ℕ → List ℕ) → min 64 (size - q * 64) / 2 ≡ half → i < half
@@ -102,8 +100,7 @@ word-laid_out size q i half chunks e low fits = search (rules, byte_offset-low, 
 pub column-laid_out : (size j : ℕ) (chunks : ℕ → List ℕ) → j < size / 2
     → column j (laid_out size chunks) ≡ symbol (chunks (j / 32)) (j % 32)
 unfolding column
-column-laid_out size j chunks h =
-    grind (arith, common_steps, length-laid_out, word-laid_out, cases_lt, min-eq_right, min-eq_left)
+column-laid_out size j chunks h = grind (arith, common_steps, length-laid_out, word-laid_out)
 
 -- If the whole chunks of a row are those of the shard, and the last chunk holds the halves of the tail, the row holds
 -- the shard.

@@ -47,7 +47,7 @@ module _ (κs : Lfts 2) (h : ShardsRefMut) (us : List Val) (is : Is (Row κs) h 
       (uint_vals w64 h.shard_count, (uint_vals w64 h.shard_len_64, is.0.1.1)))) ∷ []
 
   is_held : us ≡ held
-  is_held = search (rules, vstruct, of_list, flat, fields, named_lft)
+  is_held = search rules
 
 -- The list of rows is open: its machine value lies at its place.
 abbrev Opened : {M : Type 1} {𝓤 : Ura M} → Lfts 2 → MutBor ShardsRefMut → Share → List Val → List Val → List (Item 𝓤)

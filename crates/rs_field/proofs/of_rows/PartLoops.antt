@@ -124,7 +124,7 @@ zeros_of_part Direction.Backward used part {block} {n} {j} {old} {mid} p begins 
 
 -- A part that begins inside the block is one of the parts of the block.
 pub part_before : (size n m j : ℕ) → j * n ≡ size → m * n < size → m < j
-part_before size n m j all within = grind (arith, common_steps, cases_lt, mul-le-mul_right)
+part_before size n m j all within = grind (arith, common_steps)
 
 -- ---- the parts that the layers leave
 
@@ -224,7 +224,7 @@ counts_next {t} j {from} {mid} {to} p q =
 pub counts_of_parts : {size n j : ℕ} {from to : Steps} (p : IsPart size n) → j ≤ p.count
     → CountsUpTo (j * transform_steps n) 0 0 from to
     → PartCounts size from to
-counts_of_parts p few c = grind (arith, common_steps, mul-le-mul_right, counts_within)
+counts_of_parts p few c = grind (arith, common_steps)
 
 -- The row steps of the layers and of the parts together are within the bound of the whole transform.
 pub counts_of_whole : (size : ℕ) {a b : ℕ} {from mid : Steps} (to : Steps) → a + b ≤ transform_steps size

@@ -1,7 +1,6 @@
 -- The place of row i of rows of n chunks among the chunks, and the chunks outside some rows, which are unchanged.
 use Rattle.std.proofs.Common.{rules, ◌≡◌, ℕ, ◌+◌, ◌*◌, ◌<◌, ◌≤◌, ◌⊎◌, ◌≢◌, inl, inr, arith, ap, ◌∙◌, subst}
 use Rattle.std.proofs.Math.Nat.{mul-le-mul_right}
-use Rattle.std.proofs.lemmas.Bool.{cases_lt}
 use Rattle.rs_field.specs.rows.Rows.{chunk, SameOutside}
 use Rattle.rs_field.specs.rows.View.{cell, SameExtent, SameRowsOutside}
 use Rattle.rs_field.specs.declared.rows.shards.ShardsRefMut.{ShardsRefMut}
@@ -19,11 +18,11 @@ row_within i m k n hi hk = let ends = row_ends i m n hi in omega arith
 
 -- A chunk of a row below a is before row a, and a chunk of a row from b on is at or after row b.
 pub offset_outside : (a b i k n : ℕ) → k < n → (i < a) ⊎ (b ≤ i) → (i * n + k < a * n) ⊎ (b * n ≤ i * n + k)
-offset_outside a b i k n q h = search (rules, row_ends, mul-le-mul_right)
+offset_outside a b i k n q h = search (rules, row_ends)
 
 -- A chunk of another row is outside row a.
 pub offset_apart : (a i k n : ℕ) → k < n → i ≢ a → (i * n + k < a * n) ⊎ (a * n + n ≤ i * n + k)
-offset_apart a i k n q ne = search (rules, cases_lt, row_ends)
+offset_apart a i k n q ne = search (rules, row_ends)
 
 -- The chunks of the rows outside the changed rows are unchanged.
 pub outside_cell : {a b : ℕ} {old new : ShardsRefMut} → SameExtent old new → SameRowsOutside a b old new

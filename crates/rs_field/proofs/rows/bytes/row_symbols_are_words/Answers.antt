@@ -1,8 +1,7 @@
 use Rattle.std.proofs.Common.{rules}
 use Rattle.rs_field.specs.rows.View.{cell}
-use Rattle.rs_field.proofs.of_rows.RowOffsets.{row_ends}
 use Rattle.rs_field.proofs.rows.bytes.row_symbols_are_words.Goals as goal
 
 pub returns : goal.returns
 unfolding cell
-returns c k s i hk hs hi = search (rules, row_ends)
+returns c k s i hk hs hi = search rules

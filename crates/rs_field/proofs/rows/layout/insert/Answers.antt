@@ -1,9 +1,9 @@
-use Rattle.std.proofs.Common.{rules, get_or-set_other, get_or-set_same}
+use Rattle.std.proofs.Common.{rules}
 use Rattle.rs_field.proofs.of_rows.LayoutLemmas.{laid_out-is, get-rest}
 use Rattle.rs_field.proofs.rows.layout.insert.Goals as goal
 
 pub returns-then-half-gt0 : goal.returns-then-half-gt0
-returns-then-half-gt0 c = search (rules, get_or-set_same, laid_out-is, get_or-set_other, get-rest)
+returns-then-half-gt0 c = search (rules, laid_out-is, get-rest)
 
 pub returns-else-half-gt0 : goal.returns-else-half-gt0
 returns-else-half-gt0 c = search (rules, laid_out-is)

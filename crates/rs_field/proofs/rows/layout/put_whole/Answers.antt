@@ -1,5 +1,5 @@
 use Rattle.std.proofs.Common.{rules, ◌≡◌, ℕ, ◌+◌, ◌*◌, ◌/◌, ◌<◌, ◌≤◌, List, [], length, take, get_or, ap, ◌∙◌, arith}
-use Rattle.std.proofs.Common.{sym, length-take-le, get_or-set_same}
+use Rattle.std.proofs.Common.{sym, get_or-set_same}
 use lib.ListN.{set}
 use Rattle.std.specs.Simd.{first_chunks}
 use Rattle.std.proofs.lemmas.List.{get_or_append_left, get_or-take}
@@ -10,7 +10,7 @@ use Rattle.rs_field.proofs.rows.layout.put_whole.Goals as goal
 byte_of_shard : (count k b : ℕ) (shard : List ℕ) (chunks : List (List ℕ))
     → chunks ≡ first_chunks 64 (length (take (count * 64) shard) / 64) (take (count * 64) shard)
     → count * 64 ≤ length shard → k < count → b < 64 → get_or (get_or chunks k []) b 0 ≡ get_or shard (k * 64 + b) 0
-byte_of_shard count k b shard chunks are within h hb = search (rules, length-take-le, byte_of_chunk, get_or-take)
+byte_of_shard count k b shard chunks are within h hb = search (rules, byte_of_chunk, get_or-take)
 
 pub returns-then-whole-eq1 : goal.returns-then-whole-eq1
 returns-then-whole-eq1 c k b h hb =
@@ -25,4 +25,4 @@ returns-then-whole-eq1 c k b h hb =
     ap (λ chunk. get_or chunk b 0) laid ∙ put ∙ ap (λ i. get_or c.args.shard.now (i * 64 + b) 0) (sym first)
 
 pub returns-else-whole-eq1 : goal.returns-else-whole-eq1
-returns-else-whole-eq1 c k b h hb = search (rules, length-take-le, get_or_append_left, byte_of_shard)
+returns-else-whole-eq1 c k b h hb = search (rules, get_or_append_left, byte_of_shard)

@@ -1,11 +1,10 @@
 use Rattle.std.proofs.Common.{rules}
-use Rattle.std.proofs.lemmas.Bool.{cases_lt}
 use Rattle.rs_field.specs.rows.View.{cell}
 use Rattle.rs_field.proofs.of_rows.RowOffsets.{row_ends}
 use Rattle.rs_field.proofs.rows.rows.mul_add_row_at.Goals as goal
 
 pub mul_add_runs-requires-clause-apart : goal.mul_add_runs-requires-clause-apart
-mul_add_runs-requires-clause-apart g c = search (rules, cases_lt, row_ends)
+mul_add_runs-requires-clause-apart g c = search (rules, row_ends)
 
 pub returns-clause-sums : goal.returns-clause-sums
 unfolding cell

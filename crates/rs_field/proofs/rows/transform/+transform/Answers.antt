@@ -17,7 +17,7 @@ transform-returns-then-are_none-clause-values g t c =
     none_used _ _ c.args.block _ (c.are_none.ensures.none c.if-are_none.true) c.requires.zeros
 
 pub transform_many-transform_parts-requires : goal.transform_many-transform_parts-requires
-transform_many-transform_parts-requires g t c κs within = search (rules, fits_kept)
+transform_many-transform_parts-requires g t c κs within = search rules
 
 pub transform_many-transform_parts-requires-in-Backward : goal.transform_many-transform_parts-requires-in-Backward
 transform_many-transform_parts-requires-in-Backward g t c κs within =
