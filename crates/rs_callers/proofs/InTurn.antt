@@ -1,6 +1,6 @@
 -- Listed shards are added one after another: the outcome after each shard.
 use Rattle.std.proofs.Common.{rules, ◌≡◌, refl, ℕ, ◌+◌, ◌<◌, Bool, true, false, List, ◌∷◌, length, map, drop, get_or}
-use Rattle.std.proofs.Common.{Result, Ok, Err, ap, Vec, drop-cons, add-one}
+use Rattle.std.proofs.Common.{Result, Ok, Err, ap, Vec, drop-cons}
 use Rattle.std.specs.List.{enumerate_from, filter}
 use Rattle.reed_solomon_simd.specs.declared.Error.{Error}
 use Rattle.reed_solomon_simd.specs.Column.{Shard}
@@ -13,7 +13,7 @@ shards_from n vectors = map (λ vector. vector.items) (drop n vectors)
 
 pub shards_from-next : {Y : Type 0} (n : ℕ) (vectors : List (Vec ℕ Y)) (d : Vec ℕ Y) → n < length vectors
     → shards_from n vectors ≡ (get_or vectors n d).items ∷ shards_from (n + 1) vectors
-shards_from-next n vectors d inside = search (rules, drop-cons, add-one)
+shards_from-next n vectors d inside = search (rules, drop-cons)
 
 module _ {S T : Type 0} (add : S → T → Result S Error) where
   -- If an item is added without an error, the outcome is the outcome of adding the other items to the next state.

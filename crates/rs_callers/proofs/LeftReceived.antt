@@ -16,7 +16,6 @@ use Rattle.reed_solomon_simd.specs.Outcome.{result_and_then}
 use Rattle.reed_solomon_simd.specs.RoundTrip.{AreCoded, AreLeft, enough_left}
 use Rattle.reed_solomon_simd.specs.Verified.{received_size, receiving_outcome}
 use Rattle.reed_solomon_simd.proofs.Entries.{AreFree, entered_all, count-nothing, count-entered_all, among-entered_all}
-use Rattle.reed_solomon_simd.proofs.Given.{nothing_among}
 use Rattle.reed_solomon_simd.proofs.OneRoundTrip.{left_with, all_taken}
 use Rattle.rs_rate.proofs.of_rows.StateLemmas.{valid-supported}
 
@@ -47,7 +46,7 @@ module _ {k r : ℕ} {originals recovery : List Shard} {kept received : Items} (
 
   -- The originals agree with the shards that are left.
   pub left_agrees : IsAgreeing left_state originals
-  left_agrees = search (rules, among-entered_all, recursion_from_All, nothing_among)
+  left_agrees = search (rules, among-entered_all, recursion_from_All)
 
   -- There are enough shards in the decoder exactly if enough shards are left.
   pub left_enough : enough_given left_state ≡ enough_left k kept received

@@ -1,8 +1,7 @@
 -- The chunks of a list after rows were replaced or exchanged.
 use Rattle.std.proofs.Common.{rules, ◌≡◌, ℕ, ◌+◌, ◌-◌, ◌*◌, ◌<◌, ◌≤◌, ◌⊎◌, inl, inr, [], ◌++◌, length, take, drop, refl}
 use Rattle.std.proofs.Common.{sym, ap, ap₂, ◌∙◌, subst, arith, length-append}
-use Rattle.std.proofs.Math.Nat.{mul-le-mul_right}
-use Rattle.std.proofs.lemmas.List.{get_or-take, get_or-drop, length-take-le, drop-drop, drop-append-le, append_assoc}
+use Rattle.std.proofs.lemmas.List.{get_or-take, get_or-drop, drop-drop, drop-append-le, append_assoc}
 use Rattle.std.proofs.lemmas.Slice.{between_is, take-put_mid_below, drop-append-drop}
 use Rattle.std.proofs.Math.Seq.{take-append-add}
 use Rattle.std.proofs.lemmas.Grind.{common_steps}
@@ -29,7 +28,7 @@ module _ (ch run : Chunks) (a n : ℕ) (long : length run ≡ n) (within : a + n
 pub as-runs : (ch first second : Chunks) (a n b m : ℕ) → a + n ≤ b → b ≤ length ch
     → with_two ch a n b m first second ≡ with_run (with_run ch b m second) a n first
 as-runs ch first second a n b m apart within =
-    search (rules, length-take-le, take-put_mid_below, drop-drop, drop-append-le, between_is)
+    search (rules, take-put_mid_below, drop-drop, drop-append-le, between_is)
 
 -- Four runs are replaced two by two. Replacing the first two runs leaves the chunks after them unchanged.
 module _ (ch first second : Chunks) (i n j : ℕ) (l₁ : length first ≡ n) (l₂ : length second ≡ n) (apart : i + n ≤ j)
@@ -42,7 +41,7 @@ module _ (ch first second : Chunks) (i n j : ℕ) (l₁ : length first ≡ n) (l
   parts = simp append_assoc
 
   length-head : length head ≡ j + n
-  length-head = search (rules, length-take-le, between-long, length-append)
+  length-head = search (rules, between-long, length-append)
 
   after-two : (c : ℕ) → j + n ≤ c → drop c (with_two ch i n j n first second) ≡ drop c ch
   after-two c later = ap (drop c) parts ∙ drop-append-drop (j + n) ch head c later length-head
@@ -59,7 +58,7 @@ module _ (ch first second : Chunks) (i n j : ℕ) (l₁ : length first ≡ n) (l
 
 -- A row ends before any later row begins, and row ends are within the rows.
 pub ends : (n i j : ℕ) → i < j → i * n + n ≤ j * n
-ends n i j h = search (rules, mul-le-mul_right)
+ends n i j h = search rules
 
 -- Each row of a list is within the chunks of the list.
 row-within : (h : ShardsRefMut) (r : ℕ) → Fits h → r < h.shard_count

@@ -7,8 +7,7 @@ use Rattle.std.specs.List.{AllByRecursion, IsDistinct, list_any, enumerate_from,
 use Rattle.std.specs.Map.{update, update_all}
 use Rattle.std.specs.Option.{option_map}
 use Rattle.std.specs.Ordering.{nat_cmp, eq_by_cmp}
-use Rattle.std.proofs.lemmas.Bool.{cases_order, and_parts, eqb-true, eqb-false, eq-eqb, ne_eqb, lt-ltb, le-ltb}
-use Rattle.std.proofs.lemmas.Bool.{ltb-true, lt-leb}
+use Rattle.std.proofs.lemmas.Bool.{and_parts, eqb-true, eqb-false, eq-eqb, ne_eqb, le-ltb, ltb-true, lt-leb}
 use Rattle.std.proofs.lemmas.List.Elements.{recursion_from_All}
 use Rattle.std.proofs.lemmas.List.Folds.{list_any_at, list_any-append}
 use Rattle.std.proofs.lemmas.Map.Keys.{IsDistinct-push, IsDistinct-tail, IsDistinct-head}
@@ -30,7 +29,7 @@ use Rattle.rs_callers.specs.Losing.{is_lost, left_of, lost_at, ListsLost}
 -- No index is below 0.
 pub lists-none : (lost : List ℕ) → ListsLost 0 lost []
 unfolding IsDistinct
-lists-none lost = search (rules, le-ltb)
+lists-none lost = search rules
 
 same_or : (b : Bool) → (b || (false || false)) ≡ b
 same_or true = refl
@@ -44,15 +43,15 @@ module _ {n : ℕ} {lost indexes : List ℕ} (lists : ListsLost n lost indexes) 
   -- Whether an index is listed, after the next index was looked at.
   next : (gone : Bool) → is_lost lost n ≡ gone → (i : ℕ)
       → (list_any (nat_eq i) indexes || ((nat_eq i n && gone) || false)) ≡ (nat_lt i (n + 1) && is_lost lost i)
-  next gone is i = search (rules, cases_order, le-ltb, eq-eqb, lt-ltb, ne_eqb, same_or)
+  next gone is i = search rules
 
   -- A lost index is added to the list.
   pub lists-lost : is_lost lost n ≡ true → ListsLost (n + 1) lost (indexes ++ n ∷ [])
-  lists-lost gone = search (rules, list_any-append, nat_eq, next, IsDistinct-push, not_yet)
+  lists-lost gone = search (rules, list_any-append, IsDistinct-push)
 
   -- The list stays as it is if an index is not lost.
   pub lists-left : is_lost lost n ≡ false → ListsLost (n + 1) lost indexes
-  lists-left kept = search (rules, same_or, nat_eq, next)
+  lists-left kept = search rules
 
 -- ---- the names of lost originals
 

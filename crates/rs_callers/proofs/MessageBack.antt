@@ -2,7 +2,7 @@
 use Rattle.std.proofs.Common.{rules, ◌≡◌, ℕ, ◌+◌, ◌<◌, ◌≤◌, ◌%◌, List, map, length, Ok, Err, Result, Vec, Bor, refl}
 use Rattle.std.proofs.Common.{sym, ap, subst, ◌∙◌, inl, inr, arith}
 use Rattle.std.specs.Prelude.{All, IfOk, IfErr, MatchResult}
-use Rattle.std.proofs.lemmas.Bool.{cases_eq, ne_eqb}
+use Rattle.std.proofs.lemmas.Bool.{cases_eq}
 use Rattle.std.proofs.lemmas.List.{length-map}
 use Rattle.reed_solomon_simd.specs.declared.Error.{Error}
 use Rattle.reed_solomon_simd.specs.declared.Error.TheVariants.{OutOfMemory}
@@ -39,7 +39,7 @@ message-joined {k = k} {message = message} {originals = originals} {all = all} r
 -- Supported counts and a valid size are a valid configuration.
 counted-valid : (k r size : ℕ) → counts_outcome k r ≡ Ok tt → 0 < size → size % 2 ≡ 0
     → validation_outcome (default_of k r size) ≡ Ok tt
-counted-valid k r size counted some even = search (rules, ne_eqb)
+counted-valid k r size counted some even = search rules
 
 -- If counts are supported, there is an original.
 pub counted-some : (k r : ℕ) → counts_outcome k r ≡ Ok tt → 0 < k

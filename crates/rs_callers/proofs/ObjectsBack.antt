@@ -14,7 +14,6 @@ use Rattle.reed_solomon_simd.specs.OneCall.{with_shards, with_originals, with_re
 use Rattle.reed_solomon_simd.specs.RoundTrip.{GivesBack}
 use Rattle.reed_solomon_simd.proofs.Giving.{reached-ok}
 use Rattle.reed_solomon_simd.proofs.ObjectRoundTrip.{codes-given, gives-back, copies-lost, gives-kept, gives-received}
-use Rattle.reed_solomon_simd.proofs.ObjectRoundTrip.{restores}
 use Rattle.rs_callers.specs.Losing.{is_lost, left_of, left_below, lost_at}
 use Rattle.rs_callers.proofs.LeftCount.{left-number}
 
@@ -56,7 +55,7 @@ module _ {rate : Rate} {c : Configuration} {new_encoder encoder : EncoderState} 
       pub only-memory : (e : Error) → DecodeAnswers decoder (Err e)
           → c.original_count ≤ left_below c.original_count lost + left_below c.recovery_count recovery_lost
           → e ≡ OutOfMemory
-      only-memory e answer many = search (rules, left-number, all, restores, back)
+      only-memory e answer many = search (rules, left-number, all, back)
 
       -- Copies of the restored originals are copies of the lost originals.
       pub copies-back : {V : Type 0} (out : Shards) (result : Result V Error) (items : V → List (ℕ × Shard))

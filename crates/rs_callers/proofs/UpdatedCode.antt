@@ -2,7 +2,7 @@
 use Rattle.std.proofs.Common.{rules, ◌≡◌, ℕ, ◌<◌, List, [], length, get_or, set, All, Result, Ok, Err, MatchResult, inl}
 use Rattle.std.proofs.Common.{inr, refl, sym, ap, subst, ◌∙◌}
 use Rattle.std.specs.Prelude.{◌⊎◌, OnOk}
-use Rattle.std.proofs.lemmas.Bool.{cases_eq, ne_eqb}
+use Rattle.std.proofs.lemmas.Bool.{cases_eq}
 use Rattle.std.proofs.lemmas.List.{get_or-set_same, get_or-set_other, length-set}
 use Rattle.rs_field.specs.declared.code.error.Error.TheVariants.{OutOfMemory}
 use Rattle.rs_field.specs.code.Code.{AreRecovery}
@@ -23,7 +23,7 @@ encoded k r originals before after bytes into = search (rules, codes_in_one_call
 -- If the checks of an update find no error, the new original has the size of the old one.
 same-size : (k r index size other : ℕ) (rooms : List Shard) → update_outcome k r index size other rooms ≡ Ok tt
     → other ≡ size
-same-size k r index size other rooms is = search (rules, cases_eq, ne_eqb)
+same-size k r index size other rooms is = search rules
 
 -- After an encode and an update, the rooms hold the recovery shards of the changed message.
 pub encoded-updated : (r index : ℕ) (originals before coded after : List Shard) (new : Shard)

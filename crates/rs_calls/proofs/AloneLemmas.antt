@@ -4,11 +4,11 @@ use Rattle.std.proofs.Common.{length, drop, if◌then◌else◌, nat_eq, nat_lt,
 use Rattle.std.proofs.Common.{Ok, Err, MatchResult, inl, inr, refl, sym, ap, subst, ◌∙◌, arith}
 use Rattle.std.specs.Int.{bit_at}
 use Rattle.std.specs.List.{list_any}
-use Rattle.std.proofs.lemmas.Bool.{cases_eq, cases_lt, eq-eqb, ne_eqb, lt-leb}
+use Rattle.std.proofs.lemmas.Bool.{cases_eq, eq-eqb, ne_eqb, lt-leb}
 use Rattle.std.proofs.lemmas.List.{get_or-set_other, get_or-set_same, get_or-replicate, length-replicate, drop_more}
 use Rattle.std.proofs.lemmas.List.{drop_all}
 use Rattle.std.proofs.Math.ListN.{get_or-eq_default}
-use Rattle.std.proofs.lemmas.Nat.Bits.{bit_at-zero, bit_at_set_same, bit_at_set_other}
+use Rattle.std.proofs.lemmas.Nat.Bits.{bit_at_set_same, bit_at_set_other}
 use Rattle.rs_field.specs.declared.code.error.Error.{Error}
 use Rattle.rs_field.specs.declared.code.error.Error.TheVariants.{InvalidOriginalShardIndex, DuplicateOriginalShardIndex}
 use Rattle.rs_field.specs.declared.code.error.Error.TheVariants.{NotEnoughShards}
@@ -20,15 +20,14 @@ use Rattle.rs_calls.specs.Arrays.{items_of}
 
 -- Before the first index is noted, no bit is 1.
 pub note_outcome-none : (n : ℕ) → AreNoted [] (replicate n 0)
-note_outcome-none n i =
-    search (rules, cases_lt, get_or-replicate, get_or-eq_default, replicate, length-replicate, bit_at-zero)
+note_outcome-none n i = search (rules, get_or-replicate, get_or-eq_default, length-replicate)
 
 module _ (k index : ℕ) (indexes words : List ℕ) (inside : index < k) (few : k ≤ 65536) (size : length words ≡ 1024)
     (are : AreNoted indexes words)
     (free : bit_at (get_or words (index / 64) 0) (index % 64) ≢ 1) where
   -- If the bit of an index is not 1, the index was not noted before.
   is-new : list_any (nat_eq index) indexes ≡ false
-  is-new = search (rules, nat_eq)
+  is-new = search rules
 
   -- If the index is below k and its bit is not 1, noting the index succeeds.
   pub note_outcome-next : note_outcome k indexes index ≡ Ok (index ∷ indexes)
@@ -96,7 +95,7 @@ notes k index indexes new result is done are =
 pub notes-ok : (k index : ℕ) (indexes new : List ℕ) (result : Result (Unit {0}) Error)
     → Notes k indexes index new result → result ≡ Ok tt
     → (note_outcome k indexes index ≡ Ok (index ∷ indexes)) × AreNoted (index ∷ indexes) new
-notes-ok k index indexes new result leads done = search (rules, nat_eq)
+notes-ok k index indexes new result leads done = search rules
 
 -- If the result is an error, it is the error of the outcome.
 pub notes-err : (k index : ℕ) (indexes new : List ℕ) (result : Result (Unit {0}) Error) (e : Error)

@@ -3,7 +3,7 @@ use Rattle.std.proofs.Common.{rules, ◌≡◌, ℕ, zero, suc, ◌+◌, ◌-◌
 use Rattle.std.proofs.Common.{drop, get_or, refl, sym, ap, ap₂, ◌∙◌, inl, inr, arith, All}
 use Rattle.std.proofs.Math.Nat.{suc-mul, mul-le-mul_right}
 use Rattle.std.proofs.Math.Seq.{take-append-add}
-use Rattle.std.proofs.lemmas.Bool.{cases_lt, cases_order}
+use Rattle.std.proofs.lemmas.Bool.{cases_order}
 use Rattle.std.proofs.lemmas.List.{append_assoc, length-append, length-take-le, length-drop, take-take, take-append-le}
 use Rattle.std.proofs.lemmas.List.{drop-append-le, drop-take, drop-drop, drop_at, take-append-drop, take_all}
 use Rattle.std.proofs.lemmas.List.Elements.{All-cons}
@@ -28,7 +28,7 @@ cut-at (suc n) size bytes (suc i) inside =
 
 -- If a buffer has the length of n shards, each of its shards ends inside the buffer.
 pub cut-inside : (n size i : ℕ) (bytes : List ℕ) → length bytes ≡ n * size → i < n → i * size + size ≤ length bytes
-cut-inside n size i bytes whole inside = search (rules, suc-mul, mul-le-mul_right)
+cut-inside n size i bytes whole inside = search rules
 
 -- If a buffer has the length of n shards, its n shards, one after the other, are the buffer.
 pub joined-cut : (n size : ℕ) (bytes : List ℕ) → length bytes ≡ n * size
@@ -60,7 +60,7 @@ cut-same n size one other whole long same = sym (joined-cut n size one whole) �
 pub room-inside : (size i start m whole : ℕ) (bytes : List ℕ) → 0 < m → start + m ≤ whole
     → length (take size (drop (i * size) bytes)) ≡ whole
     → (start + m ≤ size) × (i * size + start + m ≤ length bytes)
-room-inside size i start m whole bytes some fits is = search (rules, length-drop, cases_lt, take_all, length-take-le)
+room-inside size i start m whole bytes some fits is = search (rules, length-drop, take_all)
 
 module _ (size i start : ℕ) (bytes piece : List ℕ) (fits : start + length piece ≤ size)
     (inside : i * size + start + length piece ≤ length bytes) where
@@ -73,12 +73,12 @@ module _ (size i start : ℕ) (bytes piece : List ℕ) (fits : start + length pi
 
   -- Writing the piece does not change the length of the buffer.
   pub put-long : length with_piece ≡ length bytes
-  put-long = search (rules, length-drop, length-append, front)
+  put-long = search (rules, length-drop, length-append)
 
   -- the bytes of the new buffer from shard i on
   from-shard : drop (i * size) with_piece ≡ take start (drop (i * size) bytes)
       ++ (piece ++ drop (start + length piece) (drop (i * size) bytes))
-  from-shard = search (rules, drop-append-le, front, drop-take, drop-drop)
+  from-shard = search (rules, drop-append-le, drop-take, drop-drop)
 
   -- Shard i of the new buffer is the old shard i with the piece written into it.
   pub put-here : take size (drop (i * size) with_piece)

@@ -11,7 +11,6 @@ use Rattle.rs_field.specs.code.Given.{Shards, nothing}
 use Rattle.rs_field.specs.code.Outcome.{result_and_then}
 use Rattle.rs_field.specs.code.OneCall.{OneDecodeAnswers}
 use Rattle.reed_solomon_simd.specs.Giving.{IsDecoding}
-use Rattle.reed_solomon_simd.proofs.OneCall.{decoding-none}
 use Rattle.rs_calls.specs.declared.fault.Fault.{Fault}
 use Rattle.rs_calls.specs.Buffers.{length_outcome, marked_shards, with_restored}
 use Rattle.rs_calls.specs.Answers.{DecodesBuffer, Writes, all_or_refused}
@@ -34,7 +33,7 @@ pub decodes-unmarked : (k r size : ℕ) (own other old recovery : List ℕ) (o :
     → IsDecoding k r (marked_shards 0 size own old) (marked_shards 0 size other recovery)
     (result_and_then (λ _. Ok None) o)
 decodes-unmarked k r size own other old recovery o supported many none is =
-    search (rules, marked-none, count-present, decoding-none, originals_alone-marked)
+    search (rules, marked-none, count-present, originals_alone-marked)
 
 -- If nothing is restored, the buffer is unchanged.
 pub with-nothing : (i size n : ℕ) (bytes : List ℕ) → length bytes ≡ n * size

@@ -1,7 +1,6 @@
 -- Lemmas that lead from the results of inner calls to the result of an encode over buffers.
 use Rattle.std.proofs.Common.{rules, ◌≡◌, ℕ, ◌*◌, ◌<◌, true, List, [], length, Result, Ok, Err, All, sym, subst, ◌∙◌}
 use Rattle.std.proofs.Common.{refl, arith}
-use Rattle.std.proofs.lemmas.Bool.{cases_eq, ne_eqb}
 use Rattle.std.proofs.lemmas.List.{get_or_default}
 use Rattle.rs_field.specs.declared.code.error.Error.{Error}
 use Rattle.rs_field.specs.code.Column.{Shard, IsShard}
@@ -20,7 +19,7 @@ use Rattle.rs_calls.proofs.MarkedState.{place-long, place-bytes}
 
 -- If the check of a length finds no fault, the length is right.
 pub fits-length : (place count size got : ℕ) → Ok tt ≡ length_outcome place count size got → got ≡ count * size
-fits-length place count size got is = search (rules, cases_eq, ne_eqb)
+fits-length place count size got is = search rules
 
 -- If the counts are supported and the checks of both lengths find no fault, the checks before the library is called
 -- succeed.

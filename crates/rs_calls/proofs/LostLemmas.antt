@@ -2,9 +2,9 @@
 use Rattle.std.proofs.Common.{rules, ◌≡◌, ℕ, zero, suc, ◌+◌, ◌*◌, ◌<◌, ◌≤◌, List, [], ◌∷◌, ◌++◌, length, map, take}
 use Rattle.std.proofs.Common.{drop, get_or, refl, sym, ap, ◌∙◌, inl, inr, arith}
 use Rattle.std.proofs.Math.Nat.{suc-mul}
-use Rattle.std.proofs.lemmas.Bool.{cases_eq, cases_order, eq-eqb, ne_eqb}
-use Rattle.std.proofs.lemmas.List.{append_assoc, append-nil, drop_all, drop_more, take-append-drop, length-drop}
-use Rattle.std.proofs.lemmas.List.{nil_from_length, drop-drop}
+use Rattle.std.proofs.lemmas.Bool.{cases_eq, eq-eqb, ne_eqb}
+use Rattle.std.proofs.lemmas.List.{append_assoc, drop_all, drop_more, take-append-drop, length-drop, nil_from_length}
+use Rattle.std.proofs.lemmas.List.{drop-drop}
 use Rattle.std.specs.Prelude.{unwrap_or}
 use Rattle.rs_field.specs.code.Given.{Shards}
 use Rattle.rs_calls.specs.Buffers.{lost_indexes, shard_place, with_restored}
@@ -21,17 +21,17 @@ lost-count i (mark ∷ marks) = elim (cases_eq mark 0) [
 -- If mark i is 0, i is the next lost index.
 pub lost-next : (i : ℕ) (marks so_far : List ℕ) → i < length marks → get_or marks i 0 ≡ 0
     → (so_far ++ (i ∷ [])) ++ lost_indexes (i + 1) (drop (i + 1) marks) ≡ so_far ++ lost_indexes i (drop i marks)
-lost-next i marks so_far inside lost = search (rules, append_assoc, drop_more, eq-eqb)
+lost-next i marks so_far inside lost = search (rules, append_assoc, drop_more)
 
 -- If mark i is not 0, i is no lost index.
 pub kept-next : (i : ℕ) (marks : List ℕ) → i < length marks → (get_or marks i 0 ≡ 0 → ⊥)
     → lost_indexes (i + 1) (drop (i + 1) marks) ≡ lost_indexes i (drop i marks)
-kept-next i marks inside kept = search (rules, drop_more, ne_eqb)
+kept-next i marks inside kept = search (rules, drop_more)
 
 -- After the last mark, all lost indexes are found.
 pub lost-end : (i : ℕ) (marks found : List ℕ) → length marks ≤ i
     → found ++ lost_indexes i (drop i marks) ≡ lost_indexes 0 marks → found ≡ lost_indexes 0 marks
-lost-end i marks found past is = search (rules, append-nil, drop_all)
+lost-end i marks found past is = search (rules, drop_all)
 
 -- a lost index is the index of a mark that is 0
 abbrev IsLost : ℕ → List ℕ → ℕ → ℕ → Type 0
@@ -84,7 +84,7 @@ lost-grow i (mark ∷ marks) = elim (cases_eq mark 0) [
 -- If each number of a list is larger than the numbers before it, numbers at different places are different.
 pub grow-apart : (indexes : List ℕ) → Grow indexes → (n m : ℕ) → n < length indexes → m < length indexes → (n ≡ m → ⊥)
     → get_or indexes n 0 ≡ get_or indexes m 0 → ⊥
-grow-apart indexes grow n m inside there other same = search (rules, cases_order)
+grow-apart indexes grow n m inside there other same = search rules
 
 -- If two functions have the same values on the list of lost indexes, they have the same value at each lost index.
 module _ {T : Type 0} (f g : ℕ → T) where
@@ -115,7 +115,7 @@ module _ {T : Type 0} (f g : ℕ → T) where
 
 -- Place j of the buffer without its first shard is place j + 1 of the whole buffer.
 pub place-next : (size j : ℕ) (bytes : List ℕ) → shard_place size (drop size bytes) j ≡ shard_place size bytes (suc j)
-place-next size j bytes = search (rules, suc-mul, drop-drop)
+place-next size j bytes = search (rules, drop-drop)
 
 -- Place 0 of a buffer consists of its first bytes.
 pub place-first : (size : ℕ) (bytes : List ℕ) → shard_place size bytes 0 ≡ take size bytes

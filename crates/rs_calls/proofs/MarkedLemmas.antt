@@ -64,7 +64,7 @@ note_outcome-next k i given inside below = rw (lt-leb k i inside, below i (omega
 
 -- If no index from i on was noted, then after i was noted no index from i + 1 on was noted.
 below-next : (i : ℕ) (given : List ℕ) → IsBelow i given → IsBelow (i + 1) (i ∷ given)
-below-next i given below j h = search (rules, nat_eq, ne_eqb)
+below-next i given below j h = search rules
 
 -- noting the indexes of these items succeeds, and `count` more indexes are noted afterwards
 abbrev NotesAll : ℕ → List ℕ → Items → ℕ → Type 0

@@ -3,10 +3,8 @@ use Rattle.std.proofs.Common.{rules, ◌≡◌, ℕ, zero, suc, ◌+◌, ◌*◌
 use Rattle.std.proofs.Common.{[], ◌∷◌, ◌++◌, length, map, take, drop, get_or, All, Result, Ok, Err, Some, None, refl}
 use Rattle.std.proofs.Common.{sym, ap, ap₂, ◌∙◌, inl, inr, arith}
 use Rattle.std.specs.Prelude.{OnOk, IfErr, MatchResult, nat_lt, is_some}
-use Rattle.std.proofs.Math.Path.{fun_ext}
 use Rattle.std.proofs.Math.Nat.{suc-mul, mul-le-mul_right}
-use Rattle.std.proofs.lemmas.Bool.{cases_eq, cases_lt, eq-eqb, ne_eqb}
-use Rattle.std.proofs.lemmas.Option.{none-some}
+use Rattle.std.proofs.lemmas.Bool.{cases_eq, eq-eqb, ne_eqb}
 use Rattle.std.proofs.lemmas.List.{get_or-map, length-map, length-take, length-take-le, length-drop, get_or_past}
 use Rattle.std.proofs.lemmas.List.{get_or-take, get_or-drop}
 use Rattle.rs_field.specs.declared.code.error.Error.{Error}
@@ -24,7 +22,6 @@ use Rattle.rs_field.proofs.of_code.Given.{count_below-zero, count_below-suc}
 use Rattle.rs_rate.specs.objects.Giving.{IsDecoding}
 use Rattle.rs_rate.proofs.of_rows.FirstShards.{first, first-none, first-all, first-skipped, original-taken}
 use Rattle.rs_rate.proofs.of_rows.FirstShards.{recovery-taken}
-use Rattle.reed_solomon_simd.proofs.SetUp.{started-parts}
 use Rattle.rs_calls.specs.declared.marked_buffers.MarkedBuffers.{MarkedBuffers}
 use Rattle.rs_calls.specs.MarkedState.{state_in}
 use Rattle.rs_calls.specs.Buffers.{lost_indexes, marked_shards, marked_map, marked_state, shard_place}
@@ -46,27 +43,25 @@ map-kept size marks bytes i kept = rw (ne_eqb (get_or marks i 0) 0 kept) refl
 -- A place whose index is below the number of shards is as long as a shard.
 pub place-long : (size : ℕ) (bytes : List ℕ) (count i : ℕ) → length bytes ≡ count * size → i < count
     → length (shard_place size bytes i) ≡ size
-place-long size bytes count i whole inside = search (rules, suc-mul, mul-le-mul_right, length-drop, length-take-le)
+place-long size bytes count i whole inside = search (rules, mul-le-mul_right, length-drop)
 
 -- Each byte of a place is below 256.
 pub place-bytes : (size : ℕ) (bytes : List ℕ) (i : ℕ) → All (λ b. b < 256) bytes
     → length (shard_place size bytes i) ≡ size → All (λ b. b < 256) (shard_place size bytes i)
-place-bytes size bytes i all long k d inside =
-    search (rules, get_or-take, get_or-drop, cases_lt, length-drop, length-take)
+place-bytes size bytes i all long k d inside = search (rules, get_or-take, get_or-drop, length-drop, length-take)
 
 -- Each marked shard has an index below the number of shards, the shard size, and bytes below 256.
 pub map-within : (count size : ℕ) (marks bytes : List ℕ) → length marks ≡ count → length bytes ≡ count * size
     → All (λ b. b < 256) bytes
     → AreWithin count size (marked_map size marks bytes)
-map-within count size marks bytes number whole all =
-    search (rules, map-lost, get_or_past, cases_eq, none-some, cases_lt, map-kept, place-long, place-bytes)
+map-within count size marks bytes number whole all = search (rules, get_or_past, place-long, place-bytes)
 
 -- Writing a piece into the place of a lost shard changes no marked shard.
 pub map-put : (size i start : ℕ) (marks bytes piece : List ℕ) → start + length piece ≤ size
     → i * size + start + length piece ≤ length bytes → get_or marks i 0 ≡ 0
     → marked_map size marks (take (i * size + start) bytes ++ (piece ++ drop (i * size + start + length piece) bytes))
     ≡ marked_map size marks bytes
-map-put size i start marks bytes piece fits inside lost = search (rules, fun_ext, cases_eq, map-lost, put-other)
+map-put size i start marks bytes piece fits inside lost = search (rules, put-other)
 
 -- The place of each lost original is as long as a shard.
 pub lost-long : (size count : ℕ) (marks bytes : List ℕ) → length marks ≡ count → length bytes ≡ count * size
@@ -114,12 +109,12 @@ map-some size marks bytes j = search rules
 -- The number of given originals is the number of marks of originals that are not 0.
 pub marked-originals : (k r size : ℕ) (own originals other recovery : List ℕ) → length own ≡ k
     → originals_given (marked_state k r size own originals other recovery) ≡ present own
-marked-originals k r size own originals other recovery number = search (rules, map-count, map-some)
+marked-originals k r size own originals other recovery number = search (rules, map-count)
 
 -- The number of given recovery shards is the number of marks of recovery shards that are not 0.
 pub marked-recovery : (k r size : ℕ) (own originals other recovery : List ℕ) → length other ≡ r
     → recovery_given (marked_state k r size own originals other recovery) ≡ present other
-marked-recovery k r size own originals other recovery number = search (rules, map-count, map-some)
+marked-recovery k r size own originals other recovery number = search (rules, map-count)
 
 -- ---- one call for the marked shards
 
@@ -221,7 +216,7 @@ module _ {k r size : ℕ} {own originals other recovery : List ℕ}
   pub marked-decoder : All (λ b. b < 256) originals → All (λ b. b < 256) recovery
       → start_outcome (decoder_rows default_rate k r) (default_of k r size) ≡ Ok tt
       → IsDecoder default_rate state
-  marked-decoder own_bytes other_bytes made = search (rules, started-parts, map-within)
+  marked-decoder own_bytes other_bytes made = search (rules, map-within)
 
   -- If a recovery shard is marked, there is a first marked recovery shard, and it has the shard size.
   module _ (some : 0 < present other) where

@@ -11,12 +11,12 @@ use Rattle.rs_calls.specs.Places.{place_of_other}
 -- If shard i has another size, the search from it on ends at once.
 pub other-here : (size i : ℕ) (shards : List Shard) → i < length shards → (length (get_or shards i []) ≡ size → ⊥)
     → place_of_other size (drop i shards) ≡ 0
-other-here size i shards inside other = search (rules, drop_more, ne_eqb)
+other-here size i shards inside other = search (rules, drop_more)
 
 -- If shard i has the size, the search goes on with the next shard.
 pub other-later : (size i : ℕ) (shards : List Shard) → i < length shards → length (get_or shards i []) ≡ size
     → place_of_other size (drop i shards) ≡ place_of_other size (drop (i + 1) shards) + 1
-other-later size i shards inside same = search (rules, drop_more, eq-eqb)
+other-later size i shards inside same = search (rules, drop_more)
 
 -- If a list has a shard of another size, this shard is also the first one of the list with others after it.
 pub other-first : (size : ℕ) (first second : List Shard) → place_of_other size first < length first

@@ -2,7 +2,7 @@
 use Rattle.std.proofs.Common.{rules, ◌≡◌, ℕ, suc, ◌+◌, ◌<◌, ◌==◌, cond, List, [], ◌∷◌, ◌++◌, length, map, get_or}
 use Rattle.std.proofs.Common.{Option, Some, None, Result, Ok, Err, MatchResult, refl, sym, ap, ◌∙◌, inl, inr, arith}
 use Rattle.std.specs.Prelude.{◌⊎◌, OnErr, unwrap_or}
-use Rattle.std.proofs.lemmas.Bool.{cases_eq, eq-eqb, ne_eqb, lt-ltb}
+use Rattle.std.proofs.lemmas.Bool.{cases_eq, eq-eqb, ne_eqb}
 use Rattle.rs_field.specs.declared.code.error.Error.{Error}
 use Rattle.rs_field.specs.declared.code.error.Error.TheVariants.{OutOfMemory}
 use Rattle.rs_field.specs.code.Column.{Shard, shard_at}
@@ -73,7 +73,7 @@ module _ {k r size : ℕ} {own originals other recovery : List ℕ} (new : List 
       → missing_of (marked_state k r size own originals other recovery) message j
       ≡ cond (get_or own j 0 == 0) (Some (shard_at message j)) None
   unfolding missing_of
-  missing-mark message j inside = search (rules, lt-ltb)
+  missing-mark message j inside = search rules
 
   -- If the places of the lost originals hold the restored originals, the whole buffer is the old buffer with the
   -- restored originals.
@@ -203,11 +203,11 @@ module _ {s : DecoderState} {own lost : List ℕ} {len : ℕ} (y : MarkedBuffers
   -- The rooms are the places of the lost indexes.
   pub rooms-placed : lost ≡ lost_indexes 0 own
       → rooms_in y ≡ map (λ i. shard_place s.configuration.shard_bytes y.originals.now i) (lost_indexes 0 own)
-  rooms-placed listed = search (rules, size-same)
+  rooms-placed listed = search rules
 
   -- The marked originals are those of the state.
   pub marked-same : marked_map s.configuration.shard_bytes own y.originals.now ≡ s.originals
-  marked-same = search (rules, size-same)
+  marked-same = search rules
 
   -- The buffer of the originals has the same length.
   pub length-same : length y.originals.now ≡ len

@@ -77,13 +77,13 @@ kept-by old new e answer failed P (Err f) does = does.1
 -- If an encode fails, the rooms are unchanged.
 pub encodes-kept : (k r : ℕ) (originals : List Shard) (old new : List (List ℕ)) (e : RoomError)
     (answer : Result (Unit {0}) RoomError) → answer ≡ Err e → EncodesInto k r originals old new answer → new ≡ old
-encodes-kept k r originals old new e answer failed encodes = search (rules, kept-by)
+encodes-kept k r originals old new e answer failed encodes = search rules
 
 -- If a decode fails, the rooms are unchanged.
 pub decodes-kept : (k r : ℕ) (originals recovery : Items) (old new : List (List ℕ)) (e : RoomError)
     (answer : Result (Unit {0}) RoomError) → answer ≡ Err e → DecodesInto k r originals recovery old new answer
     → new ≡ old
-decodes-kept k r originals recovery old new e answer failed decodes = search (rules, kept-by)
+decodes-kept k r originals recovery old new e answer failed decodes = search rules
 
 -- The check of rooms for nothing never fails because memory is lacking.
 pub nothing-memory : (rooms : List (List ℕ)) → fit_rooms [] rooms ≡ Err (refused OutOfMemory) → ⊥

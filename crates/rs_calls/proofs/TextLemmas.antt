@@ -2,7 +2,6 @@
 use Rattle.std.proofs.Common.{rules, ◌≡◌, ℕ, ◌+◌, ◌-◌, ◌<◌, ◌≤◌, min, List, [], ◌++◌, length, take, drop, sym, ap}
 use Rattle.std.proofs.Common.{subst, ◌∙◌, arith, append_assoc, append-nil}
 use Rattle.std.proofs.Math.Seq.{take-nil, take-append-add, take-append_seam, drop-append_seam}
-use Rattle.std.proofs.lemmas.Bool.{cases_lt}
 use Rattle.std.proofs.lemmas.List.{take_all, drop_all, take-append-le, length-append, length-take, length-drop}
 use Rattle.std.proofs.lemmas.List.{drop-drop}
 use Rattle.rs_calls.specs.Texts.{text_over, WritesText}
@@ -30,7 +29,7 @@ module _ (text piece old room : List ℕ) (at fits : ℕ) (sized : length text �
   back = search (rules, begins, drop-append_seam, drop-drop)
 
   middle : take fits piece ++ drop (at + fits) old ≡ take (length old - at) piece ++ drop (at + length piece) old
-  middle = search (rules, cases_lt, take_all, drop_all)
+  middle = search (rules, take_all, drop_all)
 
   pub over-inside : take at room ++ (take fits piece ++ drop fits (drop at room)) ≡ text_over (text ++ piece) old
   over-inside =
@@ -62,4 +61,4 @@ ended-at text old {known = known} {new = new} {told = told} is writes =
 
 -- Writing a text into a room does not change the length of the room.
 pub length-over : (text old : List ℕ) → length (text_over text old) ≡ length old
-length-over text old = search (rules, front, length-take, back, length-drop, length-append)
+length-over text old = search (rules, length-take, length-drop, length-append)

@@ -1,10 +1,8 @@
 -- Pieces that were coded, and then written by two calls.
 use Rattle.std.proofs.Common.{rules, ◌≡◌, ◌⊎◌, ℕ, ◌+◌, ◌-◌, ◌<◌, ◌≤◌, ◌%◌, List, [], ◌++◌, length, All, Some, sym, ap}
-use Rattle.std.proofs.Common.{◌∙◌, get_or, zero-add, arith}
+use Rattle.std.proofs.Common.{◌∙◌, get_or, arith}
 use Rattle.std.specs.Prelude.{min, map, ◌≢◌}
 use Rattle.std.specs.Global.{Vec}
-use Rattle.std.proofs.lemmas.Bool.Decides.{eqb_tells}
-use Rattle.std.proofs.lemmas.Bool.{cases_lt}
 use Rattle.std.proofs.lemmas.List.{get_or-append_right, length-map, get_or-map}
 use Rattle.std.proofs.Math.ListN.{get_or-append}
 use Rattle.rs_field.specs.code.Column.{Shard, AreShards, shard_at}
@@ -38,13 +36,13 @@ module _ {k r : ℕ} {pieces made : List Shard} {before between after : Shards} 
       → Puts 0 pieces before between → Puts k made between after
       → (i : ℕ) (block : Shard) → i < k + r → before i ≡ Some block
       → after i ≡ Some (block ++ shard_at (pieces ++ made) i)
-  put_both one two first second i block lt is = search (rules, cases_lt, zero-add, get_or-append, get_or-append_right)
+  put_both one two first second i block lt is = search (rules, get_or-append, get_or-append_right)
 
 module _ {start piece size width : ℕ} where
   -- the next piece is a strip
   pub next_strip : start ≤ size → (start % 64 ≡ 0) ⊎ (start ≡ size) → piece % 64 ≡ 0 → 0 < piece → start < size
       → width ≡ min piece (size - start) → IsStrip start (start + width) size
-  next_strip inside begins chunks some less is = search (rules, cases_lt)
+  next_strip inside begins chunks some less is = search rules
 
 -- the pieces of vectors, as a call writes them
 pub puts_from : {first : ℕ} (vectors : List (Vec ℕ)) {before after : Shards}
@@ -65,7 +63,7 @@ module _ {first n : ℕ} (pieces : List Shard) {piece : Shard} {before now after
   pub done_next : ((i : ℕ) (block : Shard) → i < n + 1 → before (first + i) ≡ Some block
       → after (first + i) ≡ Some (block ++ shard_at pieces i))
       × ((i : ℕ) → (i < first) ⊎ (first + (n + 1) ≤ i) → after i ≡ before i)
-  done_next = search (rules, eqb_tells)
+  done_next = search rules
 
 -- a vector in a list
 pub piece_at : (vectors : List (Vec ℕ)) {n : ℕ} {v : Vec ℕ} → n < length vectors → v ≡ get_or vectors n v

@@ -3,8 +3,7 @@ use Rattle.std.proofs.Common.{rules, ◌≡◌, ℕ, zero, suc, ◌+◌, ◌-◌
 use Rattle.std.proofs.Common.{refl, sym, ap, ◌∙◌, arith}
 use Rattle.std.proofs.lemmas.Grind.{common_steps}
 use Rattle.std.specs.List.{flat_map}
-use Rattle.std.proofs.lemmas.Bool.{cases_lt}
-use Rattle.std.proofs.lemmas.List.{take_all, get_or-append_right, get_or_default}
+use Rattle.std.proofs.lemmas.List.{take_all, get_or-append_right}
 use Rattle.std.proofs.Math.ListN.{get_or-append}
 use Rattle.sha2.specs.Sha256.{sha256}
 use Rattle.sha2.specs.declared.Sha256.{Sha256}
@@ -44,15 +43,15 @@ shard_at-empty (suc n) zero = refl
 shard_at-empty (suc n) (suc i) = shard_at-empty n i
 
 empty_shards : (n : ℕ) → AreShards n 0 (empty_blocks n)
-empty_shards n = grind (arith, common_steps, length-empty, get_or_default, shard_at-empty)
+empty_shards n = grind (arith, common_steps)
 
 -- block i of two lists, of which the first has n blocks
 split_at : (n : ℕ) (xs ys : List Shard) (i : ℕ) → length xs ≡ n → ((i < n) × (shard_at (xs ++ ys) i ≡ shard_at xs i))
     ⊎ ((n ≤ i) × (shard_at (xs ++ ys) i ≡ shard_at ys (i - n)))
-split_at n xs ys i len = search (rules, cases_lt, get_or-append, get_or-append_right)
+split_at n xs ys i len = search (rules, get_or-append, get_or-append_right)
 
 empty_block : (k r i : ℕ) → shard_at (empty_blocks k ++ empty_blocks r) i ≡ []
-empty_block k r i = search (rules, split_at, length-empty, shard_at-empty)
+empty_block k r i = search (rules, split_at, shard_at-empty)
 
 -- Before the first piece, nothing was read, coded, hashed or written.
 pub created_none : {shape : Shape} {known before : Shards} {hashers recovery_hashers : List Sha256}

@@ -2,11 +2,10 @@
 use Rattle.std.proofs.Common.{rules, ◌≡◌, ℕ, ◌+◌, ◌^◌, ◌<◌, ◌≤◌, Bool, true, false, cond, eqb, ltb, List, ◌++◌, length}
 use Rattle.std.proofs.Common.{get_or, take, drop, Result, Ok, Err, refl, sym, ap, subst, ◌∙◌, append_assoc, arith}
 use Rattle.std.specs.Int.{Width, w16, w32, w64, byte_len, from_le_bytes, to_le_bytes}
-use Rattle.std.proofs.lemmas.Bool.{cases_lt, ltb-false, le-ltb, eqb-true, eq-eqb}
+use Rattle.std.proofs.lemmas.Bool.{ltb-false, le-ltb, eqb-true, eq-eqb}
 use Rattle.std.proofs.lemmas.List.{take_at, drop_at, take-append-drop, length-append, length-take, get_or-drop}
 use Rattle.std.proofs.lemmas.List.{get_or-take, get_or_past}
-use Rattle.std.proofs.lemmas.Nat.{le_bytes_2, le_bytes_4, le_bytes_8, from_le_bytes-to_le_bytes_2}
-use Rattle.std.proofs.lemmas.Nat.{from_le_bytes-to_le_bytes_4, from_le_bytes-to_le_bytes_8}
+use Rattle.std.proofs.lemmas.Nat.{le_bytes_2, le_bytes_4, le_bytes_8}
 use Rattle.rs_volumes.specs.declared.fault.Fault.{Fault}
 use Rattle.rs_volumes.specs.declared.fault.Fault.TheVariants.{Short}
 use Rattle.rs_volumes.specs.Description.{name_spelling}
@@ -19,7 +18,7 @@ pub IsBytes-drop : (n : ℕ) (bytes : List ℕ) → IsBytes bytes → IsBytes (d
 IsBytes-drop n bytes h i = rw get_or-drop (h (n + i))
 
 IsBytes-take : (n : ℕ) (bytes : List ℕ) → IsBytes bytes → IsBytes (take n bytes)
-IsBytes-take n bytes h i = search (rules, cases_lt, get_or-take, get_or_past, length-take)
+IsBytes-take n bytes h i = search (rules, get_or-take, get_or_past, length-take)
 
 -- If two steps succeed, the first step returned a value, and the second one succeeded with this value.
 pub bind_ok : {A B : Type 0} {r : Result A Fault} {f : A → Result B Fault} {y : B} → (r >>= f) ≡ Ok y → (x : A)
@@ -69,13 +68,13 @@ pub record IsWide (w : Width) (limit : ℕ) : Type 0 where
   pub below : (bytes : List ℕ) → IsBytes bytes → from_le_bytes w bytes < limit
 
 pub wide16 : IsWide w16 (2 ^ 16)
-wide16 = search (rules, le_bytes_2, from_le_bytes-to_le_bytes_2)
+wide16 = search (rules, le_bytes_2)
 
 pub wide32 : IsWide w32 (2 ^ 32)
-wide32 = search (rules, le_bytes_4, from_le_bytes-to_le_bytes_4)
+wide32 = search (rules, le_bytes_4)
 
 pub wide64 : IsWide w64 (2 ^ 64)
-wide64 = search (rules, le_bytes_8, from_le_bytes-to_le_bytes_8)
+wide64 = search (rules, le_bytes_8)
 
 module _ {w : Width} {limit : ℕ} (wide : IsWide w limit) where
   -- A number that is read has the bytes that were taken as its spelling, and it fits its field.
@@ -164,5 +163,4 @@ name_takes {bytes = bytes} fits e =
 -- A name whose length fits its field is read from its spelling.
 pub name_again : (name rest : List ℕ) → length name < 2 ^ 16 → name_at (name_spelling name ++ rest) ≡ Ok (name, rest)
 unfolding name_at
-name_again name rest lt =
-    search (rules, ltb, le-ltb, length-append, append_assoc, number_again, wide16, take_at, drop_at)
+name_again name rest lt = search (rules, length-append, take_at, drop_at)

@@ -1,16 +1,15 @@
 -- What is read is spelled so, and what is spelled so is read.
-use Rattle.std.proofs.Common.{rules, ◌≡◌, ℕ, zero, suc, ◌+◌, ◌*◌, ◌^◌, ◌<◌, ltb, List, [], ◌∷◌, ◌++◌, length, Ok, refl}
-use Rattle.std.proofs.Common.{ap, subst, ◌∙◌, append_assoc, arith}
+use Rattle.std.proofs.Common.{rules, ◌≡◌, ℕ, zero, suc, ◌+◌, ◌*◌, ◌^◌, ◌<◌, List, [], ◌∷◌, ◌++◌, length, Ok, refl, ap}
+use Rattle.std.proofs.Common.{subst, ◌∙◌, append_assoc, arith}
 use Rattle.std.specs.List.{flat_map, AllByRecursion}
 use Rattle.std.specs.Int.{w32, w64, to_le_bytes}
-use Rattle.std.proofs.lemmas.Bool.{ltb-false, le-ltb}
 use Rattle.std.proofs.lemmas.List.Concat.{flat_map-cons}
 use Rattle.rs_volumes.specs.declared.fault.Fault.TheVariants.{Code, Digest}
 use Rattle.rs_volumes.specs.Description.{SetFile, FileSet, name_spelling, file_spelling, opening_spelling, spelling}
 use Rattle.rs_volumes.specs.Description.{FileFits, Fits}
 use Rattle.rs_volumes.specs.Reading.{file_at, files_at, Opening, opening_at, digests_in, description_in}
-use Rattle.rs_volumes.proofs.Fields.{IsBytes, bind_ok, guard_ok, ok_is, Takes, Takes-then, also, wide32, wide64}
-use Rattle.rs_volumes.proofs.Fields.{number_first, number_again, fixed_first, fixed_again, name_takes, name_again}
+use Rattle.rs_volumes.proofs.Fields.{IsBytes, bind_ok, ok_is, Takes, Takes-then, also, wide32, wide64, number_first}
+use Rattle.rs_volumes.proofs.Fields.{number_again, fixed_first, fixed_again, name_takes, name_again}
 
 -- ---- a file
 
@@ -122,11 +121,11 @@ opening_again o rest fits =
 digests_take : (blocks : ℕ) (bytes digests : List ℕ) → digests_in blocks bytes ≡ Ok digests → (bytes ≡ digests)
     × (length digests ≡ 32 * blocks)
 unfolding digests_in
-digests_take blocks bytes digests e = search (rules, guard_ok, ltb-false, ok_is)
+digests_take blocks bytes digests e = search rules
 
 digests_again : (blocks : ℕ) (digests : List ℕ) → length digests ≡ 32 * blocks → digests_in blocks digests ≡ Ok digests
 unfolding digests_in
-digests_again blocks digests len = search (rules, ltb, le-ltb)
+digests_again blocks digests len = search rules
 
 -- ---- a description
 

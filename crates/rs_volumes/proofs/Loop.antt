@@ -1,7 +1,6 @@
 -- Reading files one after the other, as a loop does.
 use Rattle.std.proofs.Common.{rules, ◌≡◌, ℕ, suc, ◌-◌, ◌+◌, ◌≤◌, ◌<◌, List, [], ◌∷◌, ◌++◌, Result, Ok, Err, refl, sym}
 use Rattle.std.proofs.Common.{ap, ◌∙◌, append_assoc, arith}
-use Rattle.std.proofs.lemmas.List.{append-nil}
 use Rattle.rs_volumes.specs.declared.fault.Fault.{Fault}
 use Rattle.rs_volumes.specs.declared.fault.ReadError.{ReadError}
 use Rattle.rs_volumes.specs.declared.fault.ReadError.TheVariants as errors
@@ -43,4 +42,4 @@ module _ (front : List SetFile) (count i : ℕ) (bytes : List ℕ) {total : Resu
   -- All files were read.
   pub is_done : count ≤ i → total ≡ Ok (front, bytes)
   unfolding files_at
-  is_done le = search (rules, append-nil)
+  is_done le = search rules

@@ -3,12 +3,11 @@ use Rattle.std.proofs.Common.{rules, ◌≡◌, ◌≢◌, ℕ, ◌+◌, ◌-◌
 use Rattle.std.proofs.Common.{◌++◌, length, get_or, take, drop, drop-cons, Ok, Err, refl, ap, ◌∙◌, add-one, arith, inl}
 use Rattle.std.proofs.Common.{inr}
 use Rattle.std.specs.List.{between}
-use Rattle.std.proofs.lemmas.Bool.{ne_eqb, eq-eqb, lt-ltb, le-ltb, cases_lt, le-leb, lt-leb}
+use Rattle.std.proofs.lemmas.Bool.{lt-ltb, le-ltb, cases_lt, le-leb, lt-leb}
 use Rattle.std.proofs.lemmas.List.{take_more, get_or-drop, length-drop, drop_all}
 use Rattle.std.proofs.lemmas.List.Edits.{between_none}
 use Rattle.std.proofs.lemmas.Str.{IsUtf8-from_is_utf8}
 use Rattle.std.specs.Str.{IsUtf8, is_utf8}
-use Rattle.std.proofs.lemmas.Bool.Decides.{eqb_tells}
 use Rattle.rs_volumes.specs.Description.{SetFile, file_of, files_of}
 use Rattle.rs_volumes.specs.declared.description.FileEntry.{FileEntry}
 use Rattle.rs_volumes.specs.declared.fault.Fault.TheVariants.{Length, Name, Order}
@@ -34,7 +33,7 @@ slash_ends part name i h z p = rw (drop-cons name i 0 h, z, p) refl
 pub byte_goes : (part name : List ℕ) (i : ℕ) → i < length name → get_or name i 0 ≢ 0 → get_or name i 0 ≢ 47
     → has_parts part (drop i name) ≡ has_parts (part ++ get_or name i 0 ∷ []) (drop (i + 1) name)
 unfolding has_parts
-byte_goes part name i h z s = search (rules, ne_eqb, drop-cons, add-one)
+byte_goes part name i h z s = search (rules, drop-cons)
 
 pub between_further : (name : List ℕ) (start i : ℕ) → start ≤ i → i < length name
     → between start (i + 1) name ≡ between start i name ++ get_or name i 0 ∷ []
@@ -60,13 +59,13 @@ pub before_further : (one other : List ℕ) (i : ℕ) → i < length one → i <
     → get_or one i 0 ≡ get_or other i 0
     → is_before (drop i one) (drop i other) ≡ is_before (drop (i + 1) one) (drop (i + 1) other)
 unfolding is_before
-before_further one other i h k e = search (rules, eq-eqb, drop-cons, add-one)
+before_further one other i h k e = search (rules, drop-cons)
 
 pub before_differs : (one other : List ℕ) (i : ℕ) → i < length one → i < length other
     → get_or one i 0 ≢ get_or other i 0
     → is_before (drop i one) (drop i other) ≡ ltb (get_or one i 0) (get_or other i 0)
 unfolding is_before
-before_differs one other i h k e = search (rules, ne_eqb, drop-cons)
+before_differs one other i h k e = search (rules, drop-cons)
 
 pub before_longer : (one other : List ℕ) (i : ℕ) → i < length one → length other ≤ i
     → is_before (drop i one) (drop i other) ≡ false
@@ -105,10 +104,10 @@ is_no_text bs never = by_test (is_utf8 bs) (λ e. never (IsUtf8-from_is_utf8 bs 
 
 drop_item : {X : Type 0} (xs : List X) (i : ℕ) (x : X) → i < length xs → x ≡ get_or xs i x
     → drop i xs ≡ x ∷ drop (i + 1) xs
-drop_item xs i x h e = search (rules, drop-cons, add-one)
+drop_item xs i x h e = search (rules, drop-cons)
 
 equal_after : (a b left : ℕ) → a ≤ left → eqb (a + b) left ≡ eqb b (left - a)
-equal_after a b left h = search (rules, eqb_tells, eq-eqb, ne_eqb)
+equal_after a b left h = search rules
 
 fills_further : (block : ℕ) (file : SetFile) (rest : List SetFile) (left : ℕ) → blocks_of block file.size ≤ left
     → eqb (blocks_in block (file ∷ rest)) left ≡ eqb (blocks_in block rest) (left - blocks_of block file.size)
@@ -118,11 +117,11 @@ fills_further block file rest left h = equal_after (blocks_of block file.size) (
 fills_not : (block : ℕ) (file : SetFile) (rest : List SetFile) (left : ℕ) → left < blocks_of block file.size
     → eqb (blocks_in block (file ∷ rest)) left ≡ false
 unfolding blocks_in
-fills_not block file rest left h = search (rules, ne_eqb)
+fills_not block file rest left h = search rules
 
 fills_end : (block left : ℕ) → eqb (blocks_in block []) left ≡ eqb left 0
 unfolding blocks_in
-fills_end block left = search (rules, eqb_tells, eq-eqb, ne_eqb)
+fills_end block left = search rules
 
 -- ---- a file in a list of entries
 

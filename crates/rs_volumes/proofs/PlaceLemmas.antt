@@ -4,11 +4,8 @@ use Rattle.std.proofs.Common.{get_or, take, map, refl, sym, ap, ◌∙◌, appen
 use Rattle.std.proofs.lemmas.Grind.{common_steps, flat_map-append}
 use Rattle.std.specs.List.{concat, flat_map}
 use Rattle.std.proofs.Math.Nat.{suc-mul, zero-mul}
-use Rattle.std.proofs.lemmas.Nat.{div-add-mod'}
 use Rattle.std.proofs.lemmas.Bool.{eq-eqb, ne_eqb}
-use Rattle.std.proofs.lemmas.Bool.Decides.{eqb_tells}
-use Rattle.std.proofs.lemmas.List.{append-nil, take_more, take_all, map-append, length-map, length-take, length-append}
-use Rattle.std.proofs.lemmas.List.{get_or-append_right}
+use Rattle.std.proofs.lemmas.List.{append-nil, take_more, take_all, map-append, length-append, get_or-append_right}
 use Rattle.rs_field.specs.code.Column.{Shard, shard_at}
 use Rattle.rs_volumes.specs.declared.description.FileEntry.{FileEntry}
 use Rattle.rs_volumes.specs.declared.placement.Place.{Place}
@@ -46,8 +43,7 @@ pub places_next : (block : ℕ) (files : List FileEntry) (n : ℕ) (file : FileE
     → file ≡ get_or files n file
     → set_places 0 block (files_of (take (n + 1) files)) ≡ set_places 0 block (files_of (take n files))
     ++ file_places n block file.size
-places_next block files n file h e =
-    grind (arith, common_steps, length-map, length-take, files_further, places-append)
+places_next block files n file h e = grind (arith, common_steps, places-append)
 
 -- a file whose last block is full has no further block, and another file has one
 pub rest-none : (file block size : ℕ) → size % block ≡ 0 → rest_place file block size ≡ []
@@ -76,8 +72,7 @@ full-covers contents file block (suc n) =
 rest-covers : (contents : List Shard) (file block size : ℕ) → length (shard_at contents file) ≡ size
     → take (size / block * block) (shard_at contents file) ++ flat_map (bytes_at contents) (rest_place file block size)
     ≡ shard_at contents file
-rest-covers contents file block size long =
-    search (rules, div-add-mod', eqb_tells, rest-none, append-nil, take_all, rest-some, take-further)
+rest-covers contents file block size long = search (rules, rest-none, take_all, rest-some, take-further)
 
 file-covers : (contents : List Shard) (file block size : ℕ) → length (shard_at contents file) ≡ size
     → flat_map (bytes_at contents) (file_places file block size) ≡ shard_at contents file

@@ -21,7 +21,7 @@ use Rattle.std.proofs.Common.{
 }
 use Rattle.std.specs.Prelude.{if◌then◌else◌}
 use Rattle.std.specs.Global.{Vec}
-use Rattle.std.proofs.lemmas.Bool.{eq-eqb, ne_eqb}
+use Rattle.std.proofs.lemmas.Bool.{ne_eqb}
 use Rattle.std.proofs.lemmas.Bool.Decides.{eqb_tells}
 use Rattle.std.proofs.lemmas.List.{append-nil, map-append, take_more}
 use Rattle.rs_field.specs.code.Column.{Shard}
@@ -40,7 +40,7 @@ piece_of-append i (x ∷ xs) ys =
 more-own : (i : ℕ) (items : Items) (item : ℕ × Shard) → i ≡ item.0
     → piece_of i (items ++ item ∷ []) ≡ piece_of i items ++ item.1
 unfolding piece_of
-more-own i items item same = search (rules, piece_of-append, eq-eqb, append-nil)
+more-own i items item same = search (rules, piece_of-append)
 
 -- a further piece changes no piece with another number
 more-other : (i : ℕ) (items : Items) (item : ℕ × Shard) → i ≢ item.0
@@ -68,7 +68,7 @@ module _ (wanted : List Bool) (items : Items) (item : ℕ × Shard) {before now 
   -- the next piece is not wanted
   pub gets_same : (get_or wanted item.0 false ≡ true → ⊥) → Gets wanted (λ i. piece_of i (items ++ item ∷ [])) before
       now
-  gets_same unwanted i bytes is held = search (rules, eqb_tells, more-other)
+  gets_same unwanted i bytes is held = search (rules, more-other)
 
 -- the pieces up to number n, and then the next one
 pub items_more : (pieces : List (ℕ × Vec ℕ)) {n : ℕ} {p : ℕ × Vec ℕ} → n < length pieces → p ≡ get_or pieces n p
@@ -93,4 +93,4 @@ module _ (wanted : List Bool) (piece : ℕ → Shard) {n : ℕ} {before now afte
       → ((i : ℕ) (bytes : Shard) → i < n + 1 → get_or wanted i false ≡ true → before i ≡ Some bytes
       → after i ≡ Some (bytes ++ piece i))
       × ((i : ℕ) → n + 1 ≤ i → after i ≡ before i)
-  got_next here = search (rules, eqb_tells)
+  got_next here = search rules

@@ -7,13 +7,11 @@ use Rattle.reed_solomon_simd.specs.OneCall.{default_of}
 use Rattle.reed_solomon_simd.specs.ChunkCounts.{chunk_count}
 use Rattle.reed_solomon_simd.proofs.ObjectLaws.{valid-encoder, own_room-encoder}
 use Rattle.reed_solomon_simd.proofs.ShardRowsLemmas.{chunk_count-size}
-use Rattle.reed_solomon_simd.proofs.StateLemmas.{start_outcome-roomy}
 use Rattle.rs_callers.proofs.plain_callers.encoder_reset_and_back.Goals as goal
 
 pub returns-clause-answer : goal.returns-clause-answer
 unfolding chunk_count
-returns-clause-answer c =
-    grind (arith, common_steps, chunk_count-size, own_room-encoder, valid-encoder, start_outcome-roomy)
+returns-clause-answer c = grind (arith, common_steps, chunk_count-size, own_room-encoder, valid-encoder)
 
 pub returns-clause-state : goal.returns-clause-state
 returns-clause-state c =

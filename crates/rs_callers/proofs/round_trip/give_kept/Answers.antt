@@ -1,10 +1,9 @@
 use Rattle.std.proofs.Common.{rules}
-use Rattle.reed_solomon_simd.proofs.Giving.{outcome-ok}
-use Rattle.rs_callers.proofs.InTurn.{shards_from-next, kept-next, lost-next}
+use Rattle.rs_callers.proofs.InTurn.{shards_from-next}
 use Rattle.rs_callers.proofs.round_trip.give_kept.Goals as goal
 
 pub loop-index-preserved-then-contains : goal.loop-index-preserved-then-contains
-loop-index-preserved-then-contains c = search (rules, lost-next, shards_from-next)
+loop-index-preserved-then-contains c = search (rules, shards_from-next)
 
 pub loop-index-preserved : goal.loop-index-preserved
-loop-index-preserved c = search (rules, outcome-ok, kept-next, shards_from-next)
+loop-index-preserved c = search (rules, shards_from-next)

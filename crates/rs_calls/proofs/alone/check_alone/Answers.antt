@@ -1,10 +1,9 @@
 use Rattle.std.proofs.lemmas.Grind.{common_steps}
 use Rattle.std.proofs.Common.{◌≡◌, ℕ, [], List, length, drop, Ok, Err, ap, sym, refl, ◌∙◌, arith}
-use Rattle.std.proofs.lemmas.Bool.{cond_below, cond_above}
+use Rattle.std.proofs.lemmas.Bool.{cond_below}
 use Rattle.rs_field.specs.declared.code.error.Error.TheVariants.{NotEnoughShards}
 use Rattle.rs_calls.specs.declared.layouts.RsShard.{RsShard}
-use Rattle.rs_calls.proofs.AloneLemmas.{note_outcome-none, notes-ok, notes-err, noting, noting-next, noting-done}
-use Rattle.rs_calls.proofs.AloneLemmas.{noting-refused}
+use Rattle.rs_calls.proofs.AloneLemmas.{note_outcome-none, noting, noting-done}
 use Rattle.rs_calls.proofs.alone.check_alone.Goals as goal
 
 -- the default value for an entry after the end of an array
@@ -16,12 +15,11 @@ loop-shard-init c = ([], note_outcome-none 1024, refl, refl)
 
 pub loop-shard-preserved : goal.loop-shard-preserved
 unfolding nothing
-loop-shard-preserved c = grind (arith, common_steps, nothing, notes-ok, noting-next, noting)
+loop-shard-preserved c = grind (arith, common_steps)
 
 pub returns-in_err-note-clause-answer : goal.returns-in_err-note-clause-answer
 unfolding nothing
-returns-in_err-note-clause-answer c =
-    grind (arith, common_steps, nothing, notes-err, noting-refused, noting-next, noting)
+returns-in_err-note-clause-answer c = grind (arith, common_steps)
 
 pub returns-then-original_received_count-original_count-clause-answer :
     goal.returns-then-original_received_count-original_count-clause-answer
@@ -37,4 +35,4 @@ returns-then-original_received_count-original_count-clause-answer c =
     ∙ sym (noting-done k so_far shards led (c.loop-shard.invariant.2 ∙ all))
 
 pub returns-clause-answer : goal.returns-clause-answer
-returns-clause-answer c = grind (arith, common_steps, noting, cond_above, noting-done)
+returns-clause-answer c = grind (arith, common_steps)

@@ -1,7 +1,6 @@
 use Rattle.std.proofs.Common.{rules, subst, ◌≡◌, ℕ, ◌<◌, ◌==◌, not, List, length, map, take, drop, Ok, Err, sym, ap}
 use Rattle.std.proofs.Common.{◌∙◌, refl, arith, true}
 use Rattle.std.specs.List.{count_by}
-use Rattle.std.proofs.lemmas.List.{length-take-le, length-drop}
 use Rattle.rs_field.specs.code.Counts.{default_rate, supports}
 use Rattle.rs_field.specs.code.Given.{nothing}
 use Rattle.rs_field.proofs.of_code.SupportedCounts.{default_fits}
@@ -9,7 +8,6 @@ use Rattle.rs_field.specs.code.OneCall.{OneDecodeAnswers}
 use Rattle.rs_rate.proofs.of_objects.OneCall.{decoding-refused, decoding-nothing}
 use Rattle.rs_calls.specs.Answers.{all_or_refused}
 use Rattle.rs_calls.specs.Buffers.{lost_indexes, marked_shards, shard_place}
-use Rattle.rs_calls.proofs.EncodeLemmas.{fits-length}
 use Rattle.rs_calls.proofs.DecodeLemmas.{decodes-unmarked, with-nothing, decodes}
 use Rattle.rs_calls.proofs.MarkedLemmas.{present, count-present}
 use Rattle.rs_calls.proofs.MarkedState.{AreMarked}
@@ -34,7 +32,7 @@ record IsDivided (k r size : ℕ) (marks own other old recovery : List ℕ) : Ty
 divided : (g : Over) (c : After-split_at g)
     → IsDivided c.args.original_count c.args.recovery_count c.args.shard_bytes c.args.marks.now
     c.split_at.result.0.now c.split_at.result.1.now c.args.originals.now c.args.recovery.now
-divided g c = search (rules, fits-length, length-take-le, length-drop)
+divided g c = search rules
 
 pub returns-in_err-check_all_marked-clause-answer : goal.returns-in_err-check_all_marked-clause-answer
 returns-in_err-check_all_marked-clause-answer g c =

@@ -2,7 +2,7 @@ use Rattle.std.proofs.Common.{rules, sym, ◌∙◌, arith}
 use Rattle.rs_field.proofs.of_code.SupportedCounts.{default_fits}
 use Rattle.rs_calls.proofs.LostLemmas.{lost-count}
 use Rattle.rs_calls.proofs.MarkedLemmas.{count-present, present-most}
-use Rattle.rs_calls.proofs.MarkedState.{originals-counted, recovery-counted, enough-marked, both-outcomes}
+use Rattle.rs_calls.proofs.MarkedState.{originals-counted, recovery-counted, enough-marked}
 use Rattle.rs_calls.proofs.decoding.restore_buffers.Goals as goal
 
 pub surplus_of-requires : goal.surplus_of-requires
@@ -27,4 +27,4 @@ pub restore_in_place-requires-clause-missing : goal.restore_in_place-requires-cl
 restore_in_place-requires-clause-missing g c = search (rules, originals-counted, lost-count)
 
 pub returns-clause-answer : goal.returns-clause-answer
-returns-clause-answer g c = search (rules, count-present, enough-marked, both-outcomes)
+returns-clause-answer g c = search (rules, count-present, enough-marked)

@@ -4,7 +4,7 @@ use Rattle.rs_calls.proofs.marked_buffers.indexes_of_lost.Goals.{then-marks-inde
 use Rattle.rs_calls.proofs.marked_buffers.indexes_of_lost.Goals as goal
 
 pub loop-index-preserved : goal.loop-index-preserved
-loop-index-preserved c = search (rules, then-marks-index-eq0+in_ok-push, lost-next, else-marks-index-eq0, kept-next)
+loop-index-preserved c = search (rules, lost-next, kept-next)
 
 pub returns : goal.returns
 returns c = lost-end c.loop-index.index c.args.marks.now c.loop-index.lost.items

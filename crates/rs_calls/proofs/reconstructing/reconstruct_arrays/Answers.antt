@@ -1,6 +1,5 @@
 use Rattle.std.proofs.Common.{rules, ◌++◌, sym, ap}
 use Rattle.std.specs.Result.{result_map_both}
-use Rattle.reed_solomon_simd.proofs.ReconstructLemmas.{into-kept}
 use Rattle.rs_calls.specs.Arrays.{items_of, shards_in, bytes_in}
 use Rattle.rs_calls.specs.Places.{placed_reconstruct}
 use Rattle.rs_calls.proofs.PlaceLemmas.{both-shards}
@@ -8,7 +7,7 @@ use Rattle.rs_calls.proofs.RoomFaults.{keeps-rooms}
 use Rattle.rs_calls.proofs.reconstructing.reconstruct_arrays.Goals as goal
 
 pub returns-in-Err-clause-answer : goal.returns-in-Err-clause-answer
-returns-in-Err-clause-answer g c = search (rules, both-shards, into-kept)
+returns-in-Err-clause-answer g c = search (rules, both-shards)
 
 pub returns-in-Err-clause-kept : goal.returns-in-Err-clause-kept
 returns-in-Err-clause-kept g c = keeps-rooms c.args.rooms.now _ c.reconstruct_wanted-answer.ensures.kept

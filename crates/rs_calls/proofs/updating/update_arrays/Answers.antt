@@ -1,10 +1,9 @@
 use Rattle.std.proofs.Common.{rules}
-use Rattle.reed_solomon_simd.proofs.UpdateLemmas.{updates-kept}
 use Rattle.rs_calls.proofs.RoomFaults.{keeps-rooms}
 use Rattle.rs_calls.proofs.updating.update_arrays.Goals as goal
 
 pub returns-in-Err-clause-answer : goal.returns-in-Err-clause-answer
-returns-in-Err-clause-answer g c = search (rules, updates-kept)
+returns-in-Err-clause-answer g c = search rules
 
 pub returns-in-Err-clause-kept : goal.returns-in-Err-clause-kept
 returns-in-Err-clause-kept g c = keeps-rooms c.args.recovery.now _ c.update_into-answer.ensures.kept

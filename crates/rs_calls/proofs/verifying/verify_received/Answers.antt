@@ -1,7 +1,6 @@
 use Rattle.std.proofs.Common.{rules}
 use Rattle.reed_solomon_simd.specs.ReceivedState.{received_state}
-use Rattle.reed_solomon_simd.proofs.VerifyingLemmas.{verifies-uncounted, verifies-refused, verifies-few}
-use Rattle.reed_solomon_simd.proofs.VerifyingLemmas.{verifies-checked}
+use Rattle.reed_solomon_simd.proofs.VerifyingLemmas.{verifies-uncounted, verifies-refused, verifies-checked}
 use Rattle.rs_calls.specs.Arrays.{items_of}
 use Rattle.rs_calls.proofs.verifying.verify_received.Goals as goal
 
@@ -19,7 +18,7 @@ returns-in_err-received g c =
     search rules
 
 pub returns-in_err-surplus : goal.returns-in_err-surplus
-returns-in_err-surplus g c = search (rules, verifies-few)
+returns-in_err-surplus g c = search rules
 
 pub returns : goal.returns
 returns g c =

@@ -10,7 +10,7 @@ last-digit : (n : ℕ) → n < 10 → decimal n ≡ (48 + n % 10) ∷ []
 last-digit n small = search (rules, decimal_digit)
 
 pub returns-then-number-lt10-clause-end : goal.returns-then-number-lt10-clause-end
-returns-then-number-lt10-clause-end t c = search (rules, decimal, last-digit)
+returns-then-number-lt10-clause-end t c = search (rules, last-digit)
 
 pub returns-then-number-lt10-clause-written : goal.returns-then-number-lt10-clause-written
 returns-then-number-lt10-clause-written t c text old sized is =
@@ -31,4 +31,4 @@ returns-clause-end t c =
     )
 
 pub returns-clause-written : goal.returns-clause-written
-returns-clause-written t c text old sized is = search (rules, decimal, length-append, append_assoc, decimal_step)
+returns-clause-written t c text old sized is = search (rules, length-append, append_assoc, decimal_step)

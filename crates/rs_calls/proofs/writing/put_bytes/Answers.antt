@@ -4,5 +4,4 @@ use Rattle.rs_calls.proofs.writing.put_bytes.Goals.{then-at-room, else-at-room}
 use Rattle.rs_calls.proofs.writing.put_bytes.Goals as goal
 
 pub returns-clause-written : goal.returns-clause-written
-returns-clause-written c text old sized is =
-    search (rules, length-over, then-at-room, over-inside, else-at-room, over-past)
+returns-clause-written c text old sized is = search (rules, length-over, over-inside, over-past)

@@ -1,5 +1,4 @@
 use Rattle.std.proofs.Common.{◌^◌, ◌≤◌, sym, ◌∙◌, arith, rules}
-use Rattle.std.proofs.lemmas.Bool.{cases_lt}
 use Rattle.std.proofs.lemmas.List.{get_or_default}
 use Rattle.rs_volumes.proofs.NameLemmas.{length_fault, name_fault, order_fault, passes_at, passes_past}
 use Rattle.rs_volumes.proofs.checking.check_files.Goals as goal
@@ -18,7 +17,7 @@ pub returns-then-not-is_before-clause-answer : goal.returns-then-not-is_before-c
 returns-then-not-is_before-clause-answer c = search (rules, order_fault)
 
 pub loop-file-preserved : goal.loop-file-preserved
-loop-file-preserved c = search (rules, passes_at, cases_lt, get_or_default)
+loop-file-preserved c = search (rules, passes_at, get_or_default)
 
 pub returns-clause-answer : goal.returns-clause-answer
 returns-clause-answer c =

@@ -15,4 +15,4 @@ pub returns-in_ok-push-2 : goal.returns-in_ok-push-2
 returns-in_ok-push-2 c = search (rules, rest-some, append_assoc)
 
 pub returns-else-bytes-gt0 : goal.returns-else-bytes-gt0
-returns-else-bytes-gt0 c = search (rules, rest-none, append-nil)
+returns-else-bytes-gt0 c = search (rules, rest-none)

@@ -3,12 +3,12 @@ use Rattle.std.proofs.Common.{ℕ, ◌+◌, ◌*◌, ◌<◌, ◌≤◌, List, [
 use Rattle.std.proofs.lemmas.Bool.{cases_lt}
 use Rattle.std.proofs.lemmas.List.{get_or_past}
 use Rattle.rs_calls.specs.Buffers.{shards_in_buffer}
-use Rattle.rs_calls.proofs.CutLemmas.{cut-length, cut-at, room-inside, put-here, put-other}
+use Rattle.rs_calls.proofs.CutLemmas.{cut-length, cut-at, put-here, put-other}
 use Rattle.rs_calls.proofs.buffer_rooms.BufferRoomsRooms.put.Goals.{After-put}
 use Rattle.rs_calls.proofs.buffer_rooms.BufferRoomsRooms.put.Goals as goal
 
 pub put-requires : goal.put-requires
-put-requires c = grind (arith, common_steps, cut-length, room-inside, cut-at)
+put-requires c = grind (arith, common_steps, cut-length, cut-at)
 
 pub returns-then-not-is_empty-clause-number : goal.returns-then-not-is_empty-clause-number
 returns-then-not-is_empty-clause-number c =
@@ -19,7 +19,7 @@ returns-then-not-is_empty-clause-number c =
 placed : (c : After-put) → let x = c.args.self.now in let many = length c.args.piece.now in
     (c.args.index < x.count) × (c.args.start + many ≤ x.size)
     × (c.args.index * x.size + c.args.start + many ≤ length x.bytes.now)
-placed c = grind (arith, common_steps, cut-length, room-inside, cut-at)
+placed c = grind (arith, common_steps, cut-length, cut-at)
 
 pub returns-then-not-is_empty-clause-here : goal.returns-then-not-is_empty-clause-here
 returns-then-not-is_empty-clause-here c =

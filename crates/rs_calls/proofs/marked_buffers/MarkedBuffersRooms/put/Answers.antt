@@ -6,7 +6,7 @@ use Rattle.std.proofs.lemmas.List.{get_or_past, get_or-map, length-map}
 use Rattle.rs_field.specs.code.Given.{Shards}
 use Rattle.rs_field.specs.code.OneCall.{default_of}
 use Rattle.rs_calls.specs.Buffers.{marked_map, shard_place}
-use Rattle.rs_calls.proofs.CutLemmas.{room-inside, put-here, put-other, put-long}
+use Rattle.rs_calls.proofs.CutLemmas.{put-here, put-other, put-long}
 use Rattle.rs_calls.proofs.LostLemmas.{lost-mark, lost-grow, grow-apart}
 use Rattle.rs_calls.proofs.MarkedState.{map-put}
 use Rattle.rs_calls.proofs.marked_buffers.MarkedBuffersRooms.put.Goals.{After-put}
@@ -16,7 +16,7 @@ use Rattle.rs_calls.proofs.marked_buffers.MarkedBuffersRooms.put.Goals as goal
 placed : (c : After-put) → let x = c.args.self.now in let many = length c.args.piece.now in
     (c.args.index < length x.lost.now) × (c.args.start + many ≤ x.size)
     × (get_or x.lost.now c.args.index 0 * x.size + c.args.start + many ≤ length x.originals.now)
-placed c = grind (arith, common_steps, length-map, get_or-map, room-inside)
+placed c = grind (arith, common_steps)
 
 pub returns-then-not-is_empty-clause-here : goal.returns-then-not-is_empty-clause-here
 returns-then-not-is_empty-clause-here c =
