@@ -2,7 +2,8 @@
 use Rattle.std.specs.Prelude.{◌≡◌, ◌≤◌, ◌%◌, ◌<◌, ℕ, Bool, true, if◌then◌else◌, Option, Some, None}
 use Rattle.rs_field.specs.code.Counts.{Rate, low_rate, high_rate, supports}
 use Rattle.rs_field.specs.code.Configuration.{Configuration as AsDefined, configuration}
-use Rattle.rs_field.specs.code.Frame.{frame_of, frame_at, row_count, original_row, recovery_row, encoder_rows, decoder_rows}
+use Rattle.rs_field.specs.code.Frame.{frame_of, frame_at, row_count, original_row, recovery_row, encoder_rows}
+use Rattle.rs_field.specs.code.Frame.{decoder_rows}
 use Rattle.rs_field.specs.declared.code.frame.Frame.{Frame}
 use Rattle.rs_rate.specs.declared.values.configuration.Configuration.{Configuration}
 

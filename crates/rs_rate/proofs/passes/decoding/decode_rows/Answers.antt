@@ -64,7 +64,8 @@ returns-clause-answer g c = λ rate is.
     elim (cases_eq (c.tally-tally.result.missing + c.tally-tally.result.surplus) 0) [
       | inl none ↦
           subst (AnswersOver rows left) (sym (c.restore-agrees.ensures.nothing (omega arith) (omega arith)))
-          (complete_answers left (omega (arith, none, tally.missing), omega (arith, none, tally.missing, tally.surplus)))
+          (complete_answers left
+          (omega (arith, none, tally.missing), omega (arith, none, tally.missing, tally.surplus)))
       | inr some ↦
           let made = subst
           (λ l. RestoresShards own (given_marks old.memory.marks) c.tally-tally.result.surplus before l

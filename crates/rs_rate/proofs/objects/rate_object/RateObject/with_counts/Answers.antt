@@ -18,7 +18,11 @@ returns g c =
     let is = asked_rows g.R.ObjectRows.row_count g.met.R.ObjectRows.rows_set_up c.in_ok-configuration.ensures in
     record {
       answer = rw (is.count, is.bytes, ← is.answer) at c.in_ok-rows.ensures.answer;
-      made = (c.in_ok-rows.ensures.state g.C.RateMarker.rate ∙ ap g.R.ObjectRows.fresh c.in_ok-configuration.ensures.same, refl);
+      made = (
+        c.in_ok-rows.ensures.state g.C.RateMarker.rate
+            ∙ ap g.R.ObjectRows.fresh c.in_ok-configuration.ensures.same,
+        refl,
+      );
       grown = c.in_ok-rows.ensures.grown;
       roomy = rw (is.count, is.bytes, ← is.answer) at c.in_ok-rows.ensures.roomy;
     }
