@@ -31,11 +31,6 @@ pub valid-some : (c : Configuration) → validation_outcome c ≡ Ok tt → 0 < 
 valid-some c valid =
     some_originals c.rate c.original_count c.recovery_count (valid-supported c valid)
 
--- The outcome of the check for enough shards, for given numbers of originals and recovery shards.
-abbrev by_counts : ℕ → ℕ → ℕ → Result (Unit {0}) Error
-by_counts k originals recovery =
-    cond (nat_lt (originals + recovery) k) (Err (NotEnoughShards k originals recovery)) (Ok tt)
-
 -- A decoder without shards fails with `NotEnoughShards`.
 pub fresh-too_few : (c : Configuration) → validation_outcome c ≡ Ok tt
     → enough_given (fresh_decoder c) ≡ Err (NotEnoughShards c.original_count 0 0)

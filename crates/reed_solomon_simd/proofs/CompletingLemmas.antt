@@ -1,6 +1,6 @@
 -- Received and restored originals in one map, and the originals of a map in order of their index.
 use Rattle.std.proofs.Common.{rules, ◌≡◌, ℕ, ◌+◌, ◌<◌, ◌≤◌, false, cond, List, [], ◌∷◌, ◌++◌, length, Option, Some}
-use Rattle.std.proofs.Common.{None, Result, Ok, refl, ap, ◌∙◌, arith, add-one}
+use Rattle.std.proofs.Common.{None, Result, Ok, refl, ap, ◌∙◌, add-one}
 use Rattle.std.specs.Prelude.{is_some}
 use Rattle.std.specs.BTreeMap.{BTreeMap, UpdatesBy}
 use Rattle.std.specs.Option.{option_map}
@@ -52,9 +52,6 @@ counted-next all index o is =
 
 module _ (all : Shards) (index : ℕ) (left new : Shards) (taken : List Shard) (are : AreTaken all index left taken)
     (others : (i : ℕ) → (i ≡ index → ⊥) → new i ≡ left i) where
-  kept : (i : ℕ) → index + 1 ≤ i → new i ≡ all i
-  kept i past = others i (λ same. let none : ⊥ = omega arith in none) ∙ are.same i (omega arith)
-
   -- An original with the next index is taken.
   pub taken-one : (shard : Shard) → left index ≡ Some shard → AreTaken all (index + 1) new (taken ++ shard ∷ [])
   taken-one shard is = search (rules, length_push, counted-next, count_most, get_or_push, get_or_append_left)

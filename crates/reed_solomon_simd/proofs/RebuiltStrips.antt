@@ -26,8 +26,7 @@ use Rattle.reed_solomon_simd.specs.declared.shard_index.ShardIndex.{ShardIndex}
 use Rattle.reed_solomon_simd.specs.declared.shard_index.ShardIndex.TheVariants.{Original, Recovery}
 use Rattle.reed_solomon_simd.specs.Reconstructed.{AreReconstructed, CanBeRebuilt, lent_at}
 use Rattle.reed_solomon_simd.specs.ShardNames.{shard_named, is_recovery}
-use Rattle.reed_solomon_simd.proofs.ConsistentStrips.{checked-none, checked-further, checked-all, even-strip}
-use Rattle.reed_solomon_simd.proofs.ConsistentStrips.{few-originals}
+use Rattle.reed_solomon_simd.proofs.ConsistentStrips.{checked-further, checked-all, even-strip, few-originals}
 use Rattle.reed_solomon_simd.proofs.SetUp.{valid-even}
 
 -- The wanted shards of a codeword.
@@ -84,14 +83,6 @@ pub record IsRebuiltBelow (s : DecoderState) (wanted : List ShardIndex) (grows :
   pub fit : All (λ room. length room ≡ room_length grows bound s.configuration.shard_bytes) rooms
   pub held : (message : List Shard) (agrees : IsAgreeing s message) (i : ℕ) → i < length rooms
       → take bound (get_or rooms i []) ≡ take bound (get_or (named_shards message agrees.coded.0 wanted) i [])
-
--- Before the first strip, nothing is rebuilt.
-pub rebuilt-none : (s : DecoderState) (wanted : List ShardIndex) (grows : Bool) (rooms : List Shard)
-    → length rooms ≡ length wanted
-    → All (λ room. length room ≡ room_length grows 0 s.configuration.shard_bytes) rooms
-    → IsRebuiltBelow s wanted grows 0 rooms
-rebuilt-none s wanted grows rooms number fit =
-    record { checked = checked-none s; number = number; fit = fit; held = λ message agrees i h. refl }
 
 -- Joining a piece to the first bytes of a shard gives more first bytes.
 take-joined : (start : ℕ) (old piece rest : Shard) → start ≤ length old

@@ -1,18 +1,15 @@
 -- From shards that were added to a decoder to the result of collecting received shards.
-use Rattle.std.proofs.Common.{rules, ◌≡◌, ℕ, Option, Some, None, Result, Ok, Err, true, refl, sym, ap, ◌∙◌, subst, inl}
-use Rattle.std.proofs.Common.{inr}
-use Rattle.std.specs.Prelude.{IsOk, is_ok}
+use Rattle.std.proofs.Common.{◌≡◌, ℕ, Option, Some, Result, Ok, Err, refl, sym, ap, ◌∙◌, inl, inr}
+use Rattle.std.specs.Prelude.{IsOk}
 use Rattle.std.proofs.lemmas.Bool.{false≢true}
 use Rattle.rs_field.specs.declared.code.error.Error.{Error}
-use Rattle.rs_field.specs.declared.code.error.Error.TheVariants.{NotEnoughShards, OutOfMemory}
 use Rattle.rs_field.specs.code.Configuration.{start_outcome, UpToMemory}
-use Rattle.rs_field.specs.code.Counts.{default_rate, supports}
+use Rattle.rs_field.specs.code.Counts.{default_rate}
 use Rattle.rs_field.specs.code.Decoder.{DecoderState, fresh_decoder}
 use Rattle.rs_field.specs.code.Frame.{decoder_rows}
 use Rattle.rs_field.specs.code.OneCall.{Items, default_of, with_both}
 use Rattle.rs_field.specs.code.Outcome.{result_and_then}
-use Rattle.reed_solomon_simd.specs.Verified.{received_size, receiving_opening, receiving_outcome, IsReceiving}
-use Rattle.reed_solomon_simd.proofs.SetUp.{started-parts}
+use Rattle.reed_solomon_simd.specs.Verified.{received_size, receiving_outcome, IsReceiving}
 
 -- If a setting up can only fail because memory is short, and it succeeds, its outcome is a success.
 was-set_up : (o : Result (Unit {0}) Error) → UpToMemory o (Ok tt) → o ≡ Ok tt
@@ -24,11 +21,6 @@ success (Ok u) is = refl
 success (Err e) is = absurd (false≢true is)
 
 module _ (k r : ℕ) (originals recovery : Items) where
-  -- Without a shard, collecting fails with `NotEnoughShards`.
-  pub receiving-none : supports default_rate k r ≡ true → None ≡ received_size originals recovery
-      → IsReceiving k r originals recovery (Err (NotEnoughShards k 0 0))
-  receiving-none supported none = search rules
-
   module _ (size : ℕ) (sized : Some size ≡ received_size originals recovery) where
     abbrev opened : Result (Unit {0}) Error
     opened = start_outcome (decoder_rows default_rate k r) (default_of k r size)
@@ -40,20 +32,6 @@ module _ (k r : ℕ) (originals recovery : Items) where
         → IsReceiving k r originals recovery o
     receiving-led o is =
         inl (sym is ∙ ap (λ (n : Option ℕ). receiving_outcome k r n originals recovery) sized)
-
-    -- If setting up the decoder fails, collecting fails with the same error.
-    pub receiving-unset : (e : Error)
-        → UpToMemory opened (Err e)
-        → IsReceiving k r originals recovery (Err e)
-    receiving-unset e (inl same) =
-        receiving-led (Err e)
-        (ap after_opening (sym same))
-    receiving-unset e (inr lacks) =
-        let refused = lacks.1 in
-        let same : e ≡ OutOfMemory = cc in
-        let (valid, fits) = started-parts (decoder_rows default_rate k r) (default_of k r size)
-        (success opened lacks.0) in
-        inr (subst (λ (n : Option ℕ). IsOk (receiving_opening k r n)) sized (ap is_ok valid), ap Err same)
 
     -- If the decoder was set up, the outcome of adding the shards is the outcome of collecting them.
     pub receiving-given : (start : DecoderState)

@@ -15,7 +15,7 @@ use Rattle.reed_solomon_simd.specs.declared.reconstruct_error.ReconstructError.{
 use Rattle.reed_solomon_simd.specs.declared.reconstruct_error.ReconstructError.TheVariants.{Refused}
 use Rattle.reed_solomon_simd.specs.declared.shard_index.ShardIndex.{ShardIndex}
 use Rattle.reed_solomon_simd.specs.Reconstructed.{AreReconstructed, wanted_outcome, ready_outcome, ReconstructAnswers}
-use Rattle.reed_solomon_simd.specs.Reconstructed.{OneReconstructs, Reconstructs, ReconstructsInto}
+use Rattle.reed_solomon_simd.specs.Reconstructed.{OneReconstructs, Reconstructs}
 use Rattle.reed_solomon_simd.specs.Verified.{IsReceiving}
 use Rattle.reed_solomon_simd.proofs.VerifyingLemmas.{receiving-outcome, receiving-opened}
 
@@ -54,12 +54,6 @@ module _ (k r : ℕ) (originals recovery : Items) (wanted : List ShardIndex)
       → e ≡ OutOfMemory → OneReconstructs k r originals recovery wanted fit (Err (Refused e))
   reconstructs-lacking s is e lacks =
       reconstructs-given s is (Err (Refused e)) (inr (ap (λ (x : Error). Err (Refused x)) lacks))
-
--- If `reconstruct_into` fails, the rooms are unchanged.
-pub into-kept : (k r : ℕ) (originals recovery : Items) (wanted : List ShardIndex) (old new : List (List ℕ))
-    (e : ReconstructError) (answer : Result (Unit {0}) ReconstructError) → answer ≡ Err e
-    → ReconstructsInto k r originals recovery wanted old new answer → new ≡ old
-into-kept k r originals recovery wanted old new e answer failed into = search rules
 
 module _ (s : DecoderState) (wanted : List ShardIndex) (fit : Result (Unit {0}) ReconstructError) where
   -- `OutOfMemory` of the check of the wanted shards is a result of reconstructing.

@@ -25,10 +25,6 @@ module _ (start end n count size : ℕ) (given : Shards) (within : AreWithin cou
       → length piece ≡ end - start
   piece-sized piece order inside found = search (rules, length-drop)
 
-  -- From the count on there are no pieces, so the pieces below the count are all pieces.
-  pub pieces-all : count ≤ n → first n (pieces_of start end given) ≡ pieces_of start end given
-  pieces-all all = search rules
-
 -- A decoder that has the pieces below n takes piece n.
 module _ (start end n : ℕ) (x s now : DecoderState) (piece : Shard) (order : start ≤ end)
     (inside : end ≤ x.configuration.shard_bytes) (set_up : IsDecoder default_rate x)
@@ -97,10 +93,6 @@ module _ (start end : ℕ) (x : DecoderState) {state : DecoderState} (is : state
   answers-here : (result : Result Shards Error) → DecodeAnswers state result
       → MatchResult result (Restored (state_of_pieces start end x)) (NoneAgrees (state_of_pieces start end x))
   answers-here result answers = search (rules, enough-here)
-
-  -- A round that succeeds restores the missing pieces.
-  pub round-made : (out : Shards) → DecodeAnswers state (Ok out) → Restored (state_of_pieces start end x) out
-  round-made out answers = answers-here (Ok out) answers
 
   -- A round fails only if no message agrees with the pieces.
   pub round-refused : (e : Error) → DecodeAnswers state (Err e) → NoneAgrees (state_of_pieces start end x) e

@@ -1,8 +1,8 @@
 -- How the change of an original is added to recovery shards, piece by piece.
 use Rattle.std.proofs.Common.{rules, ◌≡◌, ℕ, ◌+◌, ◌-◌, ◌*◌, ◌/◌, ◌%◌, ◌<◌, ◌≤◌, ◌⊎◌, List, [], ◌++◌, length, take, drop}
-use Rattle.std.proofs.Common.{min, bit_xor, All, MutBor, set, refl, sym, ap, ap₂, subst, ◌∙◌, inl, inr, arith}
+use Rattle.std.proofs.Common.{min, bit_xor, All, MutBor, set, sym, ap, ap₂, subst, ◌∙◌, inl, inr, arith}
 use Rattle.std.proofs.lemmas.Grind.{common_steps}
-use Rattle.std.specs.Prelude.{slice_index, Result, Ok, Err, MatchResult, true, false}
+use Rattle.std.specs.Prelude.{slice_index, Result, Ok, Err, MatchResult, true}
 use borrow.Rule.Slice.PartMut.{put_mid}
 use Rattle.std.specs.List.{between}
 use Rattle.std.proofs.lemmas.Bool.{cases_lt}
@@ -17,7 +17,7 @@ use Rattle.rs_field.proofs.of_code.Pieces.{column-head, column-rest, column-piec
 use Rattle.rs_field.proofs.of_words.Packed.{sum_of_bytes}
 use Rattle.std.specs.Result.{result_map_both}
 use Rattle.rs_field.specs.declared.code.error.Error.{Error}
-use Rattle.rs_field.specs.declared.code.error.Error.TheVariants.{UnsupportedShardCount, OutOfMemory}
+use Rattle.rs_field.specs.declared.code.error.Error.TheVariants.{OutOfMemory}
 use Rattle.rs_field.specs.code.Code.{AreRecovery}
 use Rattle.rs_field.specs.code.Counts.{default_rate, supports}
 use Rattle.rs_field.specs.code.OneCall.{default_of}
@@ -78,10 +78,6 @@ pub record IsChangedBelow (start : ℕ) (old new : Shard) (log : ℕ) (before no
   pub below : (j : ℕ) → j < start / 2 → column j now ≡ changed_at old new log before j
   pub above : drop start now ≡ drop start before
 
--- No byte is changed at the start.
-pub changed-none : (old new : Shard) (log : ℕ) (before : Shard) → IsChangedBelow 0 old new log before before
-changed-none old new log before = search rules
-
 -- The bytes of a piece of a shard.
 pub length-piece : (start end : ℕ) (s : Shard) → end ≤ length s → length (between start end s) ≡ end - start
 length-piece start end s within =
@@ -91,12 +87,6 @@ length-piece start end s within =
 pub put-piece : (start width end : ℕ) (s piece : Shard) → start + width ≡ end → start ≤ length s
     → length piece ≡ width → put_mid start width s piece ≡ take start s ++ (piece ++ drop end s)
 put-piece start width end s piece ends within sized = grind (arith, common_steps)
-
--- Once all bytes are changed, the shard is.
-pub changed-all : (start : ℕ) (old new : Shard) (log : ℕ) (before now : Shard)
-    → IsChangedBelow start old new log before now → 0 < length before → length before ≤ start
-    → IsChanged old new log before now
-changed-all start old new log before now is some done = search rules
 
 -- The parts of a list whose middle part is replaced.
 module _ (start end : ℕ) (now piece after : Shard) (order : start ≤ end) (within : end ≤ length now)
@@ -237,24 +227,10 @@ module _ (k r index : ℕ) (old new : Shard) (before : List (List ℕ)) where
       → UpdatesInto k r index old new before after answer
   updates-by after o answer is does = subst (Does after answer) (sym is) does
 
-  -- If an update fails, the rooms are unchanged.
-  pub updates-kept : (after : List (List ℕ)) (e : RoomError) (answer : Result (Unit {0}) RoomError) → answer ≡ Err e
-      → UpdatesInto k r index old new before after answer → after ≡ before
-  updates-kept after e answer failed updates = search rules
-
-  -- Unsupported counts are the first error.
-  pub outcome-uncounted : (e : Error) → (supports default_rate k r ≡ false) × (e ≡ UnsupportedShardCount k r)
-      → update_outcome k r index (length old) (length new) before ≡ Err (Refused e)
-  outcome-uncounted e refused = rw (refused.0, refused.1) refl
-
   -- The outcome is that of checking the change, or else that of checking the rooms.
   abbrev after_change : Result (Unit {0}) Error → Result (Unit {0}) RoomError
   after_change o =
       result_and_then (λ (u : Unit {0}). rooms_fit (zeros r (length old)) before) (result_map_both (λ u. u) Refused o)
-
-  pub outcome-change : (e : Error) → Err e ≡ change_outcome k r index (length old) (length new)
-      → update_outcome k r index (length old) (length new) before ≡ Err (Refused e)
-  outcome-change e is = ap after_change (sym is)
 
   pub outcome-rooms : (o : Result (Unit {0}) RoomError) → Ok tt ≡ change_outcome k r index (length old) (length new)
       → o ≡ rooms_fit (zeros r (length old)) before

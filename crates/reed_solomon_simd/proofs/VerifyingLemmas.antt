@@ -75,10 +75,6 @@ module _ (k r : ℕ) (originals recovery : Items) where
         → MatchResult result (λ _. IsConsistent s) (NoneAgrees s) → VerifyAnswers s result
     enough-says enough result says = search rules
 
-    -- The error of too few shards is a result of `verify`.
-    pub verifies-few : (e : Error) → Err e ≡ enough_given s → OneVerifies k r originals recovery (Err e)
-    verifies-few e few = search rules
-
     -- The result of checking the shards is the result of `verify`.
     pub verifies-checked : Ok tt ≡ enough_given s → (result : Result (Unit {0}) Error)
         → MatchResult result (λ _. IsConsistent s) (λ e. NoneAgrees s e ⊎ (e ≡ OutOfMemory))

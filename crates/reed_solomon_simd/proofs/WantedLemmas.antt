@@ -1,22 +1,13 @@
 -- Checking wanted shards one after another.
-use Rattle.std.proofs.Common.{rules, ◌≡◌, ℕ, ◌+◌, ◌<◌, Bool, false, cond, List, [], ◌∷◌, length, get_or, replicate}
-use Rattle.std.proofs.Common.{drop, Result, Err}
+use Rattle.std.proofs.Common.{rules, ◌≡◌, ℕ, ◌+◌, ◌<◌, Bool, false, List, [], ◌∷◌, length, get_or, replicate, drop}
+use Rattle.std.proofs.Common.{Result}
 use Rattle.std.proofs.lemmas.List.{get_or-replicate, get_or_past, length-replicate, drop_more}
 use Rattle.rs_field.specs.code.Decoder.{DecoderState}
 use Rattle.rs_field.specs.code.Outcome.{result_and_then}
 use Rattle.reed_solomon_simd.specs.declared.reconstruct_error.ReconstructError.{ReconstructError}
-use Rattle.reed_solomon_simd.specs.declared.reconstruct_error.ReconstructError.TheVariants.{WantedIndexTooLarge}
-use Rattle.reed_solomon_simd.specs.declared.reconstruct_error.ReconstructError.TheVariants.{WantedTwice, WantedReceived}
 use Rattle.reed_solomon_simd.specs.declared.shard_index.ShardIndex.{ShardIndex}
 use Rattle.reed_solomon_simd.specs.Reconstructed.{wanted_outcome}
 use Rattle.reed_solomon_simd.specs.WantedMarks.{AreMarked}
-
--- The outcome of the three checks of a wanted shard, and of what follows them.
-abbrev checked : ShardIndex → ℕ → Bool → Bool → Bool → Result (Unit {0}) ReconstructError
-    → Result (Unit {0}) ReconstructError
-checked shard count large twice there rest =
-    cond large (Err (WantedIndexTooLarge shard count))
-    (cond twice (Err (WantedTwice shard)) (cond there (Err (WantedReceived shard)) rest))
 
 -- Checking a wanted shard and others is checking the shard, and then the others.
 pub wanted-more : (s : DecoderState) (before rest : List ShardIndex) (shard : ShardIndex)

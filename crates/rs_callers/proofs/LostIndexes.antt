@@ -1,13 +1,13 @@
 -- Lists of lost indexes, and the shards with these indexes.
 use Rattle.std.proofs.Common.{rules, ◌≡◌, ℕ, ◌+◌, ◌<◌, ◌&&◌, ◌||◌, not, nat_eq, Bool, true, false, cond, List, [], ◌∷◌}
-use Rattle.std.proofs.Common.{◌++◌, length, map, get_or, Option, Some, Ok, Vec, refl, sym, ap, ◌∙◌, arith}
+use Rattle.std.proofs.Common.{◌++◌, length, map, get_or, Option, Some, Ok, Vec, refl, sym, ap, ◌∙◌}
 use Rattle.std.specs.Prelude.{is_some, nat_lt, ◌==◌}
 use Rattle.std.specs.BTreeMap.{BTreeMap, IsFromIterResult}
 use Rattle.std.specs.List.{AllByRecursion, IsDistinct, list_any, enumerate_from, zip}
 use Rattle.std.specs.Map.{update, update_all}
 use Rattle.std.specs.Option.{option_map}
 use Rattle.std.specs.Ordering.{nat_cmp, eq_by_cmp}
-use Rattle.std.proofs.lemmas.Bool.{and_parts, eqb-true, eqb-false, eq-eqb, ne_eqb, le-ltb, ltb-true, lt-leb}
+use Rattle.std.proofs.lemmas.Bool.{and_parts, eqb-true, eqb-false, eq-eqb, ne_eqb, ltb-true, lt-leb}
 use Rattle.std.proofs.lemmas.List.Elements.{recursion_from_All}
 use Rattle.std.proofs.lemmas.List.Folds.{list_any_at, list_any-append}
 use Rattle.std.proofs.lemmas.Map.Keys.{IsDistinct-push, IsDistinct-tail, IsDistinct-head}
@@ -31,20 +31,7 @@ pub lists-none : (lost : List ℕ) → ListsLost 0 lost []
 unfolding IsDistinct
 lists-none lost = search rules
 
-same_or : (b : Bool) → (b || (false || false)) ≡ b
-same_or true = refl
-same_or false = refl
-
 module _ {n : ℕ} {lost indexes : List ℕ} (lists : ListsLost n lost indexes) where
-  -- The next index is not yet in the list.
-  not_yet : list_any (nat_eq n) indexes ≡ false
-  not_yet = lists.each n ∙ ap (λ b. b && is_lost lost n) (le-ltb n n (omega arith))
-
-  -- Whether an index is listed, after the next index was looked at.
-  next : (gone : Bool) → is_lost lost n ≡ gone → (i : ℕ)
-      → (list_any (nat_eq i) indexes || ((nat_eq i n && gone) || false)) ≡ (nat_lt i (n + 1) && is_lost lost i)
-  next gone is i = search rules
-
   -- A lost index is added to the list.
   pub lists-lost : is_lost lost n ≡ true → ListsLost (n + 1) lost (indexes ++ n ∷ [])
   lists-lost gone = search (rules, list_any-append, IsDistinct-push)

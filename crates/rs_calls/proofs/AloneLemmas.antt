@@ -1,18 +1,15 @@
 -- Lemmas about indexes that are noted as bits of words.
-use Rattle.std.proofs.Common.{rules, ◌≡◌, ◌≢◌, ℕ, ◌+◌, ◌*◌, ◌/◌, ◌%◌, ◌^◌, ◌<◌, ◌≤◌, ◌||◌, Bool, false, List, [], ◌∷◌}
-use Rattle.std.proofs.Common.{length, drop, if◌then◌else◌, nat_eq, nat_lt, get_or, set, replicate, bit_or, w64, Result}
-use Rattle.std.proofs.Common.{Ok, Err, MatchResult, inl, inr, refl, sym, ap, subst, ◌∙◌, arith}
+use Rattle.std.proofs.Common.{rules, ◌≡◌, ◌≢◌, ℕ, ◌*◌, ◌/◌, ◌%◌, ◌^◌, ◌<◌, ◌≤◌, ◌||◌, false, List, [], ◌∷◌, length}
+use Rattle.std.proofs.Common.{drop, if◌then◌else◌, nat_eq, nat_lt, get_or, set, replicate, bit_or, w64, Result, Ok, Err}
+use Rattle.std.proofs.Common.{MatchResult, inl, inr, refl, sym, ap, subst, ◌∙◌, arith}
 use Rattle.std.specs.Int.{bit_at}
 use Rattle.std.specs.List.{list_any}
 use Rattle.std.proofs.lemmas.Bool.{cases_eq, eq-eqb, ne_eqb, lt-leb}
-use Rattle.std.proofs.lemmas.List.{get_or-set_other, get_or-set_same, get_or-replicate, length-replicate, drop_more}
-use Rattle.std.proofs.lemmas.List.{drop_all}
+use Rattle.std.proofs.lemmas.List.{get_or-set_other, get_or-set_same, get_or-replicate, length-replicate, drop_all}
 use Rattle.std.proofs.Math.ListN.{get_or-eq_default}
 use Rattle.std.proofs.lemmas.Nat.Bits.{bit_at_set_same, bit_at_set_other}
 use Rattle.rs_field.specs.declared.code.error.Error.{Error}
-use Rattle.rs_field.specs.declared.code.error.Error.TheVariants.{InvalidOriginalShardIndex, DuplicateOriginalShardIndex}
 use Rattle.rs_field.specs.declared.code.error.Error.TheVariants.{NotEnoughShards}
-use Rattle.rs_field.specs.code.Outcome.{result_and_then}
 use Rattle.rs_field.specs.code.OneCall.{one_by_one, note_outcome, originals_alone}
 use Rattle.rs_calls.specs.declared.layouts.RsShard.{RsShard}
 use Rattle.rs_calls.specs.Alone.{AreNoted}
@@ -68,14 +65,6 @@ module _ (k index : ℕ) (indexes words : List ℕ) (inside : index < k) (few : 
           → bit_at (get_or words (i / 64) 0) (i % 64) ≡ (if list_any (nat_eq i) (index ∷ indexes) then 1 else 0)
       other apart = are i ∙ sym (ap (λ b. if b || list_any (nat_eq i) indexes then 1 else 0) (ne_eqb i index apart))
 
--- the outcome of noting an index, for the results of two tests: whether the index is outside the range, and whether it
--- was noted before
-abbrev noted_by : ℕ → List ℕ → ℕ → Bool → Bool → Result (List ℕ) Error
-noted_by k indexes index outside taken =
-    if outside then Err (InvalidOriginalShardIndex k index)
-    else if taken then Err (DuplicateOriginalShardIndex index)
-    else Ok (index ∷ indexes)
-
 -- an outcome of noting agrees with a result and with the new words
 abbrev pub Leads : Result (List ℕ) Error → List ℕ → Result (Unit {0}) Error → Type 0
 Leads outcome new result = MatchResult outcome (λ all. (result ≡ Ok tt) × AreNoted all new) (λ e. result ≡ Err e)
@@ -91,26 +80,9 @@ pub notes : (k index : ℕ) (indexes new : List ℕ) (result : Result (Unit {0})
 notes k index indexes new result is done are =
     subst (λ (o : Result (List ℕ) Error). Leads o new result) (sym is) (done, are)
 
--- If the result is a success, the index was noted.
-pub notes-ok : (k index : ℕ) (indexes new : List ℕ) (result : Result (Unit {0}) Error)
-    → Notes k indexes index new result → result ≡ Ok tt
-    → (note_outcome k indexes index ≡ Ok (index ∷ indexes)) × AreNoted (index ∷ indexes) new
-notes-ok k index indexes new result leads done = search rules
-
--- If the result is an error, it is the error of the outcome.
-pub notes-err : (k index : ℕ) (indexes new : List ℕ) (result : Result (Unit {0}) Error) (e : Error)
-    → Notes k indexes index new result → result ≡ Err e → note_outcome k indexes index ≡ Err e
-notes-err k index indexes new result e leads refused = search rules
-
 -- the outcome of noting the indexes of shards, if some indexes were noted before
 abbrev pub noting : ℕ → List ℕ → List RsShard → Result (List ℕ) Error
 noting k indexes shards = one_by_one (λ given item. note_outcome k given item.0) indexes (items_of shards)
-
--- The outcome for the shards from shard i on is that of shard i, and then that of the shards after it.
-pub noting-next : (k i : ℕ) (indexes : List ℕ) (shards : List RsShard) (d : RsShard) → i < length shards
-    → noting k indexes (drop i shards)
-    ≡ result_and_then (λ next. noting k next (drop (i + 1) shards)) (note_outcome k indexes (get_or shards i d).index)
-noting-next k i indexes shards d inside = ap (noting k indexes) (drop_more shards i d inside)
 
 -- If all indexes were noted, the result of the decode is found by comparing their number with k.
 pub noting-done : (k : ℕ) (indexes : List ℕ) (shards : List RsShard)
@@ -118,10 +90,3 @@ pub noting-done : (k : ℕ) (indexes : List ℕ) (shards : List RsShard)
     → originals_alone k (items_of shards)
     ≡ (if nat_lt (length shards) k then Err (NotEnoughShards k (length shards) 0) else Ok tt)
 noting-done k indexes shards leads number = search (rules, drop_all)
-
--- If noting an index fails, the decode fails with the same error.
-pub noting-refused : (k : ℕ) (shards : List RsShard) (e : Error)
-    → noting k [] shards ≡ Err e → originals_alone k (items_of shards) ≡ Err e
-noting-refused k shards e refused =
-    ap (result_and_then (λ given. if nat_lt (length given) k then Err (NotEnoughShards k (length given) 0) else Ok tt))
-    refused

@@ -5,7 +5,7 @@ use Rattle.std.proofs.Math.Nat.{suc-mul, mul-le-mul_right}
 use Rattle.std.proofs.Math.Seq.{take-append-add}
 use Rattle.std.proofs.lemmas.Bool.{cases_order}
 use Rattle.std.proofs.lemmas.List.{append_assoc, length-append, length-take-le, length-drop, take-take, take-append-le}
-use Rattle.std.proofs.lemmas.List.{drop-append-le, drop-take, drop-drop, drop_at, take-append-drop, take_all}
+use Rattle.std.proofs.lemmas.List.{drop-append-le, drop-take, drop-drop, drop_at, take-append-drop}
 use Rattle.std.proofs.lemmas.List.Elements.{All-cons}
 use Rattle.rs_calls.specs.Buffers.{shards_in_buffer, concatenation}
 
@@ -25,10 +25,6 @@ cut-at (suc n) size bytes (suc i) inside =
     cut-at n size (drop size bytes) i (omega (arith, inside))
     ∙ ap (take size) (drop-drop (i * size) size bytes
     ∙ ap (λ (m : ℕ). drop m bytes) (let e : size + i * size ≡ suc i * size = omega (arith, more) in e))
-
--- If a buffer has the length of n shards, each of its shards ends inside the buffer.
-pub cut-inside : (n size i : ℕ) (bytes : List ℕ) → length bytes ≡ n * size → i < n → i * size + size ≤ length bytes
-cut-inside n size i bytes whole inside = search rules
 
 -- If a buffer has the length of n shards, its n shards, one after the other, are the buffer.
 pub joined-cut : (n size : ℕ) (bytes : List ℕ) → length bytes ≡ n * size
@@ -55,12 +51,6 @@ pub cut-same : (n size : ℕ) (one other : List ℕ) → length one ≡ n * size
     → shards_in_buffer n size one ≡ shards_in_buffer n size other → one ≡ other
 cut-same n size one other whole long same = sym (joined-cut n size one whole) ∙ ap concatenation same
     ∙ joined-cut n size other (sym long ∙ whole)
-
--- If shard i has room for m bytes from byte `start` on, these bytes are inside the buffer.
-pub room-inside : (size i start m whole : ℕ) (bytes : List ℕ) → 0 < m → start + m ≤ whole
-    → length (take size (drop (i * size) bytes)) ≡ whole
-    → (start + m ≤ size) × (i * size + start + m ≤ length bytes)
-room-inside size i start m whole bytes some fits is = search (rules, length-drop, take_all)
 
 module _ (size i start : ℕ) (bytes piece : List ℕ) (fits : start + length piece ≤ size)
     (inside : i * size + start + length piece ≤ length bytes) where

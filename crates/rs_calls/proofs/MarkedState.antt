@@ -2,7 +2,7 @@
 use Rattle.std.proofs.Common.{rules, ◌≡◌, ℕ, zero, suc, ◌+◌, ◌*◌, ◌<◌, ◌≤◌, ◌==◌, Bool, true, false, not, cond, List}
 use Rattle.std.proofs.Common.{[], ◌∷◌, ◌++◌, length, map, take, drop, get_or, All, Result, Ok, Err, Some, None, refl}
 use Rattle.std.proofs.Common.{sym, ap, ap₂, ◌∙◌, inl, inr, arith}
-use Rattle.std.specs.Prelude.{OnOk, IfErr, MatchResult, nat_lt, is_some}
+use Rattle.std.specs.Prelude.{nat_lt, is_some}
 use Rattle.std.proofs.Math.Nat.{suc-mul, mul-le-mul_right}
 use Rattle.std.proofs.lemmas.Bool.{cases_eq, eq-eqb, ne_eqb}
 use Rattle.std.proofs.lemmas.List.{get_or-map, length-map, length-take, length-take-le, length-drop, get_or_past}
@@ -101,10 +101,6 @@ map-count (mark ∷ marks) given each =
         → cond (not zero_here) 1 0 + present marks ≡ cond (not zero_here) (1 + present marks) (present marks)
     by_mark true = omega arith
     by_mark false = refl
-
-pub map-some : (size : ℕ) (marks bytes : List ℕ) (j : ℕ)
-    → is_some (marked_map size marks bytes j) ≡ not (get_or marks j 0 == 0)
-map-some size marks bytes j = search rules
 
 -- The number of given originals is the number of marks of originals that are not 0.
 pub marked-originals : (k r size : ℕ) (own originals other recovery : List ℕ) → length own ≡ k
@@ -263,9 +259,3 @@ pub enough-marked : (x : MarkedBuffers) (own other : ℕ) → own ≡ present x.
     ≡ cond (nat_lt (own + other) x.counts.original_count) (Err (NotEnoughShards x.counts.original_count own other))
     (Ok tt)
 enough-marked x own other own_is other_is = search (rules, originals-counted, recovery-counted)
-
--- A fact about the successes of a call and a fact about its errors, as one fact about its result.
-pub both-outcomes : (P : Type 0) (Q : Error → Type 0) (result : Result (Unit {0}) Error) → OnOk result P
-    → IfErr result Q → MatchResult result (λ _. P) Q
-both-outcomes P Q (Ok u) done failed = done
-both-outcomes P Q (Err e) done failed = failed

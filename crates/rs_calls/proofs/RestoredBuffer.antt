@@ -197,9 +197,6 @@ module _ {k r size : ℕ} {own originals other recovery : List ℕ}
 
 module _ {s : DecoderState} {own lost : List ℕ} {len : ℕ} (y : MarkedBuffers)
     (same : besides_rooms y ≡ (s, own, lost, len)) where
-  size-same : y.size ≡ s.configuration.shard_bytes
-  size-same = ap (λ t. t.0.configuration.shard_bytes) same
-
   -- The rooms are the places of the lost indexes.
   pub rooms-placed : lost ≡ lost_indexes 0 own
       → rooms_in y ≡ map (λ i. shard_place s.configuration.shard_bytes y.originals.now i) (lost_indexes 0 own)

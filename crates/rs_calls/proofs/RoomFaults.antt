@@ -67,13 +67,6 @@ pub decodes-told : (k r : ℕ) (originals recovery : Items) (old new : List (Lis
     → DecodesArrays k r originals recovery old new other
 decodes-told k r originals recovery old new answer other is decodes = search (rules, fills-told)
 
--- If a call over rooms fails, the rooms are unchanged.
-kept-by : (old new : List (List ℕ)) (e : RoomError) (answer : Result (Unit {0}) RoomError) → answer ≡ Err e
-    → (P : Type 0) (o : Result (Unit {0}) RoomError)
-    → MatchResult o (λ _. (answer ≡ Ok tt) × P) (λ f. (answer ≡ Err f) × (new ≡ old)) → new ≡ old
-kept-by old new e answer failed P (Ok u) does = let done = does.0 in absurd (let no : ⊥ = cc in no)
-kept-by old new e answer failed P (Err f) does = does.1
-
 -- If an encode fails, the rooms are unchanged.
 pub encodes-kept : (k r : ℕ) (originals : List Shard) (old new : List (List ℕ)) (e : RoomError)
     (answer : Result (Unit {0}) RoomError) → answer ≡ Err e → EncodesInto k r originals old new answer → new ≡ old

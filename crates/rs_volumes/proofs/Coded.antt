@@ -60,10 +60,6 @@ module _ {first n : ℕ} (pieces : List Shard) {piece : Shard} {before now after
     (rest : (i : ℕ) → (i < first) ⊎ (first + n ≤ i) → now i ≡ before i)
     (here : (block : Shard) → now (first + n) ≡ Some block → after (first + n) ≡ Some (block ++ piece))
     (others : (i : ℕ) → i ≢ first + n → after i ≡ now i) where
-  pub done_next : ((i : ℕ) (block : Shard) → i < n + 1 → before (first + i) ≡ Some block
-      → after (first + i) ≡ Some (block ++ shard_at pieces i))
-      × ((i : ℕ) → (i < first) ⊎ (first + (n + 1) ≤ i) → after i ≡ before i)
-  done_next = search rules
 
 -- a vector in a list
 pub piece_at : (vectors : List (Vec ℕ)) {n : ℕ} {v : Vec ℕ} → n < length vectors → v ≡ get_or vectors n v

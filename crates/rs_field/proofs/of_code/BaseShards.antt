@@ -170,7 +170,7 @@ module _ {s : DecoderState} (g : AreGiven s) {base_originals base_recovery : Sha
           ),
     )
 
--- The same for the sums that the law names.
+-- The law `IsDecidedByBase` about any k of the given shards as the base.
 pub consistent_by_base : IsDecidedByBase
 unfolding summed_word
 consistent_by_base c originals recovery base_originals base_recovery is even own coded own_part coded_part count =

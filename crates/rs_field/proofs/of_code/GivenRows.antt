@@ -160,10 +160,6 @@ module _ (s : DecoderState) where
   unfolding mark_at
   erased-given x shard is = grind (arith, common_steps)
 
-  erased_in-most : (x : ℕ) → erased_in s x ≤ 1
-  unfolding mark_at
-  erased_in-most x = grind (arith, common_steps)
-
   erased_in-known : (x : ℕ) → (frame_at s.configuration).zeros_from ≤ x → x < (frame_at s.configuration).zeros_to
       → erased_in s x ≡ 0
   unfolding mark_at

@@ -1,11 +1,11 @@
 -- Facts about a message and given shards hold for their pieces. This is the half of a decode by strips in which no
 -- strips are joined.
-use Rattle.std.proofs.Common.{rules, ◌≡◌, ℕ, ◌+◌, ◌-◌, ◌/◌, ◌%◌, ◌<◌, ◌≤◌, List, [], take, drop, get_or, refl, sym, ap}
-use Rattle.std.proofs.Common.{◌∙◌, subst, arith}
+use Rattle.std.proofs.Common.{rules, ◌≡◌, ℕ, ◌+◌, ◌-◌, ◌/◌, ◌%◌, ◌<◌, ◌≤◌, List, drop, get_or, refl, sym, ap, ◌∙◌}
+use Rattle.std.proofs.Common.{subst, arith}
 use Rattle.std.specs.Prelude.{Option, Some, None, is_some, unwrap_or}
 use Rattle.std.specs.List.{between}
 use Rattle.std.specs.Option.{option_map}
-use Rattle.std.proofs.lemmas.List.{get_or-map, get_or_past, length-map, length-drop, length-take-le, take_all, drop_all}
+use Rattle.std.proofs.lemmas.List.{get_or-map, get_or_past, length-map, length-drop, length-take-le}
 use Rattle.std.proofs.lemmas.List.Elements.{All-map, All-take, All-drop}
 use Rattle.rs_field.specs.code.Column.{Shard, IsShard, AreShards, shard_at, column, columns}
 use Rattle.rs_field.specs.code.Configuration.{Configuration}
@@ -20,9 +20,6 @@ use Rattle.rs_field.specs.code.PieceStates.{pieces_of, state_of_pieces}
 use Rattle.rs_field.proofs.of_code.Pieces.{column-piece, columns-pieces}
 
 module _ (start end : ℕ) where
-  none : ◌≡◌ {A = Shard} (between start end []) []
-  none = ap (take (end - start)) (drop_all start [] (omega arith)) ∙ take_all (end - start) [] (omega arith)
-
   -- Piece i of a list of shards is a piece of shard i.
   pub shard_at-pieces : (i : ℕ) (xs : List Shard) → shard_at (pieces start end xs) i ≡ between start end (shard_at xs i)
   shard_at-pieces i xs = search (rules, length-map, get_or-map, get_or_past)

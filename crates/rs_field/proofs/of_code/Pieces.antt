@@ -1,7 +1,7 @@
 -- Pieces of shards. Their columns are columns of the shards, so coding each piece codes the shards.
-use Rattle.std.proofs.Common.{rules, ◌≡◌, ◌⊎◌, ℕ, suc, ◌+◌, ◌-◌, ◌*◌, ◌/◌, ◌%◌, ◌<◌, ◌≤◌, List, [], ◌∷◌, ◌++◌, length}
-use Rattle.std.proofs.Common.{take, drop, get_or, min, Bool, true, false, refl, sym, ap, ap₂, ◌∙◌, subst, inl, inr}
-use Rattle.std.proofs.Common.{arith, All}
+use Rattle.std.proofs.Common.{rules, ◌≡◌, ℕ, suc, ◌+◌, ◌-◌, ◌*◌, ◌/◌, ◌%◌, ◌<◌, ◌≤◌, List, [], ◌∷◌, ◌++◌, length, take}
+use Rattle.std.proofs.Common.{drop, get_or, min, Bool, true, false, refl, sym, ap, ap₂, ◌∙◌, subst, inl, inr, arith}
+use Rattle.std.proofs.Common.{All}
 use Rattle.std.specs.List.{between}
 use Rattle.std.proofs.lemmas.Bool.{cases_lt}
 use Rattle.std.proofs.lemmas.List.{get_or-take, get_or-drop, get_or-map, get_or_default, length-take-le, length-drop}
@@ -145,17 +145,6 @@ strips-join c message all own made strips =
 
 -- ---- rooms
 
--- A room has at least the length of the bytes that were written.
-pub room-from : (grows : Bool) (written size : ℕ) → written ≤ size → written ≤ room_length grows written size
-room-from true written size inside = omega arith
-room-from false written size inside = inside
-
--- After a strip is put into a room, the room has the length for the end of the strip.
-pub room-further : (grows : Bool) (start end size : ℕ) → start ≤ end → end ≤ size
-    → end + (room_length grows start size - end) ≡ room_length grows end size
-room-further true start end size order inside = omega (arith, order)
-room-further false start end size order inside = omega (arith, inside)
-
 -- A strip of a shard is a strip of a room with the length for the end of the strip.
 pub room-strip : (grows : Bool) (start end size : ℕ) → IsStrip start end size
     → IsStrip start end (room_length grows end size)
@@ -243,12 +232,6 @@ module _ {grows : Bool} {size start end : ℕ} {made old new : List Shard}
       (bytes i [] (omega (arith, here, p.number))))
 
 -- ---- the state when all bytes below a number are done
-
--- A part of the width of a strip, or of all remaining bytes if there are fewer, is a strip.
-pub is_strip : (start strip size width part : ℕ) → width ≡ min strip size → part ≡ min width (size - start)
-    → strip % 64 ≡ 0
-    → (start % 64 ≡ 0) ⊎ (start ≡ size) → start < size → IsStrip start (start + part) size
-is_strip start strip size width part width_is part_is chunks begins less = search rules
 
 -- There are as many rooms as recovery shards, and they hold the first bytes of the recovery shards.
 pub record IsDone (k r size end : ℕ) (grows : Bool) (rate : Rate) (originals rooms : List Shard) : Type 0 where

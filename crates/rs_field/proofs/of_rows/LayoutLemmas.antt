@@ -29,10 +29,6 @@ pub get-laid_out : (size b : ℕ) (chunks : ℕ → List ℕ) → b < size
 unfolding laid_out
 get-laid_out size b chunks h = get-up_to size (λ b. slice_index (chunks (b / 64)) (byte_offset size b)) b 0 h
 
--- Each byte of the shard is in a chunk of the row.
-chunk_of : (size b : ℕ) → b < size → b / 64 < row_len size
-chunk_of size b h = omega arith
-
 pub laid_out-same : (size : ℕ) (f g : ℕ → List ℕ) → ((k : ℕ) → k < row_len size → f k ≡ g k)
     → laid_out size f ≡ laid_out size g
 unfolding laid_out
@@ -54,9 +50,6 @@ pub byte_offset-high : (size b half : ℕ) → min 64 (size - b / 64 * 64) / 2 �
     → byte_offset size b ≡ b % 64 - half + 32
 unfolding byte_offset
 byte_offset-high size b half e h = grind (arith, common_steps)
-
-half-whole : (size b : ℕ) → b / 64 * 64 + 64 ≤ size → min 64 (size - b / 64 * 64) / 2 ≡ 32
-half-whole size b h = search rules
 
 half-tail : (size b : ℕ) → b / 64 ≡ size / 64 → min 64 (size - b / 64 * 64) / 2 ≡ size % 64 / 2
 half-tail size b h = grind (arith, common_steps)

@@ -1,6 +1,6 @@
 -- Noting the indexes that were received, in a list of places that are true or false.
-use Rattle.std.proofs.Common.{rules, ◌≡◌, ◌<◌, ℕ, Bool, true, false, List, [], ◌∷◌, length, if◌then◌else◌, nat_le}
-use Rattle.std.proofs.Common.{nat_lt, replicate, Result, Ok, Err, ap, subst, ◌∙◌}
+use Rattle.std.proofs.Common.{rules, ◌≡◌, ℕ, Bool, true, false, List, [], ◌∷◌, length, if◌then◌else◌, nat_le, nat_lt}
+use Rattle.std.proofs.Common.{replicate, Result, Ok, Err, ap, subst, ◌∙◌}
 use Rattle.std.proofs.Math.ListN.{get_or, set, get_or-eq_default}
 use Rattle.std.proofs.lemmas.List.{get_or-replicate, length-replicate}
 use Rattle.std.proofs.lemmas.List.Folds.{sum_by-replicate}
@@ -9,7 +9,7 @@ use Rattle.std.specs.List.{count_by}
 use Rattle.rs_field.specs.declared.code.error.Error.{Error}
 use Rattle.rs_field.specs.declared.code.error.Error.TheVariants.{InvalidOriginalShardIndex, DuplicateOriginalShardIndex}
 use Rattle.rs_field.specs.declared.code.error.Error.TheVariants.{NotEnoughShards}
-use Rattle.rs_field.specs.code.Outcome.{answer_of, result_and_then}
+use Rattle.rs_field.specs.code.Outcome.{answer_of}
 use Rattle.rs_field.specs.code.OneCall.{Items, one_by_one, note_outcome, originals_alone}
 use Rattle.rs_rate.specs.objects.Giving.{Reaches, AreNoted}
 use Rattle.rs_rate.proofs.of_objects.Giving.{outcome-err}
@@ -53,21 +53,11 @@ pub note_outcome-added : {count : ℕ} {indexes : List ℕ} {given : List Bool} 
     → note_outcome count indexes index ≡ Ok (index ∷ indexes)
 note_outcome-added {count} {indexes} {given} index size are told = search rules
 
--- If the test of an index succeeds, the index is below the count and its place is false.
-tested-free : (count index : ℕ) (taken : Bool) → Ok tt ≡ tested count index (nat_le count index) taken → (index < count)
-    × (taken ≡ false)
-tested-free count index taken told = search rules
-
 -- Setting the place of an index to true notes one more index.
 pub note_outcome-more : {indexes : List ℕ} {given new : List Bool} (index : ℕ) → AreNoted indexes given
     → Ok tt ≡ tested (length given) index (nat_le (length given) index) (get_or given index false)
     → new ≡ set given index true → AreNoted (index ∷ indexes) new
 note_outcome-more {indexes} {given} {new} index are told is = search (rules, sum_by-set)
-
--- The outcome of the check whether enough indexes were noted.
-abbrev enough : ℕ → Result (List ℕ) Error → Result (Unit {0}) Error
-enough k outcome = result_and_then
-    (λ all. if nat_lt (length all) k then Err (NotEnoughShards k (length all) 0) else Ok tt) outcome
 
 -- Indexes are noted in k places that are all false at first, with a given result.
 module _ (k : ℕ) (items : Items) (places given : List Bool) (result : Result (Unit {0}) Error)

@@ -21,11 +21,6 @@ use Rattle.rs_rate.specs.objects.Giving.{IsEncoding, IsDecoding}
 
 -- ---- calls one after another
 
--- If a coder was set up, the outcome of setting up is a success.
-start_outcome-made : (o : Result (Unit {0}) Error) → UpToMemory o (Ok tt) → o ≡ Ok tt
-start_outcome-made o (inl same) = sym same
-start_outcome-made o (inr lacks) = let refused = lacks.1 in cc
-
 -- If the second of two calls succeeds, the first call succeeded.
 first-ok : {S T : Type 0} (f : S → Result T Error) (o : Result S Error) (t : T) → Ok t ≡ result_and_then f o → (s : S)
     × (o ≡ Ok s) × (f s ≡ Ok t)

@@ -35,8 +35,8 @@ use Rattle.rs_rate.specs.rows.Marks.{restored_by_row, originals_in, recovery_in}
 use Rattle.rs_rate.specs.rows.ShardRows.{word_in, shard_laid_out, shard_in_order}
 use Rattle.rs_rate.proofs.of_rows.RowMaps.{marked-at, marked-some, part-in, part-out, part-some, part-marked}
 use Rattle.rs_rate.proofs.of_passes.BaseAnswer.{consistent_by_rows, summed_original}
-use Rattle.rs_rate.proofs.of_passes.DecodedColumns.{FilledRows, LeftRows, IsDecoded, IsMissing, shards_in, state_before}
-use Rattle.rs_rate.proofs.of_passes.DecodedColumns.{words_before, are_given, are_columns, rows_located}
+use Rattle.rs_rate.proofs.of_passes.DecodedColumns.{FilledRows, DecodedRows, IsDecoded, IsMissing, shards_in}
+use Rattle.rs_rate.proofs.of_passes.DecodedColumns.{state_before, words_before, are_given, are_columns, rows_located}
 
 -- The shard of a message at a missing index.
 missing-in : (s : DecoderState) (message : List Shard) (i : ℕ) (given : Bool) → i < s.configuration.original_count
@@ -53,23 +53,23 @@ module _ {rate : Rate} {c : Configuration} (g : FilledRows rate c) where
   given-marked = part-marked g.marks (shard_laid_out g.chunks c.shard_bytes) c.frame.originals_from c.original_count
 
   -- The restored originals after a decode.
-  abbrev pub restored_after : LeftRows g → Shards
+  abbrev pub restored_after : DecodedRows g → Shards
   restored_after left = originals_in c (restored_by_row left.marks left.chunks c.shard_bytes)
 
   -- If the rows of the missing originals hold shards of a message, the restored originals are the missing shards of
   -- the message.
-  restores_missing : (left : LeftRows g) (message : List Shard)
+  restores_missing : (left : DecodedRows g) (message : List Shard)
       → ((i : ℕ) → i < c.original_count → IsMissing g i
       → shard_in_order left.chunks c.shard_bytes (original_row c.frame i) ≡ shard_at message i)
       → (i : ℕ) → restored_after left i ≡ missing_of (state_before g) message i
   restores_missing left message same i = search (rules, part-out, missing-past, part-in, missing-in)
 
 -- The result of a decode: the restored originals if some message agrees, else an error.
-abbrev pub AnswersOver : {rate : Rate} {c : Configuration} (g : FilledRows rate c) → LeftRows g → Bool → Type 0
+abbrev pub AnswersOver : {rate : Rate} {c : Configuration} (g : FilledRows rate c) → DecodedRows g → Bool → Type 0
 AnswersOver g left true = Restored (state_before g) (restored_after g left)
 AnswersOver g left false = NoneAgrees (state_before g) (InconsistentShards g.originals g.recovery)
 
-module _ (s : AsDefined) {g : FilledRows s.rate (with_frame s)} {left : LeftRows g} {surplus : ℕ} {agrees : Bool}
+module _ (s : AsDefined) {g : FilledRows s.rate (with_frame s)} {left : DecodedRows g} {surplus : ℕ} {agrees : Bool}
     (d : IsDecoded g left surplus agrees) where
   -- The number of given shards.
   count : originals_given (state_before g) + recovery_given (state_before g) ≡ s.original_count + surplus
@@ -176,10 +176,10 @@ module _ (s : AsDefined) {g : FilledRows s.rate (with_frame s)} {left : LeftRows
   ]
 
 -- The result of a decode follows from what it did to the rows.
-pub decode_answers : {rate : Rate} {c : Configuration} → IsSetUp rate c → {g : FilledRows rate c} {left : LeftRows g}
+pub decode_answers : {rate : Rate} {c : Configuration} → IsSetUp rate c → {g : FilledRows rate c} {left : DecodedRows g}
     {surplus : ℕ} {agrees : Bool} → IsDecoded g left surplus agrees → AnswersOver g left agrees
 decode_answers {rate} {c} is {g} {left} {surplus} {agrees} =
-    subst (λ (x : Configuration). (g : FilledRows rate x) (left : LeftRows g) (surplus : ℕ) (agrees : Bool)
+    subst (λ (x : Configuration). (g : FilledRows rate x) (left : DecodedRows g) (surplus : ℕ) (agrees : Bool)
     → IsDecoded g left surplus agrees → AnswersOver g left agrees) (sym is.chosen)
     (λ g left surplus agrees. by_way (configuration_at rate c)) g left surplus agrees
 
@@ -197,7 +197,7 @@ no_shard (suc n) given i shard none inside is =
 
 -- If all originals and no recovery shards were added, the originals are the only message that agrees, and no original
 -- is missing.
-module _ {rate : Rate} {c : Configuration} {g : FilledRows rate c} (left : LeftRows g)
+module _ {rate : Rate} {c : Configuration} {g : FilledRows rate c} (left : DecodedRows g)
     (whole : (g.originals ≡ c.original_count) × (g.recovery ≡ 0)) where
   message : List Shard
   message = up_to c.original_count (λ i. shard_laid_out g.chunks c.shard_bytes (original_row c.frame i))
@@ -252,7 +252,7 @@ module _ {rate : Rate} {c : Configuration} {g : FilledRows rate c} (left : LeftR
       }
 
 -- The result is a success if some message agrees, and `InconsistentShards` if none agrees.
-pub told_answer : {T : Type 0} {rate : Rate} {c : Configuration} (g : FilledRows rate c) (left : LeftRows g)
+pub told_answer : {T : Type 0} {rate : Rate} {c : Configuration} (g : FilledRows rate c) (left : DecodedRows g)
     (agrees : Bool) (answer : Result T Error) → AnswersOver g left agrees
     → (agrees ≡ true → (done : T) × (answer ≡ Ok done))
     → (agrees ≡ false → answer ≡ Err (InconsistentShards g.originals g.recovery))

@@ -21,7 +21,7 @@ use Rattle.rs_rate.specs.values.Configured.{IsConfigured, with_frame}
 use Rattle.rs_rate.specs.passes.Decoding.{IsLocatorOf, RestoresWords, RestoresShards, located_word}
 use Rattle.rs_rate.specs.passes.Sums.{AreMarksOf}
 use Rattle.rs_rate.specs.rows.DecoderView.{state_over}
-use Rattle.rs_rate.specs.rows.Marks.{shards_by_row, originals_in, recovery_in, HoldGiven, AreMissing}
+use Rattle.rs_rate.specs.rows.Marks.{shards_by_row, HoldGiven, AreMissing}
 use Rattle.rs_rate.specs.rows.ShardRows.{word_in, shard_laid_out, shard_in_order}
 use Rattle.rs_rate.proofs.of_rows.ShardRowsLemmas.{column-put}
 use Rattle.rs_rate.proofs.of_rows.RowMaps.{some-marked, part-in, part-some}
@@ -57,13 +57,13 @@ module _ {rate : Rate} {c : Configuration} (g : FilledRows rate c) where
   words_before j = word_in g.chunks (row_len c.shard_bytes) (j / 32) (j % 32)
 
 -- The rows after a decode, in which the missing originals are marked.
-pub record LeftRows {rate : Rate} {c : Configuration} (g : FilledRows rate c) : Type 0 where
+pub record DecodedRows {rate : Rate} {c : Configuration} (g : FilledRows rate c) : Type 0 where
   pub marks : List Bool
   pub chunks : Chunks
   pub missing : AreMissing c g.marks marks
 
 -- What a decode does to rows with k + surplus given shards.
-pub record IsDecoded {rate : Rate} {c : Configuration} (g : FilledRows rate c) (left : LeftRows g) (surplus : ℕ)
+pub record IsDecoded {rate : Rate} {c : Configuration} (g : FilledRows rate c) (left : DecodedRows g) (surplus : ℕ)
     (agrees : Bool) : Type 0 where
   pub counted : g.originals + g.recovery ≡ c.original_count + surplus
   pub restores : RestoresShards c g.marks surplus g.chunks left.chunks agrees

@@ -1,18 +1,14 @@
--- The rows of a decode over chunks: their words, their tails, and the entries of the locator.
-use Rattle.std.proofs.Common.{true, ◌≡◌, ◌≢◌, ℕ, ◌%◌, ◌<◌, List, Bool, ap, ap₂, ◌∙◌, subst, ◌+◌, ◌*◌}
+-- The rows of a decode over chunks: their words, and the entries of the locator.
+use Rattle.std.proofs.Common.{◌≡◌, ℕ, ◌%◌, ◌<◌, List, Bool, ap, ap₂, ◌∙◌, subst, ◌+◌, ◌*◌}
 use mathlib.Core.Path.{fun_ext}
-use Rattle.rs_field.specs.words.StepBounds.{CountsUpTo}
-use Rattle.rs_field.specs.rows.Layout.{row_len}
 use Rattle.rs_field.specs.words.Locator.{IsLocatorBelow}
 use Rattle.rs_field.specs.rows.Rows.{Chunks, chunk, symbol}
 use Rattle.rs_field.specs.rows.View.{cell, word}
 use Rattle.rs_field.specs.declared.rows.shards.ShardsRefMut.{ShardsRefMut}
-use Rattle.rs_field.specs.declared.words.steps.Steps.{Steps}
-use Rattle.rs_field.specs.rows.MarkedRows.{is_marked}
 use Rattle.rs_field.proofs.of_words.LocatorLemmas.{log_sum-same}
 use Rattle.rs_rate.specs.declared.values.configuration.Configuration.{Configuration}
 use Rattle.rs_rate.specs.passes.Decoding.{FindsWords}
-use Rattle.rs_rate.specs.rows.ShardRows.{word_in, row_chunk, shard_laid_out, shard_in_order}
+use Rattle.rs_rate.specs.rows.ShardRows.{word_in}
 
 -- Words that are equal to the found words at the same rows are found.
 finds_alike : (c : Configuration) (marks : List Bool) (surplus : ℕ)
@@ -37,13 +33,6 @@ found_read c marks surplus n before after old new agrees len len_too was is rest
     finds_alike c marks surplus (word old) (word new) (word_in before n) (word_in after n) agrees
     (λ k s i. ap₂ (λ (m : ℕ) (xs : Chunks). symbol (chunk xs (i * m + k)) s) len was)
     (λ k s i. ap₂ (λ (m : ℕ) (xs : Chunks). symbol (chunk xs (i * m + k)) s) len_too is) restored
-
--- If a row belongs to a missing original, the tail of its shard was moved in at most one row step, and no other row was
--- changed.
-pub record TailMoved (marks : List Bool) (size p : ℕ) (old new : Chunks) (before after : Steps) : Type 0 where
-  pub moved_here : is_marked marks p ≡ true → shard_in_order new size p ≡ shard_laid_out old size p
-  pub others : (i k : ℕ) → i ≢ p → k < row_len size → row_chunk new size i k ≡ row_chunk old size i k
-  pub counts : CountsUpTo 1 0 0 before after
 
 -- Entries that are equal at all rows have the same locator.
 pub locator_same : (rows : ℕ) (old entries new : ℕ → ℕ) → ((y : ℕ) → y < rows → entries y ≡ old y)

@@ -89,13 +89,6 @@ module _ (rate : Rate) (c : Configuration) (is : HasDistinctRows c.frame c.origi
 abbrev tested : Bool → Bool → Error → Error → Shards → Result Shards Error
 tested taken other repeated sized new = cond taken (Err repeated) (cond other (Err sized) (Ok new))
 
-made_by : (taken other : Bool) (repeated sized : Error) (new : Shards)
-    → Ok tt ≡ answer_of (tested taken other repeated sized new)
-    → (taken ≡ false) × (tested taken other repeated sized new ≡ Ok new)
-made_by true other repeated sized new made = cc
-made_by false true repeated sized new made = cc
-made_by false false repeated sized new made = (refl, refl)
-
 refused_by : (taken other : Bool) (repeated sized e : Error) (old new : Shards)
     → Err e ≡ answer_of (tested taken other repeated sized new)
     → state_after old (tested taken other repeated sized new) ≡ old

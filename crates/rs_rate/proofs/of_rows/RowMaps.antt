@@ -127,9 +127,6 @@ apart c i j is own coded same = search rules
 module _ {c : Configuration} (is : HasDistinctRows c.frame c.original_count c.recovery_count) {originals recovery : ℕ}
     {rows : Shards} (given : HoldGiven c originals recovery rows) (index : ℕ) (shard : Shard)
     (sized : IsShard c.shard_bytes shard) where
-  entered-sized : (row p : ℕ) (other : Shard) → with_entry rows row shard p ≡ Some other → IsShard c.shard_bytes other
-  entered-sized row p other found = search (rules, entered_cases)
-
   -- After an original is entered in a free row of originals, there is one more.
   pub hold-original : index < c.original_count → rows (original_row c.frame index) ≡ None
       → HoldGiven c (originals + 1) recovery (with_entry rows (original_row c.frame index) shard)

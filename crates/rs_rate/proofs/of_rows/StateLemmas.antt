@@ -1,10 +1,10 @@
 -- Outcomes of setting up an encoder and of the calls on it.
 use Rattle.std.proofs.Common.{rules, ◌≡◌, ℕ, ◌<◌, ◌≤◌, ◌*◌, ◌^◌, ◌++◌, ◌∷◌, [], length, refl, sym, ap, ◌∙◌, subst, Bool}
 use Rattle.std.proofs.Common.{true, cond}
-use Rattle.std.specs.Prelude.{Result, Ok, Err, OnOk, OnErr, not, ◌||◌, List, is_ok, IsOkAnd, MatchResult}
+use Rattle.std.specs.Prelude.{Result, Ok, Err, OnOk, OnErr, List, is_ok, IsOkAnd, MatchResult}
 use Rattle.std.proofs.lemmas.Bool.{lt-leb, eq-eqb}
 use Rattle.rs_field.specs.declared.code.error.Error.{Error}
-use Rattle.rs_field.specs.declared.code.error.Error.TheVariants.{OutOfMemory, UnsupportedShardCount, InvalidShardSize}
+use Rattle.rs_field.specs.declared.code.error.Error.TheVariants.{OutOfMemory}
 use Rattle.rs_field.specs.code.Column.{Shard}
 use Rattle.rs_field.specs.code.Counts.{Rate, supports}
 use Rattle.rs_field.specs.code.Outcome.{answer_of, state_after}
@@ -54,12 +54,6 @@ pub on_err-at : {S : Type 0} (rate : Rate) (result : Result S Error) (P : Rate �
     → OnErr result ((each : Rate) → P each) → OnErr result (P rate)
 on_err-at rate (Ok x) P h = tt
 on_err-at rate (Err e) P h = h rate
-
--- The errors of a configuration, from the tests of its counts and its size.
-abbrev tested : AsDefined → Bool → Bool → Bool → Result (Unit {0}) Error
-tested c supported none odd =
-    cond (not supported) (Err (UnsupportedShardCount c.original_count c.recovery_count))
-    (cond (none || odd) (Err (InvalidShardSize c.shard_bytes)) (Ok tt))
 
 -- A valid configuration has counts that its rate supports.
 pub valid-supported : (c : AsDefined) → validation_outcome c ≡ Ok tt

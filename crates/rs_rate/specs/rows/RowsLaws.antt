@@ -1,4 +1,4 @@
--- Laws of an object's rows: a work that may not be passed, and the room of a decoder.
+-- Laws of an object's rows: about a work that a caller may leave out, and about the room of a decoder.
 use Rattle.std.specs.Prelude.{◌≡◌, ℕ, ◌*◌, ◌^◌, ◌<◌, ◌≤◌, Option, Some, None, IfSome}
 use Rattle.std.proofs.Common.{arith}
 use Rattle.rs_rate.specs.rows.DecoderRoom.{DecoderRoom, HasRoom}

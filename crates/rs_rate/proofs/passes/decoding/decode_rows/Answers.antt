@@ -6,7 +6,7 @@ use Rattle.rs_rate.specs.values.Configured.{configuration_at}
 use Rattle.rs_rate.specs.passes.Decoding.{RestoresShards}
 use Rattle.rs_rate.proofs.of_passes.SumLemmas.{written-back}
 use Rattle.rs_rate.specs.rows.Marks.{given_marks, restored_marks, WantsMissing}
-use Rattle.rs_rate.proofs.of_passes.DecodedColumns.{FilledRows, LeftRows}
+use Rattle.rs_rate.proofs.of_passes.DecodedColumns.{FilledRows, DecodedRows}
 use Rattle.rs_rate.proofs.of_passes.DecodeAnswer.{AnswersOver, decode_answers, complete_answers, told_answer}
 use Rattle.rs_rate.proofs.of_rows.ResultLemmas.{length-restored}
 use Rattle.rs_rate.proofs.of_rows.StateLemmas.{valid-supported}
@@ -55,7 +55,7 @@ returns-clause-answer g c = λ rate is.
     let count = rw tally.configuration at c.row_count.ensures in
     let missing : WantsMissing c.args.rows.now.configuration c.args.rows.now.memory.marks
     c.restore-agrees.new.marks = rw tally.configuration at c.restore-agrees.ensures.marks in
-    let left : LeftRows rows = record {
+    let left : DecodedRows rows = record {
       marks = restored_marks c.restore-agrees.new.marks;
       chunks = now.chunks.items;
       missing = missing.missing;
