@@ -52,15 +52,6 @@ pub puts_from : {first : ℕ} (vectors : List (Vec ℕ)) {before after : Shards}
     → Puts first (map (λ p. p.items) vectors) before after
 puts_from vectors put others = search (rules, length-map)
 
--- the pieces of the blocks up to number n, and then the next one
-module _ {first n : ℕ} (pieces : List Shard) {piece : Shard} {before now after : Shards}
-    (is : piece ≡ shard_at pieces n)
-    (done : (i : ℕ) (block : Shard) → i < n → before (first + i) ≡ Some block
-    → now (first + i) ≡ Some (block ++ shard_at pieces i))
-    (rest : (i : ℕ) → (i < first) ⊎ (first + n ≤ i) → now i ≡ before i)
-    (here : (block : Shard) → now (first + n) ≡ Some block → after (first + n) ≡ Some (block ++ piece))
-    (others : (i : ℕ) → i ≢ first + n → after i ≡ now i) where
-
 -- a vector in a list
 pub piece_at : (vectors : List (Vec ℕ)) {n : ℕ} {v : Vec ℕ} → n < length vectors → v ≡ get_or vectors n v
     → v.items ≡ shard_at (map (λ p. p.items) vectors) n
