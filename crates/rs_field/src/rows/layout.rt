@@ -57,22 +57,11 @@ fn put_tail(chunk: &mut [u8; 64], tail: &[u8], half: usize)
         → slice_index «chunk».new (32 + b) ≡ slice_index tail.now (half + b) }
 {
     if half < 16 {
-        put_short_tail(chunk, tail, half);
+        put_bytes(chunk, 0, &tail[..half]);
+        put_bytes(chunk, 32, &tail[half..]);
     } else {
         put_long_tail(chunk, tail, half);
     }
-}
-
-// Copies the halves of a tail of fewer than 32 bytes into the chunk, by two copies of `half` bytes.
-fn put_short_tail(chunk: &mut [u8; 64], tail: &[u8], half: usize)
-    requires half { half ≤ 32 }
-    requires length { length tail.now ≡ 2 * half }
-    ensures low { (b : ℕ) → b < half → slice_index «chunk».new b ≡ slice_index tail.now b }
-    ensures high { (b : ℕ) → b < half
-        → slice_index «chunk».new (32 + b) ≡ slice_index tail.now (half + b) }
-{
-    put_bytes(chunk, 0, &tail[..half]);
-    put_bytes(chunk, 32, &tail[half..]);
 }
 
 // Copies the halves of a tail of at least 32 bytes into the chunk, by two moves of 32 bytes. Two moves of a constant
@@ -141,20 +130,11 @@ pub fn undo_last_chunk_encoding(row: &mut [[u8; 64]], shard_bytes: usize)
 {
     let half = shard_bytes % 64 / 2;
     if half > 0 {
-        join_tail(&mut row[shard_bytes / 64], half);
+        // All 32 bytes are moved, because the bytes after the shard may have any value.
+        let chunk = &mut row[shard_bytes / 64];
+        let high = load_32(&chunk[32..]);
+        put_32(chunk, half, high);
     }
-}
-
-// Moves the bytes from byte 32 on to the end of the first half. All 32 bytes are moved, because the bytes after the
-// shard may have any value.
-fn join_tail(chunk: &mut [u8; 64], half: usize)
-    requires { half ≤ 32 }
-    ensures low { (b : ℕ) → b < half → slice_index «chunk».new b ≡ slice_index «chunk».old b }
-    ensures high { (b : ℕ) → b < half
-        → slice_index «chunk».new (half + b) ≡ slice_index «chunk».old (32 + b) }
-{
-    let high = load_32(&chunk[32..]);
-    put_32(chunk, half, high);
 }
 
 /// Returns the shard of `shard_bytes` bytes that is in the first bytes of a row.

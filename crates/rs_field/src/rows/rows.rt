@@ -44,17 +44,9 @@ pub fn copy_rows(
 {
     steps.row_steps(count);
     let len = rows.shard_len_64;
-    copy_run(rows.chunks, from * len, to * len, count * len);
-}
-
-// Copies the n chunks from `from` on to `to` on.
-fn copy_run(chunks: &mut [[u8; 64]], from: usize, to: usize, n: usize)
-    requires from_in { from + n ≤ length chunks.old }
-    requires to_in { to + n ≤ length chunks.old }
-    ensures copied { (k : ℕ) → k < n → chunk chunks.new (to + k) ≡ chunk chunks.old (from + k) }
-    ensures others { SameOutside to (to + n) chunks.old chunks.new }
-{
-    chunks.copy_within(from..from + n, to);
+    let start = from * len;
+    rows.chunks
+        .copy_within(start..start + count * len, to * len);
 }
 
 /// Multiplies row `index` by the generator to the power `log_m`, with `mul` of the engine. 65535 is the factor one.

@@ -134,7 +134,10 @@ impl<'a> ShardsRefMut<'a> {
         ensures others { SameRowsOutside range.start range.end self.old self.new }
     {
         let len = self.shard_len_64;
-        zero_run(self.chunks, range.start * len, range.end * len);
+        let chunks = &mut *self.chunks;
+        for k in range.start * len..range.end * len {
+            chunks[k] = [0; 64];
+        }
     }
 
     /// Lends row `index`, which is in the list.
@@ -220,16 +223,4 @@ fn two_lists<'a>(
         ShardsRefMut::new(count, len, first),
         ShardsRefMut::new(rest, len, second),
     )
-}
-
-// Fills the chunks from `start` to `end - 1` with zero bytes.
-fn zero_run(chunks: &mut [[u8; 64]], start: usize, end: usize)
-    requires ordered { start ≤ end }
-    requires within { end ≤ length chunks.old }
-    ensures zeros { (k : ℕ) → start ≤ k → k < end → chunk chunks.new k ≡ replicate 64 0 }
-    ensures others { SameOutside start end chunks.old chunks.new }
-{
-    for i in start..end {
-        chunks[i] = [0; 64];
-    }
 }

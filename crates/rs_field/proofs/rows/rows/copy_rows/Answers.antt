@@ -1,21 +1,24 @@
-use Rattle.std.proofs.Common.{◌≡◌, ◌+◌, ◌*◌, arith}
+use Rattle.std.proofs.Common.{◌≡◌, ◌+◌, ◌-◌, ◌*◌, [], arith}
 use Rattle.rs_field.specs.rows.View.{cell}
 use Rattle.rs_field.proofs.of_rows.RowOffsets.{row_within, rows_end}
 use Rattle.rs_field.proofs.rows.rows.copy_rows.Goals as goal
 
-pub copy_run-requires-clause-from_in : goal.copy_run-requires-clause-from_in
-copy_run-requires-clause-from_in c =
+pub copy_within-requires-clause-in_bounds : goal.copy_within-requires-clause-in_bounds
+copy_within-requires-clause-in_bounds c =
     let apart = rows_end _ _ _ c.args.rows.now.shard_len_64 c.requires.apart in
     omega (arith, rows_end _ _ _ c.args.rows.now.shard_len_64 c.requires.within)
 
-pub copy_run-requires-clause-to_in : goal.copy_run-requires-clause-to_in
-copy_run-requires-clause-to_in c = omega (arith, rows_end _ _ _ c.args.rows.now.shard_len_64 c.requires.within)
+pub copy_within-requires-clause-dest_in_bounds : goal.copy_within-requires-clause-dest_in_bounds
+copy_within-requires-clause-dest_in_bounds c =
+    omega (arith, rows_end _ _ _ c.args.rows.now.shard_len_64 c.requires.within)
 
 pub returns-clause-copied : goal.returns-clause-copied
 unfolding cell
 returns-clause-copied c i k hk hi =
     let n = c.args.rows.now.shard_len_64 in
     let to : c.args.to * n + (i * n + k) ≡ (c.args.to + i) * n + k = omega arith in
-    let from : c.args.from * n + (i * n + k) ≡ (c.args.from + i) * n + k = omega arith in
-    let copied = c.copy_run.ensures.copied (i * n + k) (row_within i c.args.count k n hi hk) in
-    rw (to, from) at copied
+    let from : c.args.from * n + (c.args.to * n + (i * n + k) - c.args.to * n) ≡ (c.args.from + i) * n + k =
+    omega arith in
+    let inside = row_within i c.args.count k n hi hk in
+    let copied = c.copy_within.ensures.by_index.0 (c.args.to * n + (i * n + k)) [] (omega arith) (omega arith) in
+    rw (from, to) at copied

@@ -10,4 +10,4 @@ returns-clause-zeros c i k q low high =
     let n = c.args.self.now.shard_len_64 in
     let from = mul-le-mul_right n low in
     let to = row_ends i c.args.range.end n high in
-    c.zero_run.ensures.zeros (i * n + k) (omega arith) (omega arith)
+    c.loop-k.invariant.zeros (i * n + k) (omega arith) (omega arith)
