@@ -11,7 +11,8 @@ use Rattle.rs_field.specs.words.StepBounds.{CountsRows, CountsUpTo, TransformCou
 use Rattle.rs_field.specs.rows.Layers.{ArePartsOf, is_halved, rows_of_part, layer_steps}
 use Rattle.rs_field.specs.rows.View.{cell, word, SameExtent, SameRowsOutside}
 use Rattle.rs_field.specs.rows.MarkedRows.{is_used}
-use Rattle.rs_field.specs.rows.Directions.{AreTransformed, AreRowsTransformed, UnusedAreZeroBackward, PartCounts}
+use Rattle.rs_field.specs.rows.Directions.{AreTransformed, AreRowsTransformed, ChangesBlock, UnusedAreZeroBackward}
+use Rattle.rs_field.specs.rows.Directions.{PartCounts}
 use Rattle.rs_field.specs.declared.rows.layers.Direction.{Direction}
 use Rattle.rs_field.specs.declared.rows.block.Block.{Block}
 use Rattle.rs_field.specs.declared.rows.marked_rows.UsedRows.{UsedRows}
@@ -42,8 +43,7 @@ part_word block n rows k s m q = word rows k s (block.pos + (m * n + q))
 -- The parts before part j are transformed, and the rows from part j on are unchanged.
 pub record PartsDone (direction : Direction) (used : ℕ → Bool) (block : Block) (n j : ℕ)
     (old new : ShardsRefMut) : Type 0 where
-  pub extent : SameExtent old new
-  pub others : SameRowsOutside block.pos (block.pos + block.size) old new
+  pub rows : ChangesBlock block old new
   pub values : (k s m : ℕ) → k < old.shard_len_64 → s < 32 → m < j
       → AreTransformed direction (λ i. used (m * n + i)) n (block.skew_delta + m * n) (part_word block n old k s m)
       (part_word block n new k s m)
@@ -69,10 +69,12 @@ module _ {direction : Direction} {used : ℕ → Bool} {block : Block} {n j : �
       (λ q. word new k s (block.pos + j * n + q)))
       → PartsDone direction used block n (j + 1) old new
   parts_next {new = new} extent others same step = record {
-    extent = extent_then done.extent extent;
-    others =
-        outside_both pos (pos + block.size) (pos + j * n) (pos + j * n + n) pos (pos + block.size) old mid new
-        done.extent done.others others (omega arith) (omega arith) (omega arith) (omega (arith, inside));
+    rows = record {
+      extent = extent_then done.rows.extent extent;
+      others =
+          outside_both pos (pos + block.size) (pos + j * n) (pos + j * n + n) pos (pos + block.size) old mid new
+          done.rows.extent done.rows.others others (omega arith) (omega arith) (omega arith) (omega (arith, inside));
+    };
     values = λ k s m hk hs hm. elim (cases_lt m j) [
       | inl before ↦
           let next : m + 1 ≤ j = omega arith in
@@ -99,7 +101,7 @@ module _ {direction : Direction} {used : ℕ → Bool} {block : Block} {n j : �
       pos = block.pos
 
       len : mid.shard_len_64 ≡ old.shard_len_64
-      len = done.extent.len_64
+      len = done.rows.extent.len_64
 
       there : (rows : ShardsRefMut) (k s q : ℕ) → word rows k s (pos + (j * n + q)) ≡ word rows k s (pos + j * n + q)
       there rows k s q = ap (word rows k s) (let e : pos + (j * n + q) ≡ pos + j * n + q = omega arith in e)
@@ -116,7 +118,7 @@ pub zeros_of_part : (direction : Direction) (used part : UsedRows) {block : Bloc
     → UnusedAreZeroBackward direction part (block.pos + j * n) n mid
 zeros_of_part Direction.Forward used part p begins done same zeros = omega arith
 zeros_of_part Direction.Backward used part {block} {n} {j} {old} {mid} p begins done same zeros = λ i k hk hi unused.
-    let hk' : k < old.shard_len_64 = omega (arith, done.extent.len_64) in
+    let hk' : k < old.shard_len_64 = omega (arith, done.rows.extent.len_64) in
     let fits : j * n + i < block.size = omega (arith, part_within j p begins) in
     let at : block.pos + (j * n + i) ≡ block.pos + j * n + i = omega arith in
     subst (λ r. cell mid k r ≡ replicate 64 0) at

@@ -5,9 +5,9 @@ use Rattle.rs_field.specs.declared.rows.marked_rows.UsedRows.{UsedRows}
 use Rattle.rs_field.specs.declared.rows.shards.ShardsRefMut.{ShardsRefMut}
 use Rattle.rs_field.specs.words.Transform.{forward, IsBackward}
 use Rattle.rs_field.specs.words.StepBounds.{CountsUpTo, transform_steps}
-use Rattle.rs_field.specs.rows.MarkedRows.{UnusedAreZero}
+use Rattle.rs_field.specs.rows.MarkedRows.{HasMarks, UnusedAreZero}
 use Rattle.rs_field.specs.rows.Layers.{ArePartsOf, rows_of_part, layer_steps}
-use Rattle.rs_field.specs.rows.View.{word}
+use Rattle.rs_field.specs.rows.View.{word, Fits, SameExtent, SameRowsOutside}
 use Rattle.rs_field.specs.rows.Pairs.{OnTwoChunks, IsForwardButterfly, IsBackwardButterfly}
 use Rattle.rs_field.specs.rows.TwoLayers.{OnFourChunks, IsForwardTwoLayers, IsBackwardTwoLayers}
 use Rattle.rs_field.specs.declared.rows.block.Block.{Block}
@@ -39,6 +39,19 @@ AreTransformed Direction.Backward used size shift old new = IsBackward size shif
 abbrev pub UnusedAreZeroBackward : Direction → UsedRows → ℕ → ℕ → ShardsRefMut → Type 0
 UnusedAreZeroBackward Direction.Forward used pos size rows = 0 ≤ size
 UnusedAreZeroBackward Direction.Backward used pos size rows = UnusedAreZero used pos size rows
+
+-- the rows of a block can be transformed in a direction: the block is among the rows, there is a mark for each of its
+-- rows if rows are marked, and for a backward transform its unused rows are zero bytes
+pub record CanTransform (direction : Direction) (used : UsedRows) (block : Block) (rows : ShardsRefMut) : Type 0 where
+  pub fits : Fits rows
+  pub marks : HasMarks used block.size
+  pub within : block.pos + block.size ≤ rows.shard_count
+  pub zeros : UnusedAreZeroBackward direction used block.pos block.size rows
+
+-- only the rows of a block change
+pub record ChangesBlock (block : Block) (old new : ShardsRefMut) : Type 0 where
+  pub extent : SameExtent old new
+  pub others : SameRowsOutside block.pos (block.pos + block.size) old new
 
 -- in each chunk of the rows of a block, the new words are the transform of the old words
 abbrev pub AreRowsTransformed : Direction → (ℕ → Bool) → Block → ShardsRefMut → ShardsRefMut → Type 0

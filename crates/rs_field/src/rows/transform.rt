@@ -3,11 +3,10 @@
 //! The method is that of Lin, Chung and Han in the form of Leopard-RS. A transform is two layers of butterflies between
 //! the quarters of its rows and a transform of each quarter. For 2, 8 and 32 rows, it is one layer between the halves
 //! and a transform of each half. So the recursion goes depth first, and a block that fits the cache stays in the cache.
-ghost use Rattle.std.specs.Prelude.{◌+◌, ◌<◌, ◌≤◌};
-ghost use Rattle.rs_field.specs.rows.Directions.{AreRowsTransformed, ArePartsTransformed};
-ghost use Rattle.rs_field.specs.rows.Directions.{UnusedAreZeroBackward, PartCounts};
-ghost use Rattle.rs_field.specs.rows.View.{Fits, SameExtent, SameRowsOutside};
-ghost use Rattle.rs_field.specs.rows.MarkedRows.{is_used, HasMarks};
+ghost use Rattle.std.specs.Prelude.{◌<◌};
+ghost use Rattle.rs_field.specs.rows.Directions.{CanTransform, ChangesBlock, AreRowsTransformed};
+ghost use Rattle.rs_field.specs.rows.Directions.{ArePartsTransformed, PartCounts};
+ghost use Rattle.rs_field.specs.rows.MarkedRows.{is_used};
 ghost use Rattle.rs_field.specs.words.StepBounds.{TransformCounts};
 ghost use Rattle.rs_field.specs.words.Inverse.{TransformsAreInverse};
 
@@ -37,12 +36,8 @@ pub(crate) fn transform<K: Kernel>(
     block: Block,
     used: UsedRows<'_>,
 )
-    requires fits { Fits «data».old }
-    requires marks { HasMarks used block.size }
-    requires within { block.pos + block.size ≤ «data».old.shard_count }
-    requires zeros { UnusedAreZeroBackward direction used block.pos block.size «data».old }
-    ensures extent { SameExtent «data».old «data».new }
-    ensures others { SameRowsOutside block.pos (block.pos + block.size) «data».old «data».new }
+    requires { CanTransform direction used block «data».old }
+    ensures rows { ChangesBlock block «data».old «data».new }
     ensures values { AreRowsTransformed direction (is_used used.entry) block «data».old «data».new }
     ensures counts { TransformCounts block.size steps.old steps.new }
 {
@@ -71,13 +66,9 @@ fn transform_many<K: Kernel>(
     block: Block,
     used: UsedRows<'_>,
 )
-    requires fits { Fits «data».old }
+    requires can { CanTransform direction used block «data».old }
     requires large { 1 < block.size }
-    requires marks { HasMarks used block.size }
-    requires within { block.pos + block.size ≤ «data».old.shard_count }
-    requires zeros { UnusedAreZeroBackward direction used block.pos block.size «data».old }
-    ensures extent { SameExtent «data».old «data».new }
-    ensures others { SameRowsOutside block.pos (block.pos + block.size) «data».old «data».new }
+    ensures rows { ChangesBlock block «data».old «data».new }
     ensures values { AreRowsTransformed direction (is_used used.entry) block «data».old «data».new }
     ensures counts { TransformCounts block.size steps.old steps.new }
 {
@@ -105,13 +96,9 @@ fn transform_parts<K: Kernel>(
     block: Block,
     used: UsedRows<'_>,
 )
-    requires fits { Fits «data».old }
+    requires can { CanTransform direction used block «data».old }
     requires large { 1 < block.size }
-    requires marks { HasMarks used block.size }
-    requires within { block.pos + block.size ≤ «data».old.shard_count }
-    requires zeros { UnusedAreZeroBackward direction used block.pos block.size «data».old }
-    ensures extent { SameExtent «data».old «data».new }
-    ensures others { SameRowsOutside block.pos (block.pos + block.size) «data».old «data».new }
+    ensures rows { ChangesBlock block «data».old «data».new }
     ensures parts { ArePartsTransformed direction (is_used used.entry) block «data».old «data».new }
     ensures counts { PartCounts block.size steps.old steps.new }
 {

@@ -21,7 +21,7 @@ transform_many-transform_parts-requires g t c κs within = search rules
 
 pub transform_many-transform_parts-requires-in-Backward : goal.transform_many-transform_parts-requires-in-Backward
 transform_many-transform_parts-requires-in-Backward g t c κs within =
-    (omega arith, (within, (c.requires.fits, (omega arith, (c.requires.marks, (c.requires.within, c.requires.zeros))))))
+    (omega arith, (within, (c.requires.can, omega arith)))
 
 pub transform-returns-then-block-gt1-clause-values : goal.transform-returns-then-block-gt1-clause-values
 transform-returns-then-block-gt1-clause-values g t c k s hk hs =
@@ -64,7 +64,7 @@ transform_many-returns-in-Forward-clause-counts g t c =
 pub transform_many-returns-in-Backward-clause-values : goal.transform_many-returns-in-Backward-clause-values
 transform_many-returns-in-Backward-clause-values g t c k s hk hs =
     let block = c.args.block in
-    let len = c.transform_parts-in-Backward.ensures.extent.len_64 in
+    let len = c.transform_parts-in-Backward.ensures.rows.extent.len_64 in
     let layers = c.layers-in-Backward.ensures.parts k s (omega (arith, len)) hs in
     rw c.in-Backward.is (backward_whole _ (is_used c.args.used) _
     (λ q. word c.transform_parts-in-Backward.new.data k s (block.pos + q)) _ (part_found block refl c.requires.large)
@@ -100,18 +100,20 @@ transform_parts-transform-requires g t c κs within =
     let smaller = part.smaller in
     let begins = part_begins c.loop-j.j part c.loop-j-test.true in
     let inside = part_within c.loop-j.j part begins in
-    let extent = done.extent in let count = extent.count in
+    let extent = done.rows.extent in let count = extent.count in
     let rows = c.part.ensures.rows in let size = c.part.ensures.size in
     let marks = subst (HasMarks c.part-in-loop-j.result) (sym size) c.part-in-loop-j.ensures.marks in
     let zeros = zeros_of_part _ c.args.used c.part-in-loop-j.result part begins done
-    c.part-in-loop-j.ensures.used c.requires.zeros in (
+    c.part-in-loop-j.ensures.used c.requires.can.zeros in (
       omega arith,
       (
         within,
-        (
-          fits_kept extent c.requires.fits,
-          (marks, (omega arith, rw (rows, size) zeros)),
-        ),
+        record {
+          fits = fits_kept extent c.requires.can.fits;
+          marks = marks;
+          within = omega arith;
+          zeros = rw (rows, size) zeros;
+        },
       ),
     )
 
@@ -125,18 +127,15 @@ transform_parts-loop-j-preserved g t c =
     let rows = c.part.ensures.rows in let size = c.part.ensures.size in let shift = c.part.ensures.shift in
     record {
       done =
-          parts_next part begins c.loop-j.invariant.done c.transform.ensures.extent
-          (rw (rows, size) at c.transform.ensures.others) c.part-in-loop-j.ensures.used
+          parts_next part begins c.loop-j.invariant.done c.transform.ensures.rows.extent
+          (rw (rows, size) at c.transform.ensures.rows.others) c.part-in-loop-j.ensures.used
           (rw (rows, size, shift) at c.transform.ensures.values);
       counts = counts_next j c.loop-j.invariant.counts
           (rw size at c.transform.ensures.counts);
     }
 
-pub transform_parts-returns-clause-extent : goal.transform_parts-returns-clause-extent
-transform_parts-returns-clause-extent g t c = c.loop-j.invariant.done.extent
-
-pub transform_parts-returns-clause-others : goal.transform_parts-returns-clause-others
-transform_parts-returns-clause-others g t c = c.loop-j.invariant.done.others
+pub transform_parts-returns-clause-rows : goal.transform_parts-returns-clause-rows
+transform_parts-returns-clause-rows g t c = c.loop-j.invariant.done.rows
 
 pub transform_parts-returns-clause-parts : goal.transform_parts-returns-clause-parts
 transform_parts-returns-clause-parts g t c k s m hk hs hm =
