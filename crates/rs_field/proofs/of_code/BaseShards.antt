@@ -13,10 +13,11 @@ use Rattle.rs_field.specs.code.Frame.{original_row, recovery_row, frame_at}
 use Rattle.rs_field.specs.code.Given.{Shards, AreAmong, Agrees}
 use Rattle.rs_field.proofs.of_code.Given.{some_of}
 use Rattle.rs_field.proofs.of_code.Columns.{shard_from_columns, shard_in}
-use Rattle.rs_field.proofs.of_code.GivenRows.{AreGiven, state_with, given_within, words_in, row_count_of, distinct}
-use Rattle.rs_field.proofs.of_code.GivenRows.{shard_in_row-own, shard_in_row-coded, given-own, given-coded}
+use Rattle.rs_field.proofs.of_code.GivenRows.{AreGiven, state_with, given_within, words_in, row_count_of}
+use Rattle.rs_field.proofs.of_code.GivenRows.{given-own, given-coded}
 use Rattle.rs_field.proofs.of_code.GivenRows.{given-either}
-use Rattle.rs_field.proofs.of_code.DirectColumn.{IsLocated, direct_original, direct_recovery}
+use Rattle.rs_field.proofs.of_code.DirectColumn.{IsLocated, received-own, received-coded}
+use Rattle.rs_field.proofs.of_code.DirectColumn.{direct_original, direct_recovery}
 use Rattle.rs_field.proofs.of_code.AnyShards.{any_consistent}
 
 -- A message that agrees with given shards agrees with some of them.
@@ -59,10 +60,10 @@ summed_directly c originals recovery message i j is own coded enough agrees hj =
 
 -- ---- the base
 
--- These sums are the words of each given shard whose row is not received.
+-- These sums are the words of each given shard whose row is not in the base.
 abbrev pub AreSums : DecoderState → (ℕ → Bool) → (ℕ → ℕ → ℕ) → Type 0
-AreSums s received sum =
-    (x j : ℕ) (shard : Shard) → shard_in_row s x ≡ Some shard → received x ≡ false → j < s.configuration.shard_bytes / 2
+AreSums s in_base sum =
+    (x j : ℕ) (shard : Shard) → shard_in_row s x ≡ Some shard → in_base x ≡ false → j < s.configuration.shard_bytes / 2
     → sum j x ≡ column j shard
 
 -- The shards of a base are given shards.
@@ -76,49 +77,40 @@ base_given g own coded = record {
 
 module _ {s : DecoderState} (g : AreGiven s) {base_originals base_recovery : Shards}
     (own_part : IsPartOf base_originals s.originals) (coded_part : IsPartOf base_recovery s.recovery)
-    {received : ℕ → Bool} {locator : ℕ → ℕ}
-    (l : IsLocated (state_with s.configuration base_originals base_recovery) received locator) where
+    {in_base : ℕ → Bool} {locator : ℕ → ℕ}
+    (l : IsLocated (state_with s.configuration base_originals base_recovery) in_base locator) where
   abbrev base : DecoderState
   base = state_with s.configuration base_originals base_recovery
 
   -- The sum over the base at a point.
   abbrev base_sum : ℕ → ℕ → ℕ
-  base_sum j = direct_sum (row_count_of s) received locator
+  base_sum j = direct_sum (row_count_of s) in_base locator
       (words_in (state_with s.configuration base_originals base_recovery) j)
 
-  -- The row of an original or of a recovery shard is received exactly if the base has this shard.
-  pub own-received : (i : ℕ) → i < s.configuration.original_count
-      → received (original_row (frame_at s.configuration) i) ≡ is_some (base_originals i)
-  own-received i hi =
-      l.rows (original_row (frame_at s.configuration) i) (omega (arith, (distinct g).originals, hi))
-      ∙ ap is_some (shard_in_row-own base i hi)
-
-  pub coded-received : (i : ℕ) → i < s.configuration.recovery_count
-      → received (recovery_row (frame_at s.configuration) i) ≡ is_some (base_recovery i)
-  coded-received i hi =
-      l.rows (recovery_row (frame_at s.configuration) i) (omega (arith, (distinct g).recovery, hi))
-      ∙ ap is_some (shard_in_row-coded base i (distinct g) hi)
+  -- The shards of the base are given shards.
+  given_base : AreGiven base
+  given_base = base_given g own_part coded_part
 
   module _ (even : s.configuration.shard_bytes % 2 ≡ 0)
       (count : originals_given base + recovery_given base ≡ s.configuration.original_count) where
     module _ (message : List Shard) (a : IsAgreeing base message) where
       -- The sum at the point of an original or of a recovery shard outside the base is its word.
       own_sum : (i j : ℕ) → j < s.configuration.shard_bytes / 2 → i < s.configuration.original_count
-          → received (original_row (frame_at s.configuration) i) ≡ false
+          → in_base (original_row (frame_at s.configuration) i) ≡ false
           → base_sum j (original_row (frame_at s.configuration) i) ≡ column j (shard_at message i)
-      own_sum i j hj hi none = direct_original (base_given g own_part coded_part) l (omega (arith, count)) a i j hj hi
-          (sym (own-received i hi) ∙ none)
+      own_sum i j hj hi none = direct_original given_base l (omega (arith, count)) a i j hj hi
+          (sym (received-own given_base l i hi) ∙ none)
 
       coded_sum : (i j : ℕ) → j < s.configuration.shard_bytes / 2 → i < s.configuration.recovery_count
-          → received (recovery_row (frame_at s.configuration) i) ≡ false
+          → in_base (recovery_row (frame_at s.configuration) i) ≡ false
           → base_sum j (recovery_row (frame_at s.configuration) i) ≡ column j (shard_at a.coded.0 i)
-      coded_sum i j hj hi none = direct_recovery (base_given g own_part coded_part) l (omega (arith, count)) a i j hj hi
-          (sym (coded-received i hi) ∙ none)
+      coded_sum i j hj hi none = direct_recovery given_base l (omega (arith, count)) a i j hj hi
+          (sym (received-coded given_base l i hi) ∙ none)
 
-      sums : AreAmong s.originals message → AreAmong s.recovery a.coded.0 → AreSums s received base_sum
+      sums : AreAmong s.originals message → AreAmong s.recovery a.coded.0 → AreSums s in_base base_sum
       sums own coded x j shard is none hj = search (rules, given-either, own_sum, coded_sum)
 
-      own_shard : AreSums s received base_sum → AreAmong s.originals message
+      own_shard : AreSums s in_base base_sum → AreAmong s.originals message
       own_shard equal i shard given =
           let (hi, sized) = g.own_sized.each i shard given in
           elim (cases_Bool (is_some (base_originals i))) [
@@ -129,12 +121,12 @@ module _ {s : DecoderState} (g : AreGiven s) {base_originals base_recovery : Sha
                 shard_from_columns
                 (shard_in a.shards i hi) sized even
                 (λ j hj.
-                sym (own_sum i j hj hi (own-received i hi ∙ missing))
+                sym (own_sum i j hj hi (received-own given_base l i hi ∙ missing))
                 ∙ equal (original_row (frame_at s.configuration) i) j shard (given-own s i shard hi given)
-                (own-received i hi ∙ missing) hj)
+                (received-own given_base l i hi ∙ missing) hj)
           ]
 
-      coded_shard : AreSums s received base_sum → AreAmong s.recovery a.coded.0
+      coded_shard : AreSums s in_base base_sum → AreAmong s.recovery a.coded.0
       coded_shard equal i shard given =
           let (hi, sized) = g.coded_sized.each i shard given in
           elim (cases_Bool (is_some (base_recovery i))) [
@@ -146,21 +138,21 @@ module _ {s : DecoderState} (g : AreGiven s) {base_originals base_recovery : Sha
                 (shard_in a.coded.1.shards i hi)
                 sized even
                 (λ j hj.
-                sym (coded_sum i j hj hi (coded-received i hi ∙ missing))
+                sym (coded_sum i j hj hi (received-coded given_base l i hi ∙ missing))
                 ∙ equal (recovery_row (frame_at s.configuration) i) j shard (given-coded g i shard hi given)
-                (coded-received i hi ∙ missing) hj)
+                (received-coded given_base l i hi ∙ missing) hj)
           ]
 
     -- Some message agrees with all given shards if and only if the direct sums over k of them are the words of the
     -- others.
-    pub consistent_by_sums : IsConsistent s ↔ AreSums s received base_sum
+    pub consistent_by_sums : IsConsistent s ↔ AreSums s in_base base_sum
     consistent_by_sums = (
       λ m.
           let (a, same) = agrees_with_part own_part coded_part m.1 in
           sums m.0 a m.1.own (subst (AreAmong s.recovery) (sym same) m.1.coded.2),
       λ equal.
           let (message, agrees) =
-          any_consistent (base_given g own_part coded_part) even count in (
+          any_consistent given_base even count in (
             message,
             record {
               shards = agrees.shards;
@@ -177,8 +169,9 @@ consistent_by_base c originals recovery base_originals base_recovery is even own
     let base : DecoderState = state_with c base_originals base_recovery in
     let g = given_within c originals recovery is own coded in
     let sum : ℕ → ℕ → ℕ = summed_word c base_originals base_recovery in
-    let own_is = own-received g own_part coded_part (all_located base) in
-    let coded_is = coded-received g own_part coded_part (all_located base) in
+    let given_base = base_given g own_part coded_part in
+    let own_is = received-own given_base (all_located base) in
+    let coded_is = received-coded given_base (all_located base) in
     let both = consistent_by_sums g own_part coded_part (all_located base) even count in (
       λ m.
           let equal = both.0 m in

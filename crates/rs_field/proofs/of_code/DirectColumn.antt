@@ -13,6 +13,7 @@ use Rattle.rs_field.proofs.of_code.Columns.{columns-at}
 use Rattle.rs_field.proofs.of_code.Unique.{codes_unique}
 use Rattle.rs_field.proofs.of_code.GivenRows.{AreGiven, erased_in, words_in, row_count_of, distinct, erasures}
 use Rattle.rs_field.proofs.of_code.GivenRows.{cases_given, erased-given, word-none}
+use Rattle.rs_field.proofs.of_code.GivenRows.{shard_in_row-own, shard_in_row-coded}
 use Rattle.rs_field.specs.code.DirectLaws.{shard_in_row}
 use Rattle.rs_field.proofs.of_code.ErasedCount.{counted}
 use Rattle.rs_field.proofs.of_code.DecodedColumn.{IsTaken, taken_from}
@@ -23,6 +24,21 @@ pub record IsLocated (s : DecoderState) (received : ℕ → Bool) (locator : ℕ
   pub rows : (x : ℕ) → x < row_count_of s → received x ≡ is_some (shard_in_row s x)
   pub logarithms : IsLocatorBelow (row_count_of s) (erased_in s) locator
   pub most : (x : ℕ) → x < row_count_of s → locator x ≤ 65535
+
+module _ {s : DecoderState} (g : AreGiven s) {received : ℕ → Bool} {locator : ℕ → ℕ}
+    (l : IsLocated s received locator) (i : ℕ) where
+  -- The row of an original or of a recovery shard is received exactly if the shard is given.
+  pub received-own : i < s.configuration.original_count
+      → received (original_row (frame_at s.configuration) i) ≡ is_some (s.originals i)
+  received-own hi =
+      l.rows (original_row (frame_at s.configuration) i) (omega (arith, (distinct g).originals, hi))
+      ∙ ap is_some (shard_in_row-own s i hi)
+
+  pub received-coded : i < s.configuration.recovery_count
+      → received (recovery_row (frame_at s.configuration) i) ≡ is_some (s.recovery i)
+  received-coded hi =
+      l.rows (recovery_row (frame_at s.configuration) i) (omega (arith, (distinct g).recovery, hi))
+      ∙ ap is_some (shard_in_row-coded s i (distinct g) hi)
 
 module _ {s : DecoderState} (g : AreGiven s) {received : ℕ → Bool} {locator : ℕ → ℕ}
     (l : IsLocated s received locator)
