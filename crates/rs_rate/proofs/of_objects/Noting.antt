@@ -24,13 +24,6 @@ tested count index outside taken =
     if outside then Err (InvalidOriginalShardIndex count index) else if taken
     then Err (DuplicateOriginalShardIndex index) else Ok tt
 
--- The list after noting an index, from the test of its range and the test whether it is already in the list.
-abbrev pub noted_by : ℕ → List ℕ → ℕ → Bool → Bool → Result (List ℕ) Error
-noted_by count indexes index outside taken =
-    if outside then Err (InvalidOriginalShardIndex count index)
-    else if taken then Err (DuplicateOriginalShardIndex index)
-    else Ok (index ∷ indexes)
-
 -- The test of an index has the result of noting the index.
 note_outcome-tested : (count : ℕ) (indexes : List ℕ) (given : List Bool) (index : ℕ) → length given ≡ count
     → AreNoted indexes given

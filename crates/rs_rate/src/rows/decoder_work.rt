@@ -18,8 +18,9 @@ ghost use Rattle.rs_rate.specs.rows.DecoderRoom.{IsLaidOut};
 use crate::rows::marks::Marks;
 use crate::rows::memory::{make_room, set_chunks, set_length};
 use crate::rows::object_rows::ObjectRows;
-use crate::rows::shard_rows::{insert_at, shard_at, shard_is_bytes};
+use crate::rows::shard_rows::{insert_at, shard_at};
 use crate::values::configuration::{Configuration, Tally, chunk_count};
+use rs_field::bytes::are_bytes;
 use rs_field::engine::GfElement;
 use rs_field::error::Error;
 use std::alloc::Global;
@@ -237,7 +238,7 @@ impl DecoderMemory {
         ensures entries { vec_len self.new.entries ≡ vec_len self.old.entries }
         ensures grown { memory_room self.new ≡ memory_room self.old }
     {
-        shard_is_bytes(shard);
+        are_bytes(shard);
         insert_at(self.chunks.as_mut_slice(), shard, row);
         self.marks.give(row);
     }

@@ -11,8 +11,9 @@ ghost use Rattle.rs_rate.specs.rows.ShardRows.{shard_laid_out, shard_in_order};
 
 use crate::rows::memory::{make_room, set_chunks, vec_of};
 use crate::rows::object_rows::ObjectRows;
-use crate::rows::shard_rows::{insert_at, shard_at, shard_is_bytes};
+use crate::rows::shard_rows::{insert_at, shard_at};
 use crate::values::configuration::{Configuration, chunk_count};
+use rs_field::bytes::are_bytes;
 use rs_field::error::Error;
 use std::alloc::Global;
 
@@ -164,7 +165,7 @@ impl EncoderRows {
                 got: original_shard.len(),
             });
         }
-        shard_is_bytes(original_shard);
+        are_bytes(original_shard);
         insert_at(
             self.chunks.as_mut_slice(),
             original_shard,

@@ -81,10 +81,3 @@ pub(crate) fn rows_are_bytes(chunks: &[[u8; 64]], count: usize, shard_bytes: usi
 {
     are_bytes(chunks.as_flattened());
 }
-
-// Proves that a shard that a caller passes consists of bytes. When the program runs, the function does nothing.
-pub(crate) fn shard_is_bytes(shard: &[u8])
-    ensures { IsShard (length shard.now) shard.now }
-{
-    are_bytes(shard);
-}
