@@ -4,8 +4,8 @@
 ghost use Rattle.std.specs.Prelude.{◌≡◌, ℕ, ◌+◌, ◌*◌, ◌<◌, ◌≤◌, length};
 ghost use Rattle.rs_field.specs.rows.Rows.{chunk};
 ghost use Rattle.rs_field.specs.rows.Layers.{rows_of_part, layer_steps};
-ghost use Rattle.rs_field.specs.rows.Directions.{IsButterfly, AreTwoLayers, AreLayers};
-ghost use Rattle.rs_field.specs.rows.View.{word, Fits, SameExtent, SameRowsOutside};
+ghost use Rattle.rs_field.specs.rows.Directions.{IsButterfly, AreTwoLayers, AreLayers, ChangesBlock};
+ghost use Rattle.rs_field.specs.rows.View.{word, Fits};
 ghost use Rattle.rs_field.specs.words.StepBounds.{CountsRows};
 
 use super::ShardsRefMut;
@@ -86,8 +86,7 @@ pub(crate) fn layers<K: Kernel>(
     requires fits { Fits «data».old }
     requires large { 1 < block.size }
     requires within { block.pos + block.size ≤ «data».old.shard_count }
-    ensures extent { SameExtent «data».old «data».new }
-    ensures others { SameRowsOutside block.pos (block.pos + block.size) «data».old «data».new }
+    ensures rows { ChangesBlock block «data».old «data».new }
     ensures parts { (k s : ℕ) → k < «data».old.shard_len_64 → s < 32
         → AreLayers direction block.size (rows_of_part block.size) block.skew_delta
         (λ q. word «data».old k s (block.pos + q)) (λ q. word «data».new k s (block.pos + q)) }

@@ -26,7 +26,7 @@ transform_many-transform_parts-requires-in-Backward g t c κs within =
 pub transform-returns-then-block-gt1-clause-values : goal.transform-returns-then-block-gt1-clause-values
 transform-returns-then-block-gt1-clause-values g t c k s hk hs =
     let block = c.args.block in
-    let extent = c.layers.ensures.extent in let len = extent.len_64 in let count = extent.count in
+    let extent = c.layers.ensures.rows.extent in let len = extent.len_64 in let count = extent.count in
     let within = c.requires.within in
     layers_of_few _ _ _ _ _ (λ q. word c.layers.new.data k s (block.pos + q)) (omega arith) (omega arith)
     (block_power block)
@@ -45,7 +45,7 @@ transform-returns-else-block-gt1-clause-values g t c k s hk hs = search (rules, 
 pub transform_many-returns-in-Forward-clause-values : goal.transform_many-returns-in-Forward-clause-values
 transform_many-returns-in-Forward-clause-values g t c k s hk hs =
     let block = c.args.block in
-    let len = c.layers.ensures.extent.len_64 in
+    let len = c.layers.ensures.rows.extent.len_64 in
     let layers = c.layers.ensures.parts k s hk hs in
     rw c.in-Forward.is (forward_whole _ _ _ (λ q. word c.layers.new.data k s (block.pos + q)) _
     (part_found block refl c.requires.large) (rw c.in-Forward.is at layers)
