@@ -63,9 +63,10 @@ pub use one_call::{decode, encode};
 /// ```
 pub use reconstruct_error::ReconstructError;
 pub use reconstructing::{reconstruct, reconstruct_into};
-/// The error of [`encode_into`] and [`decode_into`]: an [`Error`], or rooms that do not fit.
+/// The error of [`encode_into`], [`decode_into`] and [`update_into`]: an [`Error`], or rooms that do not fit.
 pub use room_error::RoomError;
-/// The error of all calls that allocate, encode or decode, except for [`encode_into`] and [`decode_into`].
+/// The error of all calls that allocate, encode or decode, except for those that return a [`RoomError`] or a
+/// [`ReconstructError`]. These two errors hold an [`Error`].
 ///
 /// # Examples
 ///

@@ -40,6 +40,7 @@ use std::alloc::Global;
 ///
 /// - The errors of [`verify`](crate::verify) up to [`Error::NotEnoughShards`], in the same order, as
 ///   [`ReconstructError::Refused`].
+/// - [`Error::OutOfMemory`] if the marks of the wanted shards cannot be allocated.
 /// - For each wanted shard in order: [`ReconstructError::WantedIndexTooLarge`] if its index is not below the number of
 ///   shards of its kind, [`ReconstructError::WantedTwice`], [`ReconstructError::WantedReceived`].
 /// - [`Error::OutOfMemory`] if the vectors, the logarithms or the work areas cannot be allocated.

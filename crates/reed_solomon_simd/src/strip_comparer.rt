@@ -23,8 +23,8 @@ use rs_rate::rate::rounds::{encode_round, lent_recovery};
 use rs_rate::rate::{DefaultRateEncoder, RateEncoder};
 use std::alloc::Global;
 
-/// Checks that some message agrees with all received shards. All originals were received, and `recovery_received_count`
-/// recovery shards, which is not zero.
+/// Checks that some message agrees with all received shards. All originals were received. `recovery_received_count` is the
+/// number of received recovery shards, and is not zero.
 ///
 /// # Errors
 ///

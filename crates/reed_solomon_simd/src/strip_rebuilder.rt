@@ -30,8 +30,8 @@ use rs_rate::rate::{DefaultRateDecoder, DefaultRateEncoder, RateDecoder, RateEnc
 use rs_rate::{DecoderResult, EncoderResult};
 use std::alloc::Global;
 
-/// Writes wanted shards into rooms, in order. At least as many shards as originals were received, and no wanted shard
-/// was.
+/// Writes wanted shards into rooms, in order. At least as many shards as originals were received, and none of the wanted
+/// shards was received.
 ///
 /// # Errors
 ///

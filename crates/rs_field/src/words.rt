@@ -18,13 +18,13 @@ pub use steps::Steps;
 /// An element of the field: a word of 16 coordinates.
 pub type GfElement = u16;
 
-/// The coordinates of an element.
+/// The number of coordinates of an element.
 pub const GF_BITS: usize = 16;
 
-/// The elements of the field.
+/// The number of elements of the field.
 pub const GF_ORDER: usize = 65536;
 
-/// The nonzero elements of the field, and the modulus of their logarithms.
+/// The number of nonzero elements of the field, which is the modulus of their logarithms.
 pub const GF_MODULUS: GfElement = 65535;
 
 /// The polynomial that products of bits are reduced by.

@@ -81,8 +81,8 @@ pub fn direct_laws()
 {}
 
 /// States that a decoder of any rate that gets at least k of the originals and recovery shards of a message returns
-/// exactly the lost originals, and never fails. The same holds for an encoder followed by a decoder, and for the
-/// one-call functions.
+/// exactly the lost originals, and never fails. The same holds for an encoder followed by a decoder. It also holds for the
+/// functions `encode` and `decode`, except that they may fail with `OutOfMemory`.
 pub fn round_trip_laws()
     ensures lost { RestoresLost }
     ensures encoded { RestoresEncoded }

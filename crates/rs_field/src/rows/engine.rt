@@ -18,8 +18,9 @@ use crate::words::{GF_MODULUS, GF_ORDER, GfElement, Steps};
 /// An engine: the transforms of rows, the product of a row, and the locator that encoders and decoders need.
 ///
 /// The transforms are those of Lin, Chung and Han ("Novel polynomial basis and its application to Reed-Solomon erasure
-/// codes"), in the form of Leopard-RS. They lead from coefficients in the basis of subspace polynomials to values on a coset,
-/// for each symbol by itself. Every call succeeds and allocates nothing.
+/// codes"), in the form of Leopard-RS. They compute values from coefficients in the basis of subspace polynomials, separately
+/// for each symbol. The points of the values are `skew_delta`, `skew_delta + 1` and so on. Every call succeeds and allocates
+/// nothing.
 ///
 /// A type that provides `fft`, `ifft`, `mul` and `eval_poly` is an engine. The other five calls have default bodies.
 pub trait Engine: Drop {

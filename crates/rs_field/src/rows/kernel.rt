@@ -22,8 +22,9 @@ pub struct ThreeLogarithms {
 
 /// The parts in which engines differ: the tables that they read, the butterflies of two rows, and the products of a row.
 ///
-/// Each type with these parts is an engine. `impl Engine` defines its transforms, which handle blocks, cosets and unused rows, and
-/// its products and its locator. The factor of a butterfly is given by its logarithm `log_m`; 65535 represents the factor zero.
+/// Each type with these parts is an engine: the module `kernel_engine` implements [`Engine`](super::engine::Engine) for it, with
+/// the transforms, the products and the locator. The factor of a butterfly is given by its logarithm `log_m`; 65535 represents the
+/// factor zero.
 pub trait Kernel: Drop {
     /// Returns the tables of transforms and locators.
     fn tables(&self) -> LentTables<'_>;

@@ -2,7 +2,7 @@
 //!
 //! Symbol s of a chunk has its low byte at byte s and its high byte at byte s + 32. Whole chunks of a shard lie as they
 //! are. A tail of L bytes lies in the last chunk: its first half from byte 0 on, its second half from byte 32 on. The
-//! other bytes of the last chunk are open.
+//! other bytes of the last chunk may have any value.
 ghost use Rattle.std.specs.Prelude.{◌≡◌, ℕ, ◌+◌, ◌*◌, ◌%◌, ◌<◌, ◌≤◌, ◌↔◌, ◌⊎◌, length, slice_index, IsTrue, EachIndex};
 ghost use Rattle.rs_field.specs.rows.Layout.{row_len, laid_out, in_order, LaysColumns, HasZeroColumns};
 ghost use Rattle.rs_field.specs.rows.Rows.{chunk};

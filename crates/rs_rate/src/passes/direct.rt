@@ -1,6 +1,7 @@
 //! The decoding of a round by direct sums: each word of a missing original is the sum of the words of k given shards, the
-//! base, each times a factor. So is each word of a given shard outside the base, which is checked in this way. If there are
-//! few such shards and few missing originals, this takes less time than transforms, unless the shards are very short.
+//! base, each times a factor. If the given shards belong to one message, each word of a given shard outside the base is such
+//! a sum too, and the decoder checks this. If there are few such shards and few missing originals, this takes less time than
+//! transforms, unless the shards are very short.
 //!
 //! The factors come from Lagrange's formula for the polynomial of a column times the locator of the erased rows. The points
 //! of the rows are all words below a power of two, so the formula needs no weights. At an erased row, the derivative of this
@@ -131,8 +132,8 @@ pub(crate) fn sum_rows<E: Engine>(
     agrees
 }
 
-// Adds to each given row outside the base its direct sum over the base, until a row is not zero then. Returns whether all are
-// zero, which says that each is equal to its sum.
+// For each given row outside the base, adds the direct sum over the base to the row. Stops at the first row that is not zero
+// after the addition. Returns whether all these rows are zero, so that each of them was equal to its sum.
 fn are_equal_to_sums<E: Engine>(
     engine: &E,
     steps: &mut Steps,
@@ -173,8 +174,8 @@ fn are_equal_to_sums<E: Engine>(
     true
 }
 
-// Adds the direct sum over the base to row y, which is not in the base. Returns whether the row is zero then, which says that
-// it was equal to its sum. The check counts one row step.
+// Adds the direct sum over the base to row y, which is not in the base. Returns whether the row is zero after the addition. It
+// is zero exactly if it was equal to its sum. The check counts one row step.
 fn is_equal_to_sum<E: Engine>(
     engine: &E,
     steps: &mut Steps,

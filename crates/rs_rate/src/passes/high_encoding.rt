@@ -1,5 +1,5 @@
-//! The coding of the high rate: originals as values at the points from the first block's end on, recovery shards as
-//! values at the first points.
+//! The coding of the high rate. The recovery shards are values at the points of the first block. The originals are values
+//! at the points after this block.
 ghost use Rattle.std.specs.Prelude.{◌≡◌, ℕ, ◌+◌, ◌*◌, ◌%◌, ◌^◌, ◌<◌, ◌≤◌, true};
 ghost use Rattle.rs_field.specs.words.StepBounds.{CountsUpTo, transform_steps};
 ghost use Rattle.rs_field.specs.code.Counts.{next_power, supports, high_rate};

@@ -1,5 +1,5 @@
-//! The coding of the low rate: originals and zeros as values at the first points, recovery shards as values at the
-//! points after them.
+//! The coding of the low rate. The originals, and zeros after them, are values at the points of the first block. The
+//! recovery shards are values at the points after this block.
 ghost use Rattle.std.specs.Prelude.{◌≡◌, ℕ, ◌+◌, ◌*◌, ◌%◌, ◌^◌, ◌<◌, ◌≤◌, true};
 ghost use Rattle.rs_field.specs.words.StepBounds.{CountsUpTo, transform_steps};
 ghost use Rattle.rs_field.specs.code.Counts.{low_rate, next_power, supports};

@@ -22,7 +22,7 @@ pub trait ObjectRows: Sized {
     /// The states that rows can represent.
     ghost State: { Type 0 };
 
-    /// A number of rows and their size for which there is memory.
+    /// How many rows of which size fit into the memory of an object.
     ghost Room: { Type 0 };
 
     /// The number of rows for a rate, a number of originals and a number of recovery shards.
