@@ -11,15 +11,14 @@ use Rattle.std.specs.declared.string.String.{String}
 use Rattle.std.specs.declared.vec.Vec.{Vec}
 use Rattle.std.proofs.lemmas.Bool.Decides.{nat_tests}
 use Rattle.std.proofs.lemmas.Map.Made.{keys_of-map_values, lookup-map_values}
-use Rattle.reed_solomon_simd.specs.OneCall.{shards_in, OneEncodeAnswers, OneDecodeAnswers}
+use Rattle.reed_solomon_simd.specs.OneCall.{shards_in, OneDecodeAnswers}
 use Rattle.reed_solomon_simd.specs.declared.Error.{Error}
 use Rattle.reed_solomon_simd.specs.declared.Error.TheVariants.{OutOfMemory}
-use Rattle.reed_solomon_simd.specs.Column.{Shard}
 use Rattle.reed_solomon_simd.specs.Given.{Shards, Lists}
 use Rattle.rs_command.specs.declared.fault.Fault.{Fault}
 use Rattle.rs_command.specs.declared.fault.Fault.TheVariants.{Usage, Refused}
 use Rattle.rs_command.specs.CommandLine.{GivenItems}
-use Rattle.rs_command.specs.Printed.{ListsShards, lines_of, concatenation, CodesLines, RestoresLines, OrLacksMemory}
+use Rattle.rs_command.specs.Printed.{ListsShards, concatenation, RestoresLines, OrLacksMemory}
 use Rattle.rs_command.specs.Printed.{Refuses}
 use Rattle.rs_command.specs.Printed.{HasFault}
 use Rattle.rs_command.specs.Told.{status_of, IsReportedAs}
@@ -43,15 +42,6 @@ entries_in_order vectors ordered =
     (λ i. ap (option_map (λ v. v.items))
     (lookup-same (λ k. is_eq (nat_cmp i k)) (nat_eq i) (compared_equal i) vectors.entries)
     ∙ sym (lookup-map_values (λ v. v.items) (nat_eq i) vectors.entries))
-
--- If the texts are the lines of the recovery shards or the result is `OutOfMemory`, the result is one of an encode
--- command.
-pub codes-lines : {Y Z : Type 0} (k r : ℕ) (shards recovery : List Shard) (result : Result (Vec (String Y) Z) Error)
-    → OneEncodeAnswers k r shards (Ok recovery)
-    → MatchResult result (λ texts. concatenation texts ≡ lines_of recovery) (λ e. e ≡ OutOfMemory)
-    → OrLacksMemory (CodesLines k r shards) result
-codes-lines k r shards recovery (Ok texts) answered lines = (recovery, answered, lines)
-codes-lines k r shards recovery (Err e) answered lacking = inr lacking
 
 -- If the texts are the lines of the restored originals or the result is `OutOfMemory`, the result is one of a decode
 -- command.

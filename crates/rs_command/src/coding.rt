@@ -2,7 +2,7 @@
 ghost use Rattle.std.specs.Prelude.{◌≡◌, IfOk, MatchResult, map};
 ghost use Rattle.reed_solomon_simd.specs.Kind.{kind_of};
 ghost use Rattle.reed_solomon_simd.specs.OneCall.{shards_in};
-ghost use Rattle.rs_command.specs.Printed.{lines_of, concatenation, ListsShards};
+ghost use Rattle.rs_command.specs.Printed.{concatenation, ListsShards};
 ghost use Rattle.rs_command.specs.Printed.{CodesLines, RestoresLines, OrLacksMemory};
 ghost use Rattle.rs_command.specs.Reading.{given_items};
 
@@ -83,7 +83,11 @@ fn recovery_lines(
 {
     let shards = original.iter().map(|shard| shard.as_slice());
     let recovery = encode(alloc, counts.original, counts.recovery, shards, engine)?;
-    shard_lines(alloc, recovery.as_slice())
+    let mut texts = Vec::new(alloc);
+    for shard in &recovery {
+        texts.push(line(alloc, shard.as_slice())?)?;
+    }
+    Ok(texts)
 }
 
 // Decodes the given shards, and returns a line for each restored original. Fails with the errors of `decode`, and then
@@ -114,18 +118,6 @@ fn restored_lines(
         engine,
     )?;
     indexed_lines(alloc, &restored)
-}
-
-// Returns a line for each shard, or fails with `OutOfMemory`.
-fn shard_lines(alloc: Global, shards: &[Vec<u8>]) -> Result<Vec<String>, Error>
-    ensures { let wanted = lines_of (map (λ v. v.items) shards.now) in
-        MatchResult result (λ texts. concatenation texts ≡ wanted) (λ e. e ≡ Error.OutOfMemory) }
-{
-    let mut texts = Vec::new(alloc);
-    for shard in shards {
-        texts.push(line(alloc, shard.as_slice())?)?;
-    }
-    Ok(texts)
 }
 
 // Returns a line for each shard of a map: the index, a blank, and the shard. Fails with `OutOfMemory`.
