@@ -180,16 +180,16 @@ pub record AreMarked (k r size : ℕ) (own originals other recovery : List ℕ) 
 module _ {k r size : ℕ} {own originals other recovery : List ℕ}
     (buffers : AreMarked k r size own originals other recovery) where
   -- The marked shards of each buffer, the decoder to which they are added, and the decoder to which they were added.
-  abbrev kept : Items
+  abbrev pub kept : Items
   kept = marked_shards 0 size own originals
 
-  abbrev received : Items
+  abbrev pub received : Items
   received = marked_shards 0 size other recovery
 
   abbrev empty : DecoderState
   empty = fresh_decoder (default_of k r size)
 
-  abbrev state : DecoderState
+  abbrev pub state : DecoderState
   state = marked_state k r size own originals other recovery
 
   -- Adding the marked shards of both buffers to a decoder succeeds.

@@ -26,7 +26,7 @@ use Rattle.rs_calls.specs.MarkedState.{besides_rooms, rooms_in}
 use Rattle.rs_calls.proofs.DecodeLemmas.{with-nothing}
 use Rattle.rs_calls.proofs.LostLemmas.{lost-same, with-placed}
 use Rattle.rs_calls.proofs.MarkedLemmas.{present}
-use Rattle.rs_calls.proofs.MarkedState.{AreMarked, map-kept, marked-led}
+use Rattle.rs_calls.proofs.MarkedState.{AreMarked, map-kept, marked-led, kept, received, state}
 
 -- If a map has the shards of a message at the indexes of the marks that are 0, it lists the shards of the lost indexes.
 lost-listed : (out : Shards) (message : List Shard) (i : ℕ) (marks : List ℕ)
@@ -70,7 +70,7 @@ module _ {k r size : ℕ} {own originals other recovery : List ℕ} (new : List 
   -- The missing shard of a message at an index is the shard of the message if the mark is 0, and there is none
   -- otherwise.
   missing-mark : (message : List Shard) (j : ℕ) → j < k
-      → missing_of (marked_state k r size own originals other recovery) message j
+      → missing_of (state buffers) message j
       ≡ cond (get_or own j 0 == 0) (Some (shard_at message j)) None
   unfolding missing_of
   missing-mark message j inside = search rules
@@ -78,11 +78,11 @@ module _ {k r size : ℕ} {own originals other recovery : List ℕ} (new : List 
   -- If the places of the lost originals hold the restored originals, the whole buffer is the old buffer with the
   -- restored originals.
   pub buffer-restored :
-      (holds : HoldRestored (marked_state k r size own originals other recovery)
+      (holds : HoldRestored (state buffers)
       (map (λ i. shard_place size new i) (lost_indexes 0 own)))
       → new ≡ with_restored holds.out 0 size k originals
   buffer-restored holds =
-      let s : DecoderState = marked_state k r size own originals other recovery in
+      let s : DecoderState = state buffers in
       let message : List Shard = holds.restored.message in
       let by_index : (j : ℕ) → j < k
       → holds.out j ≡ cond (get_or own j 0 == 0) (Some (shard_at holds.restored.message j)) None =
@@ -145,7 +145,7 @@ module _ {k r size : ℕ} {own originals other recovery : List ℕ}
     (buffers : AreMarked k r size own originals other recovery) (some : 0 < present other) where
   -- The results of one call for the marked shards.
   abbrev Answers : Result Shards Error → Type 0
-  Answers = OneDecodeAnswers k r (marked_shards 0 size own originals) (marked_shards 0 size other recovery)
+  Answers = OneDecodeAnswers k r (kept buffers) (received buffers)
 
   -- If a decoder cannot be set up, one call returns the error.
   pub unset-answers : (e : Error) → start_outcome (decoder_rows default_rate k r) (default_of k r size) ≡ Err e
@@ -153,44 +153,43 @@ module _ {k r size : ℕ} {own originals other recovery : List ℕ}
   unset-answers e made = decoding-refused k r _ _ e (marked-led buffers some (Err e) made)
 
   module _ (made : start_outcome (decoder_rows default_rate k r) (default_of k r size) ≡ Ok tt) where
-    -- The decoder to which the marked shards were added.
-    abbrev state : DecoderState
-    state = marked_state k r size own originals other recovery
-
-    leads : IsDecoding k r (marked_shards 0 size own originals) (marked_shards 0 size other recovery) (Ok (Some state))
+    leads : IsDecoding k r (kept buffers) (received buffers) (Ok (Some (state buffers)))
     leads = marked-led buffers some (Ok tt) made
 
     -- The result of restoring into rooms, if this is the outcome of the check that enough shards were given: the rooms
     -- hold the restored originals, or no message agrees with the shards, or memory is short.
     abbrev Restores : List Shard → Result (Unit {0}) Error → Result (Unit {0}) Error → Type 0
     Restores rooms o result =
-        MatchResult o (λ _. MatchResult result (λ _. HoldRestored state rooms)
-        (λ e. NoneAgrees state e ⊎ (e ≡ OutOfMemory))) (λ e. result ≡ Err e)
+        MatchResult o (λ _. MatchResult result (λ _. HoldRestored (state buffers) rooms)
+        (λ e. NoneAgrees (state buffers) e ⊎ (e ≡ OutOfMemory))) (λ e. result ≡ Err e)
 
     -- The result of restoring into rooms is a result of one call.
-    by_outcome : (rooms : List Shard) (o : Result (Unit {0}) Error) → enough_given state ≡ o
+    by_outcome : (rooms : List Shard) (o : Result (Unit {0}) Error) → enough_given (state buffers) ≡ o
         → (result : Result (Unit {0}) Error) → Restores rooms o result
-        → MatchResult result (λ _. (holds : HoldRestored state rooms) × Answers (Ok holds.out)) (λ e. Answers (Err e))
+        → MatchResult result (λ _. (holds : HoldRestored (state buffers) rooms) × Answers (Ok holds.out))
+        (λ e. Answers (Err e))
     by_outcome rooms (Ok u) enough (Ok v) holds =
-        (holds, decoding-restored k r _ _ state leads enough (Ok holds.out) holds.restored)
-    by_outcome rooms (Ok u) enough (Err e) why = decoding-none-agrees k r _ _ state leads enough e why
+        (holds, decoding-restored k r _ _ (state buffers) leads enough (Ok holds.out) holds.restored)
+    by_outcome rooms (Ok u) enough (Err e) why = decoding-none-agrees k r _ _ (state buffers) leads enough e why
     by_outcome rooms (Err f) few (Ok v) same = absurd (let no : ⊥ = cc in no)
     by_outcome rooms (Err f) few (Err e) same =
-        let is : e ≡ f = cc in decoding-few k r _ _ state leads e (ap Err is ∙ sym few)
+        let is : e ≡ f = cc in decoding-few k r _ _ (state buffers) leads e (ap Err is ∙ sym few)
 
     -- If restoring into rooms fails, one call may fail with the same error.
     pub failed-answers : (rooms : List Shard) (e : Error)
-        → Restores rooms (enough_given state) (Err e) ⊎ (◌≡◌ {A = Result (Unit {0}) Error} (Err e) (Err OutOfMemory))
+        → Restores rooms (enough_given (state buffers)) (Err e)
+        ⊎ (◌≡◌ {A = Result (Unit {0}) Error} (Err e) (Err OutOfMemory))
         → Answers (Err e)
-    failed-answers rooms e (inl does) = by_outcome rooms (enough_given state) refl (Err e) does
+    failed-answers rooms e (inl does) = by_outcome rooms (enough_given (state buffers)) refl (Err e) does
     failed-answers rooms e (inr lacks) =
-        let same : e ≡ OutOfMemory = cc in decoding-answered k r _ _ state leads (Err e) (inr (ap Err same))
+        let same : e ≡ OutOfMemory = cc in decoding-answered k r _ _ (state buffers) leads (Err e) (inr (ap Err same))
 
     -- If restoring into rooms succeeds, one call may return the originals that the rooms hold.
     pub done-answers : (rooms : List Shard)
-        → Restores rooms (enough_given state) (Ok tt) ⊎ (◌≡◌ {A = Result (Unit {0}) Error} (Ok tt) (Err OutOfMemory))
-        → (holds : HoldRestored state rooms) × Answers (Ok holds.out)
-    done-answers rooms (inl does) = by_outcome rooms (enough_given state) refl (Ok tt) does
+        → Restores rooms (enough_given (state buffers)) (Ok tt)
+        ⊎ (◌≡◌ {A = Result (Unit {0}) Error} (Ok tt) (Err OutOfMemory))
+        → (holds : HoldRestored (state buffers) rooms) × Answers (Ok holds.out)
+    done-answers rooms (inl does) = by_outcome rooms (enough_given (state buffers)) refl (Ok tt) does
     done-answers rooms (inr lacks) = absurd (let no : ⊥ = cc in no)
 
 -- ---- a struct of buffers in which only the places of lost originals were changed
