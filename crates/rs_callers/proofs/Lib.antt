@@ -9,4 +9,5 @@ pub mod LeftReceived
 pub mod LostIndexes
 pub mod VerifyLaws
 pub mod ReconstructLaws
+mod RoomsBack
 mod UpdatedCode

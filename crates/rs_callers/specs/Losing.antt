@@ -7,8 +7,9 @@ use Rattle.std.specs.declared.vec.Vec.{Vec}
 use Rattle.reed_solomon_simd.specs.CodeLaws.{changed_shards}
 use Rattle.reed_solomon_simd.specs.Column.{Shard, shard_at}
 use Rattle.reed_solomon_simd.specs.Decoder.{DecoderState}
-use Rattle.reed_solomon_simd.specs.Given.{Shards, count_below}
+use Rattle.reed_solomon_simd.specs.Given.{Shards, Lists, count_below}
 use Rattle.reed_solomon_simd.specs.OneCall.{Items}
+use Rattle.reed_solomon_simd.specs.RoundTrip.{lost_of}
 
 -- vectors with their indexes, as shards with their indexes
 abbrev pub items_in : {Y : Type 0} → List (ℕ × Vec ℕ Y) → Items
@@ -53,3 +54,8 @@ left_below n lost = left_from 0 n lost
 pub record ListsLost (n : ℕ) (lost indexes : List ℕ) : Type 0 where
   pub each : (i : ℕ) → list_any (nat_eq i) indexes ≡ (nat_lt i n && is_lost lost i)
   pub once : IsDistinct nat_eq indexes
+
+-- rooms hold exactly the lost shards of a list, those whose indexes no kept item has, in order of index
+abbrev pub FillsWithLost : List Shard → Items → List (List ℕ) → Type 0
+FillsWithLost shards kept rooms =
+    (items : Items) × Lists (lost_of shards kept) items × (rooms ≡ map (λ item. item.1) items)

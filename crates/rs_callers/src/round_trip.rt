@@ -1,5 +1,6 @@
 //! Round trips: originals are encoded, some shards are lost, and exactly the lost originals come back, each as it was.
 ghost use Rattle.std.specs.Prelude.{◌≡◌, ◌⊎◌, ◌+◌, ◌<◌, ◌≤◌, ℕ, List, [], length, map, All, Ok, Err, IfOk, IfErr};
+ghost use Rattle.std.specs.Prelude.{OnOk, OnErr};
 ghost use Rattle.reed_solomon_simd.specs.Code.{AreRecovery};
 ghost use Rattle.reed_solomon_simd.specs.Column.{Shard, AreShards};
 ghost use Rattle.reed_solomon_simd.specs.Configuration.{validation_outcome};
@@ -13,15 +14,17 @@ ghost use Rattle.reed_solomon_simd.specs.OneCall.{with_shards, with_originals, w
 ghost use Rattle.reed_solomon_simd.specs.ResultView.{recovery_shards};
 ghost use Rattle.reed_solomon_simd.specs.RoundTrip.{AreCoded, AreLeft, OneBringsBack, enough_left};
 ghost use Rattle.reed_solomon_simd.specs.Reconstructed.{wanted_outcome};
+ghost use Rattle.reed_solomon_simd.specs.Rooms.{bytes_in};
 ghost use Rattle.reed_solomon_simd.specs.ShardNames.{shard_named};
 ghost use Rattle.reed_solomon_simd.specs.Verified.{received_size, receiving_outcome};
 ghost use Rattle.rs_callers.specs.Losing.{items_in, items_lent, changed_count, lost_at, left_of, left_below};
+ghost use Rattle.rs_callers.specs.Losing.{FillsWithLost};
 
 use crate::walking::restored_copies;
 use reed_solomon_simd::engine::DefaultEngine;
 use reed_solomon_simd::{
-    EncoderResult, Error, ReconstructError, ReedSolomonDecoder, ReedSolomonEncoder, ShardIndex,
-    decode, decode_slice, encode, reconstruct, verify,
+    EncoderResult, Error, ReconstructError, ReedSolomonDecoder, ReedSolomonEncoder, RoomError,
+    ShardIndex, decode, decode_into, decode_slice, encode, reconstruct, reconstruct_into, verify,
 };
 use std::alloc::Global;
 use std::collections::BTreeMap;
@@ -95,6 +98,39 @@ pub fn restore_what_is_left(
         recovery_count,
         kept,
         received,
+        engine,
+    )
+}
+
+/// Restores the lost originals of a message into rooms, from the originals and the recovery shards that are left. If each
+/// shard has its own index and no shard is there twice, a success leaves exactly the lost originals in the rooms, in order
+/// of their index, each as it was.
+///
+/// # Errors
+///
+/// The errors of [`decode_into`], in the same order. The rooms then hold what they held before the call.
+pub fn restore_into_rooms(
+    alloc: Global,
+    original_count: usize,
+    recovery_count: usize,
+    kept: &[(usize, &[u8])],
+    received: &[(usize, &[u8])],
+    rooms: &mut [&mut [u8]],
+    engine: DefaultEngine<'_>,
+) -> Result<(), RoomError>
+    ensures restored { (originals recovery : List Shard)
+        → AreCoded original_count recovery_count originals recovery
+        → AreLeft originals (items_lent kept.now) → AreLeft recovery (items_lent received.now)
+        → OnOk result (FillsWithLost originals (items_lent kept.now) (bytes_in rooms.new)) }
+    ensures untouched { OnErr result (bytes_in rooms.new ≡ bytes_in rooms.old) }
+{
+    decode_into(
+        alloc,
+        original_count,
+        recovery_count,
+        kept,
+        received,
+        rooms,
         engine,
     )
 }
@@ -183,6 +219,41 @@ pub fn reconstruct_what_is_left(
         kept,
         received,
         wanted,
+        engine,
+    )
+}
+
+/// Reconstructs wanted shards into rooms, from the originals and the recovery shards that are left of a message. If each
+/// shard that is left has its own index and no shard is there twice, a success leaves exactly the wanted shards of the
+/// message in the rooms, in order, each as it was.
+///
+/// # Errors
+///
+/// The errors of [`reconstruct_into`], in the same order. The rooms then hold what they held before the call.
+pub fn reconstruct_into_rooms(
+    alloc: Global,
+    original_count: usize,
+    recovery_count: usize,
+    kept: &[(usize, &[u8])],
+    received: &[(usize, &[u8])],
+    wanted: &[ShardIndex],
+    rooms: &mut [&mut [u8]],
+    engine: DefaultEngine<'_>,
+) -> Result<(), ReconstructError>
+    ensures restored { (originals recovery : List Shard)
+        → AreCoded original_count recovery_count originals recovery
+        → AreLeft originals (items_lent kept.now) → AreLeft recovery (items_lent received.now)
+        → OnOk result (bytes_in rooms.new ≡ map (shard_named originals recovery) wanted.now) }
+    ensures untouched { OnErr result (bytes_in rooms.new ≡ bytes_in rooms.old) }
+{
+    reconstruct_into(
+        alloc,
+        original_count,
+        recovery_count,
+        kept,
+        received,
+        wanted,
+        rooms,
         engine,
     )
 }
