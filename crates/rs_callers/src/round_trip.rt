@@ -73,7 +73,7 @@ pub fn round_trip_in_one_call(
 }
 
 /// Restores the lost originals of a message from the originals and the recovery shards that are left. If each shard has
-/// its own index and no shard is there twice, a success returns exactly the lost originals, each as it was.
+/// its own index and no shard is there twice, a call that succeeds returns exactly the lost originals, each as it was.
 ///
 /// # Errors
 ///
@@ -103,8 +103,8 @@ pub fn restore_what_is_left(
 }
 
 /// Restores the lost originals of a message into rooms, from the originals and the recovery shards that are left. If each
-/// shard has its own index and no shard is there twice, a success leaves exactly the lost originals in the rooms, in order
-/// of their index, each as it was.
+/// shard has its own index and no shard is there twice, a call that succeeds leaves exactly the lost originals in the
+/// rooms, in order of their index, each as it was.
 ///
 /// # Errors
 ///
@@ -181,9 +181,9 @@ pub fn verify_what_is_left(
 /// Reconstructs wanted shards from what is left of a message: `kept` are originals with their indexes, and `received` are
 /// recovery shards with their indexes.
 ///
-/// If each shard that is left has its own index and no shard is there twice, a success returns exactly the wanted shards of
-/// the message, each as it was. If enough shards are left and the wanted shards are lost, the only error is
-/// [`Error::OutOfMemory`].
+/// If each shard that is left has its own index and no shard is there twice, a call that succeeds returns exactly the
+/// wanted shards of the message, each as it was. If enough shards are left and the wanted shards are lost, the only error
+/// is [`Error::OutOfMemory`].
 ///
 /// # Errors
 ///
@@ -224,8 +224,8 @@ pub fn reconstruct_what_is_left(
 }
 
 /// Reconstructs wanted shards into rooms, from the originals and the recovery shards that are left of a message. If each
-/// shard that is left has its own index and no shard is there twice, a success leaves exactly the wanted shards of the
-/// message in the rooms, in order, each as it was.
+/// shard that is left has its own index and no shard is there twice, a call that succeeds leaves exactly the wanted shards
+/// of the message in the rooms, in the order of `wanted`, each as it was.
 ///
 /// # Errors
 ///

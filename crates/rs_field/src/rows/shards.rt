@@ -1,7 +1,6 @@
 //! Rows of chunks of 64 bytes, lent from one slice.
-ghost use Rattle.std.specs.Prelude.{◌≡◌, ℕ, ◌+◌, ◌-◌, ◌*◌, ◌<◌, ◌≤◌, ◌↔◌, length, take, drop, replicate, IsTrue};
+ghost use Rattle.std.specs.Prelude.{◌≡◌, ◌+◌, ◌-◌, ◌*◌, ◌<◌, ◌≤◌, ◌↔◌, length, take, drop, IsTrue};
 ghost use Rattle.std.specs.Borrow.{sem};
-ghost use Rattle.rs_field.specs.rows.Rows.{chunk, SameOutside};
 ghost use Rattle.rs_field.specs.rows.View.{row_at, Fits, SameExtent, SameRowsOutside, AreZero, HasRows, IsListOf};
 ghost use Rattle.rs_field.specs.rows.Lending.{LendsAll, LendsRun, LendsRow, LendsParts};
 ghost use Rattle.rs_field.specs.rows.Lending.{LendsTwoRows, LendsFourRows, LendsHalves};
