@@ -28,7 +28,7 @@ use Rattle.reed_solomon_simd.specs.declared.room_error.RoomError.{RoomError}
 use Rattle.reed_solomon_simd.specs.declared.room_error.RoomError.TheVariants.{Refused}
 use Rattle.reed_solomon_simd.specs.Into.{rooms_fit}
 use Rattle.reed_solomon_simd.specs.Rooms.{bytes_in}
-use Rattle.reed_solomon_simd.specs.Updated.{IsChanged, IsChangedStrip, UpdatesShards, UpdatesInto, change_outcome}
+use Rattle.reed_solomon_simd.specs.Updated.{IsChanged, IsChangedStrip, UpdatesShards, AddsChange, UpdatesInto, change_outcome}
 use Rattle.reed_solomon_simd.specs.Updated.{update_outcome}
 use Rattle.reed_solomon_simd.proofs.ReconstructLemmas.{zeros}
 
@@ -218,7 +218,8 @@ module _ (k r index : ℕ) (old new : Shard) (before : List (List ℕ)) where
   -- What `update_into` does, if this is the outcome of the checks.
   abbrev Does : List (List ℕ) → Result (Unit {0}) RoomError → Result (Unit {0}) RoomError → Type 0
   Does after answer o =
-      MatchResult o (λ _. ((answer ≡ Ok tt) × UpdatesShards k r index old new before after)
+      MatchResult o (λ _. ((answer ≡ Ok tt) × UpdatesShards k r index old new before after
+      × AddsChange k r index old new before after)
       ⊎ ((answer ≡ Err (Refused OutOfMemory)) × (after ≡ before)))
       (λ e. (answer ≡ Err e) × (after ≡ before))
 

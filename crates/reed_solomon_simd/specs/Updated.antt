@@ -11,6 +11,7 @@ use Rattle.std.specs.Prelude.{
   All,
   List,
   length,
+  slice_index,
   take,
   drop,
   replicate,
@@ -34,7 +35,8 @@ use Rattle.rs_field.specs.words.Field.{product, power}
 use Rattle.rs_field.specs.code.Column.{Shard, AreShards, shard_at, column}
 use Rattle.rs_field.specs.code.Configuration.{validation_outcome}
 use Rattle.rs_field.specs.code.OneCall.{default_of}
-use Rattle.rs_field.specs.code.OneChange.{ChangesOnly}
+use Rattle.rs_field.specs.code.Counts.{default_rate}
+use Rattle.rs_field.specs.code.OneChange.{ChangesOnly, AreChangeFactors}
 use Rattle.rs_field.specs.code.Outcome.{result_and_then}
 use Rattle.reed_solomon_simd.specs.declared.room_error.RoomError.{RoomError}
 use Rattle.reed_solomon_simd.specs.declared.room_error.RoomError.TheVariants.{Refused}
@@ -48,6 +50,20 @@ UpdatesShards k r index old new before after =
     → ChangesOnly index message changed → shard_at message index ≡ old → shard_at changed index ≡ new
     → AreRecovery (default_of k r (length old)) message before
     → AreRecovery (default_of k r (length old)) changed after
+
+-- a shard is another one plus the change of an original, times the generator to the power of this logarithm
+pub record IsChanged (old new : Shard) (log : ℕ) (before after : Shard) : Type 0 where
+  pub length_is : length after ≡ length before
+  pub bytes : All (λ b. b < 256) after
+  pub words : (j : ℕ) → j < length before / 2
+      → column j after ≡ bit_xor (column j before) (product (bit_xor (column j old) (column j new)) (power log))
+
+-- each room holds what it held before plus the change of the original, times the factor of its recovery shard. This
+-- is so whatever the rooms held before
+abbrev pub AddsChange : ℕ → ℕ → ℕ → Shard → Shard → List Shard → List Shard → Type 0
+AddsChange k r index old new before after =
+    (factors : List ℕ) × AreChangeFactors default_rate k r index factors
+    × ((i : ℕ) → i < r → IsChanged old new (slice_index factors i) (shard_at before i) (shard_at after i))
 
 -- the outcome of checking a change: first the counts and the size, then the index, and then the size of the new
 -- original
@@ -69,16 +85,10 @@ abbrev pub UpdatesInto : ℕ → ℕ → ℕ → Shard → Shard → List (List 
     → Type 0
 UpdatesInto k r index old new before after answer =
     MatchResult (update_outcome k r index (length old) (length new) before)
-    (λ _. ((answer ≡ Ok tt) × UpdatesShards k r index old new before after)
+    (λ _. ((answer ≡ Ok tt) × UpdatesShards k r index old new before after
+    × AddsChange k r index old new before after)
     ⊎ ((answer ≡ Err (Refused OutOfMemory)) × (after ≡ before)))
     (λ e. (answer ≡ Err e) × (after ≡ before))
-
--- a shard is another one plus the change of an original, times the generator to the power of this logarithm
-pub record IsChanged (old new : Shard) (log : ℕ) (before after : Shard) : Type 0 where
-  pub length_is : length after ≡ length before
-  pub bytes : All (λ b. b < 256) after
-  pub words : (j : ℕ) → j < length before / 2
-      → column j after ≡ bit_xor (column j before) (product (bit_xor (column j old) (column j new)) (power log))
 
 -- a shard is another one plus a change from byte `start` up to byte `end`, times the generator to the power of this
 -- logarithm

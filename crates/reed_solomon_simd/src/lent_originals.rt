@@ -10,11 +10,11 @@ ghost use Rattle.reed_solomon_simd.specs.Rooms.{shards_of};
 
 use crate::originals::LentShards;
 use crate::rooms::Rooms;
-use crate::strip_encoder::encode_strips;
+use crate::strip_encoder::{encode_strips_with, strip_encoder};
 use rs_field::bytes::are_bytes;
 use rs_field::engine::Engine;
 use rs_field::error::Error;
-use rs_rate::rate::{DefaultRateCounts, check_encoder_rows};
+use rs_rate::rate::{DefaultRateCounts, DefaultRateEncoder, check_encoder_rows};
 use std::alloc::Global;
 
 /// The originals of one message, in order.
@@ -45,7 +45,7 @@ impl<'a> LentOriginals<'a> {
     ghost use Rattle.rs_field.specs.code.Pieces.{room_length};
     ghost use Rattle.rs_rate.specs.objects.Calls.{Calls, BeginsWith};
     ghost use Rattle.rs_rate.specs.objects.Giving.{Reaches, IsEncoding};
-    ghost use Rattle.reed_solomon_simd.specs.LentState.{lent_state};
+    ghost use Rattle.reed_solomon_simd.specs.LentState.{lent_state, IsStripEncoder};
 
     // Makes a list without originals, for these counts and this size. Fails with `InvalidShardSize`, and then with
     // `OutOfMemory` if the rows for the whole shards would take more than `usize::MAX` bytes, or if the list cannot be
@@ -72,28 +72,31 @@ impl<'a> LentOriginals<'a> {
         })
     }
 
-    /// Gathers all `original` shards for these counts. The shard size is that of the first original.
+    /// Gathers all `original` shards for these counts, and makes an encoder for their strips. The shard size is that of the
+    /// first original.
     ///
     /// # Errors
     ///
     /// - [`Error::TooFewOriginalShards`] with 0 received shards if `original` yields no shard.
     /// - [`Error::InvalidShardSize`] if the size of the first original is zero or odd.
     /// - [`Error::OutOfMemory`] if the rows for the whole shards would take more than `usize::MAX` bytes, or if the
-    ///   list of references cannot be allocated.
+    ///   list of references or the work area of the encoder cannot be allocated.
     /// - For each original in order: [`Error::TooManyOriginalShards`], then [`Error::DifferentShardSize`]. The iterator
     ///   is then not called again.
-    pub fn gather<I: Iterator<Item = &'a [u8]> + Drop>(
+    pub fn gather<I: Iterator<Item = &'a [u8]> + Drop, E: Engine>(
         alloc: Global,
         counts: DefaultRateCounts,
         mut original: I,
-    ) -> Result<LentOriginals<'a>, Error>
+        engine: E,
+    ) -> Result<(LentOriginals<'a>, DefaultRateEncoder<E>), Error>
         requires can { I.can_next original }
         requires ends { IsFinite (I.remaining original) }
         ensures gathered { (calls : Calls I.next_gives original)
             × ((items : List Shard) → BeginsWith items calls
             → IsEncoding counts.original_count counts.recovery_count items
-            (result_map_both lent_state (λ e. e) result)) }
-        ensures counts { IfOk result (λ x. x.counts ≡ counts) }
+            (result_map_both (λ x. lent_state x.0) (λ e. e) result)) }
+        ensures counts { IfOk result (λ x. x.0.counts ≡ counts) }
+        ensures encoder { IfOk result (λ x. IsStripEncoder x.0 x.1.rows) }
     {
         let Some(first) = original.next() else {
             return Err(Error::TooFewOriginalShards {
@@ -102,9 +105,10 @@ impl<'a> LentOriginals<'a> {
             });
         };
         let mut originals: LentOriginals<'a> = LentOriginals::new(alloc, counts, first.len())?;
+        let encoder = strip_encoder(alloc, counts, first.len(), engine)?;
         originals.add(first)?;
         originals.add_all(original)?;
-        Ok(originals)
+        Ok((originals, encoder))
     }
 
     // Adds the next original. Fails with `TooManyOriginalShards`, and then with `DifferentShardSize`.
@@ -163,17 +167,17 @@ impl<'a> LentOriginals<'a> {
         Ok(())
     }
 
-    /// Writes the recovery shards into rooms.
+    /// Writes the recovery shards into rooms, with the encoder that [`LentOriginals::gather`] made.
     ///
     /// # Errors
     ///
-    /// [`Error::OutOfMemory`] if the work area cannot be allocated, or if a room cannot grow.
+    /// [`Error::OutOfMemory`] if a room cannot grow.
     pub fn encode<E: Engine, R: Rooms>(
         &self,
-        alloc: Global,
-        engine: E,
+        encoder: &mut DefaultRateEncoder<E>,
         rooms: &mut R,
     ) -> Result<(), Error>
+        requires encoder { IsStripEncoder self.now encoder.old.rows }
         requires all { answer_of (message_of (lent_state self.now)) ≡ Ok tt }
         requires number { length (R.held rooms.old) ≡ self.now.counts.recovery_count }
         requires fit { All (λ room. length room ≡ room_length R.grows 0 self.now.shard_bytes)
@@ -188,15 +192,20 @@ impl<'a> LentOriginals<'a> {
         let shards = LentShards {
             shards: self.shards.as_slice(),
         };
-        encode_strips(alloc, self.counts, self.shard_bytes, engine, &shards, rooms)
+        encode_strips_with(encoder, self.counts, self.shard_bytes, &shards, rooms)
     }
 
-    /// Returns the recovery shards as vectors.
+    /// Returns the recovery shards as vectors, with the encoder that [`LentOriginals::gather`] made.
     ///
     /// # Errors
     ///
-    /// [`Error::OutOfMemory`] if the work area or the vectors cannot be allocated.
-    pub fn encode_vectors<E: Engine>(&self, alloc: Global, engine: E) -> Result<Vec<Vec<u8>>, Error>
+    /// [`Error::OutOfMemory`] if the vectors cannot be allocated.
+    pub fn encode_vectors<E: Engine>(
+        &self,
+        alloc: Global,
+        encoder: &mut DefaultRateEncoder<E>,
+    ) -> Result<Vec<Vec<u8>>, Error>
+        requires encoder { IsStripEncoder self.now encoder.old.rows }
         requires all { answer_of (message_of (lent_state self.now)) ≡ Ok tt }
         ensures { MatchResult (collected_shards result)
             (λ recovery. AreRecovery (lent_state self.now).configuration (lent_state self.now).given
@@ -204,7 +213,7 @@ impl<'a> LentOriginals<'a> {
             (λ e. e ≡ Error.OutOfMemory) }
     {
         let mut vectors = empty_vectors(alloc, self.counts.recovery_count, self.shard_bytes)?;
-        self.encode(alloc, engine, &mut vectors)?;
+        self.encode(encoder, &mut vectors)?;
         Ok(vectors)
     }
 }

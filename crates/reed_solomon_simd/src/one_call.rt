@@ -28,11 +28,10 @@ use std::collections::BTreeMap;
 /// - [`Error::TooFewOriginalShards`] with 0 received shards if `original` yields no shard.
 /// - [`Error::InvalidShardSize`] if the size of the first original is zero or odd.
 /// - [`Error::OutOfMemory`] if the rows for the whole shards would take more than `usize::MAX` bytes, or if the list of
-///   references cannot be allocated.
+///   references or the work area cannot be allocated. The work area holds at most 4096 bytes of each shard.
 /// - For each original in order: [`Error::TooManyOriginalShards`], then [`Error::DifferentShardSize`].
 /// - [`Error::TooFewOriginalShards`] if there are fewer than `original_count` originals.
-/// - [`Error::OutOfMemory`] if the results or the work area cannot be allocated. The work area holds at most 4096 bytes of
-///   each shard.
+/// - [`Error::OutOfMemory`] if the results cannot be allocated.
 ///
 /// The order is proved, with one exception: if the check of the size of the first original finds no error, the contract
 /// allows [`Error::OutOfMemory`] instead of any other result.
@@ -66,9 +65,9 @@ pub fn encode<'a, I: Iterator<Item = &'a [u8]> + Drop>(
         → IfOk (collected_shards result) (AreCoded original_count recovery_count items) }
 {
     let counts = DefaultRateCounts::new(original_count, recovery_count)?;
-    let originals = LentOriginals::gather(alloc, counts, original)?;
+    let (originals, mut encoder) = LentOriginals::gather(alloc, counts, original, engine)?;
     originals.check_all_given()?;
-    originals.encode_vectors(alloc, engine)
+    originals.encode_vectors(alloc, &mut encoder)
 }
 
 /// Decodes the received shards and returns the missing originals, by their index.
@@ -94,10 +93,9 @@ pub fn encode<'a, I: Iterator<Item = &'a [u8]> + Drop>(
 /// - For each recovery shard in order: [`Error::InvalidRecoveryShardIndex`], [`Error::DuplicateRecoveryShardIndex`],
 ///   [`Error::DifferentShardSize`].
 /// - [`Error::NotEnoughShards`] if there are fewer than `original_count` shards.
-/// - [`Error::OutOfMemory`] if the vectors of the results or the work area cannot be allocated. The work area holds at most
-///   2048 bytes of each shard.
+/// - [`Error::OutOfMemory`] if the work area cannot be allocated. It holds at most 2048 bytes of each shard.
 /// - [`Error::InconsistentShards`] if there are more than `original_count` shards and no message agrees with them all.
-/// - [`Error::OutOfMemory`] if the map of the results cannot be allocated.
+/// - [`Error::OutOfMemory`] if the results cannot be allocated.
 ///
 /// If `recovery` yields no shard:
 ///

@@ -19,6 +19,7 @@ use crate::restoring::fill_rooms;
 use crate::rooms::{LentRooms, check_rooms};
 use crate::shard_index::ShardIndex;
 use crate::strip_rebuilder::rebuild_strips;
+use crate::verifying::error_without_results;
 use crate::wanted_shards::check_wanted;
 use rs_field::engine::Engine;
 use rs_rate::rate::DefaultRateCounts;
@@ -43,8 +44,9 @@ use std::alloc::Global;
 /// - [`Error::OutOfMemory`] if the marks of the wanted shards cannot be allocated.
 /// - For each wanted shard in order: [`ReconstructError::WantedIndexTooLarge`] if its index is not below the number of
 ///   shards of its kind, [`ReconstructError::WantedTwice`], [`ReconstructError::WantedReceived`].
-/// - [`Error::OutOfMemory`] if the vectors, the logarithms or the work areas cannot be allocated.
+/// - [`Error::OutOfMemory`] if the logarithms or the work areas cannot be allocated.
 /// - [`Error::InconsistentShards`] if no message agrees with all received shards.
+/// - [`Error::OutOfMemory`] if the vectors cannot be allocated.
 ///
 /// The order is proved, with one exception: if the check of the size finds no error, the contract allows
 /// [`Error::OutOfMemory`] instead of any other result.
@@ -79,9 +81,9 @@ pub fn reconstruct<E: Engine + Copy>(
 {
     let counts = DefaultRateCounts::new(original_count, recovery_count)?;
     let received = received_in_slices(alloc, counts, original, recovery)?;
-    received.surplus()?;
+    let surplus = received.surplus()?;
     check_wanted(alloc, &received, wanted)?;
-    let vectors = rebuild_vectors(alloc, engine, &received, wanted)?;
+    let vectors = rebuild_vectors(alloc, engine, surplus, &received, wanted)?;
     Ok(vectors)
 }
 
@@ -166,7 +168,7 @@ pub fn reconstruct_received<E: Engine + Copy>(
         rebuild_lent(alloc, engine, received, wanted, rooms)?;
         return Ok(());
     }
-    let vectors = rebuild_vectors(alloc, engine, received, wanted)?;
+    let vectors = rebuild_vectors(alloc, engine, surplus, received, wanted)?;
     fill_rooms(vectors.as_slice(), received.shard_bytes, rooms);
     Ok(())
 }
@@ -201,22 +203,28 @@ fn rebuild_lent<E: Engine + Copy, P: Pieces>(
     rebuild_strips(alloc, engine, received, wanted, &mut lent)
 }
 
-// Returns the wanted shards as vectors, in order. Fails with `OutOfMemory`, and with `InconsistentShards` if no message
-// agrees with all received shards.
-fn rebuild_vectors<E: Engine + Copy, P: Pieces>(
+// Returns the wanted shards as vectors, in order. `surplus` is the number of received shards beyond the number of originals.
+// Fails with `InconsistentShards` if no message agrees with all received shards, and with `OutOfMemory`.
+fn rebuild_vectors<E: Engine + Copy>(
     alloc: Global,
     engine: E,
-    received: &P,
+    surplus: usize,
+    received: &ReceivedShards<'_>,
     wanted: &[ShardIndex],
 ) -> Result<Vec<Vec<u8>>, Error>
-    requires set_up { IsDecoder default_rate (P.received received.now) }
-    requires enough { enough_given (P.received received.now) ≡ Ok tt }
-    requires can { All (CanBeRebuilt (P.received received.now)) wanted.now }
+    requires enough { originals_given (received_state received.now)
+        + recovery_given (received_state received.now)
+        ≡ received.now.counts.original_count + surplus }
+    requires can { All (CanBeRebuilt (received_state received.now)) wanted.now }
     ensures { MatchResult (collected_shards result)
-        (AreReconstructed (P.received received.now) wanted.now)
-        (λ e. NoneAgrees (P.received received.now) e ⊎ (e ≡ Error.OutOfMemory)) }
+        (AreReconstructed (received_state received.now) wanted.now)
+        (λ e. NoneAgrees (received_state received.now) e ⊎ (e ≡ Error.OutOfMemory)) }
 {
-    let mut vectors = empty_vectors(alloc, wanted.len(), received.shard_bytes())?;
+    let Ok(mut vectors) = empty_vectors(alloc, wanted.len(), received.shard_bytes) else {
+        let missing = received.missing();
+        let error = error_without_results(alloc, engine, missing, surplus, received);
+        return Err(error);
+    };
     rebuild_strips(alloc, engine, received, wanted, &mut vectors)?;
     Ok(vectors)
 }

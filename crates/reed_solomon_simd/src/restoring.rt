@@ -19,6 +19,7 @@ use crate::received_shards::ReceivedShards;
 use crate::rooms::{LentRooms, Rooms, check_rooms};
 use crate::strip_decoder::decode_strips;
 use crate::strip_summer::{are_sums_used, sum_missing};
+use crate::verifying::error_without_results;
 use rs_field::engine::Engine;
 use rs_field::error::Error;
 use std::alloc::Global;
@@ -29,8 +30,9 @@ use std::collections::BTreeMap;
 ///
 /// # Errors
 ///
-/// - [`Error::OutOfMemory`] if the vectors or the work area cannot be allocated.
+/// - [`Error::OutOfMemory`] if the work area cannot be allocated.
 /// - [`Error::InconsistentShards`] if no message agrees with all received shards.
+/// - [`Error::OutOfMemory`] if the vectors cannot be allocated.
 pub fn restore_vectors<E: Engine, P: Pieces>(
     alloc: Global,
     engine: E,
@@ -47,7 +49,10 @@ pub fn restore_vectors<E: Engine, P: Pieces>(
     ensures { MatchResult (collected_shards result) (HoldRestored (P.received received.now))
         (λ e. NoneAgrees (P.received received.now) e ⊎ (e ≡ Error.OutOfMemory)) }
 {
-    let mut vectors = empty_vectors(alloc, missing, received.shard_bytes())?;
+    let Ok(mut vectors) = empty_vectors(alloc, missing, received.shard_bytes()) else {
+        let error = error_without_results(alloc, engine, missing, surplus, received);
+        return Err(error);
+    };
     restore_apart(alloc, engine, missing, surplus, received, &mut vectors)?;
     Ok(vectors)
 }
@@ -128,8 +133,9 @@ pub fn restore_lent<E: Engine>(
 ///
 /// # Errors
 ///
-/// - [`Error::OutOfMemory`] if the vectors or the work area cannot be allocated.
+/// - [`Error::OutOfMemory`] if the work area cannot be allocated.
 /// - [`Error::InconsistentShards`] if no message agrees with all received shards.
+/// - [`Error::OutOfMemory`] if the vectors cannot be allocated.
 ///
 /// After an error the rooms hold what they held.
 pub fn restore_in_place<E: Engine, S: Pieces + Rooms>(
@@ -172,8 +178,8 @@ pub fn restore_in_place<E: Engine, S: Pieces + Rooms>(
 /// # Errors
 ///
 /// - [`RoomError::Refused`] with [`Error::NotEnoughShards`] if there are fewer shards than originals, then with
-///   [`Error::OutOfMemory`] if memory cannot be allocated, and then with [`Error::InconsistentShards`] if no message
-///   agrees with all received shards.
+///   [`Error::OutOfMemory`] if the work area cannot be allocated, then with [`Error::InconsistentShards`] if no message
+///   agrees with all received shards, and then with [`Error::OutOfMemory`] if the vectors cannot be allocated.
 /// - [`RoomError::WrongNumberOfRooms`] if there are not as many rooms as missing originals.
 /// - [`RoomError::WrongLength`] for the first room that does not have the size of the shards.
 ///

@@ -1,6 +1,7 @@
 //! Encoding strip by strip. The work area has room for one strip of each shard, so it stays in the cache. For each strip,
 //! the bytes of the originals are copied into the work area, and the recovery bytes are copied from there into the rooms.
-ghost use Rattle.std.specs.Prelude.{◌≡◌, ℕ, List, ◌-◌, ◌+◌, ◌≤◌, All, true, false, length, Ok, Err, OnOk, OnErr};
+ghost use Rattle.std.specs.Prelude.{◌≡◌, ℕ, List, ◌-◌, ◌+◌, ◌≤◌, All, true, false, length, min, Ok, Err};
+ghost use Rattle.std.specs.Prelude.{OnOk, OnErr, IfOk, IfErr};
 ghost use Rattle.rs_field.specs.code.Code.{AreRecovery};
 ghost use Rattle.rs_field.specs.code.Column.{Shard};
 ghost use Rattle.rs_field.specs.code.Configuration.{validation_outcome};
@@ -53,8 +54,64 @@ pub fn encode_strips<E: Engine, O: Originals, R: Rooms>(
     ensures places { R.places rooms.new ≡ R.places rooms.old }
     ensures loan { R.loan rooms.new ≡ R.loan rooms.old }
 {
+    let mut encoder = strip_encoder(alloc, counts, shard_bytes, engine)?;
+    encode_strips_with(&mut encoder, counts, shard_bytes, originals, rooms)
+}
+
+/// Makes an encoder for the strips of shards of this size. It has no original.
+///
+/// # Errors
+///
+/// [`Error::OutOfMemory`] if the work area cannot be allocated.
+pub fn strip_encoder<E: Engine>(
+    alloc: Global,
+    counts: DefaultRateCounts,
+    shard_bytes: usize,
+    engine: E,
+) -> Result<DefaultRateEncoder<E>, Error>
+    requires { validation_outcome
+        (default_of counts.original_count counts.recovery_count shard_bytes)
+        ≡ Ok tt }
+    ensures fresh { IfOk result (λ encoder. encoder_state default_rate encoder.rows
+        ≡ fresh_encoder (default_of counts.original_count counts.recovery_count
+        (min 4096 shard_bytes))) }
+    ensures refused { IfErr result (λ e. e ≡ Error.OutOfMemory) }
+{
+    DefaultRateEncoder::with_counts(alloc, counts, STRIP_BYTES.min(shard_bytes), engine, None)
+}
+
+/// Writes the recovery shards of originals of one size into rooms, with an encoder from [`strip_encoder`].
+///
+/// # Errors
+///
+/// [`Error::OutOfMemory`] if a room cannot grow.
+pub fn encode_strips_with<E: Engine, O: Originals, R: Rooms>(
+    encoder: &mut DefaultRateEncoder<E>,
+    counts: DefaultRateCounts,
+    shard_bytes: usize,
+    originals: &O,
+    rooms: &mut R,
+) -> Result<(), Error>
+    requires fresh { encoder_state default_rate encoder.old.rows
+        ≡ fresh_encoder (default_of counts.original_count counts.recovery_count
+        (min 4096 shard_bytes)) }
+    requires originals { length (O.shards originals.now) ≡ counts.original_count }
+    requires number { length (R.held rooms.old) ≡ counts.recovery_count }
+    requires valid { validation_outcome
+        (default_of counts.original_count counts.recovery_count shard_bytes)
+        ≡ Ok tt }
+    requires sized { All (λ shard. length shard ≡ shard_bytes) (O.shards originals.now) }
+    requires fit { All (λ room. length room ≡ room_length R.grows 0 shard_bytes)
+        (R.held rooms.old) }
+    ensures coded { OnOk result
+        (AreRecovery (default_of counts.original_count counts.recovery_count shard_bytes)
+        (O.shards originals.now) (R.held rooms.new)) }
+    ensures refused { OnErr result (result ≡ Err Error.OutOfMemory) }
+    ensures untouched { R.grows ≡ false → OnErr result (R.held rooms.new ≡ R.held rooms.old) }
+    ensures places { R.places rooms.new ≡ R.places rooms.old }
+    ensures loan { R.loan rooms.new ≡ R.loan rooms.old }
+{
     let width = STRIP_BYTES.min(shard_bytes);
-    let mut encoder = DefaultRateEncoder::with_counts(alloc, counts, width, engine, None)?;
     let mut start = 0;
     while start < shard_bytes {
         let left = shard_bytes - start;
@@ -62,7 +119,7 @@ pub fn encode_strips<E: Engine, O: Originals, R: Rooms>(
             encoder.reset(counts.original_count, counts.recovery_count, left)?;
         }
         let end = start + width.min(left);
-        encode_strip(&mut encoder, originals, start, end, rooms)?;
+        encode_strip(encoder, originals, start, end, rooms)?;
         start = end;
     }
     Ok(())

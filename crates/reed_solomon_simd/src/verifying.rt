@@ -112,3 +112,28 @@ pub fn check_consistent<E: Engine, P: Pieces>(
     }
     check_by_decoding(alloc, engine, received)
 }
+
+/// Returns the error of a call that cannot allocate its results: [`Error::InconsistentShards`] if no message agrees with all
+/// received shards. Otherwise it returns [`Error::OutOfMemory`]. `missing` and `surplus` are those of [`check_consistent`].
+///
+/// The check needs a work area. If it cannot be allocated, the error is [`Error::OutOfMemory`].
+pub fn error_without_results<E: Engine, P: Pieces>(
+    alloc: Global,
+    engine: E,
+    missing: usize,
+    surplus: usize,
+    received: &P,
+) -> Error
+    requires set_up { IsDecoder default_rate (P.received received.now) }
+    requires enough { originals_given (P.received received.now)
+        + recovery_given (P.received received.now)
+        ≡ (P.received received.now).configuration.original_count + surplus }
+    requires missing { missing + originals_given (P.received received.now)
+        ≡ (P.received received.now).configuration.original_count }
+    ensures { NoneAgrees (P.received received.now) result ⊎ (result ≡ Error.OutOfMemory) }
+{
+    match check_consistent(alloc, engine, missing, surplus, received) {
+        Ok(()) => Error::OutOfMemory,
+        Err(error) => error,
+    }
+}

@@ -13,7 +13,7 @@ use Rattle.rs_field.proofs.of_code.OneRoundTrip.{codes_in_one_call}
 use Rattle.reed_solomon_simd.specs.declared.room_error.RoomError.{RoomError}
 use Rattle.reed_solomon_simd.specs.declared.room_error.RoomError.TheVariants.{Refused}
 use Rattle.reed_solomon_simd.specs.Into.{EncodesInto}
-use Rattle.reed_solomon_simd.specs.Updated.{UpdatesInto, UpdatesShards, update_outcome}
+use Rattle.reed_solomon_simd.specs.Updated.{UpdatesInto, UpdatesShards, AddsChange, update_outcome}
 
 -- After an encode that succeeds, the rooms hold the recovery shards.
 encoded : (k r : ℕ) (originals before after : List Shard) → All (All (λ b. b < 256)) originals
@@ -68,7 +68,8 @@ encoded-updated r index originals before coded after new (Ok u) bytes new_bytes 
     by_outcome : (o : Result (Unit {0}) RoomError) → update_outcome (length originals) r index
         (length (shard_at originals index)) (length new) coded ≡ o
         → MatchResult o (λ _. ((◌≡◌ {A = Result (Unit {0}) RoomError} (Ok u) (Ok tt))
-        × UpdatesShards (length originals) r index (shard_at originals index) new coded after)
+        × UpdatesShards (length originals) r index (shard_at originals index) new coded after
+        × AddsChange (length originals) r index (shard_at originals index) new coded after)
         ⊎ ((◌≡◌ {A = Result (Unit {0}) RoomError} (Ok u) (Err (Refused OutOfMemory))) × (after ≡ coded)))
         (λ e. (◌≡◌ {A = Result (Unit {0}) RoomError} (Ok u) (Err e)) × (after ≡ coded))
         → AreRecovery (default_of (length originals) r (length (shard_at originals index)))

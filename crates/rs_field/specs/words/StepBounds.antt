@@ -54,3 +54,7 @@ TransformCounts n old new = CountsUpTo (transform_steps n) 0 0 old new
 -- what the product of a row may count
 abbrev pub RowProductCounts : Steps → Steps → Type 0
 RowProductCounts old new = CountsUpTo 1 0 0 old new
+
+-- what the sum of a row and a multiple of another row may count: two products of a row and one sum
+abbrev pub RowSumCounts : Steps → Steps → Type 0
+RowSumCounts old new = CountsUpTo 3 0 0 old new

@@ -57,7 +57,8 @@ pub fn row_symbols_are_words(rows: &ShardsRefMut<'_>)
     symbols_are_words(rows.chunks);
 }
 
-fn symbols_are_words(chunks: &[[u8; 64]])
+// Guarantees that every symbol of every chunk is below 65536.
+pub(crate) fn symbols_are_words(chunks: &[[u8; 64]])
     ensures { (k s : ℕ) → k < length chunks.now → s < 32 → symbol (chunk chunks.now k) s < 65536 }
 {
     are_bytes(chunks.as_flattened());

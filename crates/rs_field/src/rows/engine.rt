@@ -8,9 +8,10 @@ ghost use Rattle.rs_field.specs.words.Transform.{forward};
 ghost use Rattle.rs_field.specs.rows.Rows.{chunk, symbol};
 ghost use Rattle.rs_field.specs.rows.View.{word, Fits, SameExtent, SameRowsOutside, AreZero};
 ghost use Rattle.rs_field.specs.words.Locator.{IsLocator, IsLocatorBelow};
-ghost use Rattle.rs_field.specs.words.StepBounds.{LocatorCounts, TransformCounts, RowProductCounts};
+ghost use Rattle.rs_field.specs.words.StepBounds.{LocatorCounts, TransformCounts, RowProductCounts, RowSumCounts};
 
 use super::ShardsRefMut;
+use super::bytes::symbols_are_words;
 use super::marked_rows::marked_end;
 use super::sums::xor;
 use crate::words::{GF_MODULUS, GF_ORDER, GfElement, Steps};
@@ -144,22 +145,23 @@ pub trait Engine: Drop {
         ensures counts { RowProductCounts steps.old steps.new };
 
     /// Adds `y` times the generator to the power `log_m` to `x`, symbol by symbol. 65535 represents the factor zero, as in
-    /// butterflies. Both rows have the same number of chunks. The default body makes a `mul` for each chunk.
+    /// butterflies. Both rows have the same number of chunks.
+    ///
+    /// The default body divides `x` by the factor, adds `y`, and multiplies the sum by the factor. These are three row steps.
+    /// The engines of this library take one.
     fn mul_add(&self, steps: &mut Steps, x: &mut [[u8; 64]], y: &[[u8; 64]], log_m: GfElement)
         requires { length x.old ≡ length y.now }
         ensures sums { (k s : ℕ) → k < length x.old → s < 32
             → symbol (chunk x.new k) s
             ≡ bit_xor (symbol (chunk x.old k) s) (times_factor log_m (symbol (chunk y.now k) s)) }
-        ensures counts { RowProductCounts steps.old steps.new }
+        ensures counts { RowSumCounts steps.old steps.new }
     {
-        steps.row_step();
+        symbols_are_words(x);
         if log_m != GF_MODULUS {
-            let mut uncounted = Steps::new();
-            for k in 0..x.len() {
-                let mut products = [y[k]];
-                self.mul(&mut uncounted, &mut products, log_m);
-                xor(&mut x[k..k + 1], &products);
-            }
+            self.mul(steps, x, GF_MODULUS - log_m);
+            steps.row_step();
+            xor(x, y);
+            self.mul(steps, x, log_m);
         }
     }
 

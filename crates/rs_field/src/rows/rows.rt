@@ -4,7 +4,7 @@ ghost use Rattle.rs_field.specs.words.Tables.{times_factor};
 ghost use Rattle.rs_field.specs.words.Field.{product, power};
 ghost use Rattle.rs_field.specs.rows.Rows.{chunk, symbol, SameOutside};
 ghost use Rattle.rs_field.specs.rows.View.{cell, word, Fits, SameExtent, SameRowsOutside, AreZero};
-ghost use Rattle.rs_field.specs.words.StepBounds.{CountsRows, RowProductCounts};
+ghost use Rattle.rs_field.specs.words.StepBounds.{CountsRows, RowProductCounts, RowSumCounts};
 
 use super::ShardsRefMut;
 use super::engine::Engine;
@@ -107,7 +107,7 @@ pub fn mul_add_row_at<E: Engine>(
         → word rows.new k s to
         ≡ bit_xor (word rows.old k s to) (times_factor log_m (word rows.old k s from)) }
     ensures others { SameRowsOutside to (to + 1) rows.old rows.new }
-    ensures counts { RowProductCounts steps.old steps.new }
+    ensures counts { RowSumCounts steps.old steps.new }
 {
     let len = rows.shard_len_64;
     mul_add_runs(engine, steps, rows.chunks, to * len, from * len, len, log_m);
@@ -131,7 +131,7 @@ fn mul_add_runs<E: Engine>(
         ≡ bit_xor (symbol (chunk chunks.old (a + k)) s)
         (times_factor log_m (symbol (chunk chunks.old (b + k)) s)) }
     ensures others { SameOutside a (a + n) chunks.old chunks.new }
-    ensures counts { RowProductCounts steps.old steps.new }
+    ensures counts { RowSumCounts steps.old steps.new }
 {
     let (front, back) = chunks.split_at_mut(a.max(b));
     if a < b {

@@ -24,14 +24,18 @@ use Rattle.rs_field.proofs.of_words.DirectSum.{direct_term-same, direct_sum-same
 use Rattle.rs_rate.specs.rows.Marks.{how_many}
 use Rattle.rs_rate.proofs.of_rows.HowMany.{how_many-suc, how_many-one, how_many-none, how_many-rises}
 
+thrice : (b : Bool) (many : ℕ) → 3 * (many + cond b 1 0) ≡ 3 * many + cond b 3 0
+thrice true many = omega arith
+thrice false many = omega arith
+
 module _ (received : ℕ → Bool) (locator : ℕ → ℕ) (y : ℕ) where
-  -- Row x times its factor was added to row y, if row x is received, in at most one row step.
+  -- Row x times its factor was added to row y, if row x is received, in at most three row steps.
   pub record RowAdded (x : ℕ) (old new : ShardsRefMut) (before after : Steps) : Type 0 where
     pub extent : SameExtent old new
     pub others : SameRowsOutside y (y + 1) old new
     pub added : (k s : ℕ) → k < old.shard_len_64 → s < 32
         → word new k s y ≡ bit_xor (word old k s y) (direct_term received locator (word old k s) y x)
-    pub counts : CountsUpTo (if received x then 1 else 0) 0 0 before after
+    pub counts : CountsUpTo (if received x then 3 else 0) 0 0 before after
 
   -- The rows below n, if they are received, were added to row y, each times its factor.
   pub record RowsAdded (n : ℕ) (old new : ShardsRefMut) (before after : Steps) : Type 0 where
@@ -41,7 +45,7 @@ module _ (received : ℕ → Bool) (locator : ℕ → ℕ) (y : ℕ) where
     pub added : (k s : ℕ) → k < old.shard_len_64 → s < 32
         → word new k s y
         ≡ bit_xor (word old k s y) (sum_below n (λ x. direct_term received locator (word old k s) y x))
-    pub counts : CountsUpTo (how_many n received) 0 0 before after
+    pub counts : CountsUpTo (3 * how_many n received) 0 0 before after
 
   -- Before the first row, nothing was added.
   pub none_added : (rows : ShardsRefMut) (steps : Steps) → Fits rows → RowsAdded 0 rows rows steps steps
@@ -73,7 +77,8 @@ module _ (received : ℕ → Bool) (locator : ℕ → ℕ) (y : ℕ) where
             (direct_term received locator (word old k s) y x)
             ∙ ap (bit_xor (word old k s y))
             (sym (sum_below-suc x (λ z. direct_term received locator (word old k s) y z)));
-        counts = subst (λ (n : ℕ). CountsUpTo n 0 0 a c) (sym (how_many-suc x received))
+        counts = subst (λ (n : ℕ). CountsUpTo n 0 0 a c)
+            (sym (ap (λ n. 3 * n) (how_many-suc x received) ∙ thrice (received x) (how_many x received)))
             (counts_then before.counts step.counts);
       })
 
@@ -89,7 +94,7 @@ module _ (given base : ℕ → Bool) (locator : ℕ → ℕ) (w : ℕ) where
     pub others : SameRowsOutside y (y + 1) old new
     pub summed : given y ≡ false → (k s : ℕ) → k < old.shard_len_64 → s < 32
         → word new k s y ≡ direct_sum w base locator (word old k s) y
-    pub counts : CountsUpTo (if not (given y) then 1 + how_many w base else 0) 0 0 before after
+    pub counts : CountsUpTo (if not (given y) then 1 + 3 * how_many w base else 0) 0 0 before after
 
   -- The rows of the missing originals below n were set to their direct sums; no other row was changed.
   pub record RowsSummed (frame : Frame) (n : ℕ) (old new : ShardsRefMut) (before after : Steps) : Type 0 where
@@ -99,7 +104,7 @@ module _ (given base : ℕ → Bool) (locator : ℕ → ℕ) (w : ℕ) where
         → word new k s (original_row frame i) ≡ direct_sum w base locator (word old k s) (original_row frame i)
     pub left : (k q : ℕ) → k < old.shard_len_64 → (given q ≡ true) ⊎ (original_row frame n ≤ q)
         → cell new k q ≡ cell old k q
-    pub counts : CountsUpTo (how_many n (λ i. not (given (original_row frame i))) * (1 + how_many w base)) 0 0
+    pub counts : CountsUpTo (how_many n (λ i. not (given (original_row frame i))) * (1 + 3 * how_many w base)) 0 0
         before after
 
   -- One more row was summed.
@@ -134,9 +139,9 @@ module _ (given base : ℕ → Bool) (locator : ℕ → ℕ) (w : ℕ) where
           | inr past ↦ kept k q hk (inr (omega arith)) ∙ before.left k q hk (inr (omega arith))
         ];
         counts = subst (λ (m : ℕ). CountsUpTo m 0 0 a c)
-            (sym (ap (λ m. m * (1 + how_many w base)) (how_many-suc n (λ i. not (given (original_row frame i))))
+            (sym (ap (λ m. m * (1 + 3 * how_many w base)) (how_many-suc n (λ i. not (given (original_row frame i))))
             ∙ more_counted (not (given (original_row frame n))) (how_many n (λ i. not (given (original_row frame i))))
-            (1 + how_many w base)))
+            (1 + 3 * how_many w base)))
             (counts_then before.counts step.counts);
       })
     where
@@ -156,7 +161,7 @@ module _ (given base : ℕ → Bool) (locator : ℕ → ℕ) (w size : ℕ) wher
     pub fits : Fits new
     pub extent : SameExtent old new
     pub left : (k q : ℕ) → k < old.shard_len_64 → (base q ≡ true) ⊎ (n ≤ q) → cell new k q ≡ cell old k q
-    pub counts : CountsUpTo (how_many n (λ p. given p && not (base p)) * (1 + how_many w base)) 0 0 before after
+    pub counts : CountsUpTo (how_many n (λ p. given p && not (base p)) * (1 + 3 * how_many w base)) 0 0 before after
 
   -- Before the first row, nothing was tested.
   pub none_tested : (rows : ShardsRefMut) (steps : Steps) → Fits rows → RowsTested 0 rows rows steps steps
@@ -178,7 +183,7 @@ module _ (given base : ℕ → Bool) (locator : ℕ → ℕ) (w size : ℕ) wher
 
     -- One more row was tested.
     pub one_more_tested : (new : ShardsRefMut) (c : Steps) → given n ≡ true → base n ≡ false → SameExtent mid new
-        → SameRowsOutside n (n + 1) mid new → CountsUpTo (1 + how_many w base) 0 0 b c → RowsTested (n + 1) old new a c
+        → SameRowsOutside n (n + 1) mid new → CountsUpTo (1 + 3 * how_many w base) 0 0 b c → RowsTested (n + 1) old new a c
     one_more_tested new c is outside extent others counts =
         subst (λ (m : ℕ). RowsTested m old new a c) (sym (add-one n)) (record {
           fits = fits_kept extent before.fits;
@@ -197,9 +202,9 @@ module _ (given base : ℕ → Bool) (locator : ℕ → ℕ) (w size : ℕ) wher
               ])
               ∙ before.left k q hk (elim which [ inl in_base ↦ inl in_base | inr past ↦ inr (omega arith) ]);
           counts = subst (λ (m : ℕ). CountsUpTo m 0 0 a c)
-              (sym (ap (λ m. m * (1 + how_many w base))
+              (sym (ap (λ m. m * (1 + 3 * how_many w base))
               (how_many-one n (λ p. given p && not (base p)) (ap₂ (λ g o. g && not o) is outside))
-              ∙ more_counted true (how_many n (λ p. given p && not (base p))) (1 + how_many w base)))
+              ∙ more_counted true (how_many n (λ p. given p && not (base p))) (1 + 3 * how_many w base)))
               (counts_then before.counts counts);
         })
 
@@ -211,13 +216,13 @@ module _ (given base : ℕ → Bool) (locator : ℕ → ℕ) (w size : ℕ) wher
           extent = before.extent;
           left = λ k q hk which.
               before.left k q hk (elim which [ inl in_base ↦ inl in_base | inr past ↦ inr (omega arith) ]);
-          counts = subst (λ (m : ℕ). CountsUpTo (m * (1 + how_many w base)) 0 0 a b)
+          counts = subst (λ (m : ℕ). CountsUpTo (m * (1 + 3 * how_many w base)) 0 0 a b)
               (sym (how_many-none n (λ p. given p && not (base p)) is)) before.counts;
         })
 
     -- The tests of some rows are within the counts of the tests of all rows.
     pub counts_tested : n ≤ w
-        → CountsUpTo (how_many w (λ p. given p && not (base p)) * (1 + how_many w base)) 0 0 a b
+        → CountsUpTo (how_many w (λ p. given p && not (base p)) * (1 + 3 * how_many w base)) 0 0 a b
     counts_tested fit =
         counts_within
-        (mul-le-mul_right (1 + how_many w base) (how_many-rises n w (λ p. given p && not (base p)) fit)) before.counts
+        (mul-le-mul_right (1 + 3 * how_many w base) (how_many-rises n w (λ p. given p && not (base p)) fit)) before.counts

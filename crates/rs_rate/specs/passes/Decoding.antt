@@ -38,10 +38,14 @@ restore_steps c surplus =
     let w = rows_to_decode c in
     w + (transform_steps w + (surplus + (2 * transform_steps w + c.original_count)))
 
--- the row steps of direct sums: for each missing original and each surplus shard, one to clear or to check its row, and
--- one for each original
-abbrev pub sum_steps : Configuration → ℕ → ℕ → ℕ
-sum_steps c missing surplus = (missing + surplus) * (1 + c.original_count)
+-- a bound on the row steps of this number of direct sums: for each sum, one to clear or to check its row, and three for
+-- each original, since an engine may take three to add a multiple of a row
+abbrev pub sum_steps : Configuration → ℕ → ℕ
+sum_steps c sums = sums * (1 + 3 * c.original_count)
+
+-- a bound on the row steps of finding the words of the missing originals: three transforms, and three steps for each row
+abbrev pub find_steps : Configuration → ℕ
+find_steps c = let w = rows_to_decode c in 3 * transform_steps w + 3 * w
 
 -- the located word of row p: if its shard is given, the word times the generator to the power of the locator at p, else
 -- zero

@@ -11,7 +11,7 @@ ghost use Rattle.rs_rate.specs.rows.DecoderRoom.{memory_room};
 ghost use Rattle.rs_field.specs.code.Frame.{original_row, row_count};
 ghost use Rattle.rs_rate.specs.values.Configured.{configuration_at, IsConfigured, rows_to_decode};
 ghost use Rattle.rs_rate.specs.rows.DecoderView.{decoder_state, restored_by_rows, restored_from};
-ghost use Rattle.rs_rate.specs.passes.Decoding.{AreRowsOf, IsLocatorOf, restore_steps, FindsWords, RestoresShards};
+ghost use Rattle.rs_rate.specs.passes.Decoding.{AreRowsOf, IsLocatorOf, find_steps, FindsWords, RestoresShards};
 ghost use Rattle.rs_rate.specs.rows.Marks.{CanBeRestored};
 ghost use Rattle.rs_field.specs.rows.View.{word, SameExtent};
 ghost use Rattle.rs_rate.specs.rows.Marks.{erasure, given_marks, restored_marks, mark_count, WantsMissing};
@@ -161,8 +161,7 @@ fn find_words<E: Engine>(
     ensures marks { WantsMissing tally.configuration marks.old marks.new }
     ensures words { FindsWords tally.configuration (given_marks marks.old) tally.surplus
         (word rows.old) (word rows.new) result }
-    ensures counts { CountsUpTo (restore_steps tally.configuration tally.surplus) 1048576 65536
-        steps.old steps.new }
+    ensures counts { CountsUpTo (find_steps tally.configuration) 1048576 65536 steps.old steps.new }
 {
     if let Some(agrees) = find_by_sums(engine, steps, rows, marks, entries, tally) {
         return agrees;
@@ -173,8 +172,8 @@ fn find_words<E: Engine>(
 }
 
 // Restores the words of the missing originals by direct sums over k given shards, if the other given shards agree with these.
-// Returns whether they do. Afterwards the marks are those of restored originals. Returns `None` if transforms cost less or the
-// engine has no logarithms; then nothing has changed.
+// Returns whether they do. Afterwards the marks are those of restored originals. Returns `None` if transforms cost less, if
+// sums could take more steps, or if the engine has no logarithms. Then nothing has changed.
 fn find_by_sums<E: Engine>(
     engine: &E,
     steps: &mut Steps,
@@ -192,8 +191,8 @@ fn find_by_sums<E: Engine>(
     ensures marks { IfSome result (λ _. WantsMissing tally.configuration marks.old marks.new) }
     ensures words { IfSome result (λ agrees. FindsWords tally.configuration (given_marks marks.old)
         tally.surplus (word rows.old) (word rows.new) agrees) }
-    ensures counts { IfSome result (λ _. CountsUpTo
-        (restore_steps tally.configuration tally.surplus) 1048576 65536 steps.old steps.new) }
+    ensures counts { IfSome result (λ _. CountsUpTo (find_steps tally.configuration) 1048576 65536
+        steps.old steps.new) }
 {
     if !are_sums_used(tally) {
         return None;

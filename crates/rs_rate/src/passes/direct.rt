@@ -17,6 +17,7 @@ ghost use Rattle.rs_field.specs.words.Field.{log};
 ghost use Rattle.rs_field.specs.words.StepBounds.{CountsUpTo};
 ghost use Rattle.rs_rate.specs.values.Configured.{IsConfigured, rows_to_decode};
 ghost use Rattle.rs_rate.specs.passes.Decoding.{AreRowsOf, is_outside, IsBaseOf, SumsWords};
+ghost use Rattle.rs_rate.specs.passes.Decoding.{sum_steps, find_steps};
 ghost use Rattle.rs_rate.specs.rows.Marks.{how_many};
 ghost use Rattle.rs_rate.specs.values.SumCosts.{AreSumsCheaper};
 
@@ -57,20 +58,35 @@ impl Logarithms<'_> {
     }
 }
 
-// Returns whether direct sums are used: the decoder has few rows, and the sums are cheaper than transforms. There is
-// one sum for each missing original and one for each surplus shard.
+// Returns whether direct sums are used: the decoder has few rows, and the sums are cheaper than transforms and within
+// their steps. There is one sum for each missing original and one for each surplus shard.
 pub(crate) fn are_sums_used(tally: Tally) -> bool
     requires configured { IsConfigured tally.configuration }
     requires few { tally.missing ≤ 65536 }
     requires few_surplus { tally.surplus ≤ 65536 }
     ensures { IsTrue result ↔ (rows_to_decode tally.configuration ≤ 2048)
         × AreSumsCheaper tally.configuration.frame tally.configuration.original_count
-        (tally.missing + tally.surplus) }
+        (tally.missing + tally.surplus)
+        × (sum_steps tally.configuration (tally.missing + tally.surplus)
+        ≤ find_steps tally.configuration) }
 {
-    let frame = tally.configuration.frame;
+    let configuration = tally.configuration;
     let sums = tally.missing + tally.surplus;
-    frame.row_count() <= MOST_ROWS
-        && are_sums_cheaper(frame, tally.configuration.original_count, sums)
+    configuration.frame.row_count() <= MOST_ROWS
+        && are_sums_cheaper(configuration.frame, configuration.original_count, sums)
+        && are_sums_within_steps(configuration, sums)
+}
+
+// Returns whether this number of sums is within the steps of transforms, also with an engine that takes three row steps to
+// add a multiple of a row.
+fn are_sums_within_steps(configuration: Configuration, sums: usize) -> bool
+    requires configured { IsConfigured configuration }
+    requires few { sums ≤ 131072 }
+    ensures { IsTrue result ↔ (sum_steps configuration sums ≤ find_steps configuration) }
+{
+    let frame = configuration.frame;
+    let twice = 2 * sums * (1 + 3 * configuration.original_count);
+    twice <= 3 * frame.row_count() * (frame.exponent + 2)
 }
 
 // Marks the first `count` given rows, which are the base.
@@ -115,7 +131,7 @@ pub(crate) fn sum_rows<E: Engine>(
         ((how_many configuration.original_count
         (λ i. not (is_marked given.now (original_row configuration.frame i)))
         + how_many (rows_to_decode configuration) (is_outside given.now base.now))
-        * (1 + configuration.original_count)) 0 0 steps.old steps.new }
+        * (1 + 3 * configuration.original_count)) 0 0 steps.old steps.new }
 {
     let agrees = are_equal_to_sums(
         engine,
@@ -161,7 +177,7 @@ fn are_equal_to_sums<E: Engine>(
         (λ x. slice_index logarithms.now.locator.now x) (word rows.old (j / 32) (j % 32)) p)
         ↔ (result ≡ true) }
     ensures counts { CountsUpTo (how_many rows.old.shard_count (is_outside given.now base.now)
-        * (1 + how_many rows.old.shard_count (is_marked base.now))) 0 0 steps.old steps.new }
+        * (1 + 3 * how_many rows.old.shard_count (is_marked base.now))) 0 0 steps.old steps.new }
 {
     for y in 0..rows.len() {
         if given[y]
@@ -201,7 +217,7 @@ fn is_equal_to_sum<E: Engine>(
         ≡ direct_sum rows.old.shard_count (is_marked base.now)
         (λ x. slice_index logarithms.now.locator.now x) (word rows.old (j / 32) (j % 32)) y)
         ↔ (result ≡ true) }
-    ensures counts { CountsUpTo (1 + how_many rows.old.shard_count (is_marked base.now)) 0 0
+    ensures counts { CountsUpTo (1 + 3 * how_many rows.old.shard_count (is_marked base.now)) 0 0
         steps.old steps.new }
 {
     add_base_rows(engine, steps, rows, base, logarithms, y);
@@ -237,7 +253,7 @@ fn sum_missing<E: Engine>(
     ensures counts { CountsUpTo
         (how_many configuration.original_count
         (λ i. not (is_marked given.now (original_row configuration.frame i)))
-        * (1 + how_many (rows_to_decode configuration) (is_marked base.now))) 0 0 steps.old
+        * (1 + 3 * how_many (rows_to_decode configuration) (is_marked base.now))) 0 0 steps.old
         steps.new }
 {
     for i in 0..configuration.original_count {
@@ -273,8 +289,8 @@ fn sum_if_missing<E: Engine>(
         (λ x. slice_index logarithms.now.locator.now x) (word rows.old k s) y }
     ensures others { SameRowsOutside y (y + 1) rows.old rows.new }
     ensures counts { CountsUpTo
-        (if not (is_marked given.now y) then 1 + how_many rows.old.shard_count (is_marked base.now)
-        else 0)
+        (if not (is_marked given.now y)
+        then 1 + 3 * how_many rows.old.shard_count (is_marked base.now) else 0)
         0 0 steps.old steps.new }
 {
     if !given[y] {
@@ -306,7 +322,7 @@ fn add_base_rows<E: Engine>(
         (direct_sum rows.old.shard_count (is_marked base.now)
         (λ x. slice_index logarithms.now.locator.now x) (word rows.old k s) y) }
     ensures others { SameRowsOutside y (y + 1) rows.old rows.new }
-    ensures counts { CountsUpTo (how_many rows.old.shard_count (is_marked base.now)) 0 0
+    ensures counts { CountsUpTo (3 * how_many rows.old.shard_count (is_marked base.now)) 0 0
         steps.old steps.new }
 {
     for x in 0..rows.len() {
@@ -339,7 +355,7 @@ fn add_if_in_base<E: Engine>(
         (direct_term (is_marked base.now) (λ z. slice_index logarithms.now.locator.now z)
         (word rows.old k s) y x) }
     ensures others { SameRowsOutside y (y + 1) rows.old rows.new }
-    ensures counts { CountsUpTo (if is_marked base.now x then 1 else 0) 0 0 steps.old steps.new }
+    ensures counts { CountsUpTo (if is_marked base.now x then 3 else 0) 0 0 steps.old steps.new }
 {
     if base[x] {
         mul_add_row_at(engine, steps, rows, y, x, logarithms.factor(x, y));

@@ -12,36 +12,11 @@ use Rattle.rs_field.proofs.of_words.Counting.{counted}
 use Rattle.rs_field.proofs.of_words.Power.{log_lt}
 use Rattle.rs_field.proofs.of_words.Halves.{steps_twice}
 use Rattle.rs_rate.specs.values.Configured.{rows_to_decode}
-use Rattle.rs_rate.specs.passes.Decoding.{restore_steps, sum_steps, is_outside}
+use Rattle.rs_rate.specs.passes.Decoding.{find_steps, sum_steps, is_outside}
 use Rattle.rs_rate.specs.rows.Marks.{given_marks, how_many}
 use Rattle.rs_rate.specs.values.SumCosts.{AreSumsCheaper}
 use Rattle.rs_rate.proofs.of_rows.HowMany.{how_many-most, how_many-rest}
 use Rattle.rs_rate.proofs.passes.decoding.find_by_sums.Goals as goal
-
--- Fewer than four products for each row are no more than three transforms and one product for each row. With at most
--- two rows, there are at most as many sums as rows, and at most as many products in each sum.
-products_within : (rows e steps sums k : ℕ) → rows ≡ 2 ^ e → 2 * steps ≡ rows * e → sums ≤ rows → k ≤ rows
-    → sums * k < 4 * rows → sums * k ≤ rows + 3 * steps
-products_within rows zero steps sums k is twice few most fewer =
-    let most_one : k ≤ 1 = omega (arith, is) in
-    omega (arith, is, mul-le-mul_left sums most_one)
-products_within rows (suc zero) steps sums k is twice few most fewer =
-    let most_two : k ≤ 2 = omega (arith, is) in
-    omega (arith, is, mul-le-mul_left sums most_two)
-products_within rows (suc (suc e)) steps sums k is twice few most fewer = omega arith
-
--- Direct sums that are cheaper than transforms take no more row steps than these.
-sums_within : (f : Frame) (k missing surplus : ℕ) → f.exponent < 64 → missing ≤ k → k ≤ row_count f
-    → missing + surplus ≤ row_count f → AreSumsCheaper f k (missing + surplus)
-    → (missing + surplus) * (1 + k)
-    ≤ row_count f + (transform_steps (row_count f) + (surplus + (2 * transform_steps (row_count f) + k)))
-unfolding AreSumsCheaper
-sums_within f k missing surplus few most fit within cheaper =
-    let twice = steps_twice (row_count f) f.exponent few refl in
-    let products = products_within (row_count f) f.exponent (transform_steps (row_count f)) (missing + surplus) k
-    refl twice within fit cheaper in
-    let each : (missing + surplus) * (1 + k) ≡ missing + surplus + (missing + surplus) * k = omega arith in
-    omega arith
 
 -- A logarithm is below 65535.
 log_mod : (l z : ℕ) → 0 < z → z < 65536 → l ≡ log z → l % 65535 ≡ log z
@@ -82,16 +57,12 @@ returns-clause-counts g c =
     let surplus : how_many (rows_to_decode c.args.tally.configuration)
     (is_outside (given_marks c.args.marks.now) c.mark_base.new.base) ≡ c.args.tally.surplus =
     omega (arith, rest, of_base, facts.given) in
-    let sums : CountsUpTo (sum_steps c.args.tally.configuration c.args.tally.missing c.args.tally.surplus) 0 0
+    let sums : CountsUpTo (sum_steps c.args.tally.configuration (c.args.tally.missing + c.args.tally.surplus)) 0 0
     c.make_locator.new.steps c.sum_rows-agrees.new.steps =
-    subst (λ (n : ℕ). CountsUpTo (n * (1 + own.original_count)) 0 0 c.make_locator.new.steps
+    subst (λ (n : ℕ). CountsUpTo (n * (1 + 3 * own.original_count)) 0 0 c.make_locator.new.steps
     c.sum_rows-agrees.new.steps) (ap₂ (λ a b. a + b) facts.missing surplus)
     (rw c.given-2.ensures.marks at c.sum_rows-agrees.ensures.counts) in
-    both_counted (sum_steps own tally.missing tally.surplus) (restore_steps own tally.surplus) c.args.steps.now
+    both_counted (sum_steps own (tally.missing + tally.surplus)) (find_steps own) c.args.steps.now
     c.make_locator.new.steps c.sum_rows-agrees.new.steps
-    (sums_within own.frame own.original_count tally.missing tally.surplus
-    (omega (arith, facts.configured.few)) (omega (arith, most, facts.missing))
-    (omega (arith, facts.configured.own_rows))
-    (omega (arith, most, facts.missing, facts.given, how_many-most rows given, facts.configured.own_rows))
-    (c.are_sums_used.ensures.0 c.if-not-are_sums_used.false).1)
+    (c.are_sums_used.ensures.0 c.if-not-are_sums_used.false).2
     c.make_locator.ensures.counts sums

@@ -5,7 +5,7 @@ use Rattle.rs_field.specs.rows.Layout.{row_len}
 use Rattle.rs_field.proofs.of_code.DecodeSteps.{counts_decode}
 use Rattle.rs_field.proofs.of_words.Counting.{counts_none}
 use Rattle.rs_rate.specs.values.Configured.{rows_to_decode}
-use Rattle.rs_rate.specs.passes.Decoding.{restore_steps}
+use Rattle.rs_rate.specs.passes.Decoding.{find_steps}
 use Rattle.rs_rate.specs.rows.Marks.{given_marks}
 use Rattle.rs_rate.specs.rows.ShardRows.{word_in}
 use Rattle.rs_rate.proofs.of_passes.RestoredRows.{found_read}
@@ -51,15 +51,15 @@ returns-else-agrees-clause-restored g c some =
 pub returns-then-agrees-clause-counts : goal.returns-then-agrees-clause-counts
 returns-then-agrees-clause-counts g c =
     let s = c.args.tally.configuration in
-    counts_decode (rows_to_decode s) (restore_steps s c.args.tally.surplus) s.original_count c.args.steps.now
+    counts_decode (rows_to_decode s) (find_steps s) s.original_count c.args.steps.now
     c.find_words-agrees.new.steps c.move_restored_tails.new.steps
-    (omega (arith, c.requires.facts.few_surplus, c.requires.facts.configured.own_rows))
+    (omega (arith, c.requires.facts.configured.own_rows))
     c.find_words-agrees.ensures.counts c.move_restored_tails.ensures.counts
 
 pub returns-else-agrees-clause-counts : goal.returns-else-agrees-clause-counts
 returns-else-agrees-clause-counts g c =
     let s = c.args.tally.configuration in
-    counts_decode (rows_to_decode s) (restore_steps s c.args.tally.surplus) 0 c.args.steps.now
+    counts_decode (rows_to_decode s) (find_steps s) 0 c.args.steps.now
     c.find_words-agrees.new.steps c.find_words-agrees.new.steps
-    (omega (arith, c.requires.facts.few_surplus, c.requires.facts.configured.own_rows))
+    (omega (arith, c.requires.facts.configured.own_rows))
     c.find_words-agrees.ensures.counts (counts_none)

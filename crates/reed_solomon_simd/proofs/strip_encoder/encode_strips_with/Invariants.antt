@@ -5,7 +5,7 @@ use Rattle.rs_field.specs.code.OneCall.{default_of}
 use Rattle.rs_field.proofs.of_code.Pieces.{IsDone}
 use Rattle.rs_rate.specs.rows.EncoderView.{encoder_state}
 use Rattle.reed_solomon_simd.proofs.StripLoops.{IsCut}
-use Rattle.reed_solomon_simd.proofs.strip_encoder.encode_strips.Given as goal
+use Rattle.reed_solomon_simd.proofs.strip_encoder.encode_strips_with.Given as goal
 
 -- All bytes before `start` are coded. A chunk begins at `start`, or the shards end there. If bytes are left, the
 -- encoder is ready for the next strip.

@@ -3,14 +3,14 @@ use Rattle.rs_field.specs.code.Counts.{default_rate}
 use Rattle.rs_field.proofs.of_code.Pieces.{done-none, done-further, done-all}
 use Rattle.rs_rate.specs.rows.EncoderView.{encoder_state}
 use Rattle.reed_solomon_simd.proofs.StripLoops.{cut-first, strip-next, cut-last}
-use Rattle.reed_solomon_simd.proofs.strip_encoder.encode_strips.Goals.{then-left-width+in_ok-reset, else-left-width}
-use Rattle.reed_solomon_simd.proofs.strip_encoder.encode_strips.Goals as goal
+use Rattle.reed_solomon_simd.proofs.strip_encoder.encode_strips_with.Goals.{then-left-width+in_ok-reset, else-left-width}
+use Rattle.reed_solomon_simd.proofs.strip_encoder.encode_strips_with.Goals as goal
 
 pub loop-start-init : goal.loop-start-init
 loop-start-init g c =
     record {
       cut = cut-first c.args.shard_bytes;
-      fresh = λ more. c.in_ok-encoder.ensures.made.0;
+      fresh = λ more. c.requires.fresh ∙ ap (λ w. fresh_encoder (default_of c.args.counts.original_count c.args.counts.recovery_count w)) (sym c.min-width.ensures);
       done = done-none c.requires.number c.requires.fit;
       places = refl;
       loan = refl;
