@@ -117,6 +117,7 @@ impl<'a> LentOriginals<'a> {
         ensures left { lent_state self.new
             ≡ state_after (lent_state self.old) (with_shard (lent_state self.old) shard.now) }
         ensures counts { self.new.counts ≡ self.old.counts }
+        ensures size { self.new.shard_bytes ≡ self.old.shard_bytes }
     {
         let original_count = self.counts.original_count;
         if self.shards.len() == original_count {
@@ -142,6 +143,7 @@ impl<'a> LentOriginals<'a> {
             → Reaches (with_shards (lent_state self.old) items) result
             (λ s. lent_state self.new ≡ s)) }
         ensures counts { self.new.counts ≡ self.old.counts }
+        ensures size { self.new.shard_bytes ≡ self.old.shard_bytes }
     {
         for shard in originals {
             self.add(shard)?;

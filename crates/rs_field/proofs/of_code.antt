@@ -29,6 +29,7 @@ pub mod Entries
 pub mod RoundTrip
 pub mod DecodeSteps
 pub mod OneRoundTrip
+pub mod OnlyMessage
 pub mod Left
 pub mod DirectColumn
 pub mod AnyShards

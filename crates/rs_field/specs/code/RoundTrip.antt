@@ -1,5 +1,6 @@
 -- The round trip: a decoder that gets enough of the shards of a message returns the lost originals, each as it was.
-use Rattle.std.specs.Prelude.{◌≡◌, ℕ, ◌+◌, ◌<◌, ◌⊎◌, ◌&&◌, not, nat_lt, nat_eq, if◌then◌else◌, List, length, map, All}
+use Rattle.std.specs.Prelude.{◌≡◌, ℕ, ◌+◌, ◌<◌, ◌⊎◌, ◌&&◌, not, nat_lt, nat_eq, if◌then◌else◌, List, [], ◌∷◌, length, map}
+use Rattle.std.specs.Prelude.{All}
 use Rattle.std.specs.Prelude.{Some, None, Result, Ok, Err, IfOk, IfErr, IsOkAnd}
 use Rattle.std.specs.List.{IsDistinct, list_any}
 use Rattle.rs_field.specs.declared.code.error.Error.{Error}
@@ -83,6 +84,23 @@ pub record AreCoded (k r : ℕ) (originals recovery : List Shard) : Type 0 where
   pub shards : AreShards k size originals
   pub coded : AreRecovery (default_of k r size) originals recovery
 
+-- received shards belong to a message: each of them is the original or the recovery shard of the message that has its
+-- index, and no index occurs twice
+pub record BelongTo (k r : ℕ) (kept received : Items) (message : List Shard) : Type 0 where
+  pub recovery : List Shard
+  pub coded : AreCoded k r message recovery
+  pub own : AreLeft message kept
+  pub others : AreLeft recovery received
+
+-- restored shards are the lost originals of the only message to which the received shards belong. Without a recovery
+-- shard, nothing is restored
+abbrev pub RestoresOnly : ℕ → ℕ → Items → Items → Shards → Type 0
+RestoresOnly k r kept [] out = (i : ℕ) → out i ≡ None
+RestoresOnly k r kept (first ∷ rest) out =
+    (message : List Shard) × BelongTo k r kept (first ∷ rest) message
+    × ((other : List Shard) → BelongTo k r kept (first ∷ rest) other → other ≡ message)
+    × ((i : ℕ) → out i ≡ lost_of message kept i)
+
 -- if one-call `encode` succeeds, it returns the recovery shards of all originals that it took
 abbrev pub CodesInOneCall : Type 0
 CodesInOneCall =
@@ -109,3 +127,10 @@ RestoresInOneCall =
     (k r : ℕ) (originals recovery : List Shard) (kept received : Items) (result : Result Shards Error)
     → AreCoded k r originals recovery → AreLeft originals kept → AreLeft recovery received
     → OneDecodeAnswers k r kept received result → OneBringsBack originals kept received result
+
+-- if one-call `decode` succeeds, its result is the lost originals of the only message to which the received shards
+-- belong
+abbrev pub RestoresOnlyMessage : Type 0
+RestoresOnlyMessage =
+    (k r : ℕ) (kept received : Items) (out : Shards)
+    → OneDecodeAnswers k r kept received (Ok out) → RestoresOnly k r kept received out

@@ -12,6 +12,7 @@ ghost use Rattle.rs_field.specs.words.Field.{cantor_basis, polynomial};
 ghost use Rattle.rs_field.specs.words.Laws.{IsField, IsGenerated, IsProductOfBits};
 ghost use Rattle.rs_field.specs.words.Locator.{LocatesByProduct};
 ghost use Rattle.rs_field.specs.code.RoundTrip.{RestoresLost, RestoresEncoded, RestoresLeft};
+ghost use Rattle.rs_field.specs.code.RoundTrip.{RestoresOnlyMessage};
 ghost use Rattle.rs_field.specs.code.RoundTrip.{CodesInOneCall, EncodesInOneCall};
 ghost use Rattle.rs_field.specs.code.RoundTrip.{RestoresInOneCall};
 ghost use Rattle.rs_field.specs.words.Subspace.{SubspaceIsShift};
@@ -82,7 +83,8 @@ pub fn direct_laws()
 
 /// States that a decoder of any rate that gets at least k of the originals and recovery shards of a message returns
 /// exactly the lost originals, and never fails. The same holds for an encoder followed by a decoder. It also holds for the
-/// functions `encode` and `decode`, except that they may fail with `OutOfMemory`.
+/// functions `encode` and `decode`, except that they may fail with `OutOfMemory`. If `decode` succeeds, the shards that it
+/// got belong to exactly one message, and it returns the lost originals of this message.
 pub fn round_trip_laws()
     ensures lost { RestoresLost }
     ensures encoded { RestoresEncoded }
@@ -90,6 +92,7 @@ pub fn round_trip_laws()
     ensures one_encode { CodesInOneCall }
     ensures one_encode_whole { EncodesInOneCall }
     ensures one_call { RestoresInOneCall }
+    ensures only { RestoresOnlyMessage }
 {}
 
 /// States that the subspace polynomials shift coordinates, and that the sums of logarithms of a locator are logarithms

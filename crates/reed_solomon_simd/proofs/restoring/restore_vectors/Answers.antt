@@ -4,5 +4,5 @@ use Rattle.reed_solomon_simd.proofs.restoring.restore_vectors.Goals as goal
 
 pub restore_apart-requires-clause-fit : goal.restore_apart-requires-clause-fit
 restore_apart-requires-clause-fit g c =
-    All-map (λ s. length s ≡ 0) (λ v. v.items) c.in_ok-vectors.vectors.items
-    (λ i d h. ap length (c.in_ok-vectors.ensures.empty i d h))
+    All-map (λ s. length s ≡ 0) (λ v. v.items) c.in-Ok.vectors.items
+    (λ i d h. ap length (c.in-Ok.ensures.empty i d h))

@@ -1,5 +1,7 @@
-use Rattle.std.proofs.Common.{ap, ◌∙◌, refl}
+use Rattle.std.proofs.Common.{ap, sym, ◌∙◌, refl}
 use Rattle.rs_field.specs.code.Counts.{default_rate}
+use Rattle.rs_field.specs.code.Encoder.{fresh_encoder}
+use Rattle.rs_field.specs.code.OneCall.{default_of}
 use Rattle.rs_field.proofs.of_code.Pieces.{done-none, done-further, done-all}
 use Rattle.rs_rate.specs.rows.EncoderView.{encoder_state}
 use Rattle.reed_solomon_simd.proofs.StripLoops.{cut-first, strip-next, cut-last}
@@ -10,7 +12,10 @@ pub loop-start-init : goal.loop-start-init
 loop-start-init g c =
     record {
       cut = cut-first c.args.shard_bytes;
-      fresh = λ more. c.requires.fresh ∙ ap (λ w. fresh_encoder (default_of c.args.counts.original_count c.args.counts.recovery_count w)) (sym c.min-width.ensures);
+      fresh = λ more.
+          c.requires.fresh
+          ∙ ap (λ w. fresh_encoder (default_of c.args.counts.original_count c.args.counts.recovery_count w))
+          (sym c.min-width.ensures);
       done = done-none c.requires.number c.requires.fit;
       places = refl;
       loan = refl;

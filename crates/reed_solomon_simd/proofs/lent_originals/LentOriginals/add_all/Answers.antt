@@ -9,6 +9,7 @@ loop-shard-preserved g c =
       led = leads-taken c.loop-shard.invariant.led c.in-Some.ensures.steps
           (outcome-ok _ _ _ c.in_ok-add.ensures.answer c.in_ok-add.ensures.left);
       counts = c.in_ok-add.ensures.counts ∙ c.loop-shard.invariant.counts;
+      size = c.in_ok-add.ensures.size ∙ c.loop-shard.invariant.size;
     }
 
 pub returns-in_err-add-clause-reaches : goal.returns-in_err-add-clause-reaches

@@ -10,4 +10,5 @@ invariant-loop-shard g l =
       led : LeadsOn g.I.Iterator.next_gives (λ shard. shard.now) with_shard l.fn.originals
           (lent_state l.initial.self) l.shard-iterator (lent_state l.self);
       counts : l.self.counts ≡ l.initial.self.counts;
+      size : l.self.shard_bytes ≡ l.initial.self.shard_bytes;
     }

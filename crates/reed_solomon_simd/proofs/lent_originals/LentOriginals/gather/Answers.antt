@@ -1,9 +1,17 @@
-use Rattle.std.proofs.Common.{rules}
+use Rattle.std.proofs.Common.{rules, ◌≡◌, Result, Ok, Err}
+use Rattle.rs_field.specs.declared.code.error.Error.{Error}
+use Rattle.rs_field.specs.declared.code.error.Error.TheVariants.{OutOfMemory}
+use Rattle.rs_field.specs.code.Configuration.{UpToMemory}
 use Rattle.rs_field.specs.code.Encoder.{with_shard}
 use Rattle.rs_rate.proofs.of_objects.Giving.{no-calls, ended-calls, ended-run, first-then, outcome-ok, outcome-err}
 use Rattle.rs_rate.proofs.of_objects.Giving.{reached-ok, reached-err, adds-ok, adds-err}
 use Rattle.rs_rate.proofs.of_objects.OneCall.{encoding-unset, encoding-given}
 use Rattle.reed_solomon_simd.proofs.lent_originals.LentOriginals.gather.Goals as goal
+
+-- If an object was set up, memory that cannot be allocated afterwards gives a result that is allowed.
+lacking : (outcome : Result (Unit {0}) Error) (e : Error) → UpToMemory outcome (Ok tt) → e ≡ OutOfMemory
+    → UpToMemory outcome (Err e)
+lacking outcome e set_up refused = search rules
 
 pub returns-in_default-clause-gathered : goal.returns-in_default-clause-gathered
 returns-in_default-clause-gathered g c = (
@@ -19,6 +27,15 @@ returns-in_err-originals-clause-gathered g c =
       λ others begins.
           let led = encoding-unset c.args.counts.original_count c.args.counts.recovery_count c.in-Some.first.now others
           _ c.in_err-originals.ensures.answer in search rules,
+    )
+
+pub returns-in_err-encoder-clause-gathered : goal.returns-in_err-encoder-clause-gathered
+returns-in_err-encoder-clause-gathered g c =
+    first-then g.I.Iterator.next_gives (λ shard. shard.now) _ c.in-Some.ensures.steps (
+      no-calls c.next.new.self,
+      λ others begins.
+          let led = encoding-unset c.args.counts.original_count c.args.counts.recovery_count c.in-Some.first.now others
+          _ (lacking _ _ c.in_ok-originals.ensures.answer c.in_err-encoder.ensures.refused) in search rules,
     )
 
 pub returns-in_err-add-clause-gathered : goal.returns-in_err-add-clause-gathered
