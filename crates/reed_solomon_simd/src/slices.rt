@@ -1,7 +1,7 @@
 //! Functions that encode or decode in one call, over slices of shards.
 ghost use Rattle.std.specs.Prelude.{map, IfOk};
 ghost use Rattle.rs_field.specs.code.OneCall.{OneEncodeAnswers, OneDecodeAnswers, collected_shards, collected_map};
-ghost use Rattle.rs_field.specs.code.RoundTrip.{AreCoded};
+ghost use Rattle.rs_field.specs.code.RoundTrip.{AreCoded, RestoresOnly};
 
 use crate::engine::DefaultEngine;
 use crate::{Error, decode, encode};
@@ -32,10 +32,10 @@ pub fn encode_slice<T: AsSlice<u8>>(
     original: &[T],
     engine: DefaultEngine<'_>,
 ) -> Result<Vec<Vec<u8>>, Error>
-    ensures answer { OneEncodeAnswers original_count recovery_count (map T.items original.now)
-        (collected_shards result) }
     ensures coded { IfOk (collected_shards result)
         (AreCoded original_count recovery_count (map T.items original.now)) }
+    ensures answer { OneEncodeAnswers original_count recovery_count (map T.items original.now)
+        (collected_shards result) }
 {
     let shards = original.iter().map(|shard| shard.as_slice());
     encode(alloc, original_count, recovery_count, shards, engine)
@@ -47,7 +47,8 @@ pub fn encode_slice<T: AsSlice<u8>>(
 /// The index of an original is its place in the order in which the originals were added to the encoder, counted from 0.
 /// Recovery shards have indexes of their own, which also begin at 0.
 ///
-/// This call requires nothing of its caller, so its contract is the shortest form of the main theorem.
+/// This call requires nothing of its caller, so its contract is a short form of the main theorem. The clause `restored`
+/// states what a decode that succeeds returns, and the clause `answer` also states the errors in their order.
 ///
 /// # Errors
 ///
@@ -72,7 +73,10 @@ pub fn decode_slice<O: AsSlice<u8>, R: AsSlice<u8>>(
     recovery: &[(usize, R)],
     engine: DefaultEngine<'_>,
 ) -> Result<BTreeMap<usize, Vec<u8>>, Error>
-    ensures { OneDecodeAnswers original_count recovery_count
+    ensures restored { IfOk (collected_map result) (RestoresOnly original_count recovery_count
+        (map (λ item. (item.0, O.items item.1)) original.now)
+        (map (λ item. (item.0, R.items item.1)) recovery.now)) }
+    ensures answer { OneDecodeAnswers original_count recovery_count
         (map (λ item. (item.0, O.items item.1)) original.now)
         (map (λ item. (item.0, R.items item.1)) recovery.now) (collected_map result) }
 {

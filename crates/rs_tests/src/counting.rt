@@ -14,7 +14,7 @@ use std::process::Abort;
 
 // The number of calls of each method. The constants below are the indexes of the methods. `eval_poly` and `locate` both
 // compute a locator, and share an index.
-type Calls = [u32; 4];
+type Calls = [u32; 5];
 
 const FFT: usize = 0;
 
@@ -24,26 +24,31 @@ const MUL: usize = 2;
 
 const LOCATOR: usize = 3;
 
-/// The plain engine, which counts its calls, and the entries of all locators that it computed.
+const SUM: usize = 4;
+
+/// The plain engine, which counts its calls, and the entries of all locators that it computed. If it has no logarithms, its
+/// decoders never use direct sums.
 #[derive(Drop)]
 pub struct Counting<'t> {
     naive: Naive<'t>,
+    has_logarithms: bool,
     calls: Cell<Calls>,
     entries: Cell<usize>,
 }
 
 impl<'t> Counting<'t> {
-    fn new(tables: &'t Tables) -> Counting<'t> {
+    fn new(tables: &'t Tables, has_logarithms: bool) -> Counting<'t> {
         Counting {
             naive: Naive::new(tables),
-            calls: Cell::new([0; 4]),
+            has_logarithms,
+            calls: Cell::new([0; 5]),
             entries: Cell::new(0),
         }
     }
 
     // Counts a call of the method that has this place.
     fn count(&self, method: usize)
-        requires { method < 4 }
+        requires { method < 5 }
     {
         let mut calls = self.calls.get();
         calls[method] = calls[method].saturating_add(1);
@@ -100,6 +105,61 @@ impl Engine for Counting<'_> {
         self.count_locator(entries.len());
         self.naive.locate(steps, entries);
     }
+
+    fn mul_add(&self, steps: &mut Steps, x: &mut [[u8; 64]], y: &[[u8; 64]], log_m: GfElement) {
+        self.count(SUM);
+        self.naive.mul_add(steps, x, y, log_m);
+    }
+
+    fn logarithms(&self, logs: &mut [GfElement]) -> bool {
+        self.has_logarithms && self.naive.logarithms(logs)
+    }
+}
+
+/// The plain engine with the four calls that every engine has, and with logarithms. It counts its calls.
+#[derive(Drop)]
+pub struct FourCalls<'t> {
+    counting: Counting<'t>,
+}
+
+impl Engine for FourCalls<'_> {
+    fn fft(
+        &self,
+        steps: &mut Steps,
+        rows: &mut ShardsRefMut<'_>,
+        pos: usize,
+        size: usize,
+        truncated_size: usize,
+        skew_delta: usize,
+    ) {
+        self.counting
+            .fft(steps, rows, pos, size, truncated_size, skew_delta);
+    }
+
+    fn ifft(
+        &self,
+        steps: &mut Steps,
+        rows: &mut ShardsRefMut<'_>,
+        pos: usize,
+        size: usize,
+        truncated_size: usize,
+        skew_delta: usize,
+    ) {
+        self.counting
+            .ifft(steps, rows, pos, size, truncated_size, skew_delta);
+    }
+
+    fn mul(&self, steps: &mut Steps, x: &mut [[u8; 64]], log_m: GfElement) {
+        self.counting.mul(steps, x, log_m);
+    }
+
+    fn eval_poly(&self, steps: &mut Steps, entries: &mut [GfElement], truncated_size: usize) {
+        self.counting.eval_poly(steps, entries, truncated_size);
+    }
+
+    fn logarithms(&self, logs: &mut [GfElement]) -> bool {
+        self.counting.logarithms(logs)
+    }
 }
 
 // Returns how often an encode of these originals calls its engine.
@@ -109,7 +169,7 @@ fn calls_of_encode<'t, R: Rate<Counting<'t>>>(
     original: &[[u8; 2]],
     recovery_count: usize,
 ) -> Result<Calls, Error> {
-    let engine = Counting::new(tables);
+    let engine = Counting::new(tables, false);
     let mut encoder = R::encoder(alloc, original.len(), recovery_count, 2, engine, None)?;
     for shard in original {
         encoder.add_original_shard(shard)?;
@@ -190,10 +250,10 @@ fn check_decode<'t, R: Rate<Counting<'t>>>(
     tables: &'t Tables,
     (original, recovery, others, most): Decode<'_>,
 ) {
-    let engine = Counting::new(tables);
+    let engine = Counting::new(tables, false);
     let engine = after_decode::<_, R>(alloc, 4, original, recovery, engine).expect(rt, "an engine");
-    let [fft, ifft, mul, locator] = engine.calls.get();
-    assert_eq!(rt; [fft, ifft, locator], others);
+    let [fft, ifft, mul, locator, sums] = engine.calls.get();
+    assert_eq!(rt; ([fft, ifft, locator], sums), (others, 0));
     assert!(rt; mul <= most);
 }
 
@@ -214,7 +274,7 @@ fn located_points<'t, R: Rate<Counting<'t>>>(
     alloc: Global,
     tables: &'t Tables,
 ) -> Result<usize, Error> {
-    let engine = after_decode::<_, R>(alloc, 8, &[], &ZEROS, Counting::new(tables))?;
+    let engine = after_decode::<_, R>(alloc, 8, &[], &ZEROS, Counting::new(tables, false))?;
     Ok(engine.entries.get())
 }
 
@@ -242,8 +302,62 @@ fn each_rate_calls_its_engine_so_often(rt: HostRuntime) {
     let alloc = rt.alloc();
     let tables = Tables::new(alloc).expect(&rt, "tables");
     let (low, high) = ([[0, 0], [1, 0]], [[2, 0], [0, 0], [4, 0]]);
-    check_rate::<LowRate<Counting<'_>>>(&rt, alloc, &tables, (&low, 3), [2, 1, 0, 0]);
-    check_rate::<HighRate<Counting<'_>>>(&rt, alloc, &tables, (&high, 2), [1, 2, 0, 0]);
+    check_rate::<LowRate<Counting<'_>>>(&rt, alloc, &tables, (&low, 3), [2, 1, 0, 0, 0]);
+    check_rate::<HighRate<Counting<'_>>>(&rt, alloc, &tables, (&high, 2), [1, 2, 0, 0, 0]);
+}
+
+// The shards that a decode is given, how often it calls `mul_add`, and how often it calls `mul` if the engine has no
+// `mul_add` of its own. There is one direct sum for each missing original and one for each surplus shard. A sum adds a
+// multiple of each of four shards, and without `mul_add` this takes two products. All shards belong to one message of four
+// originals and four recovery shards.
+type Sums<'a> = (&'a [Item], &'a [Item], u32, u32);
+
+const FEW_LOST: [Sums<'static>; 3] = [
+    (
+        &[(0, [0, 0]), (2, [2, 0]), (3, [3, 0])],
+        &[(0, [11, 0])],
+        4,
+        8,
+    ),
+    (
+        &[(3, [3, 0]), (1, [0, 0])],
+        &[(2, [14, 0]), (0, [11, 0])],
+        8,
+        16,
+    ),
+    (
+        &[(0, [0, 0]), (1, [0, 0]), (2, [2, 0])],
+        &[(3, [13, 0]), (1, [9, 0])],
+        8,
+        16,
+    ),
+];
+
+// Checks how often a decode by direct sums calls its engine. It makes one locator and no transform.
+fn check_sums<'t, A: Rate<Counting<'t>>, B: Rate<FourCalls<'t>>>(
+    rt: &impl Abort,
+    alloc: Global,
+    tables: &'t Tables,
+    (original, recovery, sums, products): Sums<'_>,
+) {
+    let engine = Counting::new(tables, true);
+    let engine = after_decode::<_, A>(alloc, 4, original, recovery, engine).expect(rt, "an engine");
+    assert_eq!(rt; engine.calls.get(), [0, 0, 0, 1, sums]);
+    let engine = FourCalls {
+        counting: Counting::new(tables, true),
+    };
+    let engine = after_decode::<_, B>(alloc, 4, original, recovery, engine).expect(rt, "an engine");
+    assert_eq!(rt; engine.counting.calls.get(), [0, 0, products, 1, 0]);
+}
+
+#[test]
+fn a_decode_of_few_lost_shards_calls_its_engine_so_often(rt: HostRuntime) {
+    let alloc = rt.alloc();
+    let tables = Tables::new(alloc).expect(&rt, "tables");
+    for decode in FEW_LOST {
+        check_sums::<LowRate<Counting<'_>>, LowRate<FourCalls<'_>>>(&rt, alloc, &tables, decode);
+        check_sums::<HighRate<Counting<'_>>, HighRate<FourCalls<'_>>>(&rt, alloc, &tables, decode);
+    }
 }
 
 /// The plain engine's kernel, which counts the butterflies of rows of one chunk.

@@ -1,7 +1,7 @@
 -- If one-call `decode` succeeds, the received shards belong to exactly one message, and its lost originals are restored.
 use Rattle.std.proofs.Common.{rules, ◌≡◌, ℕ, ◌+◌, ◌<◌, Bool, true, false, List, [], ◌∷◌, length, refl, sym, ap, subst, ◌∙◌}
 use Rattle.std.proofs.Common.{inl, inr, arith, All, nat_eq}
-use Rattle.std.specs.Prelude.{Result, Ok, Err, Some, None, MatchResult}
+use Rattle.std.specs.Prelude.{Result, Ok, Err, Some, None, IfOk, MatchResult}
 use Rattle.std.specs.List.{AllByRecursion, IsDistinct}
 use Rattle.std.proofs.lemmas.Bool.{eqb-false, ne_eqb}
 use Rattle.std.proofs.lemmas.List.Elements.{recursion_from_All, All-from_recursion}
@@ -243,7 +243,7 @@ module _ (k r : ℕ) (kept : Items) (first : ℕ × Shard) (rest : Items) (out :
   by_outcome : (o : Result DecoderState Error) → decoding_outcome k r kept first rest ≡ o
       → MatchResult o (λ s. DecodeAnswers s (Ok out)) (λ e. ◌≡◌ {A = Result Shards Error} (Ok out) (Err e))
       → OneDecodeAnswers k r kept (first ∷ rest) (Ok out) → RestoresOnly k r kept (first ∷ rest) out
-  by_outcome (Err e) same no answers = absurd (let none : ⊥ = cc in none)
+  by_outcome (Err e) same refused answers = absurd (let none : ⊥ = cc in none)
   by_outcome (Ok s) same found answers =
       let c = default_of k r size in
       let begun = then_ok (λ _. with_both (fresh_decoder c) kept (first ∷ rest))
@@ -254,18 +254,23 @@ module _ (k r : ℕ) (kept : Items) (first : ℕ × Shard) (rest : Items) (out :
       enough : (o : Result (Unit {0}) Error)
           → MatchResult o (λ _. Restored s out) (λ e. ◌≡◌ {A = Result Shards Error} (Ok out) (Err e)) → Restored s out
       enough (Ok u) restored = restored
-      enough (Err e) no = absurd (let none : ⊥ = cc in none)
+      enough (Err e) refused = absurd (let none : ⊥ = cc in none)
 
-pub restores_only : (k r : ℕ) (kept received : Items) (out : Shards)
+restored_by : (k r : ℕ) (kept received : Items) (out : Shards)
     → OneDecodeAnswers k r kept received (Ok out) → RestoresOnly k r kept received out
-restores_only k r kept received out (inr lacks) = absurd (let e = lacks.1 in let no : ⊥ = cc in no)
-restores_only k r kept [] out (inl alone) =
+restored_by k r kept received out (inr lacks) = absurd (let e = lacks.1 in let no : ⊥ = cc in no)
+restored_by k r kept [] out (inl alone) =
     by_check (result_and_then (λ _. originals_alone k kept) (counts_outcome k r)) alone
   where
     by_check : (o : Result (Unit {0}) Error)
         → MatchResult o (λ _. ◌≡◌ {A = Result Shards Error} (Ok out) (Ok nothing))
         (λ e. ◌≡◌ {A = Result Shards Error} (Ok out) (Err e)) → (i : ℕ) → out i ≡ None
     by_check (Ok u) is i = let same : out ≡ nothing = cc in ap (λ (g : Shards). g i) same
-    by_check (Err e) no i = absurd (let none : ⊥ = cc in none)
-restores_only k r kept (first ∷ rest) out (inl answers) =
+    by_check (Err e) refused i = absurd (let none : ⊥ = cc in none)
+restored_by k r kept (first ∷ rest) out (inl answers) =
     by_outcome k r kept first rest out (decoding_outcome k r kept first rest) refl answers (inl answers)
+
+pub restores_only : (k r : ℕ) (kept received : Items) (result : Result Shards Error)
+    → OneDecodeAnswers k r kept received result → IfOk result (RestoresOnly k r kept received)
+restores_only k r kept received (Ok out) answers = restored_by k r kept received out answers
+restores_only k r kept received (Err e) answers = tt

@@ -3,7 +3,7 @@ use Rattle.std.specs.Prelude.{◌≡◌, ℕ, ◌/◌, ◌%◌, ◌<◌, ◌≤�
 use Rattle.rs_field.specs.words.Polynomial.{AreWords, value}
 use Rattle.rs_field.specs.code.Column.{Shard, AreShards, columns}
 use Rattle.rs_field.specs.code.Counts.{Rate}
-use Rattle.rs_field.specs.code.Frame.{frame_of, degree_bound, original_row, recovery_row}
+use Rattle.rs_field.specs.code.Frame.{frame_of, degree_bound, original_point, recovery_point}
 use Rattle.rs_field.specs.code.Configuration.{Configuration}
 
 -- a polynomial codes k words if its degree is below the bound, its values at the points of the originals are these
@@ -11,7 +11,7 @@ use Rattle.rs_field.specs.code.Configuration.{Configuration}
 pub record Codes (rate : Rate) (k r : ℕ) (words polynomial : List ℕ) : Type 0 where
   pub degree : length polynomial ≡ degree_bound (frame_of rate k r)
   pub coefficients : AreWords polynomial
-  pub originals : (j : ℕ) → j < k → value polynomial (original_row (frame_of rate k r) j) ≡ slice_index words j
+  pub originals : (j : ℕ) → j < k → value polynomial (original_point (frame_of rate k r) j) ≡ slice_index words j
   pub zeros : (x : ℕ) → (frame_of rate k r).zeros_from ≤ x → x < (frame_of rate k r).zeros_to → value polynomial x ≡ 0
 
 -- recovery words are the values of a polynomial at the points of the recovery shards, if this polynomial codes the
@@ -19,7 +19,7 @@ pub record Codes (rate : Rate) (k r : ℕ) (words polynomial : List ℕ) : Type 
 abbrev pub AreRecoveryWords : Rate → ℕ → ℕ → List ℕ → List ℕ → Type 0
 AreRecoveryWords rate k r words recovery =
     (polynomial : List ℕ) × Codes rate k r words polynomial
-    × ((i : ℕ) → i < r → slice_index recovery i ≡ value polynomial (recovery_row (frame_of rate k r) i))
+    × ((i : ℕ) → i < r → slice_index recovery i ≡ value polynomial (recovery_point (frame_of rate k r) i))
 
 -- shards are the recovery shards of a message if they have its size, and their words in each column are recovery words
 pub record AreRecovery (c : Configuration) (message recovery : List Shard) : Type 0 where

@@ -44,17 +44,25 @@ frame_at c = frame_of c.rate c.original_count c.recovery_count
 abbrev pub degree_bound : Frame → ℕ
 degree_bound frame = frame.zeros_to - frame.originals_from
 
+-- the point of an original
+abbrev pub original_point : Frame → ℕ → ℕ
+original_point frame index = frame.originals_from + index
+
+-- the point of a recovery shard
+abbrev pub recovery_point : Frame → ℕ → ℕ
+recovery_point frame index = frame.recovery_from + index
+
 -- the number of rows of a decoder, one for each of the first points
 abbrev pub row_count : Frame → ℕ
 row_count frame = 2 ^ frame.exponent
 
--- the row of an original
+-- the row of an original in a decoder: the row of its point
 abbrev pub original_row : Frame → ℕ → ℕ
-original_row frame index = frame.originals_from + index
+original_row frame index = original_point frame index
 
--- the row of a recovery shard
+-- the row of a recovery shard in a decoder: the row of its point
 abbrev pub recovery_row : Frame → ℕ → ℕ
-recovery_row frame index = frame.recovery_from + index
+recovery_row frame index = recovery_point frame index
 
 -- the number m of rows of a block: the power of k at the low rate, and the power of r at the high rate
 unfoldable pub block_rows : Rate → ℕ → ℕ → ℕ

@@ -132,5 +132,5 @@ RestoresInOneCall =
 -- belong
 abbrev pub RestoresOnlyMessage : Type 0
 RestoresOnlyMessage =
-    (k r : ℕ) (kept received : Items) (out : Shards)
-    → OneDecodeAnswers k r kept received (Ok out) → RestoresOnly k r kept received out
+    (k r : ℕ) (kept received : Items) (result : Result Shards Error)
+    → OneDecodeAnswers k r kept received result → IfOk result (RestoresOnly k r kept received)

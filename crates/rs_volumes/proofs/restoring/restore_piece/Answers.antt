@@ -25,7 +25,7 @@ returns-clause-back g c size message all shards coded left got i bytes is covere
     let put = rw (c.as_slice.ensures.value, c.as_slice-2.ensures.value) at c.in_ok-put_read.ensures.put in
     let then = rw c.as_slice-5.ensures.value at c.in_ok-put_restored.ensures.put in
     let answers = rw (c.as_slice-3.ensures.value, c.as_slice-4.ensures.value, c.in_ok-restored.was) at
-    c.decode_slice.ensures in
+    c.decode_slice.ensures.answer in
     then i (bytes ++ piece_of i read) is (put i bytes is held)
     ∙ ap Some (append_assoc bytes (piece_of i read) (bytes_of (shards_in c.in_ok-restored.restored i))
     ∙ ap (λ (p : Shard). bytes ++ p)
