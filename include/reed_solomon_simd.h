@@ -176,8 +176,9 @@ uint32_t rs_encode(const struct rs_tables *tables, size_t original_count, size_t
  *   - RS_OUT_OF_MEMORY if the rows for the whole shards would take more than SIZE_MAX bytes, or if the list of the lost originals cannot
  *     be allocated
  *   - RS_NOT_ENOUGH_SHARDS
- *   - RS_OUT_OF_MEMORY for the rows, and for the missing originals if there are more than original_count shards
- *   - RS_INCONSISTENT_SHARDS */
+ *   - RS_OUT_OF_MEMORY for the rows
+ *   - RS_INCONSISTENT_SHARDS
+ *   - RS_OUT_OF_MEMORY for the missing originals if there are more than original_count shards */
 uint32_t rs_decode(const struct rs_tables *tables, size_t original_count, size_t recovery_count, size_t shard_bytes,
                    uint8_t *originals, size_t originals_length,
                    const uint8_t *recovery, size_t recovery_length,
@@ -235,8 +236,9 @@ uint32_t rs_encode_shards(const struct rs_tables *tables, size_t original_count,
  *   - For each original in order: RS_INVALID_ORIGINAL_SHARD_INDEX, RS_DUPLICATE_ORIGINAL_SHARD_INDEX or RS_DIFFERENT_SHARD_SIZE.
  *   - For each recovery shard in order: RS_INVALID_RECOVERY_SHARD_INDEX, RS_DUPLICATE_RECOVERY_SHARD_INDEX or RS_DIFFERENT_SHARD_SIZE.
  *   - RS_NOT_ENOUGH_SHARDS
- *   - RS_OUT_OF_MEMORY for the rows, and for the missing originals if there are more than original_count shards or the rooms don't fit
+ *   - RS_OUT_OF_MEMORY for the rows
  *   - RS_INCONSISTENT_SHARDS
+ *   - RS_OUT_OF_MEMORY for the missing originals if there are more than original_count shards or the rooms don't fit
  *
  * The faults if there is no recovery shard, in order. In this case the call accepts any sizes, and it needs memory only for the copy of
  * an array that has NULL:
@@ -288,8 +290,9 @@ struct rs_wanted {
  *   - For each wanted shard in order: RS_WANTED_INDEX_TOO_LARGE, RS_WANTED_TWICE or RS_WANTED_RECEIVED.
  *   - RS_WRONG_NUMBER_OF_ROOMS
  *   - RS_WRONG_LENGTH for the first room that isn't as long as a shard
- *   - RS_OUT_OF_MEMORY for the rows, and for the wanted shards if there are more than original_count shards
- *   - RS_INCONSISTENT_SHARDS */
+ *   - RS_OUT_OF_MEMORY for the rows
+ *   - RS_INCONSISTENT_SHARDS
+ *   - RS_OUT_OF_MEMORY for the wanted shards if there are more than original_count shards */
 uint32_t rs_reconstruct(const struct rs_tables *tables, size_t original_count, size_t recovery_count,
                         const struct rs_shard *originals, size_t originals_number,
                         const struct rs_shard *recovery, size_t recovery_number,

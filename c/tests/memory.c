@@ -304,6 +304,32 @@ static void each(const char *name, uint32_t (*call)(void), void *written, size_t
     free(before);
 }
 
+/* Makes a call over inconsistent shards, and refuses each of its requests for memory in turn. The call checks the shards before it
+ * fails because one of the `results` requests for results is refused. */
+static void inconsistent(const char *name, uint32_t (*call)(void), void *written, size_t length, long results) {
+    uint8_t *before = malloc(length);
+    long found = 0;
+    if (!before) wrong("no memory for the test");
+    memcpy(before, written, length);
+    for (refused = 1;; refused++) {
+        uint32_t answer;
+        requests = 0;
+        answer = call();
+        if (blocks) wrong("memory is kept");
+        if (memcmp(before, written, length)) wrong("a call over inconsistent shards has written");
+        if (requests < refused) {
+            if (answer != RS_INCONSISTENT_SHARDS) wrong("inconsistent shards are not noticed");
+            break;
+        }
+        if (answer == RS_INCONSISTENT_SHARDS) found++;
+        else if (answer != RS_OUT_OF_MEMORY) wrong("another answer");
+    }
+    if (found != results) wrong("results that cannot be allocated hide that the shards are inconsistent");
+    printf("memory: %s: each request refused over inconsistent shards\n", name);
+    refused = 0;
+    free(before);
+}
+
 /* Messages of one size: each request of each call refused, and what was lost comes back. */
 static void messages(void) {
     memset(originals, 7, sizeof originals);
@@ -322,6 +348,10 @@ static void messages(void) {
              (anywhere ? DECODE_SHARDS : DECODE + SUMS) + LIST + 1);
         for (size_t n = 0; n < 3 * size; n++)
             if (originals[n] != 7) wrong("not what was encoded");
+        originals[2 * size - 1] ^= 1;
+        inconsistent(anywhere ? "rs_decode_shards" : "rs_decode", anywhere ? decode_shards_surplus : decode_surplus, originals,
+                     sizeof originals, LIST + 1);
+        originals[2 * size - 1] ^= 1;
     }
     memset(recovery, 1, size);
     memset(originals + 2 * size, 1, size);
