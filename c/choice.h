@@ -29,6 +29,11 @@ static const struct build builds[] = {{PROVED(NAMED, v1)}, {PROVED(NAMED, v2)}, 
 /* What cpuid and xgetbv say of the processor and the system: registers of cpuid 1, 7 and 0x80000001, and the register XCR0. */
 struct processor { unsigned ecx1, ebx7, extended_ecx, states; };
 
+/* The lower and the higher half of the register XCR0. A test defines this macro, to say that the system keeps other registers. */
+#ifndef RS_STATES
+#define RS_STATES(low, high) __asm__("xgetbv" : "=a"(low), "=d"(high) : "c"(0))
+#endif
+
 /* Every processor of x86-64 has cpuid 1 and 0x80000001, and some have no cpuid 7. */
 static struct processor asked(void) {
     struct processor told = {0, 0, 0, 0};
@@ -36,7 +41,7 @@ static struct processor asked(void) {
     __cpuid(1, a, b, told.ecx1, d);
     __cpuid(0x80000001, a, b, told.extended_ecx, d);
     if (__get_cpuid_count(7, 0, &a, &b, &c, &d)) told.ebx7 = b;
-    if (told.ecx1 & bit_OSXSAVE) __asm__("xgetbv" : "=a"(told.states), "=d"(d) : "c"(0));
+    if (told.ecx1 & bit_OSXSAVE) RS_STATES(told.states, d);
     return told;
 }
 

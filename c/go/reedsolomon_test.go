@@ -3,7 +3,9 @@ package reedsolomon
 import (
 	"bytes"
 	"errors"
+	"fmt"
 	"math/rand"
+	"os"
 	"sync"
 	"testing"
 )
@@ -158,7 +160,106 @@ func TestFaults(t *testing.T) {
 	if err := code.Update(0, []byte("ab"), []byte("cd"), make([]byte, 5)); number(err) != WrongLength {
 		t.Error(err)
 	}
+	if err := code.Update(0, []byte("ab"), []byte("cd"), make([]byte, 2)); number(err) != WrongLength {
+		t.Error(err)
+	}
+	if err := code.DecodeShards([][]byte{[]byte("ab"), nil, []byte("abcd")}, [][]byte{[]byte("ab"), nil}); number(err) != DifferentShardSize {
+		t.Error(err)
+	}
+	if err := code.DecodeShards([][]byte{nil, []byte("ab"), []byte("cd")}, [][]byte{[]byte("ab"), []byte("cd"), nil}); number(err) != WrongLength {
+		t.Error(err)
+	}
 	if InconsistentShards.String() != "RS_INCONSISTENT_SHARDS" || ShardBytes(35, 3) != 12 || ShardBytes(-1, 3) != 0 || !Supports(3, 2) {
 		t.Error("a name, a size or counts")
+	}
+}
+
+// Buffers that are too short or too long by one byte, in front of bytes that a call must not change. Each call must refuse them.
+func TestLengths(t *testing.T) {
+	code, _ := New(3, 2)
+	all := bytes.Repeat([]byte{7}, 64)
+	lengths := []int{12, 8, 5, 5}
+	for place, length := range lengths {
+		for _, other := range []int{length - 1, length + 1} {
+			var at [4][]byte
+			for i, right := range lengths {
+				at[i] = append([]byte{}, all...)[:right]
+			}
+			at[place] = append([]byte{}, all...)[:other]
+			for i := range at[2] {
+				at[2][i] = 1
+			}
+			for i := range at[3] {
+				at[3][i] = 0
+			}
+			if err := code.Reconstruct(4, at[0], at[1], at[2], at[3]); number(err) != WrongLength {
+				t.Errorf("Reconstruct, buffer %d of %d bytes: %v", place, other, err)
+			}
+			if err := code.Verify(4, at[0], at[1], at[2]); place < 3 && number(err) != WrongLength {
+				t.Errorf("Verify, buffer %d of %d bytes: %v", place, other, err)
+			}
+		}
+	}
+	for _, length := range []int{0, 7, 9} {
+		recovery := append([]byte{}, all...)
+		if err := code.Update(1, []byte("aaaa"), []byte("bbbb"), recovery[:length]); number(err) != WrongLength || !bytes.Equal(recovery, all) {
+			t.Errorf("Update of %d bytes: %v", length, err)
+		}
+	}
+}
+
+// An append to one shard must not write over the next one.
+func TestShardsEnd(t *testing.T) {
+	code, _ := New(2, 3)
+	originals := [][]byte{[]byte("aaaa"), []byte("bbbb")}
+	recovery, err := code.EncodeShards(originals)
+	if err != nil {
+		t.Fatal(err)
+	}
+	second := string(recovery[1])
+	_ = append(recovery[0], "????"...)
+	if string(recovery[1]) != second {
+		t.Error("an append to a recovery shard changes the next one")
+	}
+	lost := [][]byte{nil, nil}
+	if err := code.DecodeShards(lost, recovery); err != nil {
+		t.Fatal(err)
+	}
+	_ = append(lost[0], "????"...)
+	if string(lost[1]) != "bbbb" {
+		t.Error("an append to an original changes the next one")
+	}
+}
+
+// pages returns how many pages of virtual memory the process has, or 0 where the system does not say it.
+func pages() (size int) {
+	text, err := os.ReadFile("/proc/self/statm")
+	if err == nil {
+		fmt.Sscan(string(text), &size)
+	}
+	return size
+}
+
+// The arrays that a call makes in memory of C are given back, also if the call fails. In each of these calls, they take more than 1 MB.
+func TestNoLeak(t *testing.T) {
+	code, err := New(32768, 32768)
+	if err != nil {
+		t.Fatal(err)
+	}
+	shards, marks := make([]byte, 2*32768), make([]byte, 2*32768)
+	before := 0
+	for n := 0; n < 1001; n++ {
+		if err := code.Verify(2, shards, shards, marks); number(err) != NotEnoughShards {
+			t.Fatal(err)
+		}
+		if err := code.Reconstruct(2, shards, shards, marks, marks); number(err) != NotEnoughShards {
+			t.Fatal(err)
+		}
+		if n == 0 {
+			before = pages()
+		}
+	}
+	if after := pages(); after > before+100000 {
+		t.Errorf("%d pages, and before %d", after, before)
 	}
 }

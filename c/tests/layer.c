@@ -1,5 +1,9 @@
 /* The layer by itself, over calls that only record what they get: the choice of a build, and what becomes of NULL. This file includes the
    layer, so that it also sees functions which the library doesn't export. */
+
+/* The registers that the system keeps, as the layer reads them. */
+static unsigned kept_states = 7;
+#define RS_STATES(low, high) ((low) = kept_states, (high) = 0)
 #include "../layer.c"
 
 FROM_THE_START _Thread_local struct lent rs_lent;
@@ -27,12 +31,16 @@ static struct {
 enum { ANSWER = 77 };
 
 static long blocks;
-static bool refuses;
+
+/* How many requests for memory are granted before all are refused. */
+enum { ALL = -1 };
+static long granted = ALL;
 
 struct tried rs_alloc(size_t size, size_t align) {
-    struct tried tried = {!refuses, nowhere};
+    struct tried tried = {granted != 0, nowhere};
     if (align != 8) wrong("another alignment");
-    if (refuses) return tried;
+    if (!tried.ok) return tried;
+    if (granted > 0) granted--;
     blocks++;
     tried.at = malloc(size);
     return tried;
@@ -164,6 +172,10 @@ static void levels(void) {
     told = (struct processor){0, 0, 0, 0};
     if (level_of(told) != 1) wrong("a processor with nothing isn't of level 1");
     printf("layer: this processor has level %u\n", level_of(asked()));
+    /* A system that does not keep the registers of AVX has no level 3, whatever the processor has. */
+    kept_states = 3;
+    if ((asked().ecx1 & bit_OSXSAVE) && (asked().states != 3 || level_of(asked()) == 3)) wrong("the registers of AVX aren't asked for");
+    kept_states = 7;
     if (fitting() != &builds[level_of(asked()) - 1] || fitting() != fitting()) wrong("another build than the one that fits");
 #else
     if (fitting() != builds) wrong("another build than the only one");
@@ -236,14 +248,22 @@ static void over_arrays(void) {
         got.entries[0][1].length != 3)
         wrong("NULL with a length");
     q[0].length = o[1].length = 0;
-    refuses = true;
-    if (rs_encode_shards(tables, 3, 2, o, 2, q, 2, &fault) != RS_OUT_OF_MEMORY || fault.number != RS_OUT_OF_MEMORY || fault.first ||
-        fault.second || fault.third || rs_encode_shards(tables, 3, 2, o, 2, q, 2, NULL) != RS_OUT_OF_MEMORY)
-        wrong("no memory for a copy");
-    if (rs_decode_shards(tables, 3, 2, own, 2, other, 2, q, 2, &fault) != RS_OUT_OF_MEMORY || fault.number != RS_OUT_OF_MEMORY)
-        wrong("no memory for a copy in a decode");
-    refuses = false;
-    if (blocks) wrong("a copy is kept after a refusal");
+    for (long copies = 0; copies < 2; copies++) {
+        granted = copies;
+        if (rs_encode_shards(tables, 3, 2, o, 2, q, 2, &fault) != RS_OUT_OF_MEMORY || fault.number != RS_OUT_OF_MEMORY || fault.first ||
+            fault.second || fault.third)
+            wrong("no memory for a copy");
+        if (blocks) wrong("a copy is kept after a refusal");
+        granted = copies;
+        if (rs_encode_shards(tables, 3, 2, o, 2, q, 2, NULL) != RS_OUT_OF_MEMORY || blocks) wrong("no memory for a copy, without a fault");
+    }
+    for (long copies = 0; copies < 3; copies++) {
+        granted = copies;
+        if (rs_decode_shards(tables, 3, 2, own, 2, other, 2, q, 2, &fault) != RS_OUT_OF_MEMORY || fault.number != RS_OUT_OF_MEMORY)
+            wrong("no memory for a copy in a decode");
+        if (blocks) wrong("a copy is kept after a refusal in a decode");
+    }
+    granted = ALL;
 }
 
 /* The calls over received shards that write no lost originals: with NULL in arrays and without. */
@@ -275,13 +295,24 @@ static void over_received(void) {
     if (own[1].bytes || q[1].bytes || blocks) wrong("a copy of received shards is kept");
     if (rs_update(tables, 3, 2, 1, NULL, 0, NULL, 0, q, 2, NULL) != ANSWER || got.third == q || got.lengths[0] || blocks)
         wrong("NULL in an array of an update");
-    refuses = true;
+    granted = 0;
     if (rs_update(tables, 3, 2, 1, &byte, 1, &byte, 1, q, 2, &fault) != RS_OUT_OF_MEMORY || fault.number != RS_OUT_OF_MEMORY)
         wrong("no memory for a copy in an update");
-    if (rs_verify(tables, 3, 2, own, 2, other, 2, NULL) != RS_OUT_OF_MEMORY ||
-        rs_reconstruct(tables, 3, 2, other, 2, other, 2, wanted, 2, q, 2, &fault) != RS_OUT_OF_MEMORY || fault.number != RS_OUT_OF_MEMORY)
-        wrong("no memory for a copy of received shards");
-    refuses = false;
+    if (rs_reconstruct(tables, 3, 2, other, 2, other, 2, wanted, 2, q, 2, &fault) != RS_OUT_OF_MEMORY || fault.number != RS_OUT_OF_MEMORY)
+        wrong("no memory for a copy of rooms alone");
+    other[0].bytes = NULL, other[0].length = 0;
+    for (long copies = 0; copies < 2; copies++) {
+        granted = copies;
+        if (rs_verify(tables, 3, 2, own, 2, other, 2, NULL) != RS_OUT_OF_MEMORY) wrong("no memory for a copy of received shards");
+        if (blocks) wrong("a copy of received shards is kept after a refusal");
+    }
+    for (long copies = 0; copies < 3; copies++) {
+        granted = copies;
+        if (rs_reconstruct(tables, 3, 2, own, 2, other, 2, wanted, 2, q, 2, &fault) != RS_OUT_OF_MEMORY || fault.number != RS_OUT_OF_MEMORY)
+            wrong("no memory for a copy in a reconstruction");
+        if (blocks) wrong("a copy is kept after a refusal in a reconstruction");
+    }
+    granted = ALL;
 }
 
 static void texts(void) {

@@ -1,11 +1,11 @@
 /* rs_verify, rs_reconstruct and rs_update. Words: `rounds SEED COUNT MOST`, with at most MOST originals and recovery shards, and MOST at
-   most 1000; `pairs FILE`; `refusals`. */
+   most 3000; `pairs FILE`; `refusals`. */
 #define TEST "received"
 #include "helpers.h"
 
 #include <inttypes.h>
 
-enum { MOST_SHARDS = 1000 };
+enum { MOST_SHARDS = 3000 };
 
 /* A message of k originals and r recovery shards, one after the other, and an order of these shards. */
 struct message {

@@ -114,6 +114,71 @@ class Wrapper(unittest.TestCase):
         self.assertTrue(all(a is b for a, b in zip(result, rooms)))
         rooms[0].append(1)  # The buffers are released, so a bytearray can grow again.
 
+    def test_rooms_by_index(self):
+        """decode writes each original into the buffer of its index, in whatever order the buffers are passed."""
+        originals = [random.randbytes(64) for _ in range(4)]
+        recovery = dict(enumerate(rs.encode(originals, 3)))
+        for order in [0, 2, 3], [3, 2, 0], [2, 0, 3]:
+            rooms = {i: bytearray(64) for i in order}
+            restored = rs.decode(4, 3, {1: originals[1]}, recovery, into=rooms)
+            self.assertEqual(rooms, {i: bytearray(originals[i]) for i in order})
+            self.assertTrue(all(restored[i] is rooms[i] for i in order))
+        for indexes in [], [0, 2], [0, 2, 5], [0, 1, 3], [0, 1, 2, 3]:
+            rooms = {i: bytearray(64) for i in indexes}
+            with self.assertRaisesRegex(ValueError, "into must have a buffer for each missing original"):
+                rs.decode(4, 3, {1: originals[1]}, recovery, into=rooms)
+            self.assertTrue(not any(map(any, rooms.values())))
+
+    def test_immutable_rooms(self):
+        """No call writes into a buffer that is not writable."""
+        one, two = bytes(range(64)), bytes(range(64, 128))
+        first, second = map(bytes, rs.encode([one, two], 2))
+        room = bytes(64)
+        for call in (
+            lambda: rs.encode([one, two], 2, into=[bytearray(64), room]),
+            lambda: rs.decode(2, 2, {0: one}, {0: first}, into={1: room}),
+            lambda: rs.reconstruct(2, 2, {0: one}, {0: first}, [1], [], into=[room]),
+            lambda: rs.reconstruct(2, 2, {0: one}, {0: first}, [1], [], into=[memoryview(bytearray(64)).toreadonly()]),
+            lambda: rs.update(2, 2, 0, one, two, [bytearray(first), second]),
+        ):
+            self.assertRaises(BufferError, call)
+        self.assertEqual((room, first, second), (bytes(64), *map(bytes, rs.encode([one, two], 2))))
+
+    def test_views_last(self):
+        """The buffers stay in place while the C library works: a bytearray cannot grow before a call ends, and can afterwards."""
+        one, two = bytearray(range(64)), bytearray(range(64, 128))
+        first, second = rs.encode([one, two], 2)
+        room, held, real = bytearray(64), [], {}
+
+        def spy(name):
+            def call(*words):
+                for buffer in held:
+                    with self.assertRaises(BufferError):
+                        buffer.append(1)
+                return real[name](*words)
+            return call
+
+        names = ["rs_encode_shards", "rs_decode_shards", "rs_verify", "rs_reconstruct", "rs_update"]
+        for name in names:
+            real[name] = getattr(rs._c, name)
+            setattr(rs._c, name, spy(name))
+        try:
+            for buffers, call in (
+                ([one, two, first, second], lambda: rs.encode([one, two], 2, into=[first, second])),
+                ([one, first, room], lambda: rs.decode(2, 2, {0: one}, {0: first}, into={1: room})),
+                ([one, two, first], lambda: rs.verify(2, 2, {0: one, 1: two}, {0: first})),
+                ([one, second, room], lambda: rs.reconstruct(2, 2, {0: one}, {1: second}, [1], [], into=[room])),
+                ([one, two, first, second], lambda: rs.update(2, 2, 0, one, two, [first, second])),
+            ):
+                held = buffers
+                call()
+                for buffer in buffers:
+                    buffer.append(1)
+                    del buffer[-1]
+        finally:
+            for name in names:
+                setattr(rs._c, name, real[name])
+
     def test_errors(self):
         for call, name, values in (
             (lambda: rs.encode([b"odd"], 1), "RS_INVALID_SHARD_SIZE", (3, 0, 0)),
@@ -141,6 +206,9 @@ class Wrapper(unittest.TestCase):
                 call()
             self.assertEqual((caught.exception.name, caught.exception.values), (name, values))
             self.assertTrue(str(caught.exception))
+        with self.assertRaises(rs.Error) as caught:
+            rs.encode([b"ab"], 1 << 40)
+        self.assertEqual(str(caught.exception), f"unsupported shard count: 1 original shards with {1 << 40} recovery shards")
         for call, kind in (
             (lambda: rs.encode([b"ab"], -1), ValueError), (lambda: rs.decode(-1, 1, {}, {}), ValueError),
             (lambda: rs.decode(3, 2, {-1: b"ab"}, {}), IndexError), (lambda: rs.encode(["text"], 1), TypeError),
@@ -156,6 +224,7 @@ class Wrapper(unittest.TestCase):
     def test_sizes(self):
         self.assertEqual([rs.shard_bytes(total, 3) for total in (0, 1, 6, 7, 35)], [2, 2, 2, 4, 12])
         self.assertEqual((rs.supports(10, 4), rs.supports(0, 4), rs.supports(-1, 4), rs.supports(1, 1 << 70)), (True, False, False, False))
+        self.assertEqual((rs.supports(1, 2**64 + 4), rs.supports(2**64 + 4, 1)), (False, False))
         self.assertEqual(rs.version()[0], 1)
 
     def test_threads(self):

@@ -258,3 +258,17 @@ pub fn update<R: AsMut<[u8]>>(
     }
     answer(fault)
 }
+
+#[cfg(test)]
+mod tests {
+    use super::*;
+
+    #[test]
+    fn every_status_but_ok_is_an_error() {
+        assert!(answer(sys::rs_fault { number: sys::RS_OK, ..Default::default() }).is_ok());
+        for number in sys::RS_OUT_OF_MEMORY..=sys::RS_WANTED_RECEIVED {
+            let error = answer(sys::rs_fault { number, first: 7, second: 8, third: 9 }).unwrap_err();
+            assert_eq!((error.number(), error.values()), (number, [7, 8, 9]));
+        }
+    }
+}
