@@ -4,12 +4,13 @@
 #![tactic(auto)]
 
 use rs_command::program::run;
+use rs_command::stream::Stream;
 use rs_command::words::read_words;
 use std::process::ExitCode;
 
 fn main(rt: HostRuntime) -> ExitCode {
-    let mut out = rt.stdout();
-    let mut err = rt.stderr();
+    let mut out = Stream::new(rt.stdout());
+    let mut err = Stream::new(rt.stderr());
     let status = match read_words(&rt) {
         Ok(words) => run(rt.alloc(), words.as_slice(), &mut out, &mut err),
         Err(fault) => {

@@ -2,7 +2,7 @@
 use Rattle.std.proofs.Common.{◌≡◌, ℕ, suc, ◌+◌, ◌-◌, ◌<◌, ◌≤◌, List, [], ◌∷◌, ◌++◌, length, take, drop, get_or, Option}
 use Rattle.std.proofs.Common.{Some, None, ◌∙◌, ap, sym, subst, append_assoc, append-nil, arith, length-append}
 use Rattle.std.proofs.Common.{length-drop}
-use Rattle.std.specs.Io.KnownBytes.{Appends, Keeps}
+use Rattle.std.specs.Io.KnownBytes.{Appends}
 use Rattle.std.proofs.Math.Seq.{take-add}
 use Rattle.std.proofs.lemmas.Grind.{flat_map-append}
 use Rattle.std.proofs.lemmas.List.{take_all, drop_more, take-append-drop, take-append-le}
@@ -16,13 +16,6 @@ appends-appends None b c xs ys p q = tt
 appends-appends (Some a) None c xs ys p q = absurd p
 appends-appends (Some a) (Some b) None xs ys p q = absurd q
 appends-appends (Some a) (Some b) (Some c) xs ys p q = q ∙ ap (λ t. t ++ ys) p ∙ append_assoc a xs ys
-
--- If a text is appended and then the bytes stay the same, the text is appended.
-pub appends-keeps : (a b c : Option (List ℕ)) (xs : List ℕ) → Appends a b xs → Keeps b c → Appends a c xs
-appends-keeps None b c xs p q = tt
-appends-keeps (Some a) None c xs p q = absurd p
-appends-keeps (Some a) (Some b) None xs p q = absurd q
-appends-keeps (Some a) (Some b) (Some c) xs p q = q ∙ p
 
 left_of : (text : List ℕ) (k : ℕ) → take (length text - k) (drop k text) ≡ drop k text
 left_of text k = take_all (length text - k) (drop k text) (omega (arith, length-drop k text))

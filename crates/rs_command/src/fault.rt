@@ -1,4 +1,5 @@
 //! The reasons why the program prints no lines, and their messages.
+use crate::stream::Stream;
 use crate::writing::write_text;
 use reed_solomon_simd::Error;
 use std::alloc::{AllocError, AllocFailed, Global};
@@ -17,7 +18,7 @@ pub enum Fault {
 impl Fault {
     ghost use Rattle.std.specs.Prelude.{◌≡◌, IsTrue};
     ghost use Rattle.std.specs.Io.KnownBytes.{Appends};
-    ghost use Rattle.rs_command.specs.Told.{fault_message, status_of, IsReportedAs, AppendsFront};
+    ghost use Rattle.rs_command.specs.Told.{fault_message, status_of, IsReportedAs, Writes};
 
     /// Returns the exit status of the program for this fault: 2 for `Usage`, and 1 for every error.
     pub fn status(&self) -> u8
@@ -31,11 +32,11 @@ impl Fault {
 
     /// Writes the message of the fault to `err`, or the message of `OutOfMemory` if the text of an error cannot be
     /// allocated. Returns whether the whole message was written.
-    pub fn tell<X: Write>(&self, alloc: Global, err: &mut X) -> bool
+    pub fn tell<X: Write>(&self, alloc: Global, err: &mut Stream<X>) -> bool
         ensures { (told : Fault) × IsReportedAs self.now told
-            × AppendsFront (X.contents err.old) (X.contents err.new) (fault_message told)
-            × (IsTrue result
-            → Appends (X.contents err.old) (X.contents err.new) (fault_message told)) }
+            × Writes X.contents err.old err.new (fault_message told)
+            × (IsTrue result → Appends (X.contents err.old.writer) (X.contents err.new.writer)
+            (fault_message told)) }
     {
         match self {
             Fault::Usage => write_text(err, "usage\n"),

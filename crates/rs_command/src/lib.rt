@@ -8,5 +8,6 @@ pub mod fault;
 pub mod hexadecimal;
 mod number;
 pub mod program;
+pub mod stream;
 pub mod words;
 mod writing;

@@ -1,4 +1,4 @@
-//! The whole program, as a function of the words and of two writers. It reads the words, encodes or decodes, and writes
+//! The whole program, as a function of the words and of two streams. It reads the words, encodes or decodes, and writes
 //! the lines or the message of the fault.
 ghost use Rattle.std.specs.Prelude.{◌≡◌, ◌≤◌, ℕ, List, ◌⊎◌, None, Err, IfOk, map, take, MatchResult};
 ghost use Rattle.std.specs.Io.KnownBytes.{Appends};
@@ -6,12 +6,13 @@ ghost use Rattle.std.specs.String.{string_bytes};
 ghost use Rattle.rs_command.specs.CommandLine.{request_of};
 ghost use Rattle.rs_command.specs.Coding.{CodesAsAsked};
 ghost use Rattle.rs_command.specs.Printed.{concatenation, Prints, Refuses, HasFault};
-ghost use Rattle.rs_command.specs.Told.{fault_message, AppendsFront, CutShort};
+ghost use Rattle.rs_command.specs.Told.{fault_message, Writes, IsCutShort};
 ghost use Rattle.rs_command.specs.declared.fault.Fault.TheVariants.{Usage, Refused};
 
 use crate::coding::Lines;
 use crate::command::read_command;
 use crate::fault::Fault;
+use crate::stream::Stream;
 use crate::writing::write_texts;
 use reed_solomon_simd::Error;
 use reed_solomon_simd::engine::DefaultEngine;
@@ -46,21 +47,26 @@ fn answer(alloc: Global, words: &[String]) -> Result<Lines, Fault>
 ///
 /// The command, the engine and the counts are read before anything is allocated. If one of them is wrong, the status is
 /// always 2.
-pub fn run<O: Write, X: Write>(alloc: Global, words: &[String], out: &mut O, err: &mut X) -> u8
+pub fn run<O: Write, X: Write>(
+    alloc: Global,
+    words: &[String],
+    out: &mut Stream<O>,
+    err: &mut Stream<X>,
+) -> u8
     ensures status { result ≤ 2 }
     ensures printed { result ≡ 0
         → (text : List ℕ) × Prints (map string_bytes words.now) text
-        × Appends (O.contents out.old) (O.contents out.new) text }
+        × Appends (O.contents out.old.writer) (O.contents out.new.writer) text }
     ensures quiet { result ≡ 0 → err.new ≡ err.old }
     ensures refused { result ≡ 1
         → ((e : Error) × Refuses (map string_bytes words.now) e × (out.new ≡ out.old)
-        × AppendsFront (X.contents err.old) (X.contents err.new) (fault_message (Refused e)))
+        × Writes X.contents err.old err.new (fault_message (Refused e)))
         ⊎ ((text : List ℕ) × Prints (map string_bytes words.now) text × (err.new ≡ err.old)
-        × CutShort (O.contents out.old) (O.contents out.new) text) }
+        × IsCutShort O.contents out.old out.new text) }
     ensures begun { request_of (take 4 (map string_bytes words.now)) ≡ None → result ≡ 2 }
     ensures usage { result ≡ 2
         → (request_of (map string_bytes words.now) ≡ None) × (out.new ≡ out.old)
-        × AppendsFront (X.contents err.old) (X.contents err.new) (fault_message Usage) }
+        × Writes X.contents err.old err.new (fault_message Usage) }
 {
     match answer(alloc, words) {
         Ok(lines) if write_texts(out, lines.texts()) => 0,

@@ -6,5 +6,5 @@ use Rattle.rs_command.proofs.writing.write_texts.Given as goal
 -- All texts before the current one are written.
 abbrev pub invariant-loop-text : goal.invariant-loop-text
 invariant-loop-text g l =
-    Appends (g.W.Write.contents l.initial.writer) (g.W.Write.contents l.writer)
+    Appends (g.W.Write.contents l.initial.stream.writer) (g.W.Write.contents l.stream.writer)
     (flat_map string_bytes (take l.text-index l.texts))

@@ -11,7 +11,7 @@ returns-in-Ok g c =
       Refused c.in-Refused.refusal,
       rw c.in-Refused.is
           (inl refl),
-      rw text at c.write_text-in-Ok.ensures.front,
+      rw text at c.write_text-in-Ok.ensures.written,
       rw text at c.write_text-in-Ok.ensures.whole,
     )
 
@@ -20,6 +20,6 @@ returns-in-Err g c = (
   Refused OutOfMemory,
   rw c.in-Refused.is
       (inr refl),
-  c.write_text-in-Err.ensures.front,
+  c.write_text-in-Err.ensures.written,
   c.write_text-in-Err.ensures.whole,
 )
