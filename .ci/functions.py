@@ -57,6 +57,14 @@ def function_at(file, text):
     return "::".join([*module_of(file), ""])
 
 
+def functions_of_type(file, text, name):
+    """Returns the paths of the functions of the impls of a type in a file with this text."""
+    lines = text.splitlines()
+    heads = [(number, FUNCTION.match(line)) for number, line in enumerate(lines)]
+    paths = [path_of(file, lines[:number], head) for number, head in heads if head]
+    return {"::".join(path) for path in paths if name in path[:-1]}
+
+
 class Function:
     """A function of a file whose body has lines of its own: its path, its indent, the numbers of the lines that open and close the body, and
     the number of the attribute that names its cycle of calls, if it has one."""
