@@ -10,6 +10,16 @@ pub enum LevelName {
     Slices,
     /// The one-call functions that write into rooms.
     Rooms,
+    /// `reconstruct` instead of a decode.
+    Wanted,
+    /// `reconstruct_into` instead of a decode.
+    WantedRooms,
+    /// `verify` before each decode.
+    Verified,
+    /// `update_into` after an encode of a message in which one original is zero.
+    Updated,
+    /// `split` before each encode, and `complete` and `join` after each decode.
+    Messages,
     /// The plain objects.
     Plain,
     /// The objects of the low rate.
@@ -27,6 +37,11 @@ impl LevelName {
             LevelName::Call => "call",
             LevelName::Slices => "slices",
             LevelName::Rooms => "rooms",
+            LevelName::Wanted => "wanted",
+            LevelName::WantedRooms => "wanted-rooms",
+            LevelName::Verified => "verified",
+            LevelName::Updated => "updated",
+            LevelName::Messages => "messages",
             LevelName::Plain => "plain",
             LevelName::Low => "low",
             LevelName::High => "high",

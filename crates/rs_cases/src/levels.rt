@@ -11,11 +11,16 @@ use reed_solomon_simd::Error;
 use reed_solomon_simd::engine::{DefaultEngine, Engine};
 use std::alloc::{AllocError, Global};
 
-/// All levels: the three forms of the one-call functions, the plain objects, and the objects of each rate.
+/// All levels: the forms of the one-call functions, the plain objects, and the objects of each rate.
 pub const LEVELS: &[LevelName] = &[
     LevelName::Call,
     LevelName::Slices,
     LevelName::Rooms,
+    LevelName::Wanted,
+    LevelName::WantedRooms,
+    LevelName::Verified,
+    LevelName::Updated,
+    LevelName::Messages,
     LevelName::Plain,
     LevelName::Low,
     LevelName::High,
@@ -32,9 +37,7 @@ pub struct Levels<'t, E: Engine> {
     /// The names of the levels that are run.
     names: &'static [LevelName],
     alloc: Global,
-    call: OneCall<'t>,
-    slices: OneCall<'t>,
-    rooms: OneCall<'t>,
+    one_call: OneCall<'t>,
     plain: Plain<'t>,
     rates: Rates<E>,
 }
@@ -56,9 +59,7 @@ impl<'t, E: Engine + Copy> Levels<'t, E> {
         Ok(Levels {
             names,
             alloc,
-            call: OneCall::new(alloc, chosen, Form::Iterators),
-            slices: OneCall::new(alloc, chosen, Form::Slices),
-            rooms: OneCall::new(alloc, chosen, Form::Rooms),
+            one_call: OneCall::new(alloc, chosen),
             plain,
             rates,
         })
@@ -149,14 +150,30 @@ impl<'t, E: Engine + Copy> Levels<'t, E> {
         action: &Action,
     ) -> Result<Returned, Failure> {
         match level {
-            LevelName::Call => act(&mut self.call, kept, action),
-            LevelName::Slices => act(&mut self.slices, kept, action),
-            LevelName::Rooms => act(&mut self.rooms, kept, action),
+            LevelName::Call => self.act_in_one_call(Form::Iterators, kept, action),
+            LevelName::Slices => self.act_in_one_call(Form::Slices, kept, action),
+            LevelName::Rooms => self.act_in_one_call(Form::Rooms, kept, action),
+            LevelName::Wanted => self.act_in_one_call(Form::Wanted, kept, action),
+            LevelName::WantedRooms => self.act_in_one_call(Form::WantedRooms, kept, action),
+            LevelName::Verified => self.act_in_one_call(Form::Verified, kept, action),
+            LevelName::Updated => self.act_in_one_call(Form::Updated, kept, action),
+            LevelName::Messages => self.act_in_one_call(Form::Messages, kept, action),
             LevelName::Plain => act(&mut self.plain, kept, action),
             LevelName::Low => act(&mut self.rates.low, kept, action),
             LevelName::High => act(&mut self.rates.high, kept, action),
             LevelName::Default => act(&mut self.rates.default, kept, action),
         }
+    }
+
+    // Runs an action with one-call functions of this form.
+    fn act_in_one_call(
+        &mut self,
+        form: Form,
+        kept: &mut Kept,
+        action: &Action,
+    ) -> Result<Returned, Failure> {
+        self.one_call.form = form;
+        act(&mut self.one_call, kept, action)
     }
 }
 

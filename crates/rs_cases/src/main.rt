@@ -17,9 +17,13 @@ mod one_call;
 mod plain;
 mod rated;
 mod reading;
+mod reconstructing;
 mod report;
 mod rooms;
 mod slices;
+mod splitting;
+mod updating;
+mod verifying;
 mod watch;
 mod words;
 

@@ -6,7 +6,7 @@ use crate::cases::{Configuration, Left, Object, Role, Shard};
 use crate::kept::{Kept, Works};
 use crate::level::{Answer, Level};
 use crate::watch::Watch;
-use crate::{rooms, slices};
+use crate::{reconstructing, rooms, slices, splitting, updating, verifying};
 use reed_solomon_simd::engine::DefaultEngine;
 use reed_solomon_simd::{Error, decode, encode};
 use std::alloc::Global;
@@ -21,14 +21,25 @@ pub enum Form {
     Slices,
     /// The call takes slices of shards, and writes into rooms.
     Rooms,
+    /// `encode_slice`, and `reconstruct` of the missing originals.
+    Wanted,
+    /// `encode_slice`, and `reconstruct_into` of the missing originals.
+    WantedRooms,
+    /// `encode_slice`, and `verify` before `decode_slice`.
+    Verified,
+    /// `update_into` after `encode_slice`, and `decode_slice`.
+    Updated,
+    /// `split` before `encode_slice`, and `complete` and `join` after `decode_slice`.
+    Messages,
 }
 
-/// The one-call functions of one form, with the counts and the shards for the next call.
+/// The one-call functions, with the counts and the shards for the next call.
 #[derive(Drop)]
 pub struct OneCall<'t> {
     alloc: Global,
     engine: DefaultEngine<'t>,
-    form: Form,
+    /// The form of the next call.
+    pub form: Form,
     configuration: Configuration,
     // The items of the three iterators. `None` is a place at which an iterator ends once.
     next: Vec<Option<Shard>>,
@@ -38,11 +49,11 @@ pub struct OneCall<'t> {
 
 impl<'t> OneCall<'t> {
     /// Makes a level that has not received a shard.
-    pub fn new(alloc: Global, engine: DefaultEngine<'t>, form: Form) -> OneCall<'t> {
+    pub fn new(alloc: Global, engine: DefaultEngine<'t>) -> OneCall<'t> {
         OneCall {
             alloc,
             engine,
-            form,
+            form: Form::Iterators,
             configuration: Configuration {
                 original_count: 1,
                 recovery_count: 1,
@@ -93,8 +104,12 @@ impl<'t> OneCall<'t> {
         let own = self.next.as_slice();
         match self.form {
             Form::Iterators => self.encode_places(left),
-            Form::Slices => slices::encode(alloc, counts, own, engine),
+            Form::Slices | Form::Wanted | Form::WantedRooms | Form::Verified => {
+                slices::encode(alloc, counts, own, engine)
+            }
             Form::Rooms => rooms::encode(alloc, counts, own, engine, agrees),
+            Form::Updated => updating::encode(alloc, counts, own, engine, agrees),
+            Form::Messages => splitting::encode(alloc, counts, own, engine, agrees),
         }
     }
 
@@ -108,8 +123,12 @@ impl<'t> OneCall<'t> {
         let (own, further) = (self.original.as_slice(), self.recovery.as_slice());
         match self.form {
             Form::Iterators => self.decode_places(left),
-            Form::Slices => slices::decode(alloc, counts, own, further, engine),
+            Form::Slices | Form::Updated => slices::decode(alloc, counts, own, further, engine),
             Form::Rooms => rooms::decode(alloc, counts, own, further, engine, agrees),
+            Form::Wanted => reconstructing::decode(alloc, counts, own, further, engine, agrees),
+            Form::WantedRooms => rooms::reconstructed(alloc, counts, own, further, engine, agrees),
+            Form::Verified => verifying::decode(alloc, counts, own, further, engine),
+            Form::Messages => splitting::decode(alloc, counts, own, further, engine, agrees),
         }
     }
 }

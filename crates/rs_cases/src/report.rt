@@ -78,10 +78,13 @@ impl Report {
         self.write_ways(&file.ways)
     }
 
-    // Writes how many cases of a file each level has run.
+    // Writes how many cases of a file each level has run. Leaves out the levels that have run no case.
     fn write_counts(&mut self, file: &CaseFile, levels: &[LevelName]) -> Result<(), AllocError> {
         for level in levels {
-            write!(self.text, " {} {},", file.count_by(*level), level.word())?;
+            let count = file.count_by(*level);
+            if count > 0 {
+                write!(self.text, " {count} {},", level.word())?;
+            }
         }
         Ok(())
     }

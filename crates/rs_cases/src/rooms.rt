@@ -1,9 +1,12 @@
 //! The one-call functions that write into rooms, which are memory of the caller.
 use crate::cases::{Configuration, Shard};
+use crate::reconstructing::names_of;
 use crate::slices::{lent, lent_items};
 use crate::watch::Watch;
 use reed_solomon_simd::engine::DefaultEngine;
-use reed_solomon_simd::{Error, RoomError, decode_into, encode_into};
+use reed_solomon_simd::{
+    Error, ReconstructError, RoomError, ShardIndex, decode_into, encode_into, reconstruct_into,
+};
 use std::alloc::{AllocError, Global};
 use std::collections::BTreeMap;
 
@@ -31,8 +34,12 @@ fn rooms_of(
     Ok(rooms)
 }
 
-// Lends rooms.
-fn lend(alloc: Global, rooms: &mut [Vec<u8>]) -> Result<Vec<&mut [u8]>, Error> {
+/// Lends rooms.
+///
+/// # Errors
+///
+/// [`Error::OutOfMemory`] if memory cannot be allocated.
+pub fn lend(alloc: Global, rooms: &mut [Vec<u8>]) -> Result<Vec<&mut [u8]>, Error> {
     let mut lent = Vec::new(alloc);
     for room in rooms {
         lent.push(room.as_mut_slice())?;
@@ -47,16 +54,25 @@ fn are_untouched(rooms: &[Vec<u8>]) -> bool {
         .all(|room| room.iter().all(|byte| *byte == BEFORE))
 }
 
-// Returns the rooms after a call, or the error of the library. Clears `agrees` if the call did not accept the rooms, or
-// failed and changed them.
-fn outcome(
-    answer: Result<(), RoomError>,
+// The reason why a call with rooms failed.
+#[derive(Drop)]
+enum Refusal {
+    // The error of the library.
+    Refused(Error),
+    // The call did not accept the rooms, or the names of the wanted shards.
+    Rooms,
+}
+
+// Returns the rooms after a call, or the error of the library. Clears `agrees` if the call did not accept the rooms or
+// the names of the wanted shards, or failed and changed the rooms.
+fn outcome<E: Into<Refusal>>(
+    answer: Result<(), E>,
     rooms: Vec<Vec<u8>>,
     agrees: &mut bool,
 ) -> Result<Vec<Vec<u8>>, Error> {
-    match answer {
+    match answer.map_err(|error| error.into()) {
         Ok(()) => Ok(rooms),
-        Err(RoomError::Refused(error)) if are_untouched(&rooms) => Err(error),
+        Err(Refusal::Refused(error)) if are_untouched(&rooms) => Err(error),
         Err(_) => {
             *agrees = false;
             Ok(rooms)
@@ -124,8 +140,12 @@ fn indexes_without_mark(alloc: Global, marks: &[bool]) -> Result<Vec<usize>, All
     Ok(indexes)
 }
 
-// Returns the indexes of the originals that were not received, in order.
-fn missing_indexes(
+/// Returns the indexes of the originals that were not received, in order.
+///
+/// # Errors
+///
+/// [`AllocError`] if memory cannot be allocated.
+pub fn missing_indexes(
     alloc: Global,
     count: usize,
     received: &[(usize, &[u8])],
@@ -171,8 +191,12 @@ fn decode_in(
     decode_into(alloc, k, r, originals, recoveries, &mut lent_rooms, engine)
 }
 
-// Returns rooms by their indexes.
-fn by_index(
+/// Returns rooms by their indexes.
+///
+/// # Errors
+///
+/// [`AllocError`] if memory cannot be allocated.
+pub fn by_index(
     alloc: Global,
     indexes: &[usize],
     rooms: Vec<Vec<u8>>,
@@ -182,4 +206,70 @@ fn by_index(
         restored.insert(*index, room)?;
     }
     Ok(restored)
+}
+
+/// Reconstructs the missing originals with `reconstruct_into`, and returns the rooms by their indexes. Clears `agrees` if
+/// the call did not accept the rooms or the names of the originals, or failed and changed the rooms.
+///
+/// # Errors
+///
+/// The error of the library, or [`Error::OutOfMemory`] if the rooms cannot be allocated.
+pub fn reconstructed(
+    alloc: Global,
+    configuration: Configuration,
+    originals: &[Option<Shard>],
+    recoveries: &[Option<Shard>],
+    engine: DefaultEngine<'_>,
+    agrees: &mut bool,
+) -> Result<BTreeMap<usize, Vec<u8>>, Error> {
+    let own = lent_items(alloc, originals)?;
+    let further = lent_items(alloc, recoveries)?;
+    let missing = missing_indexes(alloc, configuration.original_count, &own)?;
+    let wanted = names_of(alloc, &missing)?;
+    let mut rooms = rooms_of(alloc, missing.len(), recoveries)?;
+    let received = (own.as_slice(), further.as_slice());
+    let answer = reconstruct_in(alloc, configuration, received, &wanted, &mut rooms, engine);
+    Ok(by_index(alloc, &missing, outcome(answer, rooms, agrees)?)?)
+}
+
+// Reconstructs wanted shards with `reconstruct_into`.
+fn reconstruct_in(
+    alloc: Global,
+    configuration: Configuration,
+    (originals, recoveries): (&[(usize, &[u8])], &[(usize, &[u8])]),
+    wanted: &[ShardIndex],
+    rooms: &mut [Vec<u8>],
+    engine: DefaultEngine<'_>,
+) -> Result<(), ReconstructError> {
+    let (k, r, _) = configuration.numbers();
+    let mut lent_rooms = lend(alloc, rooms)?;
+    let _watch = Watch::new(alloc);
+    reconstruct_into(
+        alloc,
+        k,
+        r,
+        originals,
+        recoveries,
+        wanted,
+        &mut lent_rooms,
+        engine,
+    )
+}
+
+impl From<RoomError> for Refusal {
+    fn from(error: RoomError) -> Refusal {
+        match error {
+            RoomError::Refused(error) => Refusal::Refused(error),
+            _ => Refusal::Rooms,
+        }
+    }
+}
+
+impl From<ReconstructError> for Refusal {
+    fn from(error: ReconstructError) -> Refusal {
+        match error {
+            ReconstructError::Refused(error) => Refusal::Refused(error),
+            _ => Refusal::Rooms,
+        }
+    }
 }

@@ -64,9 +64,24 @@ pub fn decode(
     recoveries: &[Option<Shard>],
     engine: DefaultEngine<'_>,
 ) -> Result<BTreeMap<usize, Vec<u8>>, Error> {
-    let (k, r, _) = configuration.numbers();
     let own = lent_items(alloc, originals)?;
     let further = lent_items(alloc, recoveries)?;
     let _watch = Watch::new(alloc);
-    decode_slice(alloc, k, r, &own, &further, engine)
+    decode_lent(alloc, configuration, &own, &further, engine)
+}
+
+/// Decodes originals and recovery shards with their indexes with `decode_slice`.
+///
+/// # Errors
+///
+/// The error of the library.
+pub fn decode_lent(
+    alloc: Global,
+    configuration: Configuration,
+    originals: &[(usize, &[u8])],
+    recoveries: &[(usize, &[u8])],
+    engine: DefaultEngine<'_>,
+) -> Result<BTreeMap<usize, Vec<u8>>, Error> {
+    let (k, r, _) = configuration.numbers();
+    decode_slice(alloc, k, r, originals, recoveries, engine)
 }

@@ -1,0 +1,53 @@
+//! Decodes with `reconstruct`, which is asked for the missing originals.
+use crate::cases::{Configuration, Shard};
+use crate::rooms::{by_index, missing_indexes};
+use crate::slices::lent_items;
+use crate::watch::Watch;
+use reed_solomon_simd::engine::DefaultEngine;
+use reed_solomon_simd::{Error, ReconstructError, ShardIndex, reconstruct};
+use std::alloc::{AllocError, Global};
+use std::collections::BTreeMap;
+
+/// Returns the names of originals.
+///
+/// # Errors
+///
+/// [`AllocError`] if memory cannot be allocated.
+pub fn names_of(alloc: Global, indexes: &[usize]) -> Result<Vec<ShardIndex>, AllocError> {
+    let mut names = Vec::new(alloc);
+    for index in indexes {
+        names.push(ShardIndex::Original(*index))?;
+    }
+    Ok(names)
+}
+
+/// Reconstructs the missing originals with `reconstruct`. Clears `agrees` if the call did not accept their names.
+///
+/// # Errors
+///
+/// The error of the library, or [`Error::OutOfMemory`] if the slices cannot be allocated.
+pub fn decode(
+    alloc: Global,
+    configuration: Configuration,
+    originals: &[Option<Shard>],
+    recoveries: &[Option<Shard>],
+    engine: DefaultEngine<'_>,
+    agrees: &mut bool,
+) -> Result<BTreeMap<usize, Vec<u8>>, Error> {
+    let (k, r, _) = configuration.numbers();
+    let own = lent_items(alloc, originals)?;
+    let further = lent_items(alloc, recoveries)?;
+    let missing = missing_indexes(alloc, k, &own)?;
+    let wanted = names_of(alloc, &missing)?;
+    let watch = Watch::new(alloc);
+    let answer = reconstruct(alloc, k, r, &own, &further, &wanted, engine);
+    drop(watch);
+    match answer {
+        Ok(shards) => Ok(by_index(alloc, &missing, shards)?),
+        Err(ReconstructError::Refused(error)) => Err(error),
+        Err(_) => {
+            *agrees = false;
+            Ok(BTreeMap::new(alloc))
+        }
+    }
+}
