@@ -11,3 +11,4 @@ pub mod VerifyLaws
 pub mod ReconstructLaws
 mod RoomsBack
 mod UpdatedCode
+mod UpdatedRooms

@@ -1,6 +1,7 @@
 //! Callers of the one-call functions. Their contracts state what these functions return for shards in memory.
-ghost use Rattle.std.specs.Prelude.{map};
+ghost use Rattle.std.specs.Prelude.{map, IfOk};
 ghost use Rattle.reed_solomon_simd.specs.OneCall.{OneEncodeAnswers, OneDecodeAnswers, collected_shards, collected_map};
+ghost use Rattle.reed_solomon_simd.specs.RoundTrip.{RestoresOnly};
 
 use reed_solomon_simd::engine::DefaultEngine;
 use reed_solomon_simd::{Error, decode_slice, encode, encode_slice};
@@ -42,7 +43,8 @@ pub fn encode_arrays<const K: usize, const N: usize>(
     encode_slice(alloc, K, recovery_count, original, engine)
 }
 
-/// Returns the missing originals. The received shards are vectors with their indexes.
+/// Returns the missing originals of the only message to which the received shards belong. The received shards are
+/// vectors with their indexes.
 ///
 /// # Errors
 ///
@@ -55,7 +57,10 @@ pub fn decode_vectors(
     recovery: &[(usize, Vec<u8>)],
     engine: DefaultEngine<'_>,
 ) -> Result<BTreeMap<usize, Vec<u8>>, Error>
-    ensures { OneDecodeAnswers original_count recovery_count
+    ensures restored { IfOk (collected_map result) (RestoresOnly original_count recovery_count
+        (map (λ item. (item.0, item.1.items)) original.now)
+        (map (λ item. (item.0, item.1.items)) recovery.now)) }
+    ensures answer { OneDecodeAnswers original_count recovery_count
         (map (λ item. (item.0, item.1.items)) original.now)
         (map (λ item. (item.0, item.1.items)) recovery.now) (collected_map result) }
 {

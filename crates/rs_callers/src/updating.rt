@@ -1,7 +1,7 @@
 //! A message of which one original changes: an update of its recovery shards gives those that an encode would give.
-ghost use Rattle.std.specs.Prelude.{◌<◌, length, slice_set, OnOk};
+ghost use Rattle.std.specs.Prelude.{◌≡◌, ℕ, ◌/◌, ◌<◌, length, slice_set, OnOk};
 ghost use Rattle.rs_field.specs.code.Code.{AreRecovery};
-ghost use Rattle.rs_field.specs.code.Column.{shard_at};
+ghost use Rattle.rs_field.specs.code.Column.{shard_at, column};
 ghost use Rattle.rs_field.specs.code.OneCall.{default_of};
 ghost use Rattle.reed_solomon_simd.specs.Rooms.{shards_of, bytes_in};
 
@@ -39,6 +39,39 @@ pub fn encode_and_update(
     update_into(
         alloc,
         count,
+        recovery_count,
+        index,
+        old,
+        new,
+        recovery,
+        engine,
+    )
+}
+
+/// Updates rooms after the original with this index has changed from `old` to `new`, as [`update_into`] does. Where a word
+/// of the original did not change, the words of the rooms at its place are as they were, whatever the rooms held.
+///
+/// # Errors
+///
+/// The errors of [`update_into`], in the same order.
+pub fn update_any_rooms(
+    alloc: Global,
+    original_count: usize,
+    recovery_count: usize,
+    index: usize,
+    old: &[u8],
+    new: &[u8],
+    recovery: &mut [&mut [u8]],
+    engine: DefaultEngine<'_>,
+) -> Result<(), RoomError>
+    ensures { OnOk result ((i j : ℕ) → i < recovery_count
+        → j < length (shard_at (bytes_in recovery.old) i) / 2 → column j old.now ≡ column j new.now
+        → column j (shard_at (bytes_in recovery.new) i)
+        ≡ column j (shard_at (bytes_in recovery.old) i)) }
+{
+    update_into(
+        alloc,
+        original_count,
         recovery_count,
         index,
         old,
