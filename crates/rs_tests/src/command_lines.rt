@@ -259,7 +259,7 @@ fn check_printed(rt: &impl Abort, alloc: Global, engine: &str) {
 fn check_errors(rt: &impl Abort, alloc: Global, engine: &str, lines: &[(&str, &str)]) {
     for (line, text) in lines {
         let told = format!(in alloc; "{text}\n").expect(rt, "text");
-        check(rt, alloc, (line, engine), (1, "", told.as_str()));
+        check(rt, alloc, (*line, engine), (1, "", told.as_str()));
     }
 }
 
