@@ -12,3 +12,5 @@ pub mod ReconstructLaws
 mod RoomsBack
 mod UpdatedCode
 mod UpdatedRooms
+pub mod BlocksBack
+pub mod BlocksFail

@@ -2,6 +2,8 @@
 //! updates of recovery shards, and every public path.
 #![tactic(auto)]
 
+pub mod block_round_trip;
+pub mod blocks;
 pub mod callers;
 pub mod lent_rows;
 pub mod levels;

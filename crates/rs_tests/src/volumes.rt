@@ -1,68 +1,20 @@
 //! Tests of `rs_volumes` over sets of files in memory: the files come back after blocks were lost or damaged.
 ghost use Rattle.std.specs.Prelude.{◌≡◌, ◌<◌, ◌%◌};
-ghost use Rattle.rs_field.specs.code.Given.{nothing};
 
 use super::shards::drawn;
 use reed_solomon_simd::engine::DefaultEngine;
 use reed_solomon_simd::engine::tables::Tables;
+use rs_callers::blocks::Blocks;
 use rs_volumes::checking::fits;
 use rs_volumes::coding_error::CodingError;
 use rs_volumes::creating::{Shape, create};
 use rs_volumes::description::{Description, FileEntry};
 use rs_volumes::digest::{digest_of, is_digest};
-use rs_volumes::pieces::{BlockSink, BlockSource};
 use rs_volumes::placement::{Place, places_of};
 use rs_volumes::restoring::{Plan, restore};
 use rs_volumes::{read_description, write_description};
 use std::alloc::{AllocError, Global};
-use std::io;
-use std::io::ErrorKind;
 use std::process::Abort;
-
-// Blocks in memory, by their indexes.
-#[derive(Drop)]
-struct Blocks {
-    alloc: Global,
-    blocks: Vec<Vec<u8>>,
-}
-
-impl Blocks {
-    // Makes blocks without bytes.
-    fn empty(alloc: Global, count: usize) -> Result<Blocks, AllocError> {
-        let mut blocks = Vec::new(alloc);
-        for _ in 0..count {
-            blocks.push(Vec::new(alloc))?;
-        }
-        Ok(Blocks { alloc, blocks })
-    }
-}
-
-impl BlockSource for Blocks {
-    ghost blocks = { λ _. nothing };
-
-    fn piece(&mut self, index: usize, start: usize, end: usize) -> io::Result<Vec<u8>> {
-        match self.blocks.get(index) {
-            Some(block) if end <= block.len() => {
-                Ok(Vec::from_slice(self.alloc, &block[start..end])?)
-            }
-            _ => Err(io::Error::from(ErrorKind::NotFound)),
-        }
-    }
-}
-
-impl BlockSink for Blocks {
-    ghost written = { λ _. nothing };
-
-    fn put(&mut self, index: usize, start: usize, piece: &[u8]) -> io::Result<()> {
-        match self.blocks.get_mut(index) {
-            Some(block) if block.len() == start => {
-                block.extend_from_slice(piece)?;
-                Ok(())
-            }
-            _ => Err(io::Error::from(ErrorKind::InvalidInput)),
-        }
-    }
-}
 
 // The names of the files of a set.
 const NAMES: [&[u8]; 6] = [b"a", b"b", b"b/c", b"d", b"e", b"f"];
@@ -253,6 +205,41 @@ const LOSSES: [Loss<'static>; 4] = [
     (&[1, 2, 6, 8], &[]),
 ];
 
+// Restores the original blocks of a set by a plan.
+fn restored_by(
+    alloc: Global,
+    set: &mut StoredSet,
+    piece_bytes: usize,
+    plan: &Plan,
+    engine: DefaultEngine<'_>,
+) -> Result<Blocks, CodingError>
+    requires some { 0 < piece_bytes }
+    requires chunks { piece_bytes % 64 ≡ 0 }
+{
+    let shape = shape_of(&set.description);
+    let mut files = Blocks::empty(alloc, shape.original_count)?;
+    restore(
+        alloc,
+        shape,
+        piece_bytes,
+        engine,
+        plan,
+        set.description.digests.as_slice(),
+        &mut set.blocks,
+        &mut files,
+    )?;
+    Ok(files)
+}
+
+// Damages blocks of a set, and returns the plan that reads all others.
+fn plan_after(alloc: Global, set: &mut StoredSet, loss: Loss<'_>) -> Result<Plan, AllocError> {
+    let k = shape_of(&set.description).original_count;
+    damage(&mut set.blocks.blocks, 0, loss.0);
+    damage(&mut set.blocks.blocks, k, loss.1);
+    let digests = set.description.digests.as_slice();
+    plan_of(alloc, set.blocks.blocks.as_slice(), digests, k)
+}
+
 // Restores a set after a loss.
 fn restored(
     alloc: Global,
@@ -264,24 +251,8 @@ fn restored(
     requires some { 0 < piece_bytes }
     requires chunks { piece_bytes % 64 ≡ 0 }
 {
-    let shape = shape_of(&set.description);
-    let k = shape.original_count;
-    damage(&mut set.blocks.blocks, 0, loss.0);
-    damage(&mut set.blocks.blocks, k, loss.1);
-    let digests = set.description.digests.as_slice();
-    let plan = plan_of(alloc, set.blocks.blocks.as_slice(), digests, k)?;
-    let mut files = Blocks::empty(alloc, k)?;
-    restore(
-        alloc,
-        shape,
-        piece_bytes,
-        engine,
-        &plan,
-        digests,
-        &mut set.blocks,
-        &mut files,
-    )?;
-    Ok(files)
+    let plan = plan_after(alloc, set, loss)?;
+    restored_by(alloc, set, piece_bytes, &plan, engine)
 }
 
 // Checks that the files of a set come back after each loss.
@@ -327,4 +298,84 @@ fn too_few_blocks_restore_nothing(rt: HostRuntime) {
     let mut set = make_set(&rt, alloc, 64, 64, engine);
     let outcome = restored(alloc, &mut set, 64, (&[0, 3, 4], &[0, 1]), engine);
     assert!(rt; matches!(outcome, Err(CodingError::Code(_))));
+}
+
+// Cuts a block off after its first piece of 64 bytes.
+fn cut_off(blocks: &mut Blocks, index: usize) {
+    if let Some(block) = blocks.blocks.get_mut(index) {
+        block.truncate(64);
+    }
+}
+
+// Block 0 is lost, so the blocks are read for a decode. The first piece of each block can be read. The index of a
+// recovery block is larger than its number.
+#[test]
+fn unread_blocks_are_named_while_blocks_are_restored(rt: HostRuntime) {
+    let alloc = rt.alloc();
+    let tables = Tables::new(alloc).expect(&rt, "tables");
+    let engine = DefaultEngine::fastest(&tables);
+    for from_the_end in [2, 3, 8] {
+        let mut set = make_set(&rt, alloc, 320, 64, engine);
+        let plan = plan_after(alloc, &mut set, (&[0], &[])).expect(&rt, "a plan");
+        let index = set.blocks.blocks.len().saturating_sub(from_the_end);
+        cut_off(&mut set.blocks, index);
+        match restored_by(alloc, &mut set, 64, &plan, engine) {
+            Err(CodingError::Read(named, _)) => assert_eq!(&rt; named, index),
+            _ => assert!(&rt; false, "block {index} was read"),
+        }
+    }
+}
+
+#[test]
+fn wrong_digests_name_their_own_block(rt: HostRuntime) {
+    let alloc = rt.alloc();
+    let tables = Tables::new(alloc).expect(&rt, "tables");
+    let engine = DefaultEngine::fastest(&tables);
+    for index in [1, 5] {
+        let mut set = make_set(&rt, alloc, 64, 64, engine);
+        let plan = plan_after(alloc, &mut set, (&[0, 5], &[2])).expect(&rt, "a plan");
+        if let Some(byte) = set.description.digests.get_mut(32 * index) {
+            *byte ^= 1;
+        }
+        match restored_by(alloc, &mut set, 64, &plan, engine) {
+            Err(CodingError::Digest(named)) => assert_eq!(&rt; named, index),
+            _ => assert!(&rt; false, "block {index} has its digest"),
+        }
+    }
+}
+
+// The source has three blocks of two pieces, of which one is cut off, and the sink has too few blocks.
+#[test]
+fn blocks_that_cannot_be_created_are_named(rt: HostRuntime) {
+    let alloc = rt.alloc();
+    let tables = Tables::new(alloc).expect(&rt, "tables");
+    let engine = DefaultEngine::fastest(&tables);
+    let shape = Shape {
+        original_count: 3,
+        recovery_count: 2,
+        block_bytes: 128,
+    };
+    for index in 0..3 {
+        let mut source = Blocks {
+            alloc,
+            blocks: drawn(alloc, 3, 128).expect(&rt, "blocks"),
+        };
+        cut_off(&mut source, index);
+        let mut sink = Blocks::empty(alloc, 5).expect(&rt, "blocks");
+        match create(alloc, shape, 64, engine, &mut source, &mut sink) {
+            Err(CodingError::Read(named, _)) => assert_eq!(&rt; named, index),
+            _ => assert!(&rt; false, "block {index} was read"),
+        }
+    }
+    for count in 0..5 {
+        let mut source = Blocks {
+            alloc,
+            blocks: drawn(alloc, 3, 128).expect(&rt, "blocks"),
+        };
+        let mut sink = Blocks::empty(alloc, count).expect(&rt, "blocks");
+        match create(alloc, shape, 64, engine, &mut source, &mut sink) {
+            Err(CodingError::Write(named, _)) => assert_eq!(&rt; named, count),
+            _ => assert!(&rt; false, "block {count} was written"),
+        }
+    }
 }

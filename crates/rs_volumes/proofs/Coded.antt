@@ -1,7 +1,7 @@
 -- Pieces that were coded, and then written by two calls.
 use Rattle.std.proofs.Common.{rules, ◌≡◌, ◌⊎◌, ℕ, ◌+◌, ◌-◌, ◌<◌, ◌≤◌, ◌%◌, List, [], ◌++◌, length, All, Some, sym, ap}
 use Rattle.std.proofs.Common.{◌∙◌, get_or, arith}
-use Rattle.std.specs.Prelude.{min, map, ◌≢◌}
+use Rattle.std.specs.Prelude.{min, map}
 use Rattle.std.specs.Global.{Vec}
 use Rattle.std.proofs.lemmas.List.{get_or-append_right, length-map, get_or-map}
 use Rattle.std.proofs.Math.ListN.{get_or-append}
@@ -24,19 +24,24 @@ coded_sized n {k = k} {r = r} {pieces = pieces} {made = made} coded sized =
     let size : coded.size ≡ n = sym (coded.shards.each 0 [] first).length_is ∙ sized 0 [] first in
     (rw size at coded.shards, rw size at coded.coded)
 
+-- the counts of what one call codes are small
+pub coded_counts : {k r : ℕ} {pieces made : List Shard} → AreCoded k r pieces made → k + r ≤ 131072
+coded_counts {k = k} {r = r} coded =
+    let few = (default_fits k r (valid-supported (default_of k r coded.size) coded.valid)).2 in omega (arith, few)
+
 -- a call that writes the pieces of the blocks from `first` on
-pub record Puts (first : ℕ) (pieces : List Shard) (before after : Shards) : Type 0 where
-  pub put : (i : ℕ) (block : Shard) → i < length pieces → before (first + i) ≡ Some block
+pub record Puts (first start : ℕ) (pieces : List Shard) (before after : Shards) : Type 0 where
+  pub put : (i : ℕ) (block : Shard) → i < length pieces → before (first + i) ≡ Some block → start ≡ length block
       → after (first + i) ≡ Some (block ++ shard_at pieces i)
   pub others : (i : ℕ) → (i < first) ⊎ (first + length pieces ≤ i) → after i ≡ before i
 
-module _ {k r : ℕ} {pieces made : List Shard} {before between after : Shards} where
+module _ {k r start : ℕ} {pieces made : List Shard} {before between after : Shards} where
   -- the pieces of the original blocks and then those of the recovery blocks
   pub put_both : length pieces ≡ k → length made ≡ r
-      → Puts 0 pieces before between → Puts k made between after
-      → (i : ℕ) (block : Shard) → i < k + r → before i ≡ Some block
+      → Puts 0 start pieces before between → Puts k start made between after
+      → (i : ℕ) (block : Shard) → i < k + r → before i ≡ Some block → start ≡ length block
       → after i ≡ Some (block ++ shard_at (pieces ++ made) i)
-  put_both one two first second i block lt is = search (rules, get_or-append, get_or-append_right)
+  put_both one two first second i block lt is long = search (rules, get_or-append, get_or-append_right)
 
 module _ {start piece size width : ℕ} where
   -- the next piece is a strip
@@ -45,11 +50,11 @@ module _ {start piece size width : ℕ} where
   next_strip inside begins chunks some less is = search rules
 
 -- the pieces of vectors, as a call writes them
-pub puts_from : {first : ℕ} (vectors : List (Vec ℕ)) {before after : Shards}
-    → ((i : ℕ) (block : Shard) → i < length vectors → before (first + i) ≡ Some block
+pub puts_from : {first start : ℕ} (vectors : List (Vec ℕ)) {before after : Shards}
+    → ((i : ℕ) (block : Shard) → i < length vectors → before (first + i) ≡ Some block → start ≡ length block
     → after (first + i) ≡ Some (block ++ shard_at (map (λ p. p.items) vectors) i))
     → ((i : ℕ) → (i < first) ⊎ (first + length vectors ≤ i) → after i ≡ before i)
-    → Puts first (map (λ p. p.items) vectors) before after
+    → Puts first start (map (λ p. p.items) vectors) before after
 puts_from vectors put others = search (rules, length-map)
 
 -- a vector in a list

@@ -1,6 +1,8 @@
 -- A set that is created piece by piece.
 use Rattle.std.proofs.Common.{rules, ◌≡◌, ℕ, zero, suc, ◌+◌, ◌-◌, ◌<◌, ◌≤◌, ◌⊎◌, List, [], ◌++◌, length, take, Some}
-use Rattle.std.proofs.Common.{refl, sym, ap, ◌∙◌, arith}
+use Rattle.std.proofs.Common.{refl, sym, ap, ◌∙◌, inl, inr, arith}
+use Rattle.std.specs.Prelude.{Option}
+use Rattle.std.specs.declared.io.Error.{Error}
 use Rattle.std.proofs.lemmas.Grind.{common_steps}
 use Rattle.std.specs.List.{flat_map}
 use Rattle.std.proofs.lemmas.List.{take_all, get_or-append_right}
@@ -12,8 +14,10 @@ use Rattle.rs_field.specs.code.Given.{Shards}
 use Rattle.rs_field.specs.code.OneCall.{default_of}
 use Rattle.rs_field.specs.code.Pieces.{IsStrip}
 use Rattle.rs_field.proofs.of_code.Pieces.{strips-join}
+use Rattle.rs_volumes.specs.declared.coding_error.CodingError.{CodingError}
+use Rattle.rs_volumes.specs.declared.coding_error.CodingError.TheVariants as errors
 use Rattle.rs_volumes.specs.declared.creating.Shape.{Shape}
-use Rattle.rs_volumes.specs.Creating.{IsCreated, MakesPiece}
+use Rattle.rs_volumes.specs.Creating.{CreatingFails, IsCreated, MakesPiece, PieceFails}
 use Rattle.rs_volumes.specs.Hashing.{AreHashed, joined, empty_blocks}
 use Rattle.rs_volumes.proofs.Hashes.{length-joined, shard_at-joined}
 use Rattle.rs_volumes.proofs.Strips.{take-further, shards-joined, IsCodedTo, coded-none, coded-more}
@@ -73,6 +77,16 @@ created_none {shape = shape} one two =
       written = λ i lt is. is ∙ ap Some (sym (empty_block k r i));
     }
 
+-- each block of two lists has as many bytes as each block of one of them
+sized_both : (k r n : ℕ) (xs ys : List Shard) (i : ℕ) → AreShards k n xs → AreShards r n ys → i < k + r
+    → n ≡ length (shard_at (xs ++ ys) i)
+sized_both k r n xs ys i one two lt =
+    elim (split_at k xs ys i one.length_is) [
+      | inl first ↦ rw first.1 (sym (one.each i [] (omega (arith, first.0, one.length_is))).length_is)
+      | inr second ↦
+          rw second.1 (sym (two.each (i - k) [] (omega (arith, second.0, lt, two.length_is))).length_is)
+    ]
+
 -- the blocks of two joined lists
 joined_block : (k r : ℕ) (xs ys ps qs : List Shard) (i : ℕ) → length xs ≡ k → length ys ≡ r → length ps ≡ k
     → length qs ≡ r → i < k + r
@@ -103,9 +117,46 @@ module _ {shape : Shape} {start end : ℕ} {known before now after : Shards} {h 
         recovery_hashed = new.recovery_hashed old.recovery old.recovery_hashed;
         written = λ i lt is.
             new.put i (shard_at (old.originals ++ old.recovery) i) lt (old.written i lt is)
+            (sized_both shape.original_count shape.recovery_count start old.originals old.recovery i old.shards old.made
+            lt)
             ∙ ap Some (sym (joined_block shape.original_count shape.recovery_count old.originals old.recovery new.pieces
             new.made i old.shards.length_is old.made.length_is new.shards.length_is new.coded.shards.length_is lt));
       }
+
+module _ {shape : Shape} (reads writes : Option Shard → ℕ → Error → Type 0) {start end : ℕ}
+    {known before now : Shards} {h r : List Sha256} where
+  -- If the next piece of each block fails, the creation fails so.
+  pub creating_fails : (e : CodingError) → start < end → IsStrip start end shape.block_bytes
+      → IsCreatedTo shape start known before now h r → PieceFails shape reads writes start end known now e
+      → CreatingFails shape reads writes known before e
+  creating_fails errors.Memory order strip old fails = tt
+  creating_fails (errors.Read i e) order strip old fails = (fails.0, (end, strip.inside, fails.1))
+  creating_fails (errors.Write i e) order strip old fails = (
+    fails.0,
+    record {
+      held = now i;
+      start = start;
+      next = λ none. (
+        shard_at (old.originals ++ old.recovery) i,
+        old.written i fails.0 none,
+        sized_both shape.original_count shape.recovery_count start old.originals old.recovery i old.shards old.made
+            fails.0,
+      );
+      fails = fails.1;
+    },
+  )
+  creating_fails (errors.Code e) order strip old fails =
+      record {
+        start = start;
+        end = end;
+        pieces = fails.0;
+        order = order;
+        strip = strip;
+        are = fails.1;
+        answers = fails.2;
+      }
+  creating_fails (errors.Missing n) order strip old fails = fails
+  creating_fails (errors.Digest i) order strip old fails = fails
 
 module _ {shape : Shape} {start : ℕ} {known before now : Shards} {h r : List Sha256} {digests : List ℕ} where
   -- If all bytes of each block were read, coded, hashed and written, the set is created.

@@ -128,8 +128,8 @@ has-numbers i [] = refl
 has-numbers i (p ∷ ps) = ap (λ (b : Bool). nat_eq i p.0 || b) (has-numbers i ps)
 
 -- the pieces of known blocks that were read are left of the pieces of all blocks
-pieces-left : {first start end : ℕ} {known : Shards} {blocks : List Shard} {numbers : List ℕ} {ps : List (ℕ × Vec ℕ)}
-    → AreKnown known first blocks numbers → AreRead first numbers start end known ps
+pub pieces-left : {first start end : ℕ} {known : Shards} {blocks : List Shard} {numbers : List ℕ}
+    {ps : List (ℕ × Vec ℕ)} → AreKnown known first blocks numbers → AreRead first numbers start end known ps
     → AreLeft (pieces start end blocks) (items_of ps)
 pieces-left {first = first} {start = start} {end = end} {known = known} {blocks = blocks} {ps = ps} whole read =
     let are = rw (← read.numbers_are) at whole in
@@ -161,17 +161,17 @@ whole_block {size = size} {blocks = blocks} i are =
       | inr past ↦ (let n = ap length (get_or_past blocks i [] past) in omega (arith, n))
     ])
 
-module _ {shape : Shape} {plan : Plan} {known now after : Shards} {originals recovery : List Shard} {start end : ℕ}
-    {ps qs : List (ℕ × Vec ℕ)} (strip : IsStrip start end shape.block_bytes)
+module _ {shape : Shape} {plan : Plan} {known : Shards} {originals recovery : List Shard} {start end : ℕ}
+    {ps qs : List (ℕ × Vec ℕ)} (held : ℕ → Shard) {next : ℕ → Shard} (strip : IsStrip start end shape.block_bytes)
     (set : ReadsSet shape plan known originals recovery)
     (read : AreRead 0 plan.originals.items start end known ps)
     (received : AreRead shape.original_count plan.recovery.items start end known qs)
-    (back : PutsBack shape plan.wanted.items (items_of ps) (items_of qs) now after) where
+    (back : PutsBack shape plan.wanted.items (items_of ps) (items_of qs) held next) where
   -- a wanted block of which the first bytes were written gets its next piece
   pub block_more : (i : ℕ) → get_or plan.wanted.items i false ≡ true
       → (list_any (nat_eq i) plan.originals.items ≡ true) ⊎ (0 < length plan.recovery.items)
-      → now i ≡ Some (take start (shard_at originals i)) → after i ≡ Some (take end (shard_at originals i))
-  block_more i is covered held =
+      → held i ≡ take start (shard_at originals i) → next i ≡ take end (shard_at originals i)
+  block_more i is covered so_far =
       let k : ℕ = shape.original_count in
       let size : ℕ = shape.block_bytes in
       let left = pieces-left set.originals_known read in
@@ -187,6 +187,7 @@ module _ {shape : Shape} {plan : Plan} {known now after : Shards} {originals rec
       back (end - start) (pieces start end originals) (pieces start end recovery)
       (shards-cut strip set.shards)
       (recovery-cut strip set.shards set.coded)
-      left got i (take start (shard_at originals i)) is given held
-      ∙ ap (λ (p : Shard). Some (take start (shard_at originals i) ++ p)) (shard_at-pieces start end i originals)
-      ∙ ap Some (take-further start end (shard_at originals i) strip.order)
+      left got i is given
+      ∙ ap (λ (s : Shard). s ++ shard_at (pieces start end originals) i) so_far
+      ∙ ap (λ (p : Shard). take start (shard_at originals i) ++ p) (shard_at-pieces start end i originals)
+      ∙ take-further start end (shard_at originals i) strip.order

@@ -4,5 +4,7 @@ pub mod Heads
 pub mod Places
 pub mod Sound
 pub mod Hashing
+pub mod Failing
+pub mod Holding
 pub mod Creating
 pub mod Restoring

@@ -1,36 +1,25 @@
 -- What a restore guarantees.
-use Rattle.std.specs.Prelude.{
-  ◌≡◌,
-  ℕ,
-  ◌+◌,
-  ◌*◌,
-  ◌<◌,
-  ◌==◌,
-  ◌⊎◌,
-  Bool,
-  true,
-  false,
-  List,
-  [],
-  ◌∷◌,
-  ◌++◌,
-  length,
-  All,
-  map,
-}
-use Rattle.std.specs.Prelude.{slice_index_or, Option, Some, None, nat_eq, if◌then◌else◌}
+use Rattle.std.specs.Prelude.{◌≡◌, ℕ, ◌+◌, ◌*◌, ◌^◌, ◌<◌, ◌≤◌, ◌==◌, ◌⊎◌, Bool, true, false, List, [], ◌∷◌, ◌++◌, length}
+use Rattle.std.specs.Prelude.{All, Contains, map, slice_index_or, Option, Some, None, Result, Ok, Err, nat_eq}
+use Rattle.std.specs.Prelude.{if◌then◌else◌}
+use Rattle.std.specs.declared.io.Error.{Error}
 use Rattle.std.specs.Global.{Vec}
 use Rattle.std.specs.List.{between, IsDistinct, list_any}
 use Rattle.sha2.specs.Sha256.{sha256}
 use Rattle.sha2.specs.Hashers.{Holds256}
 use Rattle.sha2.specs.declared.Sha256.{Sha256}
+use Rattle.rs_field.specs.declared.code.error.Error.{Error as CodeError}
 use Rattle.rs_field.specs.code.Column.{Shard, AreShards, shard_at}
 use Rattle.rs_field.specs.code.Code.{AreRecovery}
 use Rattle.rs_field.specs.code.Given.{Shards}
-use Rattle.rs_field.specs.code.OneCall.{Items, default_of}
+use Rattle.rs_field.specs.code.OneCall.{Items, OneDecodeAnswers, default_of}
+use Rattle.rs_field.specs.code.Pieces.{IsStrip}
 use Rattle.rs_field.specs.code.RoundTrip.{AreLeft}
+use Rattle.rs_volumes.specs.declared.coding_error.CodingError.{CodingError}
+use Rattle.rs_volumes.specs.declared.coding_error.CodingError.TheVariants as errors
 use Rattle.rs_volumes.specs.declared.creating.Shape.{Shape}
 use Rattle.rs_volumes.specs.declared.restoring.Plan.{Plan}
+use Rattle.rs_volumes.specs.Failing.{FailsToRead, FailsToWrite}
 
 -- ---- digests
 
@@ -42,11 +31,6 @@ HasDigest digests i block = between (32 * i) (32 * i + 32) digests ≡ sha256 bl
 pub record AreRestored (wanted : List Bool) (digests : List ℕ) (before after : Shards) : Type 0 where
   pub each : (i : ℕ) → i < length wanted → slice_index_or wanted i false ≡ true
       → (block : Shard) × HasDigest digests i block × (before i ≡ Some [] → after i ≡ Some block)
-
--- each hasher holds the bytes that were written of its block
-pub record AreInStep (hashers : List Sha256) (before now : Shards) : Type 0 where
-  pub each : (i : ℕ) (d : Sha256) → i < length hashers → (bytes : Shard) × Holds256 (slice_index_or hashers i d) bytes
-      × (before i ≡ Some [] → now i ≡ Some bytes)
 
 -- ---- original blocks
 
@@ -93,18 +77,100 @@ unfoldable pub piece_of : ℕ → Items → Shard
 piece_of i [] = []
 piece_of i (item ∷ items) = (if i == item.0 then item.1 else []) ++ piece_of i items
 
--- each wanted block got these bytes
-abbrev pub Gets : List Bool → (ℕ → Shard) → Shards → Shards → Type 0
-Gets wanted piece before after =
-    (i : ℕ) (bytes : Shard) → slice_index_or wanted i false ≡ true → before i ≡ Some bytes
-    → after i ≡ Some (bytes ++ piece i)
+-- `held i` was written of block i before, and `after i` afterwards: each wanted block got this piece
+abbrev pub Gets : List Bool → (ℕ → Shard) → (ℕ → Shard) → (ℕ → Shard) → Type 0
+Gets wanted piece held after = (i : ℕ) → slice_index_or wanted i false ≡ true → after i ≡ held i ++ piece i
 
 -- if the pieces that were read are pieces of a set, each wanted block that was read or can be restored got its piece
-abbrev pub PutsBack : Shape → List Bool → Items → Items → Shards → Shards → Type 0
-PutsBack shape wanted read received before after =
+abbrev pub PutsBack : Shape → List Bool → Items → Items → (ℕ → Shard) → (ℕ → Shard) → Type 0
+PutsBack shape wanted read received held after =
     (size : ℕ) (message all : List Shard) → AreShards shape.original_count size message
     → AreRecovery (default_of shape.original_count shape.recovery_count size) message all
     → AreLeft message read → AreLeft all received
-    → (i : ℕ) (bytes : Shard) → slice_index_or wanted i false ≡ true
+    → (i : ℕ) → slice_index_or wanted i false ≡ true
     → (list_any (λ item. nat_eq i item.0) read ≡ true) ⊎ (0 < length received)
-    → before i ≡ Some bytes → after i ≡ Some (bytes ++ shard_at message i)
+    → after i ≡ held i ++ shard_at message i
+
+-- ---- errors
+
+-- one of these numbers, counted from `first` on, is that of block i
+abbrev pub Names : ℕ → List ℕ → ℕ → Type 0
+Names first numbers i = (n : ℕ) × Contains numbers n × (i ≡ first + n)
+
+-- the code fails with an error for some pieces of the blocks of a plan, which has recovery blocks
+pub record FailsToDecode (shape : Shape) (plan : Plan) (known : Shards) (e : CodeError) : Type 0 where
+  pub start : ℕ
+  pub end : ℕ
+  pub read : List (ℕ × Vec ℕ)
+  pub received : List (ℕ × Vec ℕ)
+  pub order : start < end
+  pub strip : IsStrip start end shape.block_bytes
+  pub are_read : AreRead 0 plan.originals.items start end known read
+  pub are_received : AreRead shape.original_count plan.recovery.items start end known received
+  pub some : 0 < length received
+  pub answers : OneDecodeAnswers shape.original_count shape.recovery_count (items_of read) (items_of received) (Err e)
+
+-- what was written of block i is not a block with its digest
+abbrev pub WrongDigest : List ℕ → Option Shard → Option Shard → ℕ → Type 0
+WrongDigest digests before after i =
+    before ≡ Some [] → (bytes : Shard) × (after ≡ Some bytes) × (HasDigest digests i bytes → ⊥)
+
+-- a restore may fail with this error
+abbrev pub RestoringFails : Shape → Plan → List ℕ → (Option Shard → ℕ → Error → Type 0)
+    → (Option Shard → ℕ → Error → Type 0) → Shards → Shards → Shards → CodingError → Type 0
+RestoringFails shape plan digests reads writes known before after errors.Memory = Unit {0}
+RestoringFails shape plan digests reads writes known before after (errors.Read i e) =
+    (Names 0 plan.originals.items i ⊎ Names shape.original_count plan.recovery.items i)
+    × FailsToRead reads shape.block_bytes (known i) e
+RestoringFails shape plan digests reads writes known before after (errors.Write i e) =
+    (slice_index_or plan.wanted.items i false ≡ true) × FailsToWrite writes (before i) e
+RestoringFails shape plan digests reads writes known before after (errors.Code e) = FailsToDecode shape plan known e
+RestoringFails shape plan digests reads writes known before after (errors.Missing n) =
+    Contains plan.recovery.items n × (2 ^ 64 ≤ shape.original_count + n)
+RestoringFails shape plan digests reads writes known before after (errors.Digest i) =
+    (slice_index_or plan.wanted.items i false ≡ true) × WrongDigest digests (before i) (after i) i
+
+-- a restore wrote all pieces: it succeeded, or a digest differs
+abbrev pub WritesAll : Result (Unit {0}) CodingError → Type 0
+WritesAll (Ok done) = Unit {0}
+WritesAll (Err errors.Memory) = ⊥
+WritesAll (Err (errors.Read i e)) = ⊥
+WritesAll (Err (errors.Write i e)) = ⊥
+WritesAll (Err (errors.Code e)) = ⊥
+WritesAll (Err (errors.Missing n)) = ⊥
+WritesAll (Err (errors.Digest i)) = Unit {0}
+
+-- the pieces of blocks with these numbers, counted from `first` on, up to byte `end`, were not read because of this
+-- error
+abbrev pub NumbersFail : (Option Shard → ℕ → Error → Type 0) → ℕ → List ℕ → ℕ → Shards → CodingError → Type 0
+NumbersFail may_fail first numbers end known errors.Memory = Unit {0}
+NumbersFail may_fail first numbers end known (errors.Read i e) = Names first numbers i × may_fail (known i) end e
+NumbersFail may_fail first numbers end known (errors.Write i e) = ⊥
+NumbersFail may_fail first numbers end known (errors.Code e) = ⊥
+NumbersFail may_fail first numbers end known (errors.Missing n) =
+    Contains numbers n × (n < 2 ^ 64) × (2 ^ 64 ≤ first + n)
+NumbersFail may_fail first numbers end known (errors.Digest i) = ⊥
+
+-- a piece of each wanted block was not written because of this error
+abbrev pub StripFails : Shape → List Bool → Items → Items → (Option Shard → ℕ → Error → Type 0) → Shards
+    → CodingError → Type 0
+StripFails shape wanted read received writes before errors.Memory = Unit {0}
+StripFails shape wanted read received writes before (errors.Read i e) = ⊥
+StripFails shape wanted read received writes before (errors.Write i e) =
+    (slice_index_or wanted i false ≡ true) × FailsToWrite writes (before i) e
+StripFails shape wanted read received writes before (errors.Code e) =
+    (0 < length received)
+    × OneDecodeAnswers shape.original_count shape.recovery_count read received (Err e)
+StripFails shape wanted read received writes before (errors.Missing n) = ⊥
+StripFails shape wanted read received writes before (errors.Digest i) = ⊥
+
+-- the hasher of a wanted block does not give its digest
+abbrev pub DigestFails : List Bool → List ℕ → List Sha256 → CodingError → Type 0
+DigestFails wanted digests hashers errors.Memory = ⊥
+DigestFails wanted digests hashers (errors.Read i e) = ⊥
+DigestFails wanted digests hashers (errors.Write i e) = ⊥
+DigestFails wanted digests hashers (errors.Code e) = ⊥
+DigestFails wanted digests hashers (errors.Missing n) = ⊥
+DigestFails wanted digests hashers (errors.Digest i) =
+    (i < length wanted) × (slice_index_or wanted i false ≡ true)
+    × ((d : Sha256) (bytes : Shard) → Holds256 (slice_index_or hashers i d) bytes → HasDigest digests i bytes → ⊥)

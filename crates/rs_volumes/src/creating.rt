@@ -1,8 +1,9 @@
 //! Makes the recovery blocks of a set, and the digests of all its blocks, piece by piece.
-ghost use Rattle.std.specs.Prelude.{◌≡◌, ℕ, ◌+◌, ◌-◌, ◌<◌, ◌≤◌, ◌%◌, ◌++◌, ◌⊎◌, All, Some, IfOk, OnOk, length, map};
-ghost use Rattle.std.specs.List.{between};
+ghost use Rattle.std.specs.Prelude.{◌≡◌, ℕ, ◌+◌, ◌-◌, ◌<◌, ◌≤◌, ◌%◌, ◌^◌, ◌++◌, ◌⊎◌, Some, IfOk, IfErr, OnOk, length};
+ghost use Rattle.std.specs.Prelude.{map};
 ghost use Rattle.rs_field.specs.code.Column.{Shard, shard_at};
-ghost use Rattle.rs_volumes.specs.Creating.{IsCreated, MakesPiece};
+ghost use Rattle.rs_volumes.specs.Creating.{ArePieces, CreatingFails, IsCreated, MakesPiece, PieceFails};
+ghost use Rattle.rs_volumes.specs.Failing.{ReadingFails, WritingFails};
 
 use crate::coding_error::CodingError;
 use crate::hashing::{absorb, finish, new_hashers};
@@ -47,6 +48,8 @@ struct Hashers {
 /// - [`CodingError::Write`] if the sink fails.
 ///
 /// [`CodingError::Memory`] if memory cannot be allocated, before, between and after the pieces.
+///
+/// After an error, the sink may hold the beginnings of blocks. The blocks with other indexes are as they were.
 pub fn create<S: BlockSource, W: BlockSink>(
     alloc: Global,
     shape: Shape,
@@ -57,8 +60,12 @@ pub fn create<S: BlockSource, W: BlockSink>(
 ) -> Result<Vec<u8>, CodingError>
     requires some { 0 < piece_bytes }
     requires chunks { piece_bytes % 64 ≡ 0 }
-    ensures { IfOk result (λ digests. IsCreated shape (S.blocks source.old) (W.written sink.old)
-        (W.written sink.new) digests.items) }
+    ensures created { IfOk result (λ digests. IsCreated shape (S.blocks source.old)
+        (W.written sink.old) (W.written sink.new) digests.items) }
+    ensures fails { IfErr result (CreatingFails shape S.read_may_fail W.write_may_fail
+        (S.blocks source.old) (W.written sink.old)) }
+    ensures others { (i : ℕ) → shape.original_count + shape.recovery_count ≤ i
+        → W.written sink.new i ≡ W.written sink.old i }
 {
     let mut hashers = Hashers {
         originals: new_hashers(alloc, shape.original_count)?,
@@ -96,6 +103,10 @@ fn create_piece<S: BlockSource, W: BlockSink>(
     ensures made { OnOk result (MakesPiece shape start end (S.blocks source.old)
         (W.written sink.old) (W.written sink.new) hashers.old.originals.items
         hashers.new.originals.items hashers.old.recovery.items hashers.new.recovery.items) }
+    ensures fails { IfErr result (PieceFails shape S.read_may_fail W.write_may_fail start end
+        (S.blocks source.old) (W.written sink.old)) }
+    ensures others { (i : ℕ) → shape.original_count + shape.recovery_count ≤ i
+        → W.written sink.new i ≡ W.written sink.old i }
 {
     let pieces = read_pieces(alloc, shape.original_count, start, end, source)?;
     let made = encode_slice(
@@ -121,12 +132,9 @@ fn read_pieces<S: BlockSource>(
     source: &mut S,
 ) -> Result<Vec<Vec<u8>>, CodingError>
     requires { start ≤ end }
-    ensures number { IfOk result (λ pieces. length pieces.items ≡ count) }
-    ensures sized { IfOk result (λ pieces.
-        All (λ piece. length piece.items ≡ end - start) pieces.items) }
-    ensures bytes { IfOk result (λ pieces. (i : ℕ) (block : Shard) → i < count
-        → S.blocks source.old i ≡ Some block
-        → shard_at (map (λ piece. piece.items) pieces.items) i ≡ between start end block) }
+    ensures are { IfOk result (λ pieces. ArePieces count start end (S.blocks source.old)
+        (map (λ piece. piece.items) pieces.items)) }
+    ensures fails { IfErr result (ReadingFails S.read_may_fail count end (S.blocks source.old)) }
     ensures kept { OnOk result (S.blocks source.new ≡ S.blocks source.old) }
 {
     let mut pieces = Vec::new(alloc);
@@ -146,16 +154,16 @@ fn put_pieces<W: BlockSink>(
     start: usize,
     pieces: &[Vec<u8>],
 ) -> Result<(), CodingError>
+    requires { first + length pieces.now < 2 ^ 64 }
     ensures put { OnOk result ((i : ℕ) (block : Shard) → i < length pieces.now
-        → W.written sink.old (first + i) ≡ Some block
+        → W.written sink.old (first + i) ≡ Some block → start ≡ length block
         → W.written sink.new (first + i)
         ≡ Some (block ++ shard_at (map (λ piece. piece.items) pieces.now) i)) }
-    ensures others { OnOk result ((i : ℕ) → (i < first) ⊎ (first + length pieces.now ≤ i)
-        → W.written sink.new i ≡ W.written sink.old i) }
+    ensures fails { IfErr result (WritingFails W.write_may_fail first (length pieces.now) start
+        (W.written sink.old)) }
+    ensures others { (i : ℕ) → (i < first) ⊎ (first + length pieces.now ≤ i)
+        → W.written sink.new i ≡ W.written sink.old i }
 {
-    if first > usize::MAX - pieces.len() {
-        return Err(CodingError::Missing(first));
-    }
     for (number, piece) in pieces.iter().enumerate() {
         let index = first + number;
         if let Err(error) = sink.put(index, start, piece.as_slice()) {

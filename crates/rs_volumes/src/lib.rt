@@ -13,6 +13,7 @@ pub mod fault;
 pub mod hashing;
 pub mod head;
 mod numbers;
+mod outputs;
 pub mod pieces;
 pub mod placement;
 mod reading;

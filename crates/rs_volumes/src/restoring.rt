@@ -1,18 +1,22 @@
 //! Restores blocks of a set from any k of its blocks, piece by piece.
-ghost use Rattle.std.specs.Prelude.{◌≡◌, ◌≢◌, ℕ, ◌+◌, ◌<◌, ◌≤◌, ◌%◌, ◌++◌, true, false, List, Some, IfOk, OnOk, length};
+ghost use Rattle.std.specs.Prelude.{◌≡◌, ℕ, ◌+◌, ◌<◌, ◌≤◌, ◌%◌, ◌⊎◌, true, false, List, IfOk, IfErr, OnOk, length};
 ghost use Rattle.std.specs.Prelude.{slice_index_or};
 ghost use Rattle.sha2.specs.Hashers.{Holds256};
 ghost use Rattle.sha2.specs.declared.Sha256.{Sha256 as Hasher};
 ghost use Rattle.rs_field.specs.code.Column.{Shard};
 ghost use Rattle.rs_field.specs.code.Given.{Shards};
 ghost use Rattle.rs_field.specs.code.OneCall.{shards_in};
-ghost use Rattle.rs_volumes.specs.Restoring.{AreInStep, AreRestored, HasDigest, ReadsSet, AreOriginals};
-ghost use Rattle.rs_volumes.specs.Restoring.{AreRead, Gets, PutsBack, items_of, bytes_of, piece_of};
+ghost use Rattle.rs_volumes.specs.Failing.{PuttingFails};
+ghost use Rattle.rs_volumes.specs.Holding.{AreFor, AreHeld};
+ghost use Rattle.rs_volumes.specs.Restoring.{AreOriginals, AreRead, AreRestored, HasDigest, ReadsSet, WritesAll};
+ghost use Rattle.rs_volumes.specs.Restoring.{DigestFails, NumbersFail, RestoringFails, StripFails};
+ghost use Rattle.rs_volumes.specs.Restoring.{Gets, PutsBack, items_of, bytes_of, piece_of};
 
 use crate::coding_error::CodingError;
 use crate::creating::Shape;
 use crate::digest::is_digest;
-use crate::hashing::{absorb_one, finish_one, new_hashers};
+use crate::hashing::finish_one;
+use crate::outputs::{Outputs, new_outputs, put_one};
 use crate::pieces::{BlockSink, BlockSource};
 use reed_solomon_simd::decode_slice;
 use reed_solomon_simd::engine::DefaultEngine;
@@ -59,6 +63,8 @@ struct Pieces {
 /// The function also fails with this error if a wanted block is neither read nor restored.
 ///
 /// [`CodingError::Memory`] if memory cannot be allocated, before and between the pieces.
+///
+/// After an error, the sink may hold the beginnings of wanted blocks. All other blocks are as they were.
 pub fn restore<S: BlockSource, W: BlockSink>(
     alloc: Global,
     shape: Shape,
@@ -76,29 +82,24 @@ pub fn restore<S: BlockSource, W: BlockSink>(
         (AreRestored plan.now.wanted.items digests.now (W.written sink.old)
         (W.written sink.new)) }
     // If the blocks that are read are blocks of a set, the blocks that are written are the originals of this set.
-    ensures originals { OnOk result ((originals recovery : List Shard)
+    ensures originals { WritesAll result → (originals recovery : List Shard)
         → ReadsSet shape plan.now (S.blocks source.old) originals recovery
-        → AreOriginals plan.now originals (W.written sink.old) (W.written sink.new)) }
+        → AreOriginals plan.now originals (W.written sink.old) (W.written sink.new) }
+    ensures fails { IfErr result (RestoringFails shape plan.now digests.now S.read_may_fail
+        W.write_may_fail (S.blocks source.old) (W.written sink.old) (W.written sink.new)) }
+    ensures others { (i : ℕ) → slice_index_or plan.now.wanted.items i false ≡ false
+        → W.written sink.new i ≡ W.written sink.old i }
 {
-    let mut hashers = new_hashers(alloc, plan.wanted.len())?;
+    let wanted = plan.wanted.as_slice();
+    let mut outputs = new_outputs(alloc, wanted.len())?;
     let mut start = 0;
     while start < shape.block_bytes {
         let end = start + piece_bytes.min(shape.block_bytes - start);
         let pieces = read_all(alloc, shape, plan, start, end, source)?;
-        restore_piece(
-            alloc,
-            shape,
-            start,
-            engine,
-            plan,
-            &pieces,
-            &mut hashers,
-            sink,
-        )?;
+        restore_piece(alloc, shape, engine, wanted, &pieces, &mut outputs, sink)?;
         start = end;
     }
-    compare(plan.wanted.as_slice(), digests, &mut hashers)?;
-    Ok(())
+    compare(wanted, digests, &mut outputs.hashers)
 }
 
 // Reads the bytes from `start` to `end` - 1 of each block of the plan.
@@ -115,6 +116,10 @@ fn read_all<S: BlockSource>(
         (S.blocks source.old) pieces.originals.items) }
     ensures recovery { IfOk result (λ pieces. AreRead shape.original_count plan.now.recovery.items
         start end (S.blocks source.old) pieces.recovery.items) }
+    ensures fails { IfErr result (λ error.
+        NumbersFail S.read_may_fail 0 plan.now.originals.items end (S.blocks source.old) error
+        ⊎ NumbersFail S.read_may_fail shape.original_count plan.now.recovery.items end
+        (S.blocks source.old) error) }
     ensures kept { OnOk result (S.blocks source.new ≡ S.blocks source.old) }
 {
     Ok(Pieces {
@@ -143,6 +148,8 @@ fn read_pieces<S: BlockSource>(
     requires { start ≤ end }
     ensures read { IfOk result (λ pieces. AreRead first numbers.now start end (S.blocks source.old)
         pieces.items) }
+    ensures fails { IfErr result (NumbersFail S.read_may_fail first numbers.now end
+        (S.blocks source.old)) }
     ensures kept { OnOk result (S.blocks source.new ≡ S.blocks source.old) }
 {
     let mut pieces = Vec::new(alloc);
@@ -158,33 +165,32 @@ fn read_pieces<S: BlockSource>(
     Ok(pieces)
 }
 
-// Writes a piece of each wanted block. If the plan has recovery blocks, the function restores the pieces of lost
+// Writes a piece of each wanted block. If there are pieces of recovery blocks, the function restores the pieces of lost
 // blocks.
 fn restore_piece<W: BlockSink>(
     alloc: Global,
     shape: Shape,
-    start: usize,
     engine: DefaultEngine<'_>,
-    plan: &Plan,
+    wanted: &[bool],
     pieces: &Pieces,
-    hashers: &mut Vec<Sha256>,
+    outputs: &mut Outputs,
     sink: &mut W,
 ) -> Result<(), CodingError>
-    ensures number { length hashers.new.items ≡ length hashers.old.items }
-    ensures step { OnOk result ((before : Shards)
-        → AreInStep hashers.old.items before (W.written sink.old)
-        → AreInStep hashers.new.items before (W.written sink.new)) }
-    ensures back { OnOk result (PutsBack shape plan.now.wanted.items
-        (items_of pieces.now.originals.items) (items_of pieces.now.recovery.items)
-        (W.written sink.old) (W.written sink.new)) }
+    requires { AreFor (length wanted.now) outputs.old }
+    ensures number { AreFor (length wanted.now) outputs.new }
+    ensures back { OnOk result ((held : ℕ → Shard) (before : Shards)
+        → AreHeld outputs.old held before (W.written sink.old)
+        → (after : ℕ → Shard) × AreHeld outputs.new after before (W.written sink.new)
+        × PutsBack shape wanted.now (items_of pieces.now.originals.items)
+        (items_of pieces.now.recovery.items) held after) }
+    ensures fails { IfErr result (λ error. (held : ℕ → Shard) (before : Shards)
+        → AreHeld outputs.old held before (W.written sink.old)
+        → StripFails shape wanted.now (items_of pieces.now.originals.items)
+        (items_of pieces.now.recovery.items) W.write_may_fail before error) }
+    ensures others { (i : ℕ) → slice_index_or wanted.now i false ≡ false
+        → W.written sink.new i ≡ W.written sink.old i }
 {
-    put_read(
-        start,
-        plan.wanted.as_slice(),
-        pieces.originals.as_slice(),
-        hashers,
-        sink,
-    )?;
+    put_read(wanted, pieces.originals.as_slice(), outputs, sink)?;
     if pieces.recovery.is_empty() {
         return Ok(());
     }
@@ -196,96 +202,76 @@ fn restore_piece<W: BlockSink>(
         pieces.recovery.as_slice(),
         engine,
     )?;
-    put_restored(start, plan.wanted.as_slice(), &restored, hashers, sink)?;
-    Ok(())
+    put_restored(wanted, &restored, outputs, sink)
 }
 
-// Writes those of the pieces that belong to wanted blocks, and adds them to the hashers of these blocks.
+// Writes those of the pieces that belong to wanted blocks.
 fn put_read<W: BlockSink>(
-    start: usize,
     wanted: &[bool],
     pieces: &[(usize, Vec<u8>)],
-    hashers: &mut Vec<Sha256>,
+    outputs: &mut Outputs,
     sink: &mut W,
 ) -> Result<(), CodingError>
-    ensures number { length hashers.new.items ≡ length hashers.old.items }
-    ensures step { OnOk result ((before : Shards)
-        → AreInStep hashers.old.items before (W.written sink.old)
-        → AreInStep hashers.new.items before (W.written sink.new)) }
-    ensures put { OnOk result (Gets wanted.now (λ i. piece_of i (items_of pieces.now))
-        (W.written sink.old) (W.written sink.new)) }
+    requires { AreFor (length wanted.now) outputs.old }
+    ensures number { AreFor (length wanted.now) outputs.new }
+    ensures put { OnOk result ((held : ℕ → Shard) (before : Shards)
+        → AreHeld outputs.old held before (W.written sink.old)
+        → (after : ℕ → Shard) × AreHeld outputs.new after before (W.written sink.new)
+        × Gets wanted.now (λ i. piece_of i (items_of pieces.now)) held after) }
+    ensures fails { IfErr result (λ error. (held : ℕ → Shard) (before : Shards)
+        → AreHeld outputs.old held before (W.written sink.old)
+        → PuttingFails W.write_may_fail (λ i. slice_index_or wanted.now i false ≡ true) before
+        error) }
+    ensures others { (i : ℕ) → slice_index_or wanted.now i false ≡ false
+        → W.written sink.new i ≡ W.written sink.old i }
 {
     for (index, piece) in pieces {
         if *index < wanted.len() && wanted[*index] {
-            put_one(start, *index, piece.as_slice(), hashers, sink)?;
+            put_one(*index, piece.as_slice(), outputs, sink)?;
         }
     }
     Ok(())
 }
 
-// Writes those of the restored pieces that belong to wanted blocks, and adds them to the hashers of these blocks.
+// Writes those of the restored pieces that belong to wanted blocks.
 fn put_restored<W: BlockSink>(
-    start: usize,
     wanted: &[bool],
     restored: &BTreeMap<usize, Vec<u8>>,
-    hashers: &mut Vec<Sha256>,
+    outputs: &mut Outputs,
     sink: &mut W,
 ) -> Result<(), CodingError>
-    ensures number { length hashers.new.items ≡ length hashers.old.items }
-    ensures step { OnOk result ((before : Shards)
-        → AreInStep hashers.old.items before (W.written sink.old)
-        → AreInStep hashers.new.items before (W.written sink.new)) }
-    ensures put { OnOk result (Gets wanted.now (λ i. bytes_of (shards_in restored.now i))
-        (W.written sink.old) (W.written sink.new)) }
+    requires { AreFor (length wanted.now) outputs.old }
+    ensures number { AreFor (length wanted.now) outputs.new }
+    ensures put { OnOk result ((held : ℕ → Shard) (before : Shards)
+        → AreHeld outputs.old held before (W.written sink.old)
+        → (after : ℕ → Shard) × AreHeld outputs.new after before (W.written sink.new)
+        × Gets wanted.now (λ i. bytes_of (shards_in restored.now i)) held after) }
+    ensures fails { IfErr result (λ error. (held : ℕ → Shard) (before : Shards)
+        → AreHeld outputs.old held before (W.written sink.old)
+        → PuttingFails W.write_may_fail (λ i. slice_index_or wanted.now i false ≡ true) before
+        error) }
+    ensures others { (i : ℕ) → slice_index_or wanted.now i false ≡ false
+        → W.written sink.new i ≡ W.written sink.old i }
 {
     for (index, is_wanted) in wanted.iter().enumerate() {
         if *is_wanted {
             if let Some(piece) = restored.get(&index) {
-                put_one(start, index, piece.as_slice(), hashers, sink)?;
+                put_one(index, piece.as_slice(), outputs, sink)?;
             }
         }
     }
     Ok(())
 }
 
-// Writes a piece of one block, and adds the piece to the hasher of this block.
-fn put_one<W: BlockSink>(
-    start: usize,
-    index: usize,
-    piece: &[u8],
-    hashers: &mut Vec<Sha256>,
-    sink: &mut W,
-) -> Result<(), CodingError>
-    ensures number { length hashers.new.items ≡ length hashers.old.items }
-    ensures step { OnOk result ((before : Shards)
-        → AreInStep hashers.old.items before (W.written sink.old)
-        → AreInStep hashers.new.items before (W.written sink.new)) }
-    ensures here { OnOk result ((before : Shard) → W.written sink.old index ≡ Some before
-        → W.written sink.new index ≡ Some (before ++ piece.now)) }
-    ensures others { OnOk result
-        ((i : ℕ) → i ≢ index → W.written sink.new i ≡ W.written sink.old i) }
-{
-    if index >= hashers.len() {
-        return Err(CodingError::Missing(index));
-    }
-    absorb_one(hashers, index, piece);
-    match sink.put(index, start, piece) {
-        Ok(()) => Ok(()),
-        Err(error) => Err(CodingError::Write(index, error)),
-    }
-}
-
 // Compares the digest of each wanted block with the digest in the description.
 fn compare(wanted: &[bool], digests: &[u8], hashers: &mut Vec<Sha256>) -> Result<(), CodingError>
+    requires { length hashers.old.items ≡ length wanted.now }
     ensures digest { OnOk result ((i : ℕ) (d : Hasher) (bytes : Shard) → i < length wanted.now
         → slice_index_or wanted.now i false ≡ true
         → Holds256 (slice_index_or hashers.old.items i d) bytes
         → HasDigest digests.now i bytes) }
-    ensures number { OnOk result (length wanted.now ≤ length hashers.old.items) }
+    ensures fails { IfErr result (DigestFails wanted.now digests.now hashers.old.items) }
 {
-    if wanted.len() > hashers.len() {
-        return Err(CodingError::Missing(hashers.len()));
-    }
     for (index, is_wanted) in wanted.iter().enumerate() {
         if *is_wanted {
             let own = finish_one(hashers, index);

@@ -1,4 +1,4 @@
-use Rattle.std.proofs.Common.{◌≡◌, ◌⊎◌, ◌-◌, ◌%◌, ◌≤◌, length}
+use Rattle.std.proofs.Common.{◌≡◌, ◌⊎◌, ℕ, ◌+◌, ◌-◌, ◌%◌, ◌≤◌, length}
 use Rattle.rs_volumes.proofs.Created.{IsCreatedTo}
 use Rattle.rs_volumes.proofs.creating.create.Given as goal
 
@@ -13,6 +13,8 @@ invariant-loop-start g l =
       done : IsCreatedTo l.shape l.start (g.S.BlockSource.blocks l.fn.source) (g.W.BlockSink.written l.fn.sink)
           (g.W.BlockSink.written l.sink)
           l.hashers.originals.items l.hashers.recovery.items;
+      others : (i : ℕ) → l.shape.original_count + l.shape.recovery_count ≤ i
+          → g.W.BlockSink.written l.sink i ≡ g.W.BlockSink.written l.fn.sink i;
     }
 
 abbrev pub decreases-loop-start : goal.decreases-loop-start

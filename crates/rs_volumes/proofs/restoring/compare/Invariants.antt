@@ -9,7 +9,6 @@ abbrev pub invariant-loop-index : goal.invariant-loop-index
 invariant-loop-index l =
     record {
       number : length l.hashers.items ≡ length l.fn.hashers.items;
-      room : length l.wanted ≤ length l.fn.hashers.items;
       done : (i : ℕ) (d : Sha256) (bytes : Shard) → i < l.index → get_or l.wanted i false ≡ true
           → Holds256 (get_or l.fn.hashers.items i d) bytes → HasDigest l.digests i bytes;
       rest : (i : ℕ) (d : Sha256) → l.index ≤ i → get_or l.hashers.items i d ≡ get_or l.fn.hashers.items i d;
