@@ -51,7 +51,7 @@ ssize_t read(int stream, void *bytes, size_t count) {
     }
     long from = number("READ_FROM", -1), to = number("READ_TO", -1), most = number("READ_MOST", 1L << 40);
     long at = lseek(stream, 0, SEEK_CUR);
-    if (from <= at && at < to) {
+    if ((from <= at && at < to) || taken >= number("READ_LAST", 1L << 62)) {
         errno = EIO;
         return -1;
     }

@@ -3,6 +3,8 @@
    - opens of a file whose name ends in FAIL_OPEN,
    - all hard links, if FAIL_LINK is set,
    - syncs of a file whose name ends in FAIL_SYNC, as on a disk that fails,
+   - writes into a file whose name ends in FAIL_WRITE, from the byte FAIL_FROM of the file on, as on a disk that is full,
+   - all changes of permission bits, if FAIL_MODE is set, and of times, if FAIL_TIME is set, as on a file system where they cannot be set,
    - syncs of folders, if FAIL_FOLDERS is set, as on a file system that cannot sync a folder. */
 #define _GNU_SOURCE
 #include <dlfcn.h>
@@ -58,15 +60,62 @@ int link(const char *from, const char *to)
     return next(from, to);
 }
 
-int fsync(int file)
+/* Returns whether the path of an open file ends in the value of a variable of the environment. */
+static int ends_open(int file, const char *variable)
 {
-    int (*next)(int) = (int (*)(int))dlsym(RTLD_NEXT, "fsync");
-    struct stat found;
     char link[64], path[4096];
     snprintf(link, sizeof link, "/proc/self/fd/%d", file);
     ssize_t length = readlink(link, path, sizeof path - 1);
     path[length < 0 ? 0 : length] = 0;
-    if (ends(path, "FAIL_SYNC")) {
+    return ends(path, variable);
+}
+
+ssize_t write(int file, const void *bytes, size_t count)
+{
+    ssize_t (*next)(int, const void *, size_t) = (ssize_t (*)(int, const void *, size_t))dlsym(RTLD_NEXT, "write");
+    if (getenv("FAIL_WRITE") && ends_open(file, "FAIL_WRITE") && lseek(file, 0, SEEK_CUR) >= atol(getenv("FAIL_FROM"))) {
+        errno = ENOSPC;
+        return -1;
+    }
+    return next(file, bytes, count);
+}
+
+/* Returns 0, or -1 with the error EPERM if a variable of the environment is set. */
+static int refused(const char *variable)
+{
+    errno = EPERM;
+    return getenv(variable) ? -1 : 0;
+}
+
+int fchmod(int file, mode_t mode)
+{
+    int (*next)(int, mode_t) = (int (*)(int, mode_t))dlsym(RTLD_NEXT, "fchmod");
+    return refused("FAIL_MODE") ? -1 : next(file, mode);
+}
+
+int chmod(const char *path, mode_t mode)
+{
+    int (*next)(const char *, mode_t) = (int (*)(const char *, mode_t))dlsym(RTLD_NEXT, "chmod");
+    return refused("FAIL_MODE") ? -1 : next(path, mode);
+}
+
+int futimens(int file, const struct timespec times[2])
+{
+    int (*next)(int, const struct timespec *) = (int (*)(int, const struct timespec *))dlsym(RTLD_NEXT, "futimens");
+    return refused("FAIL_TIME") ? -1 : next(file, times);
+}
+
+int utimensat(int folder, const char *path, const struct timespec times[2], int flags)
+{
+    int (*next)(int, const char *, const struct timespec *, int) = (int (*)(int, const char *, const struct timespec *, int))dlsym(RTLD_NEXT, "utimensat");
+    return refused("FAIL_TIME") ? -1 : next(folder, path, times, flags);
+}
+
+int fsync(int file)
+{
+    int (*next)(int) = (int (*)(int))dlsym(RTLD_NEXT, "fsync");
+    struct stat found;
+    if (ends_open(file, "FAIL_SYNC")) {
         errno = EIO;
         return -1;
     }

@@ -24,10 +24,13 @@ def skipped(reason):
     SKIPPED.append(reason)
 
 
-def printed(*words, status=0, env=None, before=None, cwd=None):
+def printed(*words, status=0, env=None, before=None, cwd=None, seconds=300):
     """Runs the program, checks that its status is the wanted one or one of the wanted ones, and returns what it printed on standard output
-    and on standard error. `before` is called in the new process."""
-    done = subprocess.run([PROGRAM, *words], stdout=subprocess.PIPE, stderr=subprocess.PIPE, timeout=300, env=env, preexec_fn=before, cwd=cwd)
+    and on standard error. `before` is called in the new process. The program must end within this number of seconds."""
+    try:
+        done = subprocess.run([PROGRAM, *words], stdout=subprocess.PIPE, stderr=subprocess.PIPE, timeout=seconds, env=env, preexec_fn=before, cwd=cwd)
+    except subprocess.TimeoutExpired:
+        wrong(f"{words} did not end within {seconds} seconds")
     if done.returncode != status and not (isinstance(status, tuple) and done.returncode in status):
         wrong(f"{words} ended with status {done.returncode} instead of {status}: {done.stdout!r} {done.stderr!r}")
     return done.stdout.decode(errors="replace"), done.stderr.decode(errors="replace")

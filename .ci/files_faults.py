@@ -25,6 +25,7 @@ def reads():
         create = ("create", at("set"), "-o", at("set.rsv"), "--block", str(block), "-r", "10", "-q")
         run(*create)
         volume = read(at("set.rsv"))
+        start = 64 + int.from_bytes(volume[16:24], "little")
         for most in (1, 7, 1000):
             run(*create, "--force", env=preloaded("change_reads", READ_NAME="/set/a", READ_MOST=most))
             if read(at("set.rsv")) != volume:
@@ -43,13 +44,79 @@ def reads():
         if tree(at("new")) != {"set/a": before["a"]}:
             wrong("a file that cannot be read everywhere is not restored")
         text = run(*create, "--force", status=4, env=unreadable)
-        if at("set", "a") + ": block 3 cannot be read" not in text or read(at("set.rsv")) != volume or tree(at("set")) != before:
+        if f"rs_files: {at('set', 'a')}: block 3 cannot be read: Input/output error (os error 5)\n" not in text or read(at("set.rsv")) != volume or tree(at("set")) != before:
             wrong(f"create from a file that cannot be read everywhere: {text}")
-        start = 64 + int.from_bytes(volume[16:24], "little")
         unreadable = preloaded("change_reads", READ_NAME="set.rsv", READ_FROM=start + 520 + 8, READ_TO=start + 520 + 9)
         found = json.loads(printed("verify", at("set.rsv"), "--json", status=1, env=unreadable)[0])
         if found["whole_recovery_blocks"] != 9 or found["lost_blocks"] != 0:
             wrong(f"verify of a volume that cannot be read everywhere: {found}")
+
+
+def lost_later():
+    """A block that was found, and cannot be read when it is needed: the program names the file or the volume that holds it, and the block."""
+    if preloaded("change_reads") is None:
+        return
+    with Folder() as at:
+        block, files = 512, {"a": RANDOM.randbytes(20 * 512), "b": RANDOM.randbytes(20 * 512)}
+        for name, data in files.items():
+            write(at("set", name), data)
+        run("create", at("set"), "--block", str(block), "-r", "10", "-q")
+        run("split", at("set"), "-n", "2", "-o", at("v"), "--block", str(block), "-q")
+        os.remove(at("set", "b"))
+        write(at("set", "b"), files["b"][:7 * block] + bytes(block) + files["b"][8 * block:])
+        before = tree(at())
+        # The first pass reads all bytes of a file. Of a volume it reads both heads and descriptions, and of each record the index and the block.
+        copies = 2 * (64 + int.from_bytes(read(at("set.rsv"))[16:24], "little"))
+        for name, last, number, words in (("/set/a", 20 * block + 5 * block, 5, ("repair", at("set.rsv"))), ("/set/b", 20 * block, 20, ("repair", at("set.rsv"))),
+                                          ("/set.rsv", copies + 10 * (block + 4), 40, ("repair", at("set.rsv")))):
+            text = run(*words, status=4, env=preloaded("change_reads", READ_NAME=name, READ_LAST=last))
+            if f"rs_files: {at()}{name}: block {number} cannot be read: Input/output error (os error 5)\n" not in text or tree(at()) != before:
+                wrong(f"{words[0]} without a block that was found in {name}: {text}")
+
+
+def pieces():
+    """Blocks that are coded in many pieces: the volumes are the same, and the files come back."""
+    with Folder() as at:
+        write(at("set", "a"), RANDOM.randbytes(5000))
+        write(at("set", "b"), RANDOM.randbytes(700))
+        before = tree(at("set"))
+        small = ("--memory", "1")
+        run("create", at("set"), "-q", "--block", "1000", "-r", "3")
+        volume = read(at("set.rsv"))
+        run("create", at("set"), "-q", "--block", "1000", "-r", "3", "--force", *small)
+        run("split", at("set"), "-n", "3", "-o", at("v"), "-q", "--block", "1000")
+        run("split", at("set"), "-n", "3", "-o", at("w"), "-q", "--block", "1000", *small)
+        if read(at("set.rsv")) != volume or tree(at("v")) != tree(at("w")):
+            wrong("volumes that are coded in small pieces")
+        run("join", at("w", "volume0001.rsv"), at("w", "volume0003.rsv"), "--to", at("new"), "-q", *small, status=1)
+        os.remove(at("set", "b"))
+        write(at("set", "a"), before["a"][:2000] + bytes(2000) + before["a"][4000:])
+        run("repair", at("set.rsv"), "--to", at("other"), "-q", *small, status=1)
+        if tree(at("new", "set")) != before or tree(at("other", "set")) != before:
+            wrong("files that are restored in small pieces")
+
+
+def unwritten():
+    """A block that cannot be written: `create` and `split` name the volume and the block, and `repair` names the file."""
+    with Folder() as at:
+        write(at("d", "a"), RANDOM.randbytes(10 * 512))
+        made = ("--block", "512")
+        run("create", at("d"), "-q", *made, "-r", "4")
+        start = 64 + int.from_bytes(read(at("d.rsv"))[16:24], "little")
+        for words, name, number in ((("create", at("d"), "-o", at("x.rsv"), "-r", "4"), "x.rsv", 12), (("split", at("d"), "-n", "2", "-o", at()), "volume0002.rsv", 5)):
+            # The third record of a volume
+            failing = preloaded("fail_calls", FAIL_WRITE=f"/{name}.part", FAIL_FROM=start + 2 * 520)
+            if failing is None:
+                return
+            if words[0] == "split":
+                run("split", at("d"), "-n", "2", "-o", at("v"), "-q", *made)
+                length = int.from_bytes(read(at("v", "volume0001.rsv"))[16:24], "little")
+                failing = preloaded("fail_calls", FAIL_WRITE=f"/{name}.part", FAIL_FROM=64 + length + 2 * 520)
+            text = run(*words, *made, status=4, env=failing)
+            if f"rs_files: {at(name)}: block {number} cannot be written: No space left on device (os error 28)\n" not in text or os.path.exists(at(name)):
+                wrong(f"{words[0]} without room for a block: {text}")
+        if sorted(os.listdir(at())) != ["d", "d.rsv", "v"]:
+            wrong(f"a block that cannot be written left {os.listdir(at())}")
 
 
 def changes():
@@ -67,7 +134,8 @@ def changes():
         write(at("a"), data[:-600])
         changing = preloaded("change_reads", READ_NAME="/a", READ_AFTER=len(data))
         text = run("repair", at("a.rsv"), status=4, env=changing)
-        if "changed while it was read" not in text or read(at("a")) != data[:-600] or os.path.exists(at("a.damaged")):
+        # The first 600 bytes are read right, and the second block is the first one that is not.
+        if "rs_files: block 1 does not have its digest: a file changed while it was read\n" not in text or read(at("a")) != data[:-600] or os.path.exists(at("a.damaged")):
             wrong(f"repair of a file that changes: {text}")
         run("repair", at("a.rsv"), "-q", status=1)
         if read(at("a")) != data:
@@ -412,4 +480,4 @@ def limited():
             wrong("repair of a file beside one that is too long")
 
 
-TESTS = (reads, changes, memory_refused, killed, killed_spread, read_only, unreadable, closed_folder, pipes, syncs, memory, full, limited)
+TESTS = (reads, lost_later, pieces, unwritten, changes, memory_refused, killed, killed_spread, read_only, unreadable, closed_folder, pipes, syncs, memory, full, limited)

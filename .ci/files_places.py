@@ -377,7 +377,7 @@ def damaged_blocks():
         # A number of records that is too large in one head does not make a block damaged.
         write(volumes[1], whole[:25] + b"\1" + whole[26:])
         found = printed("verify", *volumes, "--folder", at(), status=1)[0]
-        if found != f"{volumes[1]}: the volume is damaged at its end, its first head was used\n{kept}":
+        if found != f"{volumes[1]}: the volume is damaged at its beginning, its second head was used\n{kept}":
             wrong(f"verify of a volume with a wrong number of records: {found}")
         unreadable = preloaded("change_reads", READ_NAME="volume0001.rsv", READ_FROM=start + 520 + 8, READ_TO=start + 520 + 9)
         if unreadable is not None:

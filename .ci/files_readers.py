@@ -1,5 +1,6 @@
 """Tests of `rs_files` beside the reader in Python, `docs/examples/restore.py`: both restore the same files, and refuse the same volumes."""
 import hashlib
+import json
 import os
 import struct
 import subprocess
@@ -59,13 +60,27 @@ def wrong_volumes():
         volume = read(at("set.rsv"))
         text = volume[64:64 + int.from_bytes(volume[16:24], "little")]
         many = with_description(volume, text, 2 ** 64 - 1)
-        for other in (many, volume[:16] + b"\xff" * 16 + volume[32:], volume[:40] + b"\0" + volume[41:]):
+        none, cut = with_description(volume, text, 0), volume[:24] + bytes(8) + volume[32:-1]
+        for other in (many, none, cut, volume[:16] + b"\xff" * 16 + volume[32:], volume[:40] + b"\0" + volume[41:]):
             write(at("set.rsv"), other)
-            run("verify", at("set.rsv"), status=0 if other == many else 1)
+            if json.loads(run("verify", at("set.rsv"), "--json", status=1))["whole_recovery_blocks"] != 2:
+                wrong("a wrong number of records in a head loses recovery blocks")
             read_in_python(at(), at("set.rsv"))
             if read(at("a.restored")) != read(at("a")) or read(at("b.restored")) != read(at("b")):
                 wrong("the reader in Python restores other files")
             os.remove(at("a.restored"))
+        # Without the files, all blocks come from the records of volumes whose heads have wrong numbers of records.
+        run("split", at("a"), at("b"), "-o", at("v"), "-n", "2", "--block", "64", "-q")
+        paths = at("v", "volume0001.rsv"), at("v", "volume0002.rsv")
+        for records in (0, 1, 4, 6, 2 ** 64 - 1):
+            for path in paths:
+                other, number = read(path), struct.pack("<Q", records)
+                write(path, other[:24] + number + other[32:-40] + number + other[-32:])
+            os.makedirs(at(f"from {records}"))
+            read_in_python(at(f"from {records}"), *paths)
+            run("join", *paths, "--to", at(f"by {records}"), "-q")
+            if {name: read(at(f"from {records}", name + ".restored")) for name in "ab"} != tree(at(f"by {records}")) or read(at(f"by {records}", "a")) != read(at("a")):
+                wrong(f"files from volumes with the number of records {records}")
         for other, fault in [*((with_description(volume, other, 2), fault) for other, fault in unsound(text)), *bad_heads(volume)]:
             write(at("set.rsv"), other)
             wanted = f"{at('set.rsv')}: this is no volume that can be read: {fault}\n"

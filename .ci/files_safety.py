@@ -1,7 +1,8 @@
-"""Tests that `rs_files` loses no file if a stream is closed, or if a call of the system fails at the last step of a command. Tests of
-times, sizes, progress and names, and of paths that are empty."""
+"""Tests that `rs_files` loses no file if a stream is closed, if a call of the system fails at the last step of a command, or if somebody
+puts another file in the place of one that it reads or writes. Tests of times, sizes, progress and names, and of paths that are empty."""
 import json
 import os
+import resource
 
 from files_common import RANDOM, Folder, info, preloaded, printed, read, run, tree, write, wrong
 
@@ -266,5 +267,206 @@ def empty_paths():
                 wrong(f"{words} with an empty path")
 
 
+REPLACED = "another file was put in its place"
+
+
+def victim_of(at):
+    """Makes a file of somebody else, which only its owner may read. Returns its path, and a function that checks that it has not changed."""
+    path, data = at("outside", "victim"), RANDOM.randbytes(100)
+    write(path, data)
+    os.chmod(path, 0o600)
+    os.utime(path, (5, 5))
+
+    def check(words):
+        found = os.stat(path)
+        if (read(path), found.st_mode & 0o7777, found.st_mtime) != (data, 0o600, 5) or os.listdir(at("outside")) != ["victim"]:
+            wrong(f"{words} writes into a file of somebody else, or changes it")
+
+    return path, check
+
+
+def replaced_parts():
+    """Somebody puts a symbolic link in the place of a file that is being written. Nothing is written through the link, the file to which it
+    leads keeps its bytes, permission bits and time, and the other files are restored."""
+    with Folder() as at:
+        victim, check = victim_of(at)
+        data = {name: RANDOM.randbytes(3000) for name in ("e", "f", "g")}
+        for name, content in data.items():
+            write(at("d", name), content)
+        run("create", at("d"), "-q", "--block", "512", "-r", "100%")
+        damaged = changed(data["f"], 700)
+        for when in ("AT_LENGTH", "AT_RENAME"):
+            for name, content in {**data, "f": damaged}.items():
+                write(at("d", name), content)
+            os.remove(at("d", "g"))
+            env = preloaded("replace_files", REPLACED=at("d", "f.part"), REPLACED_BY=victim, **{when: "/f.part"})
+            if env is None:
+                return
+            text = run("repair", at("d.rsv"), status=4, env=env)
+            check("repair")
+            # A link that replaces the file at the last moment gets its name. The damaged file keeps its second name.
+            left, kept = ("f.part", "f") if when == "AT_LENGTH" else ("f", "f.damaged")
+            if at("d", "f") + f": {REPLACED}" not in text or "restored 1 file\n" not in text or os.readlink(at("d", left)) != victim:
+                wrong(f"repair with a link in the place of a part, {when}: {text}")
+            os.remove(at("d", left))
+            if tree(at("d")) != {"e": data["e"], kept: damaged, "g": data["g"]} or (at("d", "f.damaged: the damaged file has this name") in text) != (kept != "f"):
+                wrong(f"repair with a link in the place of a part, {when}: {sorted(tree(at('d')))} {text}")
+            os.remove(at("d", kept))
+        for words in (("create", at("d"), "-o", at("new.rsv")), ("split", at("d"), "-n", "2", "-o", at())):
+            part = at("new.rsv.part" if words[0] == "create" else "volume0001.rsv.part")
+            text = run(*words, status=4, env=preloaded("replace_files", REPLACED=part, REPLACED_BY=victim, AT_LENGTH=part))
+            check(words[0])
+            if f": {REPLACED}" not in text or os.readlink(part) != victim:
+                wrong(f"{words[0]} with a link in the place of a part: {text}")
+            os.remove(part)
+        if sorted(os.listdir(at())) != ["d", "d.rsv", "outside"]:
+            wrong(f"a link in the place of a part left {os.listdir(at())}")
+
+
+def many_files():
+    """More files than a process may open are restored. A link in the place of a part that is not open is not followed either."""
+    with Folder() as at:
+        victim, check = victim_of(at)
+        files = {f"{number:03}": RANDOM.randbytes(number % 3 * 700) for number in range(300)}
+        for name, content in files.items():
+            write(at("d", name), content)
+        run("split", at("d"), "-n", "2", "-o", at("v"), "-q", "--block", "256")
+        volumes = at("v", "volume0001.rsv"), at("v", "volume0002.rsv")
+
+        def few():
+            resource.setrlimit(resource.RLIMIT_NOFILE, (120, 120))
+
+        for number in range(1100):
+            write(at("more", str(number)), b"")
+        run("create", at("more"), "-q")
+        run("verify", at("more.rsv"), "-q")
+        run("join", *volumes, "--to", at("new"), "-q", before=few)
+        run("join", *volumes, "--to", at("small"), "-q", "--memory", "1", before=few)
+        if tree(at("new", "d")) != files or tree(at("small", "d")) != files:
+            wrong("join of many files")
+        for name in ("010", "250"):
+            to = at("with" + name)
+            text = None
+            for target in (victim, None):
+                more = {} if target is None else {"REPLACED_BY": target}
+                env = preloaded("replace_files", REPLACED=os.path.join(to, "d", name + ".part"), AT_LENGTH=f"/d/{name}.part", **more)
+                if env is None:
+                    return
+                text = run("join", *volumes, "--to", to, status=4, env=env, seconds=60)
+                check("join")
+                os.remove(os.path.join(to, "d", name + ".part"))
+                if os.path.join(to, "d", name) + f": {REPLACED}" not in text or "rs_files: 1 file could not be restored" not in text:
+                    wrong(f"join with another file in the place of a part: {text}")
+                if tree(os.path.join(to, "d")) != {other: content for other, content in files.items() if other != name}:
+                    wrong("join of the other files")
+                for other in os.listdir(os.path.join(to, "d")):
+                    os.remove(os.path.join(to, "d", other))
+
+
+def replaced_files():
+    """Somebody puts a symbolic link or a pipe in the place of a file after `create` has found it. It is not read, and no volume is made."""
+    with Folder() as at:
+        secret = at("outside", "secret")
+        write(secret, RANDOM.randbytes(3000))
+        for words in (("create", at("d"), "-o", at("new.rsv")), ("create", at("d", "a"), "-o", at("new.rsv")), ("split", at("d"), "-n", "2", "-o", at("v"))):
+            part = "/new.rsv.part" if words[0] == "create" else "/volume0001.rsv.part"
+            for reason, settings in ((REPLACED, {"REPLACED_BY": secret, "AT_OPEN": "/d/a"}), ("this is no regular file", {"REPLACED_BY": secret, "AT_LENGTH": part}),
+                                     ("this is no regular file", {"AT_LENGTH": part})):
+                write(at("d", "a"), RANDOM.randbytes(3000))
+                env = preloaded("replace_files", REPLACED=at("d", "a"), **settings)
+                if env is None:
+                    return
+                text = run(*words, status=4, env=env, seconds=60)
+                if at("d", "a") + f": block 0 cannot be read: {reason}\n" not in text or os.path.exists(at("new.rsv")) or os.path.exists(at("v")) and os.listdir(at("v")):
+                    wrong(f"{words[0]} of a file that is replaced, {settings}: {text}")
+                os.remove(at("d", "a"))
+        # A symbolic link that is named is followed.
+        os.symlink(secret, at("link"))
+        run("create", at("link"), "-q")
+        if [(file["name"], file["size"]) for file in info(at("link.rsv"))["files"]] != [("link", 3000)]:
+            wrong("create of a file that is named by a link")
+
+
+def own_parts():
+    """Files whose names are those that the program gives to its own files come back, into an empty folder and in their own."""
+    with Folder() as at:
+        names = ("a", "a.part", "a.part2", "b", "b.part/c", "e", "e.damaged", "e.damaged.part", "n" * 120 + ".part", "n" * 200)
+        files = {name: RANDOM.randbytes(700) for name in names}
+        for name, content in files.items():
+            write(at("d", *name.split("/")), content)
+        run("create", at("d"), "-q", "--block", "512", "-r", "100%")
+        run("split", at("d"), "-n", "2", "-o", at("v"), "-q")
+        run("join", at("v", "volume0001.rsv"), at("v", "volume0002.rsv"), "--to", at("new"), "-q")
+        run("repair", at("d.rsv"), "--folder", at("none"), "--to", at("other"), "-q", status=1)
+        if tree(at("new", "d")) != files or tree(at("other", "d")) != files:
+            wrong(f"files with names of parts, in an empty folder: {sorted(tree(at('new')))}")
+        for name in names:
+            os.remove(at("d", *name.split("/")))
+        os.rmdir(at("d", "b.part"))
+        damaged = changed(files["e"], 5)
+        write(at("d", "e"), damaged)
+        run("repair", at("d.rsv"), "-q", status=1)
+        if tree(at("d")) != {**files, "e.damaged2": damaged}:
+            wrong(f"files with names of parts, in their own folder: {sorted(tree(at('d')))}")
+
+
+def attributes_refused():
+    """If the permission bits or the time of a restored file cannot be set, the file is kept, with a warning. The exit status is the same."""
+    with Folder() as at:
+        data = RANDOM.randbytes(3000)
+        write(at("d", "a"), data)
+        os.chmod(at("d", "a"), 0o640)
+        os.utime(at("d", "a"), (7, 7))
+        run("create", at("d"), "-q", "--block", "512", "-r", "100%")
+        run("split", at("d"), "-n", "2", "-o", at("v"), "-q")
+        mode = "rs_files: {}: warning: its permission bits cannot be set: Operation not permitted (os error 1)\n"
+        time = "rs_files: {}: warning: the time of its last change cannot be set: Operation not permitted (os error 1)\n"
+        for number, (settings, warnings) in enumerate((({"FAIL_MODE": 1}, mode), ({"FAIL_TIME": 1}, time), ({"FAIL_MODE": 1, "FAIL_TIME": 1}, mode + time))):
+            failing = preloaded("fail_calls", **settings)
+            if failing is None:
+                return
+            to, other, damaged = at(f"j{number}"), at(f"r{number}"), changed(data, 5)
+            write(at("d", "a"), damaged)
+            for words, folder, status in ((("join", at("v", "volume0001.rsv"), at("v", "volume0002.rsv"), "--to", to), os.path.join(to, "d"), 0),
+                                          (("repair", at("d.rsv"), "--to", other), os.path.join(other, "d"), 1), (("repair", at("d.rsv")), at("d"), 1)):
+                path = os.path.join(folder, "a")
+                out, error = printed(*words, status=status, env=failing)
+                if error != warnings.replace("{}", path) or not out.startswith("restored 1 file"):
+                    wrong(f"{words[0]} with {settings}: {out} {error}")
+                found = os.stat(path)
+                if read(path) != data or found.st_mode & 0o777 != (0o600 if "FAIL_MODE" in settings else 0o640) or (found.st_mtime == 7) == ("FAIL_TIME" in settings):
+                    wrong(f"{words[0]} with {settings} restores another file")
+            if tree(at("d")) != {"a": data, "a.damaged": damaged}:
+                wrong(f"repair with {settings}: {sorted(tree(at('d')))}")
+            os.remove(at("d", "a.damaged"))
+
+
+def odd_volumes():
+    """A pipe, a folder or a device that is named as a volume is refused at once. The other volumes are used."""
+    with Folder() as at:
+        data = RANDOM.randbytes(3000)
+        write(at("a"), data)
+        run("create", at("a"), "-q", "--block", "512", "-r", "100%")
+        run("split", at("a"), "-n", "2", "-o", at("v"), "-q")
+        os.mkfifo(at("pipe.rsv"))
+        os.mkdir(at("folder.rsv"))
+        os.symlink(at("pipe.rsv"), at("link.rsv"))
+        for odd in (at("pipe.rsv"), at("folder.rsv"), at("link.rsv"), "/dev/zero"):
+            error = f"rs_files: {odd}: this is no regular file\n"
+            for words in (("info", odd), ("info", at("a.rsv"), odd)):
+                if printed(*words, status=4, seconds=60)[1] != error:
+                    wrong(f"{words} with a volume that is no regular file")
+            for words in (("verify", odd), ("repair", odd), ("join", odd, "--to", at("new"))):
+                if printed(*words, status=4, seconds=60)[1] != error + "rs_files: no volume can be read\n":
+                    wrong(f"{words} with a volume that is no regular file")
+            for words, status in ((("verify", odd, at("a.rsv"), "--folder", at(), "--json"), 1), (("repair", at("a.rsv"), odd), 0),
+                                  (("join", at("v", "volume0001.rsv"), odd, at("v", "volume0002.rsv"), "--to", at("new"), "--force"), 0)):
+                out, said = printed(*words, status=status, seconds=60)
+                if said != error or words[0] == "verify" and json.loads(out)["volumes"][1] != {"name": odd, "state": "unreadable"}:
+                    wrong(f"{words} with a volume that is no regular file: {out} {said}")
+        if read(at("new", "a")) != data:
+            wrong("join with a volume that is no regular file")
+
+
 TESTS = (closed_streams, old_volumes, killed_between, failed_repair, folders_without_sync, times, sizes_shown, progress_of_restores, same_length,
-         shown_names, empty_paths)
+         shown_names, empty_paths, replaced_parts, many_files, replaced_files, own_parts, attributes_refused, odd_volumes)

@@ -49,14 +49,14 @@ def read_description(text):
 def read_copy(volume, at_end):
     """Returns the description at the beginning or at the end of a volume, and the number of records that fit into the volume."""
     check(len(volume) >= 64, "it is too short")
-    magic, version, zero, length, records, digest = struct.unpack("<8sIIQQ32s", volume[-64:] if at_end else volume[:64])
+    magic, version, zero, length, _records, digest = struct.unpack("<8sIIQQ32s", volume[-64:] if at_end else volume[:64])
     check(magic == b"\x89RSV\r\n\x1a\n", "it does not begin as a volume does")
     check(version == 1, "its version is not 1: a newer program may read it")
     check(zero == 0, "a number that must be zero is not")
     check(length <= len(volume) - 64, "its description is too long")
     text = volume[len(volume) - 64 - length:-64] if at_end else volume[64:64 + length]
     check(sha256(text).digest() == digest, "its description does not have its digest")
-    return text, min(records, (len(volume) - 64 - length) // (8 + read_description(text)[0]))
+    return text, (len(volume) - 64 - length) // (8 + read_description(text)[0])
 
 
 def read_volume(path):

@@ -6,7 +6,7 @@ use crate::names::{Shown, front_of_volume, path_in, text_of};
 use crate::output::at_path;
 use crate::progress::Progress;
 use crate::settings::{NO_OUTPUT, Recovery, Request, STATUS_WHOLE};
-use crate::source::{FileBlocks, Origin, failure_of};
+use crate::source::{FileBlocks, Holders, Origin, failure_of};
 use crate::volume::LARGEST_DESCRIPTION;
 use crate::volume_sink::{VolumeSink, Volumes, check_output};
 use crate::walking::{Found, find};
@@ -125,7 +125,7 @@ fn code_files<R: Files + Clock + Eprint>(
     alloc: Global,
     request: &Request,
     description: &Description,
-    paths: &[String],
+    holders: Holders<'_>,
     sink: &mut VolumeSink<'_, R>,
 ) -> Result<Vec<u8>> {
     let shape = shape_of(description);
@@ -135,7 +135,7 @@ fn code_files<R: Files + Clock + Eprint>(
     let origins = origins_of(alloc, description)?;
     let total = (shape.original_count as u64).saturating_mul(description.block_bytes);
     let progress = Progress::new(rt, request.progress, total);
-    let mut source = FileBlocks::new(rt, alloc, paths, origins.as_slice(), progress);
+    let mut source = FileBlocks::new(rt, alloc, holders, origins.as_slice(), progress);
     code_blocks(alloc, shape, request.memory, &mut source, sink)
 }
 
@@ -176,12 +176,12 @@ fn fill<R: Files + Clock + Eprint>(
     alloc: Global,
     request: &Request,
     description: &mut Description,
-    paths: &[String],
-    volumes: &Volumes,
+    holders: Holders<'_>,
+    volumes: &mut Volumes<R>,
 ) -> Result<()> {
-    let mut sink = VolumeSink::new(rt, alloc, volumes)?;
-    description.digests = code_files(rt, alloc, request, description, paths, &mut sink)?;
-    check_unchanged(rt, alloc, paths, description.files.as_slice())?;
+    let mut sink = VolumeSink::new(rt, alloc, volumes);
+    description.digests = code_files(rt, alloc, request, description, holders, &mut sink)?;
+    check_unchanged(rt, alloc, holders.paths, description.files.as_slice())?;
     describe(alloc, description, &mut sink)
 }
 
@@ -227,7 +227,6 @@ pub struct Made {
 /// - for a reason of [`cut_files`],
 /// - if the description is larger than 1 GiB,
 /// - for each volume, for a reason of [`Volumes::begin`],
-/// - for each volume, if it cannot be opened,
 /// - if a file cannot be read, a block cannot be written into its volume, or the code fails,
 /// - for each file, if its length or the time of its last change cannot be read, or is not the one from before,
 /// - if there are 2^32 files or more, or a name has 65536 bytes or more,
@@ -268,6 +267,10 @@ fn write_volumes<R: Files + Clock + Eprint>(
     outputs: &[String],
 ) -> Result<()> {
     let paths = paths_of(alloc, found.folder.as_str(), found.files.as_slice())?;
+    let holders = Holders {
+        paths: paths.as_slice(),
+        follows: found.linked.as_slice(),
+    };
     let mut description = description_of(alloc, found.files, cut);
     let length = description_bytes(description.files.as_slice(), cut)?;
     let mut volumes = Volumes::new(alloc, cut, outputs.len(), length);
@@ -276,7 +279,7 @@ fn write_volumes<R: Files + Clock + Eprint>(
         alloc,
         request,
         &mut description,
-        paths.as_slice(),
+        holders,
         outputs,
         &mut volumes,
     );
@@ -292,14 +295,14 @@ fn begin_and_fill<R: Files + Clock + Eprint>(
     alloc: Global,
     request: &Request,
     description: &mut Description,
-    paths: &[String],
+    holders: Holders<'_>,
     outputs: &[String],
-    volumes: &mut Volumes,
+    volumes: &mut Volumes<R>,
 ) -> Result<()> {
     for output in outputs {
         volumes.begin(rt, alloc, output.as_str())?;
     }
-    fill(rt, alloc, request, description, paths, volumes)?;
+    fill(rt, alloc, request, description, holders, volumes)?;
     volumes.finish(rt, alloc, request.force)
 }
 

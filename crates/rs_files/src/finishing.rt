@@ -55,6 +55,7 @@ pub fn restore_files<R: Files + Clock + Print + Eprint>(
         folder,
         in_place,
         force: request.force,
+        files: found.description.files.as_slice(),
     };
     let mut targets = Targets::new(alloc);
     let outcome = restore_into(rt, alloc, request, found, goal, &mut targets);
@@ -74,9 +75,9 @@ fn restore_into<R: Files + Clock + Eprint>(
     request: &Request,
     found: &Scan,
     goal: Goal<'_>,
-    targets: &mut Targets,
+    targets: &mut Targets<R>,
 ) -> Result<Restored> {
     targets.begin(rt, alloc, found, goal)?;
     write_blocks(rt, alloc, found, targets, request.memory, request.progress)?;
-    Ok(targets.finish(rt, alloc, found, goal))
+    Ok(targets.finish(rt, alloc, goal))
 }

@@ -1,93 +1,73 @@
 //! Files that appear under their final names only when they are whole.
-use crate::failure::{Failure, Result};
-use crate::names::{folder_to_open, parent_of, shortened};
-use std::alloc::{AllocError, Global};
-use std::fs;
-use std::fs::{OpenFile, OpenOptions};
+use crate::failure::{Failure, Result, warn};
+use crate::identity::{Identity, exists, identity_at, open_found, replaced};
+use crate::names::{folder_to_open, parent_of, path_in, shortened};
+use rs_volumes::description::FileEntry;
+use std::alloc::Global;
+use std::fs::{Metadata, OpenFile, OpenOptions};
 use std::io::{Seek, SeekFrom, Write};
 use std::os::unix::fs::{MetadataExt, OpenOptionsExt};
 use std::rt::Files;
+use std::{fs, io};
 
-/// A file that is being written under another name: `NAME.part`, or `NAME.part2` and so on if that exists. A long name
-/// is cut in these names.
+/// A file that is being written under another name: `NAME.part`, or `NAME.part2` and so on if that is in use. A long
+/// name is cut in these names.
+///
+/// The file is written, synced and changed through the handle that made it. So if somebody puts another file or a
+/// symbolic link in its place, that file is not touched. Only a part that was closed is opened again by its path.
 #[derive(Drop)]
-pub struct Part {
+pub struct Part<R: Files> {
     /// The path of the finished file.
     pub path: String,
-    /// The path of the file while it is written.
-    pub part: String,
+    // The path of the file while it is written.
+    part: String,
+    // The open file. `None` if the file was closed.
+    handle: Option<R::File>,
+    // The metadata of the file when it was closed. `None` if it stays open.
+    closed: Option<Metadata>,
 }
 
-/// Returns whether something exists at a path.
-pub fn exists<R: Files>(rt: &R, path: &str) -> bool {
-    fs::symlink_metadata(rt, path).is_ok()
-}
-
-/// Returns the first of the paths `PATH.SUFFIX`, `PATH.SUFFIX2`, `PATH.SUFFIX3` and so on at which nothing exists. If
-/// the name of the file is long, the name is cut in these paths, because a file system limits the length of a name.
+/// Returns the path in `folder` of the first of the names `NAME.SUFFIX`, `NAME.SUFFIX2`, `NAME.SUFFIX3` and so on that
+/// is not in use: nothing exists at its path, and no file or folder of the set has this name. `files` are the files of
+/// the set, in order of their names. If `name` is long, it is cut in these names, because a file system limits the
+/// length of a name.
 ///
 /// # Errors
 ///
-/// Fails if memory cannot be allocated, or if something exists at each of these paths.
-pub fn free_path<R: Files>(rt: &R, alloc: Global, path: &str, suffix: &str) -> Result<String> {
-    let front = shortened(path);
+/// Fails if memory cannot be allocated, or if each of these names is in use.
+pub fn free_path<R: Files>(
+    rt: &R,
+    alloc: Global,
+    folder: &str,
+    name: &str,
+    suffix: &str,
+    files: &[FileEntry],
+) -> Result<String> {
+    let front = shortened(name);
     let mut free = format!(in alloc; "{front}.{suffix}")?;
     for number in 2..u32::MAX {
-        if !exists(rt, free.as_str()) {
-            return Ok(free);
+        let path = path_in(alloc, folder, free.as_str())?;
+        if !is_in_set(alloc, files, free.as_str())? && !exists(rt, path.as_str()) {
+            return Ok(path);
         }
         free = format!(in alloc; "{front}.{suffix}{number}")?;
     }
     Err(Failure::at(alloc, free.as_str(), "it exists"))
 }
 
-/// The device of a file and its number there, which identify it.
-#[derive(Clone, Copy, PartialEq, Eq)]
-pub struct Identity {
-    device: u64,
-    number: u64,
+// Returns whether one of `files`, which are in order of their names, has this name, or lies in a folder of this name.
+fn is_in_set(alloc: Global, files: &[FileEntry], name: &str) -> Result<bool> {
+    let folder = format!(in alloc; "{name}/")?;
+    let (name, folder) = (name.as_bytes(), folder.as_str().as_bytes());
+    let same = files.binary_search_by(|file| file.name.as_slice().cmp(name));
+    let below = files.binary_search_by(|file| front_of(file, folder.len()).cmp(folder));
+    Ok(same.is_ok() || below.is_ok())
 }
 
-/// Returns the identity of a file. A symbolic link has the identity of the file to which it leads. Returns `None` if
-/// there is no file, or if its metadata cannot be read.
-pub fn identity_of<R: Files>(rt: &R, path: &str) -> Option<Identity> {
-    match fs::metadata(rt, path) {
-        Ok(metadata) => Some(Identity {
-            device: metadata.dev(),
-            number: metadata.ino(),
-        }),
-        Err(_) => None,
-    }
-}
-
-/// Returns the identities of the files at those of the paths at which there is a file.
-///
-/// # Errors
-///
-/// [`AllocError`] if memory cannot be allocated.
-pub fn identities<R: Files>(
-    rt: &R,
-    alloc: Global,
-    paths: &[String],
-) -> Result<Vec<Identity>, AllocError> {
-    let mut found = Vec::new(alloc);
-    for path in paths {
-        if let Some(own) = identity_of(rt, path.as_str()) {
-            found.push(own)?;
-        }
-    }
-    Ok(found)
-}
-
-/// Returns whether a path leads to one of the files with these identities.
-pub fn is_one_of<R: Files>(rt: &R, path: &str, identities: &[Identity]) -> bool {
-    if identities.is_empty() {
-        return false;
-    }
-    match identity_of(rt, path) {
-        Some(own) => identities.contains(&own),
-        None => false,
-    }
+// Returns the first `count` bytes of the name of a file, or the whole name if it is shorter.
+fn front_of(file: &FileEntry, count: usize) -> &[u8] {
+    let name = file.name.as_slice();
+    &name[..count.min(name.len())]
 }
 
 /// Returns the value of a call of the system. If the call failed, the failure has the path.
@@ -95,76 +75,131 @@ pub fn is_one_of<R: Files>(rt: &R, path: &str, identities: &[Identity]) -> bool 
 /// # Errors
 ///
 /// Fails if the call failed.
-pub fn at_path<T>(alloc: Global, path: &str, outcome: std::io::Result<T>) -> Result<T> {
+pub fn at_path<T>(alloc: Global, path: &str, outcome: io::Result<T>) -> Result<T> {
     match outcome {
         Ok(value) => Ok(value),
         Err(error) => Err(Failure::at(alloc, path, error)),
     }
 }
 
-impl Part {
-    /// Begins a file of `size` bytes, and makes its folder. The file gets the permission bits of `mode`, without those
-    /// that the mask of the user takes away. No file is replaced: a file `NAME.part` can belong to somebody else, or to
-    /// the set.
+impl<R: Files> Part<R> {
+    /// Begins a file of `size` bytes at the path `part`, and makes its folder. The file gets the permission bits of
+    /// `mode`, without those that the mask of the user takes away. No file is replaced: a file `NAME.part` can belong
+    /// to somebody else, or to the set.
     ///
     /// # Errors
     ///
     /// Fails if the folder or the file cannot be made, or if memory cannot be allocated. Then no file is left.
-    pub fn begin<R: Files>(
+    pub fn begin(
         rt: &R,
         alloc: Global,
         path: &str,
+        part: String,
         size: u64,
         mode: u32,
-    ) -> Result<Part> {
+    ) -> Result<Part<R>> {
         make_folder(rt, alloc, path)?;
-        let part = Part {
-            path: String::from_str(alloc, path)?,
-            part: free_path(rt, alloc, path, "part")?,
-        };
-        match part.create(rt, size, mode) {
-            Ok(()) => Ok(part),
-            Err(error) => Err(Failure::at(alloc, path, error)),
-        }
-    }
-
-    // Makes the file, with `size` bytes. If this fails, no file is left.
-    fn create<R: Files>(&self, rt: &R, size: u64, mode: u32) -> std::io::Result<()> {
+        let path = String::from_str(alloc, path)?;
         let mut options = OpenOptions::new();
         options.write(true).create_new(true).mode(mode);
-        let file = options.open(rt, self.part.as_str())?;
-        let outcome = file.set_len(size);
-        if outcome.is_err() {
-            self.remove(rt);
+        let handle = at_path(alloc, path.as_str(), options.open(rt, part.as_str()))?;
+        let sized = handle.set_len(size);
+        let begun = Part {
+            path,
+            part,
+            handle: Some(handle),
+            closed: None,
+        };
+        match sized {
+            Ok(()) => Ok(begun),
+            Err(error) => {
+                begun.remove(rt);
+                Err(Failure::at(alloc, begun.path.as_str(), error))
+            }
         }
-        outcome
     }
 
-    /// Removes the file, if it does not have its final name. Nothing is reported if the file cannot be removed, because
-    /// the command has already failed for another reason.
-    pub fn remove<R: Files>(&self, rt: &R) {
-        let _ = fs::remove_file(rt, self.part.as_str());
+    /// Removes the file, if it does not have its final name. Another file in its place is not removed. Nothing is
+    /// reported if the file cannot be removed, because the command has already failed for another reason.
+    pub fn remove(&self, rt: &R) {
+        let part = self.part.as_str();
+        if self.is_at(rt, part) {
+            let _ = fs::remove_file(rt, part);
+        }
     }
 
-    /// Opens the file to write into it.
+    // Returns whether this file is at a path, and not another file or a symbolic link.
+    fn is_at(&self, rt: &R, path: &str) -> bool {
+        let Ok(found) = fs::symlink_metadata(rt, path) else {
+            return false;
+        };
+        match (&self.handle, &self.closed) {
+            (Some(handle), _) => match handle.metadata() {
+                Ok(own) => Identity::of(&own) == Identity::of(&found),
+                Err(_) => false,
+            },
+            (None, Some(closed)) => can_be(&found, closed),
+            (None, None) => false,
+        }
+    }
+
+    /// Closes the file. The next write opens it again.
     ///
     /// # Errors
     ///
-    /// Any error of the system.
-    pub fn open<R: Files>(&self, rt: &R) -> std::io::Result<R::File> {
-        let mut options = OpenOptions::new();
-        options.write(true).open(rt, self.part.as_str())
+    /// Any error of the system. Then the file stays open.
+    pub fn close(&mut self) -> io::Result<()> {
+        if let Some(handle) = &self.handle {
+            self.closed = Some(handle.metadata()?);
+        }
+        self.handle = None;
+        Ok(())
+    }
+
+    /// Closes the file, unless it stays open.
+    pub fn close_again(&mut self) {
+        if self.closed.is_some() {
+            self.handle = None;
+        }
+    }
+
+    /// Returns the handle of the file. If the file was closed, the function opens it again.
+    ///
+    /// # Errors
+    ///
+    /// Any error of the system. [`ErrorKind::InvalidInput`] if another file is in its place.
+    pub fn open(&mut self, rt: &R) -> io::Result<&mut R::File> {
+        if self.handle.is_none() {
+            self.handle = Some(open_again(rt, self.part.as_str(), &self.closed)?);
+        }
+        match &mut self.handle {
+            Some(handle) => Ok(handle),
+            None => Err(replaced()),
+        }
+    }
+
+    /// Writes bytes into the file, from byte `offset` on.
+    ///
+    /// # Errors
+    ///
+    /// Fails for a reason of [`Part::open`], or if the bytes cannot be written.
+    pub fn write_at(&mut self, rt: &R, offset: u64, bytes: &[u8]) -> io::Result<()> {
+        let handle = self.open(rt)?;
+        handle.seek(SeekFrom::Start(offset))?;
+        handle.write_all(bytes)
     }
 
     /// Syncs the file.
     ///
     /// # Errors
     ///
-    /// Fails if the file cannot be opened or synced.
-    pub fn sync<R: Files>(&self, rt: &R, alloc: Global) -> Result<()> {
-        let path = self.path.as_str();
-        let file = at_path(alloc, path, self.open(rt))?;
-        at_path(alloc, path, file.sync_all())
+    /// Fails for a reason of [`Part::open`], or if the file cannot be synced.
+    pub fn sync(&mut self, rt: &R, alloc: Global) -> Result<()> {
+        let synced = match self.open(rt) {
+            Ok(handle) => handle.sync_all(),
+            Err(error) => Err(error),
+        };
+        at_path(alloc, self.path.as_str(), synced)
     }
 
     /// Renames the file to its final name. A file with this name is replaced, so the caller checks first whether it may
@@ -172,11 +207,48 @@ impl Part {
     ///
     /// # Errors
     ///
-    /// Fails if the file cannot be renamed.
-    pub fn rename<R: Files>(&self, rt: &R, alloc: Global) -> Result<()> {
-        let path = self.path.as_str();
-        at_path(alloc, path, fs::rename(rt, self.part.as_str(), path))
+    /// In this order, fails if:
+    ///
+    /// - another file is in the place of this one,
+    /// - the file cannot be renamed,
+    /// - another file has the final name afterwards.
+    pub fn rename(&self, rt: &R, alloc: Global) -> Result<()> {
+        let (part, path) = (self.part.as_str(), self.path.as_str());
+        if !self.is_at(rt, part) {
+            return Err(Failure::at(alloc, path, replaced()));
+        }
+        at_path(alloc, path, fs::rename(rt, part, path))?;
+        if self.is_at(rt, path) {
+            Ok(())
+        } else {
+            Err(Failure::at(alloc, path, replaced()))
+        }
     }
+}
+
+// Opens a part again that was closed. `closed` is its metadata at that time.
+fn open_again<R: Files>(rt: &R, part: &str, closed: &Option<Metadata>) -> io::Result<R::File> {
+    let found = fs::symlink_metadata(rt, part)?;
+    match closed {
+        Some(closed) if can_be(&found, closed) => {
+            // A pipe that is opened to be read and written does not wait for another program.
+            let mut options = OpenOptions::new();
+            options.read(true).write(true);
+            open_found(rt, &options, part, &found)
+        }
+        _ => Err(replaced()),
+    }
+}
+
+// Returns whether a file that was found can be a part that was closed: it is no symbolic link, and has the same device,
+// type, owner, permission bits, length and number of names. The number of the file on its device is not compared:
+// some file systems, such as FAT, can give a file another number after it was closed.
+fn can_be(found: &Metadata, closed: &Metadata) -> bool {
+    found.dev() == closed.dev()
+        && found.mode() == closed.mode()
+        && found.uid() == closed.uid()
+        && found.nlink() == closed.nlink()
+        && found.len() == closed.len()
 }
 
 // Makes the folder of a file, and the folders above it.
@@ -196,25 +268,18 @@ fn make_folder<R: Files>(rt: &R, alloc: Global, path: &str) -> Result<()> {
 
 /// Syncs the folder of a file, so that the new name of the file is kept after a loss of power. Some file systems cannot
 /// sync a folder. Then the file is whole and has its name all the same, so the function only prints a warning.
-pub fn sync_folder<R: Files + Eprint>(rt: &R, alloc: Global, path: &str) {
+pub fn sync_folder<R: Files + Eprint>(rt: &R, path: &str) {
     let folder = folder_to_open(parent_of(path));
     if let Err(error) = sync_opened(rt, folder) {
-        let reason = format_args!("warning: this folder cannot be synced: {error}");
-        Failure::at(alloc, folder, reason).tell(rt);
+        warn(
+            rt,
+            folder,
+            format_args!("warning: this folder cannot be synced: {error}"),
+        );
     }
 }
 
 // Opens a folder and syncs it.
-fn sync_opened<R: Files>(rt: &R, folder: &str) -> std::io::Result<()> {
+fn sync_opened<R: Files>(rt: &R, folder: &str) -> io::Result<()> {
     fs::open(rt, folder)?.sync_all()
-}
-
-/// Writes bytes into a file, from byte `offset` of the file on.
-///
-/// # Errors
-///
-/// Any error of the system.
-pub fn write_at<F: Seek + Write>(file: &mut F, offset: u64, bytes: &[u8]) -> std::io::Result<()> {
-    file.seek(SeekFrom::Start(offset))?;
-    file.write_all(bytes)
 }

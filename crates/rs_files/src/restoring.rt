@@ -3,10 +3,10 @@ ghost use Rattle.rs_field.specs.code.Given.{nothing};
 
 use crate::failure::Result;
 use crate::folder::{piece_bytes, shape_of};
-use crate::output::{Part, write_at};
+use crate::output::Part;
 use crate::progress::Progress;
 use crate::scanning::Scan;
-use crate::source::{FileBlocks, failure_of};
+use crate::source::{FileBlocks, Holders, failure_of};
 use crate::targets::Targets;
 use reed_solomon_simd::engine::tables::Tables;
 use reed_solomon_simd::engine::{DefaultEngine, EngineKind};
@@ -19,14 +19,6 @@ use std::io;
 use std::io::ErrorKind;
 use std::rt::{Clock, Files};
 
-/// A part that is open to be written.
-#[derive(Drop)]
-struct Opened<F: Drop> {
-    /// The index of the file in the description.
-    file: usize,
-    handle: F,
-}
-
 /// The files that are being restored. This sink writes blocks into them.
 #[derive(Drop)]
 struct FileSink<'a, R: Files + Eprint> {
@@ -35,31 +27,9 @@ struct FileSink<'a, R: Files + Eprint> {
     /// Whether progress is shown.
     shown: bool,
     /// The files that are restored.
-    targets: &'a mut Targets,
+    targets: &'a mut Targets<R>,
     /// Where each original block lies in its file.
     places: &'a [Place],
-    /// The file that was written last.
-    opened: Option<Opened<R::File>>,
-}
-
-impl<'a, R: Files + Eprint> FileSink<'a, R> {
-    // Writes bytes into the part of a file, from byte `offset` on. `file` is the index of the file in the description.
-    // A file without a part could not be written before. The function writes nothing then.
-    fn write(&mut self, file: usize, offset: u64, bytes: &[u8]) -> io::Result<()> {
-        let Some(Some(part)) = self.targets.parts.get(file) else {
-            return Ok(());
-        };
-        let mut opened = match self.opened.take() {
-            Some(opened) if opened.file == file => opened,
-            _ => Opened {
-                file,
-                handle: part.open(self.rt)?,
-            },
-        };
-        write_at(&mut opened.handle, offset, bytes)?;
-        self.opened = Some(opened);
-        Ok(())
-    }
 }
 
 impl<'a, R: Files + Eprint> BlockSink for FileSink<'a, R> {
@@ -75,7 +45,10 @@ impl<'a, R: Files + Eprint> BlockSink for FileSink<'a, R> {
         }
         let count = (place.bytes - from).min(piece.len() as u64) as usize;
         let offset = place.offset.wrapping_add(from);
-        if let Err(error) = self.write(place.file, offset, &piece[..count]) {
+        let written = self
+            .targets
+            .write(self.rt, place.file, offset, &piece[..count]);
+        if let Err(error) = written {
             // The other files can still be restored. The message begins on a line of its own.
             if self.shown {
                 let _ = eprintln!(self.rt; "");
@@ -88,7 +61,11 @@ impl<'a, R: Files + Eprint> BlockSink for FileSink<'a, R> {
 
 // Returns which blocks a restore reads and writes. It writes the blocks of the files that have a part. If one of these
 // blocks is lost, it reads all blocks that were found and as many recovery blocks as original blocks are lost.
-fn plan_for(alloc: Global, scan: &Scan, parts: &[Option<Part>]) -> Result<Plan, AllocError> {
+fn plan_for<R: Files>(
+    alloc: Global,
+    scan: &Scan,
+    parts: &[Option<Part<R>>],
+) -> Result<Plan, AllocError> {
     let wanted = wanted_blocks(alloc, scan, parts)?;
     let loses_wanted = loses_wanted(scan, wanted.as_slice());
     let originals = original_blocks(alloc, scan, wanted.as_slice(), loses_wanted)?;
@@ -130,10 +107,10 @@ fn original_blocks(
 }
 
 // Returns for each original block whether its file has a part, so that the block must be written.
-fn wanted_blocks(
+fn wanted_blocks<R: Files>(
     alloc: Global,
     scan: &Scan,
-    parts: &[Option<Part>],
+    parts: &[Option<Part<R>>],
 ) -> Result<Vec<bool>, AllocError> {
     let mut wanted = Vec::new(alloc);
     for place in &scan.places {
@@ -171,7 +148,7 @@ pub fn write_blocks<R: Files + Clock + Eprint>(
     rt: &R,
     alloc: Global,
     scan: &Scan,
-    targets: &mut Targets,
+    targets: &mut Targets<R>,
     memory: u64,
     shown: bool,
 ) -> Result<()> {
@@ -179,15 +156,17 @@ pub fn write_blocks<R: Files + Clock + Eprint>(
     let blocks = (plan.originals.len() as u64).saturating_add(plan.recovery.len() as u64);
     let total = blocks.saturating_mul(scan.description.block_bytes);
     let progress = Progress::new(rt, shown, total);
-    let (paths, origins) = (scan.paths.as_slice(), scan.origins.as_slice());
-    let mut source = FileBlocks::new(rt, alloc, paths, origins, progress);
+    let holders = Holders {
+        paths: scan.paths.as_slice(),
+        follows: &[],
+    };
+    let mut source = FileBlocks::new(rt, alloc, holders, scan.origins.as_slice(), progress);
     let mut sink = FileSink {
         rt,
         alloc,
         shown,
         targets,
         places: scan.places.as_slice(),
-        opened: None,
     };
     restore_blocks(
         alloc,

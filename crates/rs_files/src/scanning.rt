@@ -1,6 +1,7 @@
 //! Looks for the blocks of a set, in its files and in volumes.
 use crate::counted::Counted;
 use crate::failure::{Failure, Result, warn};
+use crate::identity::open_regular;
 use crate::output::at_path;
 use crate::progress::Progress;
 use crate::settings::Request;
@@ -66,8 +67,8 @@ pub struct ScannedVolume {
 }
 
 impl ScannedVolume {
-    /// Returns whether the volume has two equal copies of its head and its description, and each of its blocks has its
-    /// digest.
+    /// Returns whether the volume has two equal copies of its head and its description, its records fill the bytes
+    /// between these copies, and each of its blocks has its digest.
     pub fn is_whole(&self) -> bool {
         self.copies == Copies::Whole && self.damaged_blocks == 0
     }
@@ -418,7 +419,7 @@ impl Scanner {
     ) -> Result<()> {
         for volume in volumes {
             let path = volume.path.as_str();
-            let file = at_path(alloc, path, fs::open(rt, path))?;
+            let file = at_path(alloc, path, open_regular(rt, path, true))?;
             volume.damaged_blocks = self.scan_volume(rt, description, paths.len(), file, volume);
             self.tell_unread(rt, volume.path.as_str());
             paths.push(volume.path.clone()?)?;
@@ -451,7 +452,7 @@ impl Scanner {
             Ok(metadata) => return self.replaced(rt, path, metadata.is_dir()),
             Err(error) => return self.missing(rt, path, error),
         }
-        let state = match fs::open(rt, path) {
+        let state = match open_regular(rt, path, true) {
             Ok(file) => self.scan_opened(rt, description, entry, holder, file, places),
             Err(error) => Err(error),
         };
@@ -522,8 +523,9 @@ impl Scanner {
     // Looks for blocks in the records of a volume, and returns the number of records whose block does not have its
     // digest or cannot be read.
     //
-    // The number of records in a head can be too large. So nothing is counted in the last bytes, which are the second
-    // copy of the description and the head. This copy is as long as the first one, which ends at the first record.
+    // If the volume is damaged, records are also read in its last bytes. Nothing is counted there, because these bytes
+    // are the second copy of the description and the head. This copy is as long as the first one, which ends at the
+    // first record.
     fn scan_volume<R: Files + Clock + Eprint>(
         &mut self,
         rt: &R,

@@ -2,13 +2,14 @@
 ghost use Rattle.rs_field.specs.code.Given.{nothing};
 
 use crate::failure::Failure;
+use crate::identity::open_regular;
 use crate::progress::Progress;
 use rs_volumes::coding_error::CodingError;
 use rs_volumes::pieces::BlockSource;
 use std::alloc::Global;
+use std::io;
 use std::io::{ErrorKind, Read, Seek, SeekFrom};
 use std::rt::{Clock, Files};
-use std::{fs, io};
 
 /// Where a block lies: in a file or in a volume.
 #[derive(Clone, Copy)]
@@ -19,6 +20,15 @@ pub struct Origin {
     pub offset: u64,
     /// The number of bytes of the block that the file or volume holds. The other bytes of the block are zeros.
     pub bytes: u64,
+}
+
+/// The files and volumes from which blocks are read.
+#[derive(Clone, Copy)]
+pub struct Holders<'a> {
+    /// The paths of the files and volumes.
+    pub paths: &'a [String],
+    /// For each path, whether a symbolic link there is followed. After the end of this list, links are followed.
+    pub follows: &'a [bool],
 }
 
 /// A file that is open to be read.
@@ -35,8 +45,7 @@ pub struct Opened<F: Drop> {
 pub struct FileBlocks<'a, R: Files + Clock + Eprint> {
     rt: &'a R,
     alloc: Global,
-    /// The paths of the files and volumes.
-    paths: &'a [String],
+    holders: Holders<'a>,
     /// Where each block is, if it is known.
     origins: &'a [Option<Origin>],
     /// The file that was read last.
@@ -49,14 +58,14 @@ impl<'a, R: Files + Clock + Eprint> FileBlocks<'a, R> {
     pub fn new(
         rt: &'a R,
         alloc: Global,
-        paths: &'a [String],
+        holders: Holders<'a>,
         origins: &'a [Option<Origin>],
         progress: Progress,
     ) -> FileBlocks<'a, R> {
         FileBlocks {
             rt,
             alloc,
-            paths,
+            holders,
             origins,
             opened: None,
             progress,
@@ -76,7 +85,7 @@ impl<'a, R: Files + Clock + Eprint> FileBlocks<'a, R> {
         let Some(Some(origin)) = self.origins.get(*index) else {
             return "";
         };
-        match self.paths.get(origin.holder) {
+        match self.holders.paths.get(origin.holder) {
             Some(path) => path.as_str(),
             None => "",
         }
@@ -84,8 +93,9 @@ impl<'a, R: Files + Clock + Eprint> FileBlocks<'a, R> {
 
     // Opens the file with the index `holder` in the list of paths.
     fn open(&self, holder: usize) -> io::Result<R::File> {
-        match self.paths.get(holder) {
-            Some(path) => fs::open(self.rt, path.as_str()),
+        let follows = self.holders.follows.get(holder).copied().unwrap_or(true);
+        match self.holders.paths.get(holder) {
+            Some(path) => open_regular(self.rt, path.as_str(), follows),
             None => Err(io::Error::from(ErrorKind::NotFound)),
         }
     }

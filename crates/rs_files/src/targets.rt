@@ -1,18 +1,21 @@
 //! The files that a restore writes: where they may be written, and how they get their final names.
-use crate::failure::{Failure, Result};
+use crate::failure::{Failure, Result, warn};
+use crate::identity::{Identity, exists, identities, identity_at, is_one_of};
 use crate::names::{path_in, text_of};
-use crate::output::{
-    Identity, Part, at_path, exists, free_path, identities, is_one_of, sync_folder,
-};
+use crate::output::{Part, at_path, free_path, sync_folder};
 use crate::scanning::{FileState, Scan};
 use rs_volumes::description::FileEntry;
 use std::alloc::Global;
-use std::fs;
 use std::fs::{FileTimes, OpenFile, Permissions};
 use std::io::ErrorKind;
 use std::os::unix::fs::PermissionsExt;
 use std::rt::Files;
 use std::time::{Duration, UNIX_EPOCH};
+use std::{fs, io};
+
+/// How many parts stay open. A process may open only a limited number of files, on most systems 1024. So the other
+/// parts are closed, and opened again when they are needed.
+const MOST_OPEN: usize = 100;
 
 /// The permission bits of a file while it is written: nobody else may read it.
 const PART_MODE: u32 = 0o600;
@@ -30,6 +33,8 @@ pub struct Goal<'a> {
     pub in_place: bool,
     /// Whether files that exist are overwritten, if the files were not searched in this folder.
     pub force: bool,
+    /// The files of the set, in order of their names.
+    pub files: &'a [FileEntry],
 }
 
 /// The numbers of files that were restored and not restored, and of damaged files that were kept.
@@ -45,20 +50,26 @@ pub struct Restored {
 
 /// The files that a restore writes.
 #[derive(Drop)]
-pub struct Targets {
+pub struct Targets<R: Files> {
     /// For each file of the set, the file that is being written, if there is one.
-    pub parts: Vec<Option<Part>>,
+    pub parts: Vec<Option<Part<R>>>,
+    // The number of parts that stay open.
+    open: usize,
+    // The file that was written last, by its index.
+    last: usize,
     // The number of files that could not be restored.
     failed: usize,
     // The files and volumes that are read. No restored file may replace one of them.
     inputs: Vec<Identity>,
 }
 
-impl Targets {
+impl<R: Files + Eprint> Targets<R> {
     /// Returns targets without a file.
-    pub fn new(alloc: Global) -> Targets {
+    pub fn new(alloc: Global) -> Targets<R> {
         Targets {
             parts: Vec::new(alloc),
+            open: 0,
+            last: 0,
             failed: 0,
             inputs: Vec::new(alloc),
         }
@@ -70,19 +81,12 @@ impl Targets {
     /// # Errors
     ///
     /// Fails if memory cannot be allocated.
-    pub fn begin<R: Files + Eprint>(
-        &mut self,
-        rt: &R,
-        alloc: Global,
-        scan: &Scan,
-        goal: Goal<'_>,
-    ) -> Result<()> {
+    pub fn begin(&mut self, rt: &R, alloc: Global, scan: &Scan, goal: Goal<'_>) -> Result<()> {
         if !goal.in_place && goal.force {
             self.inputs = identities(rt, alloc, scan.paths.as_slice())?;
         }
-        let files = scan.description.files.as_slice();
-        self.parts.reserve(files.len())?;
-        for (file, state) in files.iter().zip(scan.states.as_slice()) {
+        self.parts.reserve(goal.files.len())?;
+        for (file, state) in goal.files.iter().zip(scan.states.as_slice()) {
             let part = if *state == FileState::Whole {
                 None
             } else {
@@ -94,15 +98,18 @@ impl Targets {
     }
 
     // Begins the part of a file. If this fails, the function prints the reason.
-    fn begin_one<R: Files + Eprint>(
+    fn begin_one(
         &mut self,
         rt: &R,
         alloc: Global,
         file: &FileEntry,
         goal: Goal<'_>,
-    ) -> Option<Part> {
+    ) -> Option<Part<R>> {
         match begin_part(rt, alloc, file, goal, self.inputs.as_slice()) {
-            Ok(part) => Some(part),
+            Ok(mut part) => {
+                self.limit_open(&mut part);
+                Some(part)
+            }
             Err(failure) => {
                 self.count_failure(rt, &failure);
                 None
@@ -110,21 +117,49 @@ impl Targets {
         }
     }
 
+    // Closes a part that was begun, if as many parts are open as may stay open.
+    fn limit_open(&mut self, part: &mut Part<R>) {
+        if self.open < MOST_OPEN {
+            self.open += 1;
+        } else {
+            // A part that cannot be closed stays open.
+            let _ = part.close();
+        }
+    }
+
+    /// Writes bytes into the part of a file, from byte `offset` on. `file` is the index of the file in the description.
+    /// A file without a part could not be written before. The function writes nothing then.
+    ///
+    /// # Errors
+    ///
+    /// Fails for a reason of [`Part::write_at`].
+    pub fn write(&mut self, rt: &R, file: usize, offset: u64, bytes: &[u8]) -> io::Result<()> {
+        if file != self.last {
+            self.close_last();
+            self.last = file;
+        }
+        match self.parts.get_mut(file) {
+            Some(Some(part)) => part.write_at(rt, offset, bytes),
+            _ => Ok(()),
+        }
+    }
+
+    // Closes the part that was written last, unless it stays open.
+    fn close_last(&mut self) {
+        if let Some(Some(part)) = self.parts.get_mut(self.last) {
+            part.close_again();
+        }
+    }
+
     // Prints why a file cannot be restored, and counts the file.
-    fn count_failure<R: Eprint>(&mut self, rt: &R, failure: &Failure) {
+    fn count_failure(&mut self, rt: &R, failure: &Failure) {
         failure.tell(rt);
         self.failed = self.failed.saturating_add(1);
     }
 
     /// Removes the part of a file into which blocks cannot be written, and prints the reason. The other files are still
     /// restored.
-    pub fn give_up<R: Files + Eprint>(
-        &mut self,
-        rt: &R,
-        alloc: Global,
-        file: usize,
-        error: std::io::Error,
-    ) {
+    pub fn give_up(&mut self, rt: &R, alloc: Global, file: usize, error: io::Error) {
         let Some(slot) = self.parts.get_mut(file) else {
             return;
         };
@@ -136,19 +171,13 @@ impl Targets {
 
     /// Gives the restored files their permission bits, times and final names. For each file that cannot be restored,
     /// the function prints the reason.
-    pub fn finish<R: Files + Eprint>(
-        &mut self,
-        rt: &R,
-        alloc: Global,
-        scan: &Scan,
-        goal: Goal<'_>,
-    ) -> Restored {
+    pub fn finish(&mut self, rt: &R, alloc: Global, goal: Goal<'_>) -> Restored {
         let mut restored = Restored {
             count: 0,
             kept: 0,
             failed: 0,
         };
-        for (index, file) in scan.description.files.as_slice().iter().enumerate() {
+        for (index, file) in goal.files.iter().enumerate() {
             if let Some(kept) = self.finish_one(rt, alloc, index, file, goal) {
                 restored.count = restored.count.saturating_add(1);
                 restored.kept = restored.kept.saturating_add(kept);
@@ -160,7 +189,7 @@ impl Targets {
 
     // Gives a restored file its final name, and returns the number of damaged files that are kept, 0 or 1. Returns
     // `None` if the file has no part, or if the file cannot be restored. Then the function prints the reason.
-    fn finish_one<R: Files + Eprint>(
+    fn finish_one(
         &mut self,
         rt: &R,
         alloc: Global,
@@ -168,8 +197,8 @@ impl Targets {
         file: &FileEntry,
         goal: Goal<'_>,
     ) -> Option<usize> {
-        let part = self.parts.get_mut(index)?.take()?;
-        match finish_part(rt, alloc, &part, file, goal, self.inputs.as_slice()) {
+        let mut part = self.parts.get_mut(index)?.take()?;
+        match finish_part(rt, alloc, &mut part, file, goal, self.inputs.as_slice()) {
             Ok(kept) => Some(kept),
             Err(failure) => {
                 part.remove(rt);
@@ -180,7 +209,7 @@ impl Targets {
     }
 
     /// Removes all parts that are left.
-    pub fn remove<R: Files>(&self, rt: &R) {
+    pub fn remove(&self, rt: &R) {
         for part in &self.parts {
             if let Some(part) = part {
                 part.remove(rt);
@@ -196,11 +225,12 @@ fn begin_part<R: Files>(
     file: &FileEntry,
     goal: Goal<'_>,
     inputs: &[Identity],
-) -> Result<Part> {
+) -> Result<Part<R>> {
     let name = text_of(file.name.as_slice());
     let path = path_in(alloc, goal.folder, name)?;
     check_target(rt, alloc, name, path.as_str(), goal, inputs)?;
-    Part::begin(rt, alloc, path.as_str(), file.size, PART_MODE)
+    let part = free_path(rt, alloc, goal.folder, name, "part", goal.files)?;
+    Part::begin(rt, alloc, path.as_str(), part, file.size, PART_MODE)
 }
 
 // Gives a restored file its permission bits, its time and its final name. Returns the number of damaged files that are
@@ -208,27 +238,27 @@ fn begin_part<R: Files>(
 fn finish_part<R: Files + Eprint>(
     rt: &R,
     alloc: Global,
-    part: &Part,
+    part: &mut Part<R>,
     file: &FileEntry,
     goal: Goal<'_>,
     inputs: &[Identity],
 ) -> Result<usize> {
-    let path = part.path.as_str();
-    at_path(alloc, path, complete(rt, part, file))?;
+    complete(rt, alloc, part, file)?;
+    let (path, name) = (part.path.as_str(), text_of(file.name.as_slice()));
     // Something may have changed since the part was begun.
-    check_target(rt, alloc, text_of(file.name.as_slice()), path, goal, inputs)?;
+    check_target(rt, alloc, name, path, goal, inputs)?;
     let kept = if goal.in_place {
-        keep_damaged(rt, alloc, path)?
+        keep_damaged(rt, alloc, path, name, goal)?
     } else {
         None
     };
     match (part.rename(rt, alloc), kept) {
         (Ok(()), kept) => {
-            sync_folder(rt, alloc, path);
+            sync_folder(rt, path);
             Ok(usize::from(kept.is_some()))
         }
         (Err(failure), Some(kept)) => {
-            kept.undo(rt, alloc, path);
+            take_back(rt, path, kept.as_str());
             Err(failure)
         }
         (Err(failure), None) => Err(failure),
@@ -297,63 +327,91 @@ fn is_link<R: Files>(rt: &R, path: &str) -> bool {
     }
 }
 
-// Gives a restored file its permission bits and the time of its last change, and syncs it. A time before 1970 is not
-// set. The file is opened only once, because its permission bits can forbid to open it again.
-fn complete<R: Files>(rt: &R, part: &Part, file: &FileEntry) -> std::io::Result<()> {
-    let handle = part.open(rt)?;
-    handle.set_permissions(Permissions::from_mode(file.mode & RESTORED_BITS))?;
-    let seconds = i64::from_le_bytes(file.modified.to_le_bytes());
+// Gives a restored file its permission bits and the time of its last change, and syncs it. If the bits or the time
+// cannot be set, the function only prints a warning: the contents of the file are right, and some file systems let
+// nobody set these.
+fn complete<R: Files + Eprint>(
+    rt: &R,
+    alloc: Global,
+    part: &mut Part<R>,
+    file: &FileEntry,
+) -> Result<()> {
+    let outcome = match part.open(rt) {
+        Ok(handle) => Ok((set_mode(handle, file.mode), set_time(handle, file.modified))),
+        Err(error) => Err(error),
+    };
+    let path = part.path.as_str();
+    let (mode, time) = at_path(alloc, path, outcome)?;
+    warn_unset(rt, path, "its permission bits", mode);
+    warn_unset(rt, path, "the time of its last change", time);
+    part.sync(rt, alloc)
+}
+
+// Sets the permission bits of a restored file.
+fn set_mode<F: OpenFile>(handle: &F, mode: u32) -> io::Result<()> {
+    handle.set_permissions(Permissions::from_mode(mode & RESTORED_BITS))
+}
+
+// Sets the time of the last change of a file. `modified` has the bits of the signed number of seconds since 1970. A
+// time before 1970 is not set.
+fn set_time<F: OpenFile>(handle: &F, modified: u64) -> io::Result<()> {
+    let seconds = i64::from_le_bytes(modified.to_le_bytes());
     if let Ok(seconds) = u64::try_from(seconds) {
         if let Some(time) = UNIX_EPOCH.checked_add(Duration::from_secs(seconds)) {
-            handle.set_times(FileTimes::new().set_modified(time))?;
+            return handle.set_times(FileTimes::new().set_modified(time));
         }
     }
-    handle.sync_all()
+    Ok(())
 }
 
-// The second name of a damaged file.
-#[derive(Drop)]
-struct Kept {
-    name: String,
-    // Whether the file also has its own name still.
-    linked: bool,
-}
-
-impl Kept {
-    // Takes the second name back, so that the damaged file has only its own name again. If this fails, the function
-    // prints the second name.
-    fn undo<R: Files + Eprint>(&self, rt: &R, alloc: Global, path: &str) {
-        let name = self.name.as_str();
-        let undone = match (exists(rt, path), self.linked) {
-            (true, true) => fs::remove_file(rt, name).is_ok(),
-            // Another file has the name by now.
-            (true, false) => false,
-            (false, _) => fs::rename(rt, name, path).is_ok(),
-        };
-        if !undone {
-            Failure::at(alloc, name, "the damaged file has this name").tell(rt);
-        }
+// Prints a warning if something of a file could not be set.
+fn warn_unset<R: Eprint>(rt: &R, path: &str, what: &'static str, outcome: io::Result<()>) {
+    if let Err(error) = outcome {
+        warn(
+            rt,
+            path,
+            format_args!("warning: {what} cannot be set: {error}"),
+        );
     }
 }
 
-// Gives a damaged file a second name, `NAME.damaged` or `NAME.damaged2` and so on, if the file exists.
+// Gives a damaged file a second name, `NAME.damaged` or `NAME.damaged2` and so on, if the file exists. Returns the path
+// of this name.
 //
 // The file keeps its own name too, until the restored file takes it. So the program can be killed at any moment, and
 // the next run finds the file. A file system without hard links gets the file renamed.
-fn keep_damaged<R: Files>(rt: &R, alloc: Global, path: &str) -> Result<Option<Kept>> {
+fn keep_damaged<R: Files>(
+    rt: &R,
+    alloc: Global,
+    path: &str,
+    name: &str,
+    goal: Goal<'_>,
+) -> Result<Option<String>> {
     if !exists(rt, path) {
         return Ok(None);
     }
-    let name = free_path(rt, alloc, path, "damaged")?;
-    let linked = at_path(alloc, path, link_or_rename(rt, path, name.as_str()))?;
-    Ok(Some(Kept { name, linked }))
+    let kept = free_path(rt, alloc, goal.folder, name, "damaged", goal.files)?;
+    at_path(alloc, path, link_or_rename(rt, path, kept.as_str()))?;
+    Ok(Some(kept))
 }
 
-// Gives a file a second name. Returns whether the file also has its own name still.
-fn link_or_rename<R: Files>(rt: &R, path: &str, name: &str) -> std::io::Result<bool> {
+// Gives a file a second name, or another name if it cannot have two.
+fn link_or_rename<R: Files>(rt: &R, path: &str, name: &str) -> io::Result<()> {
     if fs::hard_link(rt, path, name).is_ok() {
-        return Ok(true);
+        return Ok(());
     }
-    fs::rename(rt, path, name)?;
-    Ok(false)
+    fs::rename(rt, path, name)
+}
+
+// Takes the name `kept` from a damaged file, so that the file has only its own name again. If another file has its own
+// name by now, or if this fails, the function prints the name `kept`.
+fn take_back<R: Files + Eprint>(rt: &R, path: &str, kept: &str) {
+    let undone = match identity_at(rt, path) {
+        Some(own) if identity_at(rt, kept) == Some(own) => fs::remove_file(rt, kept).is_ok(),
+        Some(_) => false,
+        None => fs::rename(rt, kept, path).is_ok(),
+    };
+    if !undone {
+        warn(rt, kept, "the damaged file has this name");
+    }
 }

@@ -71,12 +71,16 @@ fn tell_file<R: Print>(rt: &R, name: &str, state: FileState) -> io::Result<()> {
     println!(rt; "{word}: {name}")
 }
 
-// Returns where a volume is damaged, and which head was used. Returns `None` if both copies are whole.
+// Returns where a volume is damaged, and which head was used. Returns `None` if both copies are whole. If the first head
+// is damaged only in its number of records, both heads give the same description, and the message is the same.
 fn damage_of(copies: Copies) -> Option<&'static str> {
     match copies {
         Copies::Whole => None,
-        Copies::FirstDamaged => Some(", its second head was used"),
+        Copies::FirstDamaged => Some(" at its beginning, its second head was used"),
         Copies::SecondDamaged => Some(" at its end, its first head was used"),
+        Copies::WrongLength => Some(
+            ": bytes are missing between its two descriptions, or were added",
+        ),
     }
 }
 

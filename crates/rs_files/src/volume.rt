@@ -1,5 +1,6 @@
 //! Reads volumes.
 use crate::failure::{Failure, Result};
+use crate::identity::open_regular;
 use crate::output::at_path;
 use crate::source::read_at;
 use rs_volumes::description::Description;
@@ -19,15 +20,19 @@ pub const RECORD_HEAD_BYTES: u64 = 8;
 /// The largest description that is written or read, in bytes.
 pub const LARGEST_DESCRIPTION: u64 = 1 << 30;
 
-/// The state of the two copies of the head and the description of a volume.
+/// The state of the two copies of the head and the description of a volume. A head is also damaged if the other head
+/// has the number of records that fits between the copies, and this head has another number.
 #[derive(Clone, Copy, PartialEq, Eq)]
 pub enum Copies {
-    /// Both copies are there, and they are equal.
+    /// Both copies are there, they are equal, and the records of the heads fill the bytes between the copies.
     Whole,
-    /// The first copy cannot be read, so the second copy was used.
+    /// The first copy cannot be read, or its head is damaged.
     FirstDamaged,
-    /// The first copy was used. The second copy cannot be read, or is not equal to the first one.
+    /// The second copy cannot be read, is not equal to the first one, or its head is damaged.
     SecondDamaged,
+    /// Both copies are there, but neither head has the number of records that fits between them: bytes are missing
+    /// there, or were added.
+    WrongLength,
 }
 
 /// The contents of a volume that was opened, without its blocks.
@@ -37,7 +42,9 @@ pub struct Volume {
     pub description: Description,
     /// The SHA-256 of the description, which identifies the set.
     pub digest: [u8; 32],
-    /// The number of block records: the number in the head, but at most as many as fit into the volume.
+    /// The number of block records. The heads do not determine it, because they have no digest: it is the number of
+    /// records that fit between the copies if they are sound, and otherwise the number of those that fit into the
+    /// volume after the first copy.
     pub record_count: u64,
     /// The offset in bytes of the first record.
     pub records_at: u64,
@@ -77,15 +84,14 @@ fn head_at<F: Read + Seek>(file: &mut F, alloc: Global, offset: u64) -> Result<H
 }
 
 // Reads and checks the description that belongs to a head. The description begins at `offset`. `size` is the number of
-// bytes of the volume. `copies` is the state of the two copies of the head and the description.
+// bytes of the volume.
 fn described<F: Read + Seek>(
     file: &mut F,
     alloc: Global,
     head: &Head,
     offset: u64,
     size: u64,
-    copies: Copies,
-) -> Result<Volume> {
+) -> Result<Description> {
     let length = head.description_bytes;
     if length > LARGEST_DESCRIPTION || length > size.saturating_sub(offset) {
         return Err(too_long());
@@ -94,39 +100,82 @@ fn described<F: Read + Seek>(
     if digest_of(bytes.as_slice()) != head.digest {
         return Err(Failure::of("its description does not have its digest"));
     }
-    let description = read_description(alloc, bytes.as_slice())?;
-    let records_at = (HEAD_BYTES as u64) + length;
-    let record = description
-        .block_bytes
-        .saturating_add(RECORD_HEAD_BYTES)
-        .max(1);
-    let room = size.saturating_sub(records_at) / record;
-    Ok(Volume {
-        description,
-        digest: head.digest,
-        record_count: head.record_count.min(room),
-        records_at,
-        copies,
-    })
+    Ok(read_description(alloc, bytes.as_slice())?)
 }
 
-// Returns whether a volume ends in a description with the digest of a head, and then in this head. `size` is the number
-// of bytes of the volume.
-fn ends_in<F: Read + Seek>(file: &mut F, alloc: Global, head: &Head, size: u64) -> Result<bool> {
+// Returns the last head of a volume, if it belongs to the same description as the first head, and this description is
+// before it. `size` is the number of bytes of the volume.
+fn last_head<F: Read + Seek>(
+    file: &mut F,
+    alloc: Global,
+    first: &Head,
+    size: u64,
+) -> Result<Option<Head>> {
     let head_bytes = HEAD_BYTES as u64;
-    let length = head.description_bytes;
+    let length = first.description_bytes;
     if length > LARGEST_DESCRIPTION || size < head_bytes || length > size - head_bytes {
-        return Ok(false);
+        return Ok(None);
     }
     let last = head_at(file, alloc, size - head_bytes)?;
-    if last.description_bytes != head.description_bytes
-        || last.record_count != head.record_count
-        || last.digest != head.digest
-    {
-        return Ok(false);
+    if last.description_bytes != first.description_bytes || last.digest != first.digest {
+        return Ok(None);
     }
     let bytes = bytes_at(file, alloc, size - head_bytes - length, length as usize)?;
-    Ok(digest_of(bytes.as_slice()) == head.digest)
+    let is_same = digest_of(bytes.as_slice()) == first.digest;
+    Ok(if is_same { Some(last) } else { None })
+}
+
+// The room for records in a volume, in bytes.
+#[derive(Clone, Copy)]
+struct Room {
+    // The offset of the first record.
+    start: u64,
+    // The number of bytes from there to the end of the volume.
+    rest: u64,
+    // The number of bytes of a record.
+    record: u64,
+}
+
+impl Room {
+    // Returns the room in a volume of `size` bytes that begins with a head and its description.
+    fn of(head: &Head, description: &Description, size: u64) -> Room {
+        let start = (HEAD_BYTES as u64).saturating_add(head.description_bytes);
+        Room {
+            start,
+            rest: size.saturating_sub(start),
+            record: description.block_bytes.saturating_add(RECORD_HEAD_BYTES),
+        }
+    }
+
+    // Returns whether the records of a head fill the bytes between the two copies. Each copy has `start` bytes.
+    fn is_filled_by(&self, head: &Head) -> bool {
+        match head.record_count.checked_mul(self.record) {
+            Some(bytes) => self.rest.checked_sub(self.start) == Some(bytes),
+            None => false,
+        }
+    }
+
+    // Returns the number of records that fit: between the two copies if `is_filled` is set, and otherwise up to the end
+    // of the volume.
+    fn records(&self, is_filled: bool) -> u64 {
+        let bytes = if is_filled {
+            self.rest.saturating_sub(self.start)
+        } else {
+            self.rest
+        };
+        bytes / self.record.max(1)
+    }
+}
+
+// Returns the state of the two copies if both can be read, and are equal but for the numbers of records in their heads.
+// The arguments say whether the records of the first head and of the last head fill the bytes between the copies.
+fn copies_of(first: bool, last: bool) -> Copies {
+    match (first, last) {
+        (true, true) => Copies::Whole,
+        (true, false) => Copies::SecondDamaged,
+        (false, true) => Copies::FirstDamaged,
+        (false, false) => Copies::WrongLength,
+    }
 }
 
 // Reads the head and the description at the beginning of a volume.
@@ -135,11 +184,23 @@ fn front<F: Read + Seek>(file: &mut F, alloc: Global, size: u64) -> Result<Volum
         return Err(too_short());
     }
     let head = head_at(file, alloc, 0)?;
-    let copies = match ends_in(file, alloc, &head, size) {
-        Ok(true) => Copies::Whole,
-        _ => Copies::SecondDamaged,
+    let description = described(file, alloc, &head, HEAD_BYTES as u64, size)?;
+    let room = Room::of(&head, &description, size);
+    let first = room.is_filled_by(&head);
+    let (copies, is_filled) = match last_head(file, alloc, &head, size) {
+        Ok(Some(last)) => {
+            let last = room.is_filled_by(&last);
+            (copies_of(first, last), first || last)
+        }
+        _ => (Copies::SecondDamaged, first),
     };
-    described(file, alloc, &head, HEAD_BYTES as u64, size, copies)
+    Ok(Volume {
+        description,
+        digest: head.digest,
+        record_count: room.records(is_filled),
+        records_at: room.start,
+        copies,
+    })
 }
 
 // Reads the head and the description at the end of a volume.
@@ -153,17 +214,25 @@ fn back<F: Read + Seek>(file: &mut F, alloc: Global, size: u64) -> Result<Volume
         return Err(too_long());
     }
     let offset = size - head_bytes - head.description_bytes;
-    described(file, alloc, &head, offset, size, Copies::FirstDamaged)
+    let description = described(file, alloc, &head, offset, size)?;
+    let room = Room::of(&head, &description, size);
+    Ok(Volume {
+        description,
+        digest: head.digest,
+        record_count: room.records(room.is_filled_by(&head)),
+        records_at: room.start,
+        copies: Copies::FirstDamaged,
+    })
 }
 
 /// Opens a volume, and reads its description. If the beginning of the volume is damaged, the function reads the end.
 ///
 /// # Errors
 ///
-/// In this order, fails if the volume cannot be opened, or if it has no head and sound description both at its
-/// beginning and at its end. The message of the second error states the fault at the beginning.
+/// In this order, fails if the volume is no regular file or cannot be opened, or if it has no head and sound
+/// description both at its beginning and at its end. The message of the second error states the fault at the beginning.
 pub fn open_volume<R: Files>(rt: &R, alloc: Global, path: &str) -> Result<Volume> {
-    let mut file = at_path(alloc, path, fs::open(rt, path))?;
+    let mut file = at_path(alloc, path, open_regular(rt, path, true))?;
     let size = at_path(alloc, path, file.metadata())?.len();
     match front(&mut file, alloc, size) {
         Ok(volume) => Ok(volume),
@@ -191,7 +260,7 @@ pub fn is_volume<R: Files>(rt: &R, alloc: Global, path: &str) -> Result<bool> {
     if !metadata.is_file() || metadata.len() < head_bytes {
         return Ok(false);
     }
-    let mut file = at_path(alloc, path, fs::open(rt, path))?;
+    let mut file = at_path(alloc, path, open_regular(rt, path, true))?;
     if has_magic(&mut file, alloc, path, 0)? {
         return Ok(true);
     }

@@ -3,7 +3,8 @@ ghost use Rattle.rs_field.specs.code.Given.{nothing};
 
 use crate::failure::{Failure, Result};
 use crate::folder::Cut;
-use crate::output::{Part, at_path, exists, sync_folder, write_at};
+use crate::identity::exists;
+use crate::output::{Part, at_path, free_path, sync_folder};
 use crate::volume::{RECORD_HEAD_BYTES, is_volume};
 use rs_volumes::coding_error::CodingError;
 use rs_volumes::digest::digest_of;
@@ -11,7 +12,7 @@ use rs_volumes::head::{HEAD_BYTES, Head, write_head};
 use rs_volumes::pieces::BlockSink;
 use std::alloc::Global;
 use std::io;
-use std::io::{ErrorKind, Seek, Write};
+use std::io::ErrorKind;
 use std::rt::Files;
 
 /// The permission bits of a volume, before the system takes away those of the user's mask.
@@ -43,9 +44,9 @@ pub fn check_output<R: Files>(rt: &R, alloc: Global, path: &str, force: bool) ->
 
 /// The volumes that a command writes. The blocks from the index `first` on are dealt to them in turn.
 #[derive(Drop)]
-pub struct Volumes {
-    // The file of each volume, which does not have its final name yet.
-    parts: Vec<Part>,
+pub struct Volumes<R: Files> {
+    // The file of each volume, which is open and does not have its final name yet.
+    parts: Vec<Part<R>>,
     // The number of volumes.
     count: u64,
     // The index of the first block that is written.
@@ -56,10 +57,10 @@ pub struct Volumes {
     description_bytes: u64,
 }
 
-impl Volumes {
+impl<R: Files> Volumes<R> {
     /// Makes `count` volumes, of which none has begun yet. One volume gets the recovery blocks. Several volumes get all
     /// blocks.
-    pub fn new(alloc: Global, cut: Cut, count: usize, description_bytes: u64) -> Volumes {
+    pub fn new(alloc: Global, cut: Cut, count: usize, description_bytes: u64) -> Volumes<R> {
         let originals = u64::from(cut.original_count);
         let recovery = u64::from(cut.recovery_count);
         let (first, blocks) = if count == 1 {
@@ -107,12 +108,13 @@ impl Volumes {
     /// # Errors
     ///
     /// Fails for a reason of [`Part::begin`], or if memory cannot be allocated.
-    pub fn begin<R: Files>(&mut self, rt: &R, alloc: Global, path: &str) -> Result<()> {
+    pub fn begin(&mut self, rt: &R, alloc: Global, path: &str) -> Result<()> {
         let size = self
             .record_at(self.records_of(self.parts.len()))
             .saturating_add(self.description_bytes)
             .saturating_add(HEAD_BYTES as u64);
-        let part = Part::begin(rt, alloc, path, size, VOLUME_MODE)?;
+        let part = free_path(rt, alloc, "", path, "part", &[])?;
+        let part = Part::begin(rt, alloc, path, part, size, VOLUME_MODE)?;
         match self.parts.push(part) {
             Ok(()) => Ok(()),
             Err(failed) => {
@@ -136,26 +138,29 @@ impl Volumes {
     /// - for each volume, if it cannot be synced,
     /// - for each volume, for a reason of [`check_output`],
     /// - if a volume cannot be renamed.
-    pub fn finish<R: Files + Eprint>(&self, rt: &R, alloc: Global, force: bool) -> Result<()> {
+    pub fn finish(&mut self, rt: &R, alloc: Global, force: bool) -> Result<()>
+    where
+        R: Eprint,
+    {
         self.sync(rt, alloc)?;
         self.check(rt, alloc, force)?;
         let outcome = self.rename(rt, alloc);
         if let Some(part) = self.parts.first() {
-            sync_folder(rt, alloc, part.path.as_str());
+            sync_folder(rt, part.path.as_str());
         }
         outcome
     }
 
     // Syncs all volumes.
-    fn sync<R: Files>(&self, rt: &R, alloc: Global) -> Result<()> {
-        for part in &self.parts {
+    fn sync(&mut self, rt: &R, alloc: Global) -> Result<()> {
+        for part in &mut self.parts {
             part.sync(rt, alloc)?;
         }
         Ok(())
     }
 
     // Checks that each volume can get its final name. Something may have changed since the volumes were begun.
-    fn check<R: Files>(&self, rt: &R, alloc: Global, force: bool) -> Result<()> {
+    fn check(&self, rt: &R, alloc: Global, force: bool) -> Result<()> {
         for part in &self.parts {
             check_output(rt, alloc, part.path.as_str(), force)?;
         }
@@ -164,7 +169,7 @@ impl Volumes {
 
     // Renames all volumes to their final names. If some of them cannot be renamed, the function returns the reason for
     // the last one.
-    fn rename<R: Files>(&self, rt: &R, alloc: Global) -> Result<()> {
+    fn rename(&self, rt: &R, alloc: Global) -> Result<()> {
         let mut outcome = Ok(());
         for (number, part) in self.parts.iter().enumerate() {
             if let Err(failure) = part.rename(rt, alloc) {
@@ -178,7 +183,7 @@ impl Volumes {
     }
 
     /// Removes the files of all volumes that do not have their final names.
-    pub fn remove<R: Files>(&self, rt: &R) {
+    pub fn remove(&self, rt: &R) {
         for part in &self.parts {
             part.remove(rt);
         }
@@ -188,27 +193,15 @@ impl Volumes {
 /// The volumes that are being written. This sink writes blocks into them.
 #[derive(Drop)]
 pub struct VolumeSink<'a, R: Files> {
+    rt: &'a R,
     alloc: Global,
-    volumes: &'a Volumes,
-    files: Vec<R::File>,
+    volumes: &'a mut Volumes<R>,
 }
 
 impl<'a, R: Files> VolumeSink<'a, R> {
-    /// Opens the parts of all volumes.
-    ///
-    /// # Errors
-    ///
-    /// Fails if a file cannot be opened, or if memory cannot be allocated.
-    pub fn new(rt: &R, alloc: Global, volumes: &'a Volumes) -> Result<VolumeSink<'a, R>> {
-        let mut files = Vec::new(alloc);
-        for part in &volumes.parts {
-            files.push(at_path(alloc, part.path.as_str(), part.open(rt))?)?;
-        }
-        Ok(VolumeSink {
-            alloc,
-            volumes,
-            files,
-        })
+    /// Makes a sink that writes into volumes that have begun.
+    pub fn new(rt: &'a R, alloc: Global, volumes: &'a mut Volumes<R>) -> VolumeSink<'a, R> {
+        VolumeSink { rt, alloc, volumes }
     }
 
     /// Returns the path of the file into which a block could not be written. The path is empty after another error.
@@ -234,22 +227,21 @@ impl<'a, R: Files> VolumeSink<'a, R> {
     /// Fails if the description has another length than the volumes have room for. Then, for each volume, fails if
     /// memory cannot be allocated, or if the volume cannot be written.
     pub fn describe(&mut self, description: &[u8]) -> Result<()> {
-        let volumes = self.volumes;
-        if description.len() as u64 != volumes.description_bytes {
+        if description.len() as u64 != self.volumes.description_bytes {
             return Err(Failure::of("the description has another length than expected"));
         }
         let digest = digest_of(description);
-        for (number, part) in volumes.parts.iter().enumerate() {
-            let record_count = volumes.records_of(number);
+        for number in 0..self.volumes.parts.len() {
+            let record_count = self.volumes.records_of(number);
             let head = Head {
                 description_bytes: description.len() as u64,
                 record_count,
                 digest,
             };
             let head = write_head(self.alloc, &head)?;
-            let end = volumes.record_at(record_count);
-            if let Some(file) = self.files.get_mut(number) {
-                let written = write_copies(file, description, head.as_slice(), end);
+            let end = self.volumes.record_at(record_count);
+            if let Some(part) = self.volumes.parts.get_mut(number) {
+                let written = write_copies(self.rt, part, description, head.as_slice(), end);
                 at_path(self.alloc, part.path.as_str(), written)?;
             }
         }
@@ -258,16 +250,17 @@ impl<'a, R: Files> VolumeSink<'a, R> {
 }
 
 // Writes both copies of the description and the head of a volume. `end` is the offset in bytes of the second copy.
-fn write_copies<F: Seek + Write>(
-    file: &mut F,
+fn write_copies<R: Files>(
+    rt: &R,
+    part: &mut Part<R>,
     description: &[u8],
     head: &[u8],
     end: u64,
 ) -> io::Result<()> {
-    write_at(file, HEAD_BYTES as u64, description)?;
-    write_at(file, end, description)?;
-    write_at(file, end.wrapping_add(description.len() as u64), head)?;
-    write_at(file, 0, head)
+    part.write_at(rt, HEAD_BYTES as u64, description)?;
+    part.write_at(rt, end, description)?;
+    part.write_at(rt, end.wrapping_add(description.len() as u64), head)?;
+    part.write_at(rt, 0, head)
 }
 
 impl<'a, R: Files> BlockSink for VolumeSink<'a, R> {
@@ -275,33 +268,34 @@ impl<'a, R: Files> BlockSink for VolumeSink<'a, R> {
 
     fn put(&mut self, index: usize, start: usize, piece: &[u8]) -> io::Result<()> {
         let first = self.volumes.first;
-        if index < first || self.files.is_empty() {
+        let count = self.volumes.parts.len();
+        if index < first || count == 0 {
             return Ok(());
         }
         let slot = index - first;
-        let number = slot % self.files.len();
-        let record = self.volumes.record_at((slot / self.files.len()) as u64);
-        let Some(file) = self.files.get_mut(number) else {
+        let record = self.volumes.record_at((slot / count) as u64);
+        let Some(part) = self.volumes.parts.get_mut(slot % count) else {
             return Err(io::Error::from(ErrorKind::NotFound));
         };
-        write_piece(file, record, index, start, piece)
+        write_piece(self.rt, part, record, index, start, piece)
     }
 }
 
 // Writes a piece of the block with the index `index` into its record at the offset `record`. The first piece of a block
 // also writes the head of the record.
-fn write_piece<F: Seek + Write>(
-    file: &mut F,
+fn write_piece<R: Files>(
+    rt: &R,
+    part: &mut Part<R>,
     record: u64,
     index: usize,
     start: usize,
     piece: &[u8],
 ) -> io::Result<()> {
     if start == 0 {
-        write_at(file, record, &(index as u64).to_le_bytes())?;
+        part.write_at(rt, record, &(index as u64).to_le_bytes())?;
     }
     let offset = record
         .wrapping_add(RECORD_HEAD_BYTES)
         .wrapping_add(start as u64);
-    write_at(file, offset, piece)
+    part.write_at(rt, offset, piece)
 }

@@ -1,7 +1,8 @@
 //! Finds the files of a set.
 use crate::failure::{Failure, Result};
+use crate::identity::{Identity, identities, identity_of, is_one_of};
 use crate::names::{folder_to_open, last_of, parent_of, path_in, text_of, trimmed};
-use crate::output::{Identity, at_path, identities, identity_of, is_one_of};
+use crate::output::at_path;
 use rs_volumes::checking::is_name;
 use rs_volumes::description::FileEntry;
 use std::alloc::{AllocError, Global};
@@ -16,6 +17,16 @@ pub struct Found {
     pub folder: String,
     /// The files, in order of their names.
     pub files: Vec<FileEntry>,
+    /// For each file, whether its path is a symbolic link to it. Only a path that is named may be one.
+    pub linked: Vec<bool>,
+}
+
+// A file of the set.
+#[derive(Drop)]
+struct FoundFile {
+    entry: FileEntry,
+    // Whether its path is a symbolic link to it.
+    is_linked: bool,
 }
 
 // A file or folder that must still be visited.
@@ -24,6 +35,8 @@ struct Waiting {
     path: String,
     // The name in the set, which is empty for the folder of the set.
     name: String,
+    // Whether the path is one of those that are named. Only these may be symbolic links.
+    is_named: bool,
 }
 
 // Returns the name of a path in the set. The name is empty if the path ends in `.` or `..`: then the path is the folder
@@ -64,13 +77,26 @@ pub fn find<R: Files + Alloc + Clone + Drop>(
         return Err(Failure::of("no file is given"));
     };
     let folder = folder_of(trimmed(first.as_str()));
-    let files = files_in(rt, alloc, folder, paths, written.as_slice())?;
-    if files.is_empty() {
+    let found = files_in(rt, alloc, folder, paths, written.as_slice())?;
+    if found.is_empty() {
         return Err(Failure::at(alloc, first.as_str(), "there is no regular file to protect"));
     }
+    let folder = String::from_str(alloc, folder_to_open(folder))?;
+    Ok(found_in(alloc, folder, found)?)
+}
+
+// Returns the files of a set and their folder.
+fn found_in(alloc: Global, folder: String, found: Vec<FoundFile>) -> Result<Found, AllocError> {
+    let mut files = Vec::new(alloc);
+    let mut linked = Vec::new(alloc);
+    for file in found {
+        files.push(file.entry)?;
+        linked.push(file.is_linked)?;
+    }
     Ok(Found {
-        folder: String::from_str(alloc, folder_to_open(folder))?,
+        folder,
         files,
+        linked,
     })
 }
 
@@ -81,7 +107,7 @@ fn files_in<R: Files + Alloc + Clone + Drop>(
     folder: &str,
     paths: &[String],
     written: &[Identity],
-) -> Result<Vec<FileEntry>> {
+) -> Result<Vec<FoundFile>> {
     let mut files = Vec::new(alloc);
     for path in paths {
         add_path(
@@ -105,7 +131,7 @@ fn add_path<R: Files + Alloc + Clone + Drop>(
     folder: &str,
     path: &str,
     written: &[Identity],
-    files: &mut Vec<FileEntry>,
+    files: &mut Vec<FoundFile>,
 ) -> Result<()> {
     if !is_same_folder(rt, folder_of(path), folder) {
         return Err(Failure::at(
@@ -136,15 +162,15 @@ fn is_same_folder<R: Files>(rt: &R, one: &str, other: &str) -> bool {
 }
 
 // Sorts files by their names.
-fn sort_files(files: &mut Vec<FileEntry>) -> Result<(), AllocError> {
-    files.sort_by(|one, other| one.name.as_slice().cmp(other.name.as_slice()))
+fn sort_files(files: &mut Vec<FoundFile>) -> Result<(), AllocError> {
+    files.sort_by(|one, other| one.entry.name.as_slice().cmp(other.entry.name.as_slice()))
 }
 
 // Checks that no two files of a sorted list have the same name.
-fn check_once(alloc: Global, files: &[FileEntry]) -> Result<()> {
+fn check_once(alloc: Global, files: &[FoundFile]) -> Result<()> {
     let mut previous: &[u8] = b"";
     for file in files {
-        let name = file.name.as_slice();
+        let name = file.entry.name.as_slice();
         if name == previous {
             return Err(Failure::at(alloc, text_of(name), "this file is given twice"));
         }
@@ -160,12 +186,13 @@ fn walk<R: Files + Alloc + Clone + Drop>(
     path: &str,
     name: &str,
     written: &[Identity],
-    files: &mut Vec<FileEntry>,
+    files: &mut Vec<FoundFile>,
 ) -> Result<()> {
     let mut waiting = Vec::new(alloc);
     waiting.push(Waiting {
         path: String::from_str(alloc, path)?,
         name: String::from_str(alloc, name)?,
+        is_named: true,
     })?;
     for _ in 0..u64::MAX {
         match waiting.pop() {
@@ -183,10 +210,17 @@ fn visit<R: Files + Alloc + Clone + Drop>(
     next: &Waiting,
     written: &[Identity],
     waiting: &mut Vec<Waiting>,
-    files: &mut Vec<FileEntry>,
+    files: &mut Vec<FoundFile>,
 ) -> Result<()> {
     let path = next.path.as_str();
-    let metadata = at_path(alloc, path, fs::metadata(rt, path))?;
+    let found = at_path(alloc, path, fs::symlink_metadata(rt, path))?;
+    // A link that is not named was put there after its folder was read. It is left out as well.
+    let is_linked = next.is_named && found.is_symlink();
+    let metadata = if is_linked {
+        at_path(alloc, path, fs::metadata(rt, path))?
+    } else {
+        found
+    };
     if metadata.is_dir() {
         return list(rt, alloc, next, waiting);
     }
@@ -196,12 +230,13 @@ fn visit<R: Files + Alloc + Clone + Drop>(
     if !is_name(next.name.as_str().as_bytes()) {
         return Err(Failure::at(alloc, path, "a file with this name cannot be part of a set"));
     }
-    files.push(FileEntry {
+    let entry = FileEntry {
         size: metadata.len(),
         modified: u64::from_le_bytes(metadata.mtime().to_le_bytes()),
         mode: metadata.permissions().mode() & 0o7777,
         name: Vec::from_slice(alloc, next.name.as_str().as_bytes())?,
-    })?;
+    };
+    files.push(FoundFile { entry, is_linked })?;
     Ok(())
 }
 
@@ -222,6 +257,7 @@ fn list<R: Files + Alloc + Clone + Drop>(
         waiting.push(Waiting {
             path: path_in(alloc, folder.path.as_str(), name)?,
             name: path_in(alloc, folder.name.as_str(), name)?,
+            is_named: false,
         })?;
     }
     Ok(())
