@@ -5,7 +5,7 @@ use crate::slices::lent;
 use crate::watch::Watch;
 use reed_solomon_simd::engine::DefaultEngine;
 use reed_solomon_simd::{Error, RoomError, encode_slice, update_into};
-use std::alloc::Global;
+use std::alloc::{AllocError, Global};
 
 /// Encodes the message in which the original in the middle is zero, and updates the recovery shards with `update_into`.
 /// Only the update is watched. Clears `agrees` if the call did not accept the rooms.
@@ -21,24 +21,38 @@ pub fn encode(
     agrees: &mut bool,
 ) -> Result<Vec<Vec<u8>>, Error> {
     let (k, r, _) = configuration.numbers();
-    let shards = lent(alloc, originals)?;
-    let index = shards.len() / 2;
-    let Some(original) = shards.get(index).copied() else {
-        return encode_slice(alloc, k, r, &shards, engine);
+    let index = originals.iter().flatten().count() / 2;
+    let Some(original) = originals.iter().flatten().nth(index) else {
+        return encode_slice(alloc, k, r, &lent(alloc, originals)?, engine);
     };
-    let zeros = vec![in alloc; 0u8; original.len()]?;
-    let mut before = lent(alloc, originals)?;
-    if let Some(shard) = before.get_mut(index) {
-        *shard = zeros.as_slice();
-    }
+    let zeros = vec![in alloc; 0u8; original.bytes.len()]?;
+    let before = with_zeros(alloc, originals, index, &zeros)?;
     let mut recovery = encode_slice(alloc, k, r, &before, engine)?;
-    let change = (index, zeros.as_slice(), original);
+    let change = (index, zeros.as_slice(), original.bytes.as_slice());
     match update(alloc, configuration, change, &mut recovery, engine) {
         Err(RoomError::Refused(error)) => return Err(error),
         Err(_) => *agrees = false,
         Ok(()) => {}
     }
     Ok(recovery)
+}
+
+// Returns the originals, but zeros instead of the original with this index.
+fn with_zeros<'a>(
+    alloc: Global,
+    originals: &'a [Option<Shard>],
+    index: usize,
+    zeros: &'a [u8],
+) -> Result<Vec<&'a [u8]>, AllocError> {
+    let mut shards = Vec::new(alloc);
+    for shard in originals.iter().flatten() {
+        if shards.len() == index {
+            shards.push(zeros)?;
+        } else {
+            shards.push(shard.bytes.as_slice())?;
+        }
+    }
+    Ok(shards)
 }
 
 // Updates recovery shards: the original with this index had the first bytes, and has the second bytes now.
