@@ -1,22 +1,20 @@
 -- Why a creation and a restore of known blocks in memory fail: only because memory is lacking.
-use Rattle.std.proofs.Common.{rules, ◌≡◌, ◌⊎◌, ℕ, ◌+◌, ◌-◌, ◌*◌, ◌^◌, ◌<◌, ◌≤◌, true, false, List, [], length, get_or, All}
-use Rattle.std.proofs.Common.{Some, Ok, Err, Result, nat_eq, refl, sym, ap, subst, ◌∙◌, inl, inr, arith}
+use Rattle.std.proofs.Common.{◌≡◌, ◌⊎◌, ℕ, ◌+◌, ◌-◌, ◌^◌, ◌<◌, ◌≤◌, true, false, List, [], length, get_or}
+use Rattle.std.proofs.Common.{Some, Ok, Err, refl, sym, ap, subst, ◌∙◌, inl, inr, arith}
 use Rattle.std.specs.Prelude.{Option}
 use Rattle.std.specs.IoError.{error_kind}
 use Rattle.std.specs.declared.io.Error.{Error as IoError}
 use Rattle.std.specs.declared.io.ErrorKind.TheVariants as kinds
 use Rattle.std.specs.Global.{Vec}
-use Rattle.std.specs.List.{list_any}
 use Rattle.std.proofs.lemmas.Bool.{le-ltb}
-use Rattle.std.proofs.lemmas.Grind.{common_steps}
 use Rattle.std.proofs.lemmas.List.{length-map}
 use Rattle.std.proofs.lemmas.List.Elements.{All-contains}
-use Rattle.rs_field.specs.code.Pieces.{pieces, IsStrip}
+use Rattle.rs_field.specs.code.Pieces.{pieces}
 use Rattle.rs_field.proofs.of_code.OneRoundTrip.{encodes_in_one_call, restores_in_one_call}
 use Rattle.rs_field.proofs.of_code.PieceStates.{shards-cut, recovery-cut}
 use Rattle.reed_solomon_simd.specs.declared.Error.{Error}
 use Rattle.reed_solomon_simd.specs.declared.Error.TheVariants as code
-use Rattle.reed_solomon_simd.specs.Column.{Shard, AreShards, shard_at}
+use Rattle.reed_solomon_simd.specs.Column.{Shard, shard_at}
 use Rattle.reed_solomon_simd.specs.Configuration.{validation_outcome}
 use Rattle.reed_solomon_simd.specs.Given.{Shards}
 use Rattle.reed_solomon_simd.specs.OneCall.{Items, default_of}

@@ -1,4 +1,4 @@
-use Rattle.std.proofs.Common.{◌≡◌, ℕ, false, length, take}
+use Rattle.std.proofs.Common.{◌≡◌, ℕ, false, length}
 use Rattle.std.specs.Prelude.{map}
 use Rattle.reed_solomon_simd.specs.Column.{shard_at}
 use Rattle.rs_callers.specs.Blocks.{contents}
