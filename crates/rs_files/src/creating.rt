@@ -266,12 +266,17 @@ fn write_volumes<R: Files + Clock + Eprint>(
     cut: Cut,
     outputs: &[String],
 ) -> Result<()> {
-    let paths = paths_of(alloc, found.folder.as_str(), found.files.as_slice())?;
+    let Found {
+        folder,
+        files,
+        linked,
+    } = found;
+    let paths = paths_of(alloc, folder.as_str(), files.as_slice())?;
     let holders = Holders {
         paths: paths.as_slice(),
-        follows: found.linked.as_slice(),
+        follows: linked.as_slice(),
     };
-    let mut description = description_of(alloc, found.files, cut);
+    let mut description = description_of(alloc, files, cut);
     let length = description_bytes(description.files.as_slice(), cut)?;
     let mut volumes = Volumes::new(alloc, cut, outputs.len(), length);
     let outcome = begin_and_fill(
