@@ -28,7 +28,7 @@ use Rattle.rs_volumes.specs.Failing.{FailsToWrite}
 use Rattle.rs_volumes.specs.Restoring.{AreRead, FailsToDecode, HasDigest, Names, ReadsSet, RestoringFails, WritesAll}
 use Rattle.rs_volumes.specs.Restoring.{items_of}
 use Rattle.rs_volumes.proofs.Originals.{pieces-left}
-use Rattle.rs_callers.specs.Blocks.{LacksMemory, read_lacks_memory, write_lacks_memory}
+use Rattle.rs_callers.specs.Blocks.{SaysNoMemory, read_lacks_memory, write_lacks_memory}
 use Rattle.rs_callers.proofs.BlocksBack.{strip-valid}
 
 -- A block of which nothing was written at first only fails to be written if memory is lacking.
@@ -43,7 +43,7 @@ module _ (shape : Shape) (valid : validation_outcome
       → ((i : ℕ) → i < shape.original_count
       → (block : Shard) × (known i ≡ Some block) × (length block ≡ shape.block_bytes))
       → ((i : ℕ) → i < shape.original_count + shape.recovery_count → before i ≡ Some [])
-      → CreatingFails shape read_lacks_memory write_lacks_memory known before e → LacksMemory e
+      → CreatingFails shape read_lacks_memory write_lacks_memory known before e → SaysNoMemory e
   creating_lacks known before errors.Memory whole none fails = tt
   creating_lacks known before (errors.Read i e) whole none fails =
       let block = whole i fails.0 in
@@ -127,7 +127,7 @@ module _ (shape : Shape) (valid : validation_outcome
         → (WritesAll (Err e) → (i : ℕ) → get_or plan.wanted.items i false ≡ true
         → after i ≡ Some (shard_at originals i))
         → ((i : ℕ) → get_or plan.wanted.items i false ≡ true → HasDigest digests i (shard_at originals i))
-        → RestoringFails shape plan digests read_lacks_memory write_lacks_memory known before after e → LacksMemory e
+        → RestoringFails shape plan digests read_lacks_memory write_lacks_memory known before after e → SaysNoMemory e
     restoring_lacks errors.Memory none written same fails = tt
     restoring_lacks (errors.Read i e) none written same fails =
         let block = read_whole i fails.0 in

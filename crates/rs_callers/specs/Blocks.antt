@@ -33,13 +33,13 @@ write_lacks_memory block start e =
     (bytes : Shard) → block ≡ Some bytes → start ≡ length bytes → error_kind e ≡ kinds.OutOfMemory
 
 -- an error says that memory could not be allocated
-abbrev pub LacksMemory : CodingError → Type 0
-LacksMemory errors.Memory = Unit {0}
-LacksMemory (errors.Read i e) = error_kind e ≡ kinds.OutOfMemory
-LacksMemory (errors.Write i e) = error_kind e ≡ kinds.OutOfMemory
-LacksMemory (errors.Code e) = e ≡ code.OutOfMemory
-LacksMemory (errors.Missing n) = ⊥
-LacksMemory (errors.Digest i) = ⊥
+abbrev pub SaysNoMemory : CodingError → Type 0
+SaysNoMemory errors.Memory = Unit {0}
+SaysNoMemory (errors.Read i e) = error_kind e ≡ kinds.OutOfMemory
+SaysNoMemory (errors.Write i e) = error_kind e ≡ kinds.OutOfMemory
+SaysNoMemory (errors.Code e) = e ≡ code.OutOfMemory
+SaysNoMemory (errors.Missing n) = ⊥
+SaysNoMemory (errors.Digest i) = ⊥
 
 -- a list has exactly the numbers n below `count` of blocks that are not lost, where block n has the index `first` + n
 pub record ListsLeft (first count : ℕ) (lost numbers : List ℕ) : Type 0 where

@@ -3,7 +3,7 @@ ghost use Rattle.std.specs.Prelude.{◌≡◌, ◌+◌, ◌<◌, ◌%◌, ◌^�
 ghost use Rattle.reed_solomon_simd.specs.Column.{shard_at};
 ghost use Rattle.reed_solomon_simd.specs.Configuration.{validation_outcome};
 ghost use Rattle.reed_solomon_simd.specs.OneCall.{default_of};
-ghost use Rattle.rs_callers.specs.Blocks.{contents, EnoughLeft, LacksMemory, ListsLeft};
+ghost use Rattle.rs_callers.specs.Blocks.{contents, EnoughLeft, SaysNoMemory, ListsLeft};
 ghost use Rattle.rs_callers.specs.Losing.{is_lost};
 
 use crate::blocks::Blocks;
@@ -41,7 +41,7 @@ pub fn round_trip_of_blocks(
     ensures memory { EnoughLeft shape (contents originals.old) (map (λ lost. lost.0) damage.now)
         → validation_outcome
         (default_of shape.original_count shape.recovery_count shape.block_bytes) ≡ Ok tt
-        → IfErr result LacksMemory }
+        → IfErr result SaysNoMemory }
 {
     let (k, r) = (shape.original_count, shape.recovery_count);
     let Some(count) = k.checked_add(r) else {
@@ -73,7 +73,7 @@ pub fn round_trip_of_blocks(
     Ok(back)
 }
 
-// Puts other bytes in the place of blocks. Fails if memory cannot be allocated.
+// Replaces the bytes of blocks. Fails if memory cannot be allocated.
 fn damage_blocks(stored: &mut Blocks, damage: &[Damage]) -> Result<(), AllocError>
     ensures number { length stored.new.blocks.items ≡ length stored.old.blocks.items }
     ensures left { (i : ℕ) → is_lost (map (λ lost. lost.0) damage.now) i ≡ false

@@ -45,6 +45,8 @@ fn answer(alloc: Global, words: &[String]) -> Result<Lines, Fault>
 ///   `err` does not change the status.
 /// - Status 2: the words are not a valid command line. `usage` was written to `err`, and nothing to `out`.
 ///
+/// If a write to a stream has failed before the call, nothing is stated of what is written to it.
+///
 /// The command, the engine and the counts are read before anything is allocated. If one of them is wrong, the status is
 /// always 2.
 pub fn run<O: Write, X: Write>(

@@ -44,9 +44,10 @@ impl<W: Write> Stream<W> {
         self.has_failed
     }
 
-    /// Writes a first part of these bytes, and returns its length. Returns 0 if the write fails: if the writer returns an
-    /// error or takes none of the bytes. An interrupted write is repeated.
+    /// Writes a first part of these bytes, of which there is at least one, and returns its length. Returns 0 if the write
+    /// fails: if the writer returns an error or takes none of the bytes. An interrupted write is repeated.
     pub(crate) fn write_some(&mut self, bytes: &[u8]) -> usize
+        requires { 0 < length bytes.now }
         ensures within { result ≤ length bytes.now }
         ensures written { Appends (W.contents self.old.writer) (W.contents self.new.writer)
             (take result bytes.now) }

@@ -76,7 +76,7 @@ pub fn is_one_of<R: Files>(rt: &R, path: &str, identities: &[Identity]) -> bool 
     }
 }
 
-/// Returns the error for another file in the place of the one that was found or made.
+/// Returns the error for a file that has replaced the one that was found or made.
 pub fn replaced() -> io::Error {
     io::Error::new(ErrorKind::InvalidInput, "another file was put in its place")
 }

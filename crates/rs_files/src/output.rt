@@ -209,7 +209,7 @@ impl<R: Files> Part<R> {
     ///
     /// In this order, fails if:
     ///
-    /// - another file is in the place of this one,
+    /// - another file has replaced this one,
     /// - the file cannot be renamed,
     /// - another file has the final name afterwards.
     pub fn rename(&self, rt: &R, alloc: Global) -> Result<()> {

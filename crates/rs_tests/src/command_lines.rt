@@ -269,12 +269,12 @@ fn naive_prints_shards(rt: HostRuntime) {
 }
 
 #[test]
-fn naive_tells_errors_of_encode_in_order(rt: HostRuntime) {
+fn naive_returns_errors_of_encode_in_order(rt: HostRuntime) {
     check_errors(&rt, rt.alloc(), "naive", &NOT_ENCODED);
 }
 
 #[test]
-fn naive_tells_errors_of_decode_in_order(rt: HostRuntime) {
+fn naive_returns_errors_of_decode_in_order(rt: HostRuntime) {
     check_errors(&rt, rt.alloc(), "naive", &NOT_DECODED);
 }
 
@@ -284,12 +284,12 @@ fn nosimd_prints_shards(rt: HostRuntime) {
 }
 
 #[test]
-fn nosimd_tells_errors_of_encode_in_order(rt: HostRuntime) {
+fn nosimd_returns_errors_of_encode_in_order(rt: HostRuntime) {
     check_errors(&rt, rt.alloc(), "nosimd", &NOT_ENCODED);
 }
 
 #[test]
-fn nosimd_tells_errors_of_decode_in_order(rt: HostRuntime) {
+fn nosimd_returns_errors_of_decode_in_order(rt: HostRuntime) {
     check_errors(&rt, rt.alloc(), "nosimd", &NOT_DECODED);
 }
 
@@ -299,12 +299,12 @@ fn avx2_prints_shards(rt: HostRuntime) {
 }
 
 #[test]
-fn avx2_tells_errors_of_encode_in_order(rt: HostRuntime) {
+fn avx2_returns_errors_of_encode_in_order(rt: HostRuntime) {
     check_errors(&rt, rt.alloc(), "avx2", &NOT_ENCODED);
 }
 
 #[test]
-fn avx2_tells_errors_of_decode_in_order(rt: HostRuntime) {
+fn avx2_returns_errors_of_decode_in_order(rt: HostRuntime) {
     check_errors(&rt, rt.alloc(), "avx2", &NOT_DECODED);
 }
 
@@ -314,12 +314,12 @@ fn ssse3_prints_shards(rt: HostRuntime) {
 }
 
 #[test]
-fn ssse3_tells_errors_of_encode_in_order(rt: HostRuntime) {
+fn ssse3_returns_errors_of_encode_in_order(rt: HostRuntime) {
     check_errors(&rt, rt.alloc(), "ssse3", &NOT_ENCODED);
 }
 
 #[test]
-fn ssse3_tells_errors_of_decode_in_order(rt: HostRuntime) {
+fn ssse3_returns_errors_of_decode_in_order(rt: HostRuntime) {
     check_errors(&rt, rt.alloc(), "ssse3", &NOT_DECODED);
 }
 

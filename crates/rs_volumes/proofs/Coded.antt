@@ -24,11 +24,6 @@ coded_sized n {k = k} {r = r} {pieces = pieces} {made = made} coded sized =
     let size : coded.size ≡ n = sym (coded.shards.each 0 [] first).length_is ∙ sized 0 [] first in
     (rw size at coded.shards, rw size at coded.coded)
 
--- the counts of what one call codes are small
-pub coded_counts : {k r : ℕ} {pieces made : List Shard} → AreCoded k r pieces made → k + r ≤ 131072
-coded_counts {k = k} {r = r} coded =
-    let few = (default_fits k r (valid-supported (default_of k r coded.size) coded.valid)).2 in omega (arith, few)
-
 -- a call that writes the pieces of the blocks from `first` on
 pub record Puts (first start : ℕ) (pieces : List Shard) (before after : Shards) : Type 0 where
   pub put : (i : ℕ) (block : Shard) → i < length pieces → before (first + i) ≡ Some block → start ≡ length block

@@ -33,7 +33,10 @@ impl fmt::Display for CodingError {
                 write!(f, "block {index} cannot be written: {error}")
             }
             CodingError::Code(error) => write!(f, "{error}"),
-            CodingError::Missing(number) => write!(f, "recovery block {number} is missing"),
+            CodingError::Missing(number) => write!(
+                f,
+                "the index of recovery block {number} is too large"
+            ),
             CodingError::Digest(index) => write!(
                 f,
                 "block {index} does not have its digest: a file changed while it was read"
