@@ -139,6 +139,17 @@ static uint32_t reconstruct(void) {
     return answer == fault.number ? answer : 99;
 }
 
+/* No original is lost, one recovery shard is, and the other one is a surplus. */
+static uint32_t reconstruct_surplus(void) {
+    struct rs_shard own[3] = {{0, originals, size}, {1, originals + size, size}, {2, originals + 2 * size, size}};
+    struct rs_shard other = {1, recovery + size, size};
+    struct rs_wanted wanted = {RS_RECOVERY, 0};
+    struct rs_room to = {recovery, size};
+    struct rs_fault fault;
+    uint32_t answer = rs_reconstruct(tables, 3, 2, own, 3, &other, 1, &wanted, 1, &to, 1, &fault);
+    return answer == fault.number ? answer : 99;
+}
+
 /* Original 1 changes to another one and, in the next call, back. */
 static uint32_t update(void) {
     static const uint8_t other[LONGEST] = {1, 2, 3};
@@ -349,6 +360,7 @@ static void messages(void) {
         for (size_t n = 0; n < 3 * size; n++)
             if (originals[n] != 7) wrong("not what was encoded");
         originals[2 * size - 1] ^= 1;
+        if (!anywhere) inconsistent("rs_reconstruct", reconstruct_surplus, recovery, sizeof recovery, LIST + 1);
         inconsistent(anywhere ? "rs_decode_shards" : "rs_decode", anywhere ? decode_shards_surplus : decode_surplus, originals,
                      sizeof originals, LIST + 1);
         originals[2 * size - 1] ^= 1;

@@ -13,6 +13,7 @@ mod kept;
 mod level;
 mod levels;
 mod message;
+mod missing;
 mod one_call;
 mod plain;
 mod rated;

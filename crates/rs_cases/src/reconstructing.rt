@@ -1,25 +1,12 @@
 //! Decodes with `reconstruct`, which is asked for the missing originals.
 use crate::cases::{Configuration, Shard};
-use crate::rooms::{by_index, missing_indexes};
+use crate::missing::{by_index, missing_indexes, names_of};
 use crate::slices::lent_items;
 use crate::watch::Watch;
 use reed_solomon_simd::engine::DefaultEngine;
-use reed_solomon_simd::{Error, ReconstructError, ShardIndex, reconstruct};
-use std::alloc::{AllocError, Global};
+use reed_solomon_simd::{Error, ReconstructError, reconstruct};
+use std::alloc::Global;
 use std::collections::BTreeMap;
-
-/// Returns the names of originals.
-///
-/// # Errors
-///
-/// [`AllocError`] if memory cannot be allocated.
-pub fn names_of(alloc: Global, indexes: &[usize]) -> Result<Vec<ShardIndex>, AllocError> {
-    let mut names = Vec::new(alloc);
-    for index in indexes {
-        names.push(ShardIndex::Original(*index))?;
-    }
-    Ok(names)
-}
 
 /// Reconstructs the missing originals with `reconstruct`. Clears `agrees` if the call did not accept their names.
 ///

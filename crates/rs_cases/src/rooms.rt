@@ -1,6 +1,6 @@
 //! The one-call functions that write into rooms, which are memory of the caller.
 use crate::cases::{Configuration, Shard};
-use crate::reconstructing::names_of;
+use crate::missing::{by_index, missing_indexes, names_of};
 use crate::slices::{lent, lent_items};
 use crate::watch::Watch;
 use reed_solomon_simd::engine::DefaultEngine;
@@ -114,46 +114,6 @@ fn encode_in(
     encode_into(alloc, k, r, originals, &mut lent_rooms, engine)
 }
 
-// Returns a mark for each original, which is true if the original was received.
-fn received_marks(
-    alloc: Global,
-    count: usize,
-    received: &[(usize, &[u8])],
-) -> Result<Vec<bool>, AllocError> {
-    let mut marks = vec![in alloc; false; count.min(MOST_ROOMS)]?;
-    for (index, _) in received {
-        if let Some(mark) = marks.get_mut(*index) {
-            *mark = true;
-        }
-    }
-    Ok(marks)
-}
-
-// Returns the indexes of the marks that are false, in order.
-fn indexes_without_mark(alloc: Global, marks: &[bool]) -> Result<Vec<usize>, AllocError> {
-    let mut indexes = Vec::new(alloc);
-    for (index, mark) in marks.iter().enumerate() {
-        if !*mark {
-            indexes.push(index)?;
-        }
-    }
-    Ok(indexes)
-}
-
-/// Returns the indexes of the originals that were not received, in order.
-///
-/// # Errors
-///
-/// [`AllocError`] if memory cannot be allocated.
-pub fn missing_indexes(
-    alloc: Global,
-    count: usize,
-    received: &[(usize, &[u8])],
-) -> Result<Vec<usize>, AllocError> {
-    let marks = received_marks(alloc, count, received)?;
-    indexes_without_mark(alloc, &marks)
-}
-
 /// Decodes received shards with `decode_into`, and returns the rooms by the indexes of the missing originals. Clears
 /// `agrees` if the call did not accept the rooms, or failed and changed them.
 ///
@@ -189,23 +149,6 @@ fn decode_in(
     let mut lent_rooms = lend(alloc, rooms)?;
     let _watch = Watch::new(alloc);
     decode_into(alloc, k, r, originals, recoveries, &mut lent_rooms, engine)
-}
-
-/// Returns rooms by their indexes.
-///
-/// # Errors
-///
-/// [`AllocError`] if memory cannot be allocated.
-pub fn by_index(
-    alloc: Global,
-    indexes: &[usize],
-    rooms: Vec<Vec<u8>>,
-) -> Result<BTreeMap<usize, Vec<u8>>, AllocError> {
-    let mut restored = BTreeMap::new(alloc);
-    for (index, room) in indexes.iter().zip(rooms) {
-        restored.insert(*index, room)?;
-    }
-    Ok(restored)
 }
 
 /// Reconstructs the missing originals with `reconstruct_into`, and returns the rooms by their indexes. Clears `agrees` if
