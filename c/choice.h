@@ -2,8 +2,8 @@
 
    A library for x86-64 holds three builds: for x86-64, for x86-64-v2 and for x86-64-v3. c/build gives the calls of each build names of
    their own, for example rs_encode_v3. A library for arm64 holds one build, rs_encode_v1. This file is compiled for the oldest processor. */
+#pragma once
 #include "reed_solomon_simd.h"
-
 #include <stdatomic.h>
 
 /* The proved calls of a build: X(call, level) for each. They have the types of the calls of the header. */
@@ -29,11 +29,6 @@ static const struct build builds[] = {{PROVED(NAMED, v1)}, {PROVED(NAMED, v2)}, 
 /* What cpuid and xgetbv say of the processor and the system: registers of cpuid 1, 7 and 0x80000001, and the register XCR0. */
 struct processor { unsigned ecx1, ebx7, extended_ecx, states; };
 
-/* The lower and the higher half of the register XCR0. A test defines this macro, to say that the system keeps other registers. */
-#ifndef RS_STATES
-#define RS_STATES(low, high) __asm__("xgetbv" : "=a"(low), "=d"(high) : "c"(0))
-#endif
-
 /* Every processor of x86-64 has cpuid 1 and 0x80000001, and some have no cpuid 7. */
 static struct processor asked(void) {
     struct processor told = {0, 0, 0, 0};
@@ -41,7 +36,7 @@ static struct processor asked(void) {
     __cpuid(1, a, b, told.ecx1, d);
     __cpuid(0x80000001, a, b, told.extended_ecx, d);
     if (__get_cpuid_count(7, 0, &a, &b, &c, &d)) told.ebx7 = b;
-    if (told.ecx1 & bit_OSXSAVE) RS_STATES(told.states, d);
+    if (told.ecx1 & bit_OSXSAVE) __asm__("xgetbv" : "=a"(told.states), "=d"(d) : "c"(0));
     return told;
 }
 

@@ -1,9 +1,14 @@
 /* The layer by itself, over calls that only record what they get: the choice of a build, and what becomes of NULL. This file includes the
    layer, so that it also sees functions which the library doesn't export. */
 
-/* The registers that the system keeps, as the layer reads them. */
+/* The registers that the system keeps. The layer reads them by the only instruction of its own, and gets these. */
 static unsigned kept_states = 7;
-#define RS_STATES(low, high) ((low) = kept_states, (high) = 0)
+#ifdef __x86_64__
+#include <cpuid.h>
+#define __asm__(...) (told.states = kept_states, d = 0)
+#include "../choice.h"
+#undef __asm__
+#endif
 #include "../layer.c"
 
 FROM_THE_START _Thread_local struct lent rs_lent;
