@@ -292,16 +292,26 @@ static void bounded(void) {
     free(restored);
 }
 
+/* Returns a copy of bytes that a call can write to. The caller frees it. */
+static uint8_t *copy_of(const void *bytes, size_t length) {
+    uint8_t *copy = malloc(length);
+    if (!copy) wrong("no memory for the test");
+    return memcpy(copy, bytes, length);
+}
+
+/* Makes a call whose requests for memory are counted, and checks that it gives all memory back. */
+static uint32_t counted(uint32_t (*call)(void)) {
+    requests = 0;
+    uint32_t answer = call();
+    if (blocks) wrong("memory is kept");
+    return answer;
+}
+
 /* Makes a call, and refuses each of its requests for memory in turn. */
 static void each(const char *name, uint32_t (*call)(void), void *written, size_t length, long number) {
-    uint8_t *before = malloc(length);
-    if (!before) wrong("no memory for the test");
-    memcpy(before, written, length);
+    uint8_t *before = copy_of(written, length);
     for (refused = 1;; refused++) {
-        uint32_t answer;
-        requests = 0;
-        answer = call();
-        if (blocks) wrong("memory is kept");
+        uint32_t answer = counted(call);
         if (requests < refused) {
             if (answer) wrong("a call with memory is refused");
             if (requests != number) wrong("a call makes another number of requests");
@@ -318,15 +328,10 @@ static void each(const char *name, uint32_t (*call)(void), void *written, size_t
 /* Makes a call over inconsistent shards, and refuses each of its requests for memory in turn. The call checks the shards before it
  * fails because one of the `results` requests for results is refused. */
 static void inconsistent(const char *name, uint32_t (*call)(void), void *written, size_t length, long results) {
-    uint8_t *before = malloc(length);
+    uint8_t *before = copy_of(written, length);
     long found = 0;
-    if (!before) wrong("no memory for the test");
-    memcpy(before, written, length);
     for (refused = 1;; refused++) {
-        uint32_t answer;
-        requests = 0;
-        answer = call();
-        if (blocks) wrong("memory is kept");
+        uint32_t answer = counted(call);
         if (memcmp(before, written, length)) wrong("a call over inconsistent shards has written");
         if (requests < refused) {
             if (answer != RS_INCONSISTENT_SHARDS) wrong("inconsistent shards are not noticed");
