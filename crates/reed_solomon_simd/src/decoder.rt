@@ -16,13 +16,13 @@ use crate::{DecoderResult, Error};
 use rs_rate::rate::rounds::{decode_round, lent_originals};
 use std::alloc::Global;
 
-/// A decoder of the default rate, over an engine that is chosen by name. It decodes any number of messages with the same
-/// memory.
+/// A decoder of the default rate, over an engine that is chosen by name. It decodes any number of messages with the
+/// same memory.
 ///
-/// A round is: add shards by their index, in any order, until at least `original_count` are there; then call `decode`, which
-/// lends the missing originals. Originals are numbered from 0 in the order in which they were encoded, and recovery shards
-/// are numbered from 0 on their own. A call that fails changes nothing, except for [`Error::InconsistentShards`], which ends
-/// the round. Only `new` and `reset` allocate.
+/// A round is: add shards by their index, in any order, until at least `original_count` are there; then call `decode`,
+/// which lends the missing originals. Originals are numbered from 0 in the order in which they were encoded, and
+/// recovery shards are numbered from 0 on their own. A call that fails changes nothing, except for
+/// [`Error::InconsistentShards`], which ends the round. Only `new` and `reset` allocate.
 ///
 /// A plain decoder is a [`DefaultRateDecoder`](crate::rate::DefaultRateDecoder) with a count of steps of its own.
 ///
@@ -54,8 +54,9 @@ impl<'t> ReedSolomonDecoder<'t> {
 
     /// Returns whether `original_count` originals with `recovery_count` recovery shards are supported.
     ///
-    /// Both counts must be at least 1, and min(p(k), p(r)) + max(k, r) must be at most 65536. Here k is `original_count`, r is
-    /// `recovery_count`, and p(n) is the least power of two that is not below n. All counts from 1 to 32768 meet this.
+    /// Both counts must be at least 1, and min(p(k), p(r)) + max(k, r) must be at most 65536. Here k is
+    /// `original_count`, r is `recovery_count`, and p(n) is the least power of two that is not below n. All counts from
+    /// 1 to 32768 meet this.
     ///
     /// # Examples
     ///
@@ -70,8 +71,8 @@ impl<'t> ReedSolomonDecoder<'t> {
         DefaultRateDecoder::<DefaultEngine<'t>>::supports(original_count, recovery_count)
     }
 
-    /// Makes a decoder for `original_count` originals, `recovery_count` recovery shards and shards of `shard_bytes` bytes, with
-    /// nothing added.
+    /// Makes a decoder for `original_count` originals, `recovery_count` recovery shards and shards of `shard_bytes`
+    /// bytes, with nothing added.
     ///
     /// # Errors
     ///
@@ -125,9 +126,10 @@ impl<'t> ReedSolomonDecoder<'t> {
     ///
     /// # Errors
     ///
-    /// The errors of [`new`](Self::new), in the same order. After an error the configuration and the added shards are what they
-    /// were. `reset` never fails with [`Error::OutOfMemory`] if the decoder already holds enough memory. That is the case if
-    /// the counts are unchanged and the shard size is not larger, or if the decoder has been this large before.
+    /// The errors of [`new`](Self::new), in the same order. After an error the configuration and the added shards are
+    /// what they were. `reset` never fails with [`Error::OutOfMemory`] if the decoder already holds enough memory. That
+    /// is the case if the counts are unchanged and the shard size is not larger, or if the decoder has been this large
+    /// before.
     ///
     /// # Examples
     ///
@@ -234,15 +236,16 @@ impl<'t> ReedSolomonDecoder<'t> {
         self.decoder.add_recovery_shard(index, recovery_shard)
     }
 
-    /// Restores the originals that were not added, lends them, and ends the round: the decoder then has the same configuration
-    /// with nothing added, whether the result is dropped or forgotten.
+    /// Restores the originals that were not added, lends them, and ends the round: the decoder then has the same
+    /// configuration with nothing added, whether the result is dropped or forgotten.
     ///
     /// The restored originals are those of the only message that agrees with all added shards. If all originals were
     /// added, the result is empty. The method is the decoding of Lin, Chung and Han, in the form of Leopard-RS.
     ///
     /// # Errors
     ///
-    /// - [`Error::NotEnoughShards`] if fewer than `original_count` shards were added. The decoder then keeps what was added.
+    /// - [`Error::NotEnoughShards`] if fewer than `original_count` shards were added. The decoder then keeps what was
+    ///   added.
     /// - [`Error::InconsistentShards`] if more than `original_count` shards were added and no message agrees with them
     ///   all. This error ends the round.
     ///

@@ -19,9 +19,9 @@ use std::alloc::Global;
 /// An encoder of the default rate, over an engine that is chosen by name. It codes any number of messages with the same
 /// memory.
 ///
-/// A round is: add `original_count` originals in order, then call `encode`, which lends the recovery shards. The index of
-/// an original is its place in the order of adding, counted from 0. A call that fails changes nothing. Only `new` and
-/// `reset` allocate.
+/// A round is: add `original_count` originals in order, then call `encode`, which lends the recovery shards. The index
+/// of an original is its place in the order of adding, counted from 0. A call that fails changes nothing. Only `new`
+/// and `reset` allocate.
 ///
 /// A plain encoder is a [`DefaultRateEncoder`](crate::rate::DefaultRateEncoder) with a count of steps of its own.
 ///
@@ -50,8 +50,9 @@ impl<'t> ReedSolomonEncoder<'t> {
 
     /// Returns whether `original_count` originals with `recovery_count` recovery shards are supported.
     ///
-    /// Both counts must be at least 1, and min(p(k), p(r)) + max(k, r) must be at most 65536. Here k is `original_count`, r is
-    /// `recovery_count`, and p(n) is the least power of two that is not below n. All counts from 1 to 32768 meet this.
+    /// Both counts must be at least 1, and min(p(k), p(r)) + max(k, r) must be at most 65536. Here k is
+    /// `original_count`, r is `recovery_count`, and p(n) is the least power of two that is not below n. All counts from
+    /// 1 to 32768 meet this.
     ///
     /// # Examples
     ///
@@ -66,8 +67,8 @@ impl<'t> ReedSolomonEncoder<'t> {
         DefaultRateEncoder::<DefaultEngine<'t>>::supports(original_count, recovery_count)
     }
 
-    /// Makes an encoder for `original_count` originals, `recovery_count` recovery shards and shards of `shard_bytes` bytes,
-    /// with nothing added.
+    /// Makes an encoder for `original_count` originals, `recovery_count` recovery shards and shards of `shard_bytes`
+    /// bytes, with nothing added.
     ///
     /// # Errors
     ///
@@ -120,9 +121,10 @@ impl<'t> ReedSolomonEncoder<'t> {
     ///
     /// # Errors
     ///
-    /// The errors of [`new`](Self::new), in the same order. After an error the configuration and the added shards are what they
-    /// were. `reset` never fails with [`Error::OutOfMemory`] if the encoder already holds enough memory. That is the case if
-    /// the counts are unchanged and the shard size is not larger, or if the encoder has been this large before.
+    /// The errors of [`new`](Self::new), in the same order. After an error the configuration and the added shards are
+    /// what they were. `reset` never fails with [`Error::OutOfMemory`] if the encoder already holds enough memory. That
+    /// is the case if the counts are unchanged and the shard size is not larger, or if the encoder has been this large
+    /// before.
     ///
     /// # Examples
     ///
@@ -191,8 +193,9 @@ impl<'t> ReedSolomonEncoder<'t> {
         self.encoder.add_original_shard(original_shard)
     }
 
-    /// Computes the recovery shards of the added originals, lends them, and ends the round: the encoder then has the same
-    /// configuration with nothing added, whether the result is dropped or forgotten. Recovery shards are numbered from 0.
+    /// Computes the recovery shards of the added originals, lends them, and ends the round: the encoder then has the
+    /// same configuration with nothing added, whether the result is dropped or forgotten. Recovery shards are numbered
+    /// from 0.
     ///
     /// The method is the transform of Lin, Chung and Han, in the form of Leopard-RS.
     ///

@@ -34,8 +34,8 @@ use std::alloc::Global;
 /// - [`RoomError::WrongLength`] for the first item that does not have the size of the originals.
 /// - [`Error::OutOfMemory`] as [`RoomError::Refused`] if the work area cannot be allocated.
 ///
-/// The order is proved, except for the last line: the contract allows [`Error::OutOfMemory`] at any place after the check
-/// of the size of the first original.
+/// The order is proved, except for the last line: the contract allows [`Error::OutOfMemory`] at any place after the
+/// check of the size of the first original.
 ///
 /// # Examples
 ///
@@ -100,17 +100,17 @@ fn encode_lent<E: Engine>(
 ///
 /// `original` and `recovery` hold the received shards with their indexes. The index of an original is its place in the
 /// order in which the originals were added to the encoder, counted from 0. Recovery shards have indexes of their own,
-/// which also begin at 0. `restored` has a room for each missing original: memory that the original is written into. All
-/// shards and rooms have the size of the first recovery shard.
+/// which also begin at 0. `restored` has a room for each missing original: memory that the original is written into.
+/// All shards and rooms have the size of the first recovery shard.
 ///
-/// The call allocates two lists of references to shards. If few originals are missing, it sums received shards, and also
-/// allocates short lists of rows and logarithms. Otherwise it allocates a work area for at most 2048 bytes of each shard.
-/// If there are more shards than originals, it also allocates memory for the missing originals, because a later strip
-/// may show that no message agrees with all shards. It does so too if the rooms do not fit. After an error the rooms hold
-/// what they held before the call.
+/// The call allocates two lists of references to shards. If few originals are missing, it sums received shards, and
+/// also allocates short lists of rows and logarithms. Otherwise it allocates a work area for at most 2048 bytes of each
+/// shard. If there are more shards than originals, it also allocates memory for the missing originals, because a later
+/// strip may show that no message agrees with all shards. It does so too if the rooms do not fit. After an error the
+/// rooms hold what they held before the call.
 ///
-/// If there is no recovery shard, nothing can be restored. Then the call checks only the indexes of the originals, and no
-/// size.
+/// If there is no recovery shard, nothing can be restored. Then the call checks only the indexes of the originals, and
+/// no size.
 ///
 /// # Errors
 ///

@@ -72,8 +72,8 @@ impl<'a> LentOriginals<'a> {
         })
     }
 
-    /// Gathers all `original` shards for these counts, and makes an encoder for their strips. The shard size is that of the
-    /// first original.
+    /// Gathers all `original` shards for these counts, and makes an encoder for their strips. The shard size is that of
+    /// the first original.
     ///
     /// # Errors
     ///

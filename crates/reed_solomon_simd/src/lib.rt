@@ -41,7 +41,7 @@ pub mod verifying;
 mod wanted_shards;
 
 /// The version of this library.
-pub const VERSION: &str = "1.3";
+pub const VERSION: &str = "1.4";
 
 pub use completing::complete;
 pub use decoder::ReedSolomonDecoder;
@@ -73,7 +73,8 @@ pub use room_error::RoomError;
 /// An error is printed as a text. Here a program writes it to its error output:
 ///
 /// ```
-/// // If refusal is Error::NotEnoughShards { original_count: 3, original_received_count: 1, recovery_received_count: 1 },
+/// // If refusal is
+/// // Error::NotEnoughShards { original_count: 3, original_received_count: 1, recovery_received_count: 1 },
 /// // the text is "not enough shards: 1 original + 1 recovery < 3 original_count\n".
 /// match format!(in alloc; "{refusal}\n") {
 ///     Ok(text) => write_text(err, text.as_str()),
@@ -183,8 +184,8 @@ pub mod engine {
     ///
     /// # Examples
     ///
-    /// This computes the locator of point 0 at the points 0 to 3. At point 0 it is 0, and at each other point x it is the
-    /// logarithm of x. The logarithm of 1 is 0 modulo 65535:
+    /// This computes the locator of point 0 at the points 0 to 3. At point 0 it is 0, and at each other point x it is
+    /// the logarithm of x. The logarithm of 1 is 0 modulo 65535:
     ///
     /// ```
     /// // log[2] is 21845, and log[3] is 43690.
@@ -242,7 +243,8 @@ pub mod engine {
         ///
         /// # Examples
         ///
-        /// The power 0 of the generator is 1, and so is its power 65535. The logarithm of 1 is 0, and the entry for 0 is 65535:
+        /// The power 0 of the generator is 1, and so is its power 65535. The logarithm of 1 is 0, and the entry for 0
+        /// is 65535:
         ///
         /// ```
         /// let t = get_exp_log(tables);
@@ -298,8 +300,8 @@ pub mod engine {
         ///
         /// # Examples
         ///
-        /// `eval_poly` computes the locator of points below 65536, at all 65536 points. The locator of point 0 at a point x
-        /// other than 0 is the logarithm of x:
+        /// `eval_poly` computes the locator of points below 65536, at all 65536 points. The locator of point 0 at a
+        /// point x other than 0 is the logarithm of x:
         ///
         /// ```
         /// // The logarithms of 2 and 3 are 21845 and 43690.
@@ -402,8 +404,8 @@ pub mod rate {
     ///
     /// # Examples
     ///
-    /// The memory of a decoder is passed to another decoder of the same rate, for the same counts and the same size. This never
-    /// fails:
+    /// The memory of a decoder is passed to another decoder of the same rate, for the same counts and the same size.
+    /// This never fails:
     ///
     /// ```
     /// let (engine, work) = decoder.into_parts();

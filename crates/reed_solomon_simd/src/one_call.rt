@@ -19,8 +19,9 @@ use std::collections::BTreeMap;
 
 /// Encodes the originals and returns the recovery shards, in order of their index.
 ///
-/// `original` yields the originals in order; the first one has index 0. All have the size of the first original, an even
-/// number of bytes above zero. After an error, and after the end of the iterator, `encode` does not call `next` again.
+/// `original` yields the originals in order; the first one has index 0. All have the size of the first original, an
+/// even number of bytes above zero. After an error, and after the end of the iterator, `encode` does not call `next`
+/// again.
 ///
 /// # Errors
 ///
@@ -73,12 +74,12 @@ pub fn encode<'a, I: Iterator<Item = &'a [u8]> + Drop>(
 /// Decodes the received shards and returns the missing originals, by their index.
 ///
 /// `original` and `recovery` yield the received shards with their indexes. The index of an original is its place in the
-/// order in which the originals were added to the encoder, counted from 0. Recovery shards have indexes of their own, which
-/// also begin at 0. All shards have the size of the first recovery shard. After an error, `decode` calls neither iterator
-/// again.
+/// order in which the originals were added to the encoder, counted from 0. Recovery shards have indexes of their own,
+/// which also begin at 0. All shards have the size of the first recovery shard. After an error, `decode` calls neither
+/// iterator again.
 ///
-/// If `recovery` yields no shard, nothing can be restored. Then `decode` checks only the indexes of the originals, and no
-/// size.
+/// If `recovery` yields no shard, nothing can be restored. Then `decode` checks only the indexes of the originals, and
+/// no size.
 ///
 /// # Errors
 ///
@@ -86,8 +87,8 @@ pub fn encode<'a, I: Iterator<Item = &'a [u8]> + Drop>(
 ///
 /// - [`Error::UnsupportedShardCount`] if the counts are not [supported](crate::ReedSolomonDecoder::supports).
 /// - [`Error::InvalidShardSize`] if the size of the first recovery shard is zero or odd.
-/// - [`Error::OutOfMemory`] if the rows for the whole shards would take more than `usize::MAX` bytes, or if the lists of
-///   references cannot be allocated.
+/// - [`Error::OutOfMemory`] if the rows for the whole shards would take more than `usize::MAX` bytes, or if the lists
+///   of references cannot be allocated.
 /// - For each original in order: [`Error::InvalidOriginalShardIndex`], [`Error::DuplicateOriginalShardIndex`],
 ///   [`Error::DifferentShardSize`].
 /// - For each recovery shard in order: [`Error::InvalidRecoveryShardIndex`], [`Error::DuplicateRecoveryShardIndex`],

@@ -30,7 +30,8 @@ pub trait Pieces {
     fn shard_bytes(&self) -> usize
         ensures { result ≡ (received self.now).configuration.shard_bytes };
 
-    /// Returns the bytes of an original from byte `start` up to, but not including, byte `end`, or `None` if it is missing.
+    /// Returns the bytes of an original from byte `start` up to, but not including, byte `end`, or `None` if it is
+    /// missing.
     fn original_piece(&self, index: usize, start: usize, end: usize) -> Option<&[u8]>
         requires set_up { IsDecoder default_rate (received self.now) }
         requires index { index < (received self.now).configuration.original_count }
@@ -38,7 +39,8 @@ pub trait Pieces {
         requires inside { end ≤ (received self.now).configuration.shard_bytes }
         ensures { option_copied result ≡ pieces_of start end (received self.now).originals index };
 
-    /// Returns the bytes of a recovery shard from byte `start` up to, but not including, byte `end`, or `None` if it is missing.
+    /// Returns the bytes of a recovery shard from byte `start` up to, but not including, byte `end`, or `None` if it is
+    /// missing.
     fn recovery_piece(&self, index: usize, start: usize, end: usize) -> Option<&[u8]>
         requires set_up { IsDecoder default_rate (received self.now) }
         requires index { index < (received self.now).configuration.recovery_count }

@@ -33,9 +33,9 @@ use std::alloc::Global;
 /// recovery shard. A shard that was received cannot be wanted.
 ///
 /// The call works strip by strip, with at most 2048 bytes of each shard at a time. If few shards are wanted, it sums
-/// received shards, each times a factor. Otherwise it decodes each strip, and if a recovery shard is wanted, it also encodes
-/// the originals of the strip. It allocates two lists of references to shards, three lists of marks, the vectors, and the
-/// factors' logarithms or work areas for a strip of each shard.
+/// received shards, each times a factor. Otherwise it decodes each strip, and if a recovery shard is wanted, it also
+/// encodes the originals of the strip. It allocates two lists of references to shards, three lists of marks, the
+/// vectors, and the factors' logarithms or work areas for a strip of each shard.
 ///
 /// # Errors
 ///
@@ -174,8 +174,8 @@ pub fn reconstruct_received<E: Engine + Copy>(
 }
 
 // Writes the wanted shards into rooms of their size, in order. As many shards as originals were received, so there is a
-// message that agrees with them all. Fails with `OutOfMemory` if the work areas cannot be allocated. The rooms then hold
-// what they held.
+// message that agrees with them all. Fails with `OutOfMemory` if the work areas cannot be allocated. The rooms then
+// hold what they held.
 fn rebuild_lent<E: Engine + Copy, P: Pieces>(
     alloc: Global,
     engine: E,
@@ -203,8 +203,8 @@ fn rebuild_lent<E: Engine + Copy, P: Pieces>(
     rebuild_strips(alloc, engine, received, wanted, &mut lent)
 }
 
-// Returns the wanted shards as vectors, in order. `surplus` is the number of received shards beyond the number of originals.
-// Fails with `InconsistentShards` if no message agrees with all received shards, and with `OutOfMemory`.
+// Returns the wanted shards as vectors, in order. `surplus` is the number of received shards beyond the number of
+// originals. Fails with `InconsistentShards` if no message agrees with all received shards, and with `OutOfMemory`.
 fn rebuild_vectors<E: Engine + Copy>(
     alloc: Global,
     engine: E,

@@ -25,8 +25,8 @@ use rs_field::error::Error;
 use std::alloc::Global;
 use std::collections::BTreeMap;
 
-/// Returns the missing originals as vectors, in order of index. `missing` is their number, and `surplus` is the number of
-/// received shards beyond the number of originals.
+/// Returns the missing originals as vectors, in order of index. `missing` is their number, and `surplus` is the number
+/// of received shards beyond the number of originals.
 ///
 /// # Errors
 ///
@@ -57,9 +57,9 @@ pub fn restore_vectors<E: Engine, P: Pieces>(
     Ok(vectors)
 }
 
-// Writes the missing originals into rooms that share no memory with the received shards, in order of index: few of them by
-// direct sums, and more by decodes of strips. Fails with `OutOfMemory`, and with `InconsistentShards` if no message agrees
-// with all received shards.
+// Writes the missing originals into rooms that share no memory with the received shards, in order of index: few of them
+// by direct sums, and more by decodes of strips. Fails with `OutOfMemory`, and with `InconsistentShards` if no message
+// agrees with all received shards.
 fn restore_apart<E: Engine, P: Pieces, R: Rooms>(
     alloc: Global,
     engine: E,

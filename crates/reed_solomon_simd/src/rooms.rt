@@ -9,7 +9,8 @@ use rs_field::error::Error;
 
 /// Rooms for shards: each room is memory for one shard. A shard is written strip by strip, in order.
 pub trait Rooms {
-    ghost use Rattle.std.specs.Prelude.{◌≡◌, ◌≢◌, ℕ, Bool, true, List, [], ◌++◌, ◌<◌, ◌≤◌, ◌+◌, length, take, drop, Err, OnOk, OnErr, slice_index_or};
+    ghost use Rattle.std.specs.Prelude.{◌≡◌, ◌≢◌, ℕ, Bool, true, List, [], ◌++◌, ◌<◌, ◌≤◌, ◌+◌, length, take, drop};
+    ghost use Rattle.std.specs.Prelude.{Err, OnOk, OnErr, slice_index_or};
     ghost use Rattle.rs_field.specs.code.Column.{Shard};
     ghost use Rattle.rs_field.specs.code.Pieces.{room_length};
 

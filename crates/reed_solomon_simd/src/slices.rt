@@ -9,8 +9,8 @@ use std::alloc::Global;
 use std::collections::BTreeMap;
 use std::convert::AsSlice;
 
-/// Encodes originals in a slice, as [`encode`] does, and returns the recovery shards in order of their index. Each original
-/// is a vector, an array or a slice of bytes. `original[i]` is the original with index i.
+/// Encodes originals in a slice, as [`encode`] does, and returns the recovery shards in order of their index. Each
+/// original is a vector, an array or a slice of bytes. `original[i]` is the original with index i.
 ///
 /// # Errors
 ///
@@ -41,8 +41,8 @@ pub fn encode_slice<T: AsSlice<u8>>(
     encode(alloc, original_count, recovery_count, shards, engine)
 }
 
-/// Decodes received shards in slices, as [`decode`] does, and returns the missing originals, by their index. Each item of a
-/// slice is a pair of an index and a shard, and each shard is a vector, an array or a slice of bytes.
+/// Decodes received shards in slices, as [`decode`] does, and returns the missing originals, by their index. Each item
+/// of a slice is a pair of an index and a shard, and each shard is a vector, an array or a slice of bytes.
 ///
 /// The index of an original is its place in the order in which the originals were added to the encoder, counted from 0.
 /// Recovery shards have indexes of their own, which also begin at 0.

@@ -1,5 +1,5 @@
-//! Checking strip by strip that received shards belong to one message, by decoding them. Nothing is kept of what a strip
-//! restores. The work area has room for one strip of each shard, so it stays in the cache.
+//! Checking strip by strip that received shards belong to one message, by decoding them. Nothing is kept of what a
+//! strip restores. The work area has room for one strip of each shard, so it stays in the cache.
 ghost use Rattle.std.specs.Prelude.{◌≡◌, ◌⊎◌, Ok, MatchResult};
 ghost use Rattle.rs_field.specs.code.Counts.{default_rate};
 ghost use Rattle.rs_field.specs.code.Decoder.{IsDecoder, enough_given, IsConsistent, NoneAgrees};

@@ -23,8 +23,8 @@ use rs_rate::rate::rounds::{encode_round, lent_recovery};
 use rs_rate::rate::{DefaultRateEncoder, RateEncoder};
 use std::alloc::Global;
 
-/// Checks that some message agrees with all received shards. All originals were received. `recovery_received_count` is the
-/// number of received recovery shards, and is not zero.
+/// Checks that some message agrees with all received shards. All originals were received. `recovery_received_count` is
+/// the number of received recovery shards, and is not zero.
 ///
 /// # Errors
 ///
@@ -66,8 +66,8 @@ pub fn check_by_encoding<E: Engine, P: Pieces>(
     Ok(())
 }
 
-// Encodes one strip of the originals, and returns whether this strip of each received recovery shard is what was encoded.
-// This never fails.
+// Encodes one strip of the originals, and returns whether this strip of each received recovery shard is what was
+// encoded. This never fails.
 fn agree_in_strip<E: Engine, P: Pieces>(
     encoder: &mut DefaultRateEncoder<E>,
     received: &P,

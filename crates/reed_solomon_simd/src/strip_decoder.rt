@@ -1,9 +1,10 @@
-//! Decoding strip by strip. The work area has room for one strip of each shard, so it stays in the cache. For each strip,
-//! the bytes of the received shards are copied into the work area, and the restored bytes are copied from there into the
-//! rooms.
+//! Decoding strip by strip. The work area has room for one strip of each shard, so it stays in the cache. For each
+//! strip, the bytes of the received shards are copied into the work area, and the restored bytes are copied from there
+//! into the rooms.
 ghost use Rattle.std.specs.Prelude.{◌≡◌, ◌⊎◌, ◌-◌, ◌+◌, ◌≤◌, ℕ, All, true, false, length, Ok, OnOk, IfOk, IfErr};
 ghost use Rattle.rs_field.specs.code.Counts.{default_rate};
-ghost use Rattle.rs_field.specs.code.Decoder.{IsDecoder, fresh_decoder, enough_given, originals_given, Restored, NoneAgrees};
+ghost use Rattle.rs_field.specs.code.Decoder.{IsDecoder, fresh_decoder, enough_given, originals_given, Restored};
+ghost use Rattle.rs_field.specs.code.Decoder.{NoneAgrees};
 ghost use Rattle.rs_field.specs.code.Given.{Shards, Lists, nothing};
 ghost use Rattle.rs_field.specs.code.OneCall.{Items};
 ghost use Rattle.rs_field.specs.code.Pieces.{ArePut, IsStrip, room_length};

@@ -1,5 +1,6 @@
-//! Encoding strip by strip. The work area has room for one strip of each shard, so it stays in the cache. For each strip,
-//! the bytes of the originals are copied into the work area, and the recovery bytes are copied from there into the rooms.
+//! Encoding strip by strip. The work area has room for one strip of each shard, so it stays in the cache. For each
+//! strip, the bytes of the originals are copied into the work area, and the recovery bytes are copied from there into
+//! the rooms.
 ghost use Rattle.std.specs.Prelude.{◌≡◌, ℕ, List, ◌-◌, ◌+◌, ◌≤◌, All, true, false, length, min, Ok, Err};
 ghost use Rattle.std.specs.Prelude.{OnOk, OnErr, IfOk, IfErr};
 ghost use Rattle.rs_field.specs.code.Code.{AreRecovery};

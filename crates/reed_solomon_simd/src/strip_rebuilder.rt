@@ -1,7 +1,8 @@
-//! Reconstructing wanted shards strip by strip. Few shards are rebuilt by direct sums. Otherwise the received shards of each
-//! strip are decoded. If a recovery shard is wanted, the originals are then encoded. The wanted pieces are copied into the
-//! rooms.
-ghost use Rattle.std.specs.Prelude.{◌≡◌, ◌⊎◌, ℕ, ◌+◌, ◌-◌, ◌<◌, ◌≤◌, All, true, false, List, length, map, Ok, Some, OnOk, IfErr, IsTrue, option_copied};
+//! Reconstructing wanted shards strip by strip. Few shards are rebuilt by direct sums. Otherwise the received shards of
+//! each strip are decoded. If a recovery shard is wanted, the originals are then encoded. The wanted pieces are copied
+//! into the rooms.
+ghost use Rattle.std.specs.Prelude.{◌≡◌, ◌⊎◌, ℕ, ◌+◌, ◌-◌, ◌<◌, ◌≤◌, All, true, false, List, length, map, Ok, Some};
+ghost use Rattle.std.specs.Prelude.{OnOk, IfErr, IsTrue, option_copied};
 ghost use Rattle.std.specs.List.{list_any};
 ghost use Rattle.rs_field.specs.code.Code.{AreRecovery};
 ghost use Rattle.rs_field.specs.code.Column.{Shard, shard_at};
@@ -30,8 +31,8 @@ use rs_rate::rate::{DefaultRateDecoder, DefaultRateEncoder, RateDecoder, RateEnc
 use rs_rate::{DecoderResult, EncoderResult};
 use std::alloc::Global;
 
-/// Writes wanted shards into rooms, in order. At least as many shards as originals were received, and none of the wanted
-/// shards was received.
+/// Writes wanted shards into rooms, in order. At least as many shards as originals were received, and none of the
+/// wanted shards was received.
 ///
 /// # Errors
 ///
@@ -69,8 +70,8 @@ pub fn rebuild_strips<E: Engine + Copy, P: Pieces, R: Rooms>(
     rebuild_by_rounds(alloc, engine, received, wanted, rooms)
 }
 
-// Writes wanted shards into rooms, in order, by a decode of each strip and an encode if a recovery shard is wanted. Fails as
-// `rebuild_strips` does.
+// Writes wanted shards into rooms, in order, by a decode of each strip and an encode if a recovery shard is wanted.
+// Fails as `rebuild_strips` does.
 fn rebuild_by_rounds<E: Engine + Copy, P: Pieces, R: Rooms>(
     alloc: Global,
     engine: E,

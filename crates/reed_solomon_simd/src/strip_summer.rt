@@ -1,5 +1,5 @@
-//! Reconstructing few wanted shards strip by strip, by direct sums. As many received shards as there are originals are the
-//! base. Each word of a wanted shard is the sum of the words of the base, each times a factor.
+//! Reconstructing few wanted shards strip by strip, by direct sums. As many received shards as there are originals are
+//! the base. Each word of a wanted shard is the sum of the words of the base, each times a factor.
 ghost use Rattle.std.specs.Prelude.{◌≡◌, ◌⊎◌, ◌↔◌, ℕ, ◌+◌, ◌-◌, ◌/◌, ◌^◌, ◌<◌, ◌≤◌, All, true, false, List};
 ghost use Rattle.std.specs.Prelude.{length, Ok, Some, None, MatchOption, IsTrue, OnOk, IfOk, IfErr, option_copied};
 ghost use Rattle.rs_field.specs.code.Column.{Shard};
@@ -33,8 +33,8 @@ use rs_rate::rate::sums::{SumBase, add_times, clear_sum, finish_sum, summed_piec
 use rs_rate::rate::{DefaultRateCounts, are_sums_cheaper};
 use std::alloc::Global;
 
-/// Returns whether shards are made by direct sums: there are not more wanted shards than rows, and the sums, one for each
-/// wanted shard and one for each surplus shard, are cheaper than transforms.
+/// Returns whether shards are made by direct sums: there are not more wanted shards than rows, and the sums, one for
+/// each wanted shard and one for each surplus shard, are cheaper than transforms.
 pub(crate) fn are_sums_used(counts: DefaultRateCounts, wanted: usize, surplus: usize) -> bool
     requires few { surplus ≤ 65536 }
     ensures { IsTrue result ↔ (wanted ≤ row_count counts.frame)
@@ -44,8 +44,8 @@ pub(crate) fn are_sums_used(counts: DefaultRateCounts, wanted: usize, surplus: u
         && are_sums_cheaper(counts.frame, counts.original_count, wanted + surplus)
 }
 
-// Marks the rows of the base: the first received shards, as many as there are originals. Also returns how many more shards were
-// received. Fails with `OutOfMemory`.
+// Marks the rows of the base: the first received shards, as many as there are originals. Also returns how many more
+// shards were received. Fails with `OutOfMemory`.
 pub(crate) fn mark_base<P: Pieces>(alloc: Global, received: &P) -> Result<(Vec<bool>, usize), Error>
     requires set_up { IsDecoder default_rate (P.received received.now) }
     requires enough { enough_given (P.received received.now) ≡ Ok tt }
@@ -99,8 +99,8 @@ fn index_of(row: usize, from: usize, count: usize) -> Option<usize>
     }
 }
 
-/// Writes the missing originals into rooms, in order of index, by direct sums. `missing` is the number of missing originals, and
-/// `surplus` is the number of received shards beyond the number of originals.
+/// Writes the missing originals into rooms, in order of index, by direct sums. `missing` is the number of missing
+/// originals, and `surplus` is the number of received shards beyond the number of originals.
 ///
 /// # Errors
 ///
@@ -168,8 +168,8 @@ fn missing_originals<P: Pieces>(
     Ok(missing)
 }
 
-/// Writes wanted shards into rooms, in order, by direct sums over the base whose rows are marked. `surplus` is the number of
-/// received shards that are not in the base.
+/// Writes wanted shards into rooms, in order, by direct sums over the base whose rows are marked. `surplus` is the
+/// number of received shards that are not in the base.
 ///
 /// # Errors
 ///
@@ -282,7 +282,8 @@ fn inconsistent<P: Pieces>(received: &P, surplus: usize) -> Error
     }
 }
 
-// Returns whether some message agrees with a strip of all received shards: each shard outside of the base is the direct sum.
+// Returns whether some message agrees with a strip of all received shards: each shard outside of the base is the direct
+// sum.
 fn agree_in_strip<E: Engine, P: Pieces>(
     engine: &E,
     base: &SumBase,
@@ -304,7 +305,8 @@ fn agree_in_strip<E: Engine, P: Pieces>(
     true
 }
 
-// Returns whether a strip of the shard that was received in a row, if there is one outside of the base, is the direct sum.
+// Returns whether a strip of the shard that was received in a row, if there is one outside of the base, is the direct
+// sum.
 fn agrees_in_row<E: Engine, P: Pieces>(
     engine: &E,
     base: &SumBase,

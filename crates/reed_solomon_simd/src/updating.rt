@@ -20,8 +20,8 @@ const STRIP_BYTES: usize = 2048;
 /// Updates recovery shards after one original has changed. The other originals are not needed.
 ///
 /// `index` is the index of the original. `old` is the original before the change, and `new` is the original after it.
-/// `recovery` has a room for each recovery shard, in order of index. Before the call, the rooms hold the recovery shards
-/// of the message with `old`. After the call, they hold those of the message with `new`.
+/// `recovery` has a room for each recovery shard, in order of index. Before the call, the rooms hold the recovery
+/// shards of the message with `old`. After the call, they hold those of the message with `new`.
 ///
 /// The call allocates a number for each recovery shard, and lists with an entry for each row of a decoder. It takes one
 /// product for each word of each recovery shard. After an error the rooms hold what they held before the call.
@@ -99,8 +99,8 @@ fn check_change(
     Ok(())
 }
 
-// Adds the change from `old` to `new` to each recovery shard, times the factor of the shard, strip by strip. `factors` has the
-// logarithms of the factors.
+// Adds the change from `old` to `new` to each recovery shard, times the factor of the shard, strip by strip. `factors`
+// has the logarithms of the factors.
 fn add_to_all<E: Engine>(
     engine: &E,
     steps: &mut Steps,
@@ -163,7 +163,8 @@ fn add_strip<E: Engine>(
     }
 }
 
-// Adds a strip of a change to the same strip of a recovery shard, times a factor. `log_m` is the logarithm of the factor.
+// Adds a strip of a change to the same strip of a recovery shard, times a factor. `log_m` is the logarithm of the
+// factor.
 fn add_to_strip<E: Engine>(
     engine: &E,
     steps: &mut Steps,

@@ -33,8 +33,8 @@ use std::alloc::Global;
 /// - [`Error::UnsupportedShardCount`] if the counts are not [supported](crate::ReedSolomonDecoder::supports).
 /// - [`Error::NotEnoughShards`] if there is no shard.
 /// - [`Error::InvalidShardSize`] if the size of the shards is zero or odd.
-/// - [`Error::OutOfMemory`] if the rows for the whole shards would take more than `usize::MAX` bytes, or if the lists of
-///   references cannot be allocated.
+/// - [`Error::OutOfMemory`] if the rows for the whole shards would take more than `usize::MAX` bytes, or if the lists
+///   of references cannot be allocated.
 /// - For each original in order: [`Error::InvalidOriginalShardIndex`], [`Error::DuplicateOriginalShardIndex`],
 ///   [`Error::DifferentShardSize`].
 /// - For each recovery shard in order: [`Error::InvalidRecoveryShardIndex`], [`Error::DuplicateRecoveryShardIndex`],
@@ -81,8 +81,8 @@ pub fn verify<E: Engine>(
     check_consistent(alloc, engine, received.missing(), surplus, &received)
 }
 
-/// Checks that some message agrees with all received shards. `missing` is the number of missing originals, and `surplus`
-/// is the number of received shards beyond the number of originals.
+/// Checks that some message agrees with all received shards. `missing` is the number of missing originals, and
+/// `surplus` is the number of received shards beyond the number of originals.
 ///
 /// # Errors
 ///
@@ -113,8 +113,9 @@ pub fn check_consistent<E: Engine, P: Pieces>(
     check_by_decoding(alloc, engine, received)
 }
 
-/// Returns the error of a call that cannot allocate its results: [`Error::InconsistentShards`] if no message agrees with all
-/// received shards. Otherwise it returns [`Error::OutOfMemory`]. `missing` and `surplus` are those of [`check_consistent`].
+/// Returns the error of a call that cannot allocate its results: [`Error::InconsistentShards`] if no message agrees
+/// with all received shards. Otherwise it returns [`Error::OutOfMemory`]. `missing` and `surplus` are those of
+/// [`check_consistent`].
 ///
 /// The check needs a work area. If it cannot be allocated, the error is [`Error::OutOfMemory`].
 pub fn error_without_results<E: Engine, P: Pieces>(

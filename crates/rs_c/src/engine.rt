@@ -9,7 +9,8 @@ use rs_calls::tables::RsTables;
 /// The engine of this build, over tables that a program in C lends.
 pub type TableEngine<'t> = BuildEngine<MadeTables<'t>>;
 
-/// Returns the engine over these tables. Returns `None` if the tables do not have the stamp that `rs_tables_make` writes.
+/// Returns the engine over these tables. Returns `None` if the tables do not have the stamp that `rs_tables_make`
+/// writes.
 pub fn engine_over(tables: &RsTables) -> Option<TableEngine<'_>>
     requires stamped { AreStamped tables.now → AreTables tables.now }
     ensures { MatchOption result (¬ AreStamped tables.now) (λ _. AreStamped tables.now) }

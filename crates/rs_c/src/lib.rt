@@ -230,8 +230,8 @@ pub extern "C" fn rs_decode_shards(
     fault.number
 }
 
-/// Checks that the received shards belong to one message. The shards can be anywhere in memory. The shard size is that of
-/// the first recovery shard, or of the first original if there is no recovery shard. Fills `fault`, and returns its
+/// Checks that the received shards belong to one message. The shards can be anywhere in memory. The shard size is that
+/// of the first recovery shard, or of the first original if there is no recovery shard. Fills `fault`, and returns its
 /// number, which is 0 if they do.
 ///
 /// The call fails, in this order, if the tables were not made, and with the errors of `verify` for these shards.
@@ -370,7 +370,7 @@ pub extern "C" fn rs_fault_text(fault: &RsFault, text: &mut [u8]) -> usize
 /// Returns the version of this interface: the major number times 65536, plus the minor number.
 #[unsafe(no_mangle)]
 pub extern "C" fn rs_version() -> u32
-    ensures { result ≡ 65539 }
+    ensures { result ≡ 65540 }
 {
-    65539
+    65540
 }

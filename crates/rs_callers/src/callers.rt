@@ -16,8 +16,8 @@ use reed_solomon_simd::rate::{
 };
 use std::alloc::Global;
 
-/// Encodes twice. The first `encode` ends the round, so the second one finds no originals, whether the first result was dropped
-/// or forgotten.
+/// Encodes twice. The first `encode` ends the round, so the second one finds no originals, whether the first result was
+/// dropped or forgotten.
 ///
 /// # Errors
 ///
@@ -182,8 +182,8 @@ pub fn reset_and_back<E: Engine, X: RateEncoder<E>>(
     encoder.reset(original_count, recovery_count, shard_bytes)
 }
 
-/// Decodes twice and returns both results. If there are enough shards but no message agrees with them, the first `decode` fails
-/// with `InconsistentShards` and ends the round, so the second one finds no shards.
+/// Decodes twice and returns both results. If there are enough shards but no message agrees with them, the first
+/// `decode` fails with `InconsistentShards` and ends the round, so the second one finds no shards.
 pub fn decode_inconsistent<E: Engine, X: RateDecoder<E> + Drop>(
     decoder: &mut X,
     steps: &mut Steps,

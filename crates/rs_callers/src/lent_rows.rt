@@ -1,5 +1,5 @@
-//! Callers of lent rows. Their proofs use only the contracts, which state that the list holds afterwards what was written to
-//! the lent rows.
+//! Callers of lent rows. Their proofs use only the contracts, which state that the list holds afterwards what was
+//! written to the lent rows.
 ghost use Rattle.std.specs.Prelude.{◌≡◌, ◌+◌, ◌*◌, ◌<◌, length};
 ghost use Rattle.reed_solomon_simd.specs.View.{Fits};
 ghost use Rattle.rs_callers.specs.SwappedRows.{AreSwapped, AreSwappedTwice};

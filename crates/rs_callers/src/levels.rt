@@ -1,6 +1,6 @@
-//! The three levels of use: one-call functions, objects, and objects of a rate and an engine of the caller's choice. Each
-//! function loses two originals of one message, restores them, and returns whether exactly the lost originals came back. The
-//! documents quote these functions, and tests run them.
+//! The three levels of use: one-call functions, objects, and objects of a rate and an engine of the caller's choice.
+//! Each function loses two originals of one message, restores them, and returns whether exactly the lost originals came
+//! back. The documents quote these functions, and tests run them.
 use reed_solomon_simd::engine::tables::Tables;
 use reed_solomon_simd::engine::{DefaultEngine, EngineKind, Ssse3, Steps};
 use reed_solomon_simd::rate::{DefaultRateDecoder, DefaultRateEncoder, RateDecoder, RateEncoder};

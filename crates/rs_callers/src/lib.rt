@@ -1,5 +1,5 @@
-//! Callers of the library, whose proofs use only its contracts: round trips, objects, results, stripes of a file, lent rows,
-//! updates of recovery shards, and every public path.
+//! Callers of the library, whose proofs use only its contracts: round trips, objects, results, stripes of a file, lent
+//! rows, updates of recovery shards, and every public path.
 #![tactic(auto)]
 
 pub mod block_round_trip;

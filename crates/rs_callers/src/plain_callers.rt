@@ -9,7 +9,8 @@ ghost use Rattle.reed_solomon_simd.specs.OneCall.{default_of};
 
 use reed_solomon_simd::{Error, ReedSolomonDecoder, ReedSolomonEncoder};
 
-/// Encodes with a plain encoder and forgets the result. This ends the round too, so the next `encode` finds no originals.
+/// Encodes with a plain encoder and forgets the result. This ends the round too, so the next `encode` finds no
+/// originals.
 ///
 /// # Errors
 ///
@@ -70,8 +71,8 @@ pub fn decoder_reset_and_back(
     decoder.reset(original_count, recovery_count, shard_bytes)
 }
 
-/// Decodes with a plain decoder to which enough shards were added. This ends the round, whatever `decode` returns and whatever
-/// happens to the result, so the next `decode` finds no shards.
+/// Decodes with a plain decoder to which enough shards were added. This ends the round, whatever `decode` returns and
+/// whatever happens to the result, so the next `decode` finds no shards.
 ///
 /// # Errors
 ///

@@ -12,8 +12,8 @@ use reed_solomon_simd::{Error, ReconstructError, ShardIndex, encode_slice, recon
 use std::alloc::{AllocError, Global};
 use std::collections::BTreeMap;
 
-/// Encodes the originals, drops the originals and the recovery shards with the indexes in `lost` and `recovery_lost`, and
-/// reconstructs the lost originals. Returns exactly the lost originals by their index, each as it was.
+/// Encodes the originals, drops the originals and the recovery shards with the indexes in `lost` and `recovery_lost`,
+/// and reconstructs the lost originals. Returns exactly the lost originals by their index, each as it was.
 ///
 /// # Errors
 ///

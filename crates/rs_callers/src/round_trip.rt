@@ -102,9 +102,9 @@ pub fn restore_what_is_left(
     )
 }
 
-/// Restores the lost originals of a message into rooms, from the originals and the recovery shards that are left. If each
-/// shard has its own index and no shard is there twice, a call that succeeds leaves exactly the lost originals in the
-/// rooms, in order of their index, each as it was.
+/// Restores the lost originals of a message into rooms, from the originals and the recovery shards that are left. If
+/// each shard has its own index and no shard is there twice, a call that succeeds leaves exactly the lost originals in
+/// the rooms, in order of their index, each as it was.
 ///
 /// # Errors
 ///
@@ -178,12 +178,12 @@ pub fn verify_what_is_left(
     )
 }
 
-/// Reconstructs wanted shards from what is left of a message: `kept` are originals with their indexes, and `received` are
-/// recovery shards with their indexes.
+/// Reconstructs wanted shards from what is left of a message: `kept` are originals with their indexes, and `received`
+/// are recovery shards with their indexes.
 ///
 /// If each shard that is left has its own index and no shard is there twice, a call that succeeds returns exactly the
-/// wanted shards of the message, each as it was. If enough shards are left and the wanted shards are lost, the only error
-/// is [`Error::OutOfMemory`].
+/// wanted shards of the message, each as it was. If enough shards are left and the wanted shards are lost, the only
+/// error is [`Error::OutOfMemory`].
 ///
 /// # Errors
 ///
@@ -223,9 +223,9 @@ pub fn reconstruct_what_is_left(
     )
 }
 
-/// Reconstructs wanted shards into rooms, from the originals and the recovery shards that are left of a message. If each
-/// shard that is left has its own index and no shard is there twice, a call that succeeds leaves exactly the wanted shards
-/// of the message in the rooms, in the order of `wanted`, each as it was.
+/// Reconstructs wanted shards into rooms, from the originals and the recovery shards that are left of a message. If
+/// each shard that is left has its own index and no shard is there twice, a call that succeeds leaves exactly the
+/// wanted shards of the message in the rooms, in the order of `wanted`, each as it was.
 ///
 /// # Errors
 ///

@@ -11,8 +11,9 @@ pub const SHARD_BYTES: usize = 1024;
 /// The number of bytes of a stripe: four originals.
 pub const STRIPE_BYTES: usize = 4 * SHARD_BYTES;
 
-/// Encodes a file stripe by stripe, with two recovery shards for each stripe of four originals. Returns the recovery shards of
-/// all stripes, in order. The last stripe may be shorter: its shards are as long as it needs, and zeros fill it up.
+/// Encodes a file stripe by stripe, with two recovery shards for each stripe of four originals. Returns the recovery
+/// shards of all stripes, in order. The last stripe may be shorter: its shards are as long as it needs, and zeros fill
+/// it up.
 ///
 /// # Errors
 ///
@@ -39,8 +40,8 @@ pub fn encode_file(
     Ok(written)
 }
 
-/// Encodes one stripe, in one round of the encoder, and appends its recovery shards to `written`. `shard_bytes` is the size of
-/// the encoder's shards.
+/// Encodes one stripe, in one round of the encoder, and appends its recovery shards to `written`. `shard_bytes` is the
+/// size of the encoder's shards.
 ///
 /// # Errors
 ///

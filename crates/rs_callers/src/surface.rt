@@ -76,7 +76,8 @@ pub fn products(tables: &Tables) -> (Mul16<'_>, Mul128<'_>)
     (get_mul16(tables), get_mul128(tables))
 }
 
-/// Returns the numbers of an entry of the products as bytes: the numbers of the low bytes, and the numbers of the high bytes.
+/// Returns the numbers of an entry of the products as bytes: the numbers of the low bytes, and the numbers of the high
+/// bytes.
 pub fn numbers(entry: &Multiply128lutT) -> ([u128; 4], [u128; 4])
     ensures low { result.0 ≡ entry.now.lo }
     ensures high { result.1 ≡ entry.now.hi }
@@ -127,7 +128,8 @@ pub fn locator_below(steps: &mut Steps, erasures: &mut [GfElement; 64], tables: 
     locate(steps, erasures, get_log_walsh_below(tables, 64));
 }
 
-/// Computes the locator of as many points as there are entries, with an engine of the library, within the bound on its steps.
+/// Computes the locator of as many points as there are entries, with an engine of the library, within the bound on its
+/// steps.
 pub fn locator_by_engine(engine: DefaultEngine<'_>, steps: &mut Steps, erasures: &mut [GfElement])
     requires power { (d : ℕ) × (length erasures.old ≡ 2 ^ d) }
     requires few { length erasures.old ≤ 65536 }
@@ -372,7 +374,7 @@ pub fn one_array(
 
 /// Returns the version of the library.
 pub fn version() -> &'static str
-    ensures { result.now ≡ codes "1.3" }
+    ensures { result.now ≡ codes "1.4" }
 {
     VERSION
 }

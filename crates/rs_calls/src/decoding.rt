@@ -161,8 +161,8 @@ fn restore_buffers<E: Engine>(
 ///
 /// # Errors
 ///
-/// The errors of `restore_arrays`, as faults and in the same order. The fault of a shard or a room of another size says its
-/// place. After an error the rooms are unchanged.
+/// The errors of `restore_arrays`, as faults and in the same order. The fault of a shard or a room of another size says
+/// its place. After an error the rooms are unchanged.
 pub fn decode_arrays<E: Engine>(
     alloc: Global,
     engine: E,
@@ -194,9 +194,9 @@ pub fn decode_arrays<E: Engine>(
 }
 
 // Restores the originals that are not among the given shards, and writes them into rooms. Fails, in this order, with
-// `UnsupportedShardCount`; if there is no recovery shard, with the errors of `check_alone`; otherwise with the errors of
-// `received_shards` and then of `restore_into`. If no original is missing, it then fails with `WrongNumberOfRooms` if there
-// is a room.
+// `UnsupportedShardCount`; if there is no recovery shard, with the errors of `check_alone`; otherwise with the errors
+// of `received_shards` and then of `restore_into`. If no original is missing, it then fails with `WrongNumberOfRooms`
+// if there is a room.
 fn restore_arrays<E: Engine>(
     alloc: Global,
     engine: E,

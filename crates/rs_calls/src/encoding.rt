@@ -56,8 +56,8 @@ pub fn encode_buffer<E: Engine>(
 /// # Errors
 ///
 /// The errors of [`encode_into`], as faults and in the same order: the counts, the originals, the number of rooms, the
-/// length of a room, and the memory for the work area. The fault of an original or a room of another size says its place.
-/// After an error the rooms are unchanged.
+/// length of a room, and the memory for the work area. The fault of an original or a room of another size says its
+/// place. After an error the rooms are unchanged.
 pub fn encode_arrays<E: Engine>(
     alloc: Global,
     engine: E,

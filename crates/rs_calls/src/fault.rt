@@ -14,8 +14,8 @@ pub enum Fault {
         shard_bytes: usize,
         /// The size of the shard, in bytes.
         got: usize,
-        /// The place of the shard in the array of originals, counted from 0. If it is a recovery shard, this is the number
-        /// of entries of that array, plus the place in the array of recovery shards.
+        /// The place of the shard in the array of originals, counted from 0. If it is a recovery shard, this is the
+        /// number of entries of that array, plus the place in the array of recovery shards.
         place: usize,
     },
     /// A buffer does not have the length that the counts and the size require, or a room does not have the size of its
@@ -25,8 +25,8 @@ pub enum Fault {
         wanted: usize,
         /// The length of the buffer or of the room, in bytes.
         got: usize,
-        /// The buffer: 0 for originals, 1 for recovery shards, 2 for marks. For a room, this is its place in the array of
-        /// rooms, counted from 0.
+        /// The buffer: 0 for originals, 1 for recovery shards, 2 for marks. For a room, this is its place in the array
+        /// of rooms, counted from 0.
         place: usize,
     },
     /// The number of rooms is not the number of shards to write.

@@ -52,7 +52,8 @@ pub struct RsWanted {
     pub index: usize,
 }
 
-/// Returns the name of a shard with this index. The kind is 0 for an original, and any other number for a recovery shard.
+/// Returns the name of a shard with this index. The kind is 0 for an original, and any other number for a recovery
+/// shard.
 pub fn named(kind: usize, index: usize) -> ShardIndex
     ensures { result ≡ named kind index }
 {

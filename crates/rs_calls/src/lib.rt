@@ -1,5 +1,5 @@
-//! The calls of the interface for C, as functions that are generic over the engine: coding over buffers and over arrays of
-//! shards, faults as numbers and as texts, and the tables in memory of a C program.
+//! The calls of the interface for C, as functions that are generic over the engine: coding over buffers and over arrays
+//! of shards, faults as numbers and as texts, and the tables in memory of a C program.
 #![tactic(auto)]
 
 mod alone;

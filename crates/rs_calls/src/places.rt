@@ -102,8 +102,8 @@ pub fn placed_reconstruct_fault<T: Entry>(
     placed_fault(other, first, second, rooms)
 }
 
-// Returns the place of the first entry of two arrays that does not have `size` bytes. The places of the second array come
-// after those of the first. If all entries have `size` bytes, it returns the number of entries.
+// Returns the place of the first entry of two arrays that does not have `size` bytes. The places of the second array
+// come after those of the first. If all entries have `size` bytes, it returns the number of entries.
 fn find_in_both<T: Entry>(first: &[T], second: &[T], size: usize) -> usize
     requires few { length first.now + length second.now < 2 ^ 64 }
     ensures { result

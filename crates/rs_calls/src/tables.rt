@@ -26,13 +26,13 @@ const _: () = prove!(size_of::<RsTables>() == 8 * TABLE_WORDS);
 #[repr(C)]
 #[derive(Clone, Copy)]
 pub struct RsTables {
-    /// Entry m holds the products with the generator to the power m, as bytes: the lower and the upper half of each number
-    /// of a `Multiply128lutT`.
+    /// Entry m holds the products with the generator to the power m, as bytes: the lower and the upper half of each
+    /// number of a `Multiply128lutT`.
     pub products: [[u64; 16]; 65536],
     /// The factors of the butterflies.
     pub skew: [GfElement; 65535],
-    /// The transforms of the logarithms of the words below each power of two, one after the other. Locators are computed
-    /// from them.
+    /// The transforms of the logarithms of the words below each power of two, one after the other. Locators are
+    /// computed from them.
     pub log_walsh: [GfElement; 131071],
     /// [`STAMP`] if the tables are filled. `rs_tables_make` writes it last.
     pub stamp: u32,

@@ -2,7 +2,8 @@
 ghost use Rattle.std.specs.Prelude.{◌≡◌};
 ghost use Rattle.rs_field.specs.code.Texts.{text_of as refusal_text};
 ghost use Rattle.rs_calls.specs.FaultTexts.{text_of};
-ghost use Rattle.rs_calls.specs.Texts.{shard_refusal_with, refusal_with, wanted_fault_with, fault_with, text_with, WritesText};
+ghost use Rattle.rs_calls.specs.Texts.{shard_refusal_with, refusal_with, wanted_fault_with, fault_with, text_with};
+ghost use Rattle.rs_calls.specs.Texts.{WritesText};
 
 use crate::fault::{Fault, RsFault};
 use crate::layouts::named;
@@ -235,8 +236,8 @@ fn write_fault(fault: Fault, room: &mut [u8]) -> usize
     }
 }
 
-// Writes the text of the fault of a wanted index that is too large, as much of it as fits, and returns the length of the
-// whole text.
+// Writes the text of the fault of a wanted index that is too large, as much of it as fits, and returns the length of
+// the whole text.
 fn write_too_large(wanted: ShardIndex, count: usize, room: &mut [u8]) -> usize
     ensures { WritesText (text_of (Fault.WantedIndexTooLarge wanted count))
         room.old room.new result }
@@ -262,8 +263,8 @@ fn write_too_large(wanted: ShardIndex, count: usize, room: &mut [u8]) -> usize
     }
 }
 
-// Writes the text of the fault of a shard that is wanted twice, as much of it as fits, and returns the length of the whole
-// text.
+// Writes the text of the fault of a shard that is wanted twice, as much of it as fits, and returns the length of the
+// whole text.
 fn write_twice(wanted: ShardIndex, room: &mut [u8]) -> usize
     ensures { WritesText (text_of (Fault.WantedTwice wanted)) room.old room.new result }
 {
@@ -279,8 +280,8 @@ fn write_twice(wanted: ShardIndex, room: &mut [u8]) -> usize
     }
 }
 
-// Writes the text of the fault of a wanted shard that was received, as much of it as fits, and returns the length of the
-// whole text.
+// Writes the text of the fault of a wanted shard that was received, as much of it as fits, and returns the length of
+// the whole text.
 fn write_received(wanted: ShardIndex, room: &mut [u8]) -> usize
     ensures { WritesText (text_of (Fault.WantedReceived wanted)) room.old room.new result }
 {

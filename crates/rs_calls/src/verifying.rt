@@ -17,8 +17,8 @@ use std::alloc::Global;
 ///
 /// # Errors
 ///
-/// The errors of [`verify`](reed_solomon_simd::verify), as faults and in the same order. The fault of a shard of another
-/// size says its place.
+/// The errors of [`verify`](reed_solomon_simd::verify), as faults and in the same order. The fault of a shard of
+/// another size says its place.
 pub fn verify_arrays<E: Engine>(
     alloc: Global,
     engine: E,

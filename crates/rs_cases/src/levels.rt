@@ -127,8 +127,8 @@ impl<'t, E: Engine + Copy> Levels<'t, E> {
         Ok(())
     }
 
-    // Runs an action with a level, and compares its result with the expected one. Returns whether the action failed with
-    // `OutOfMemory` although this was not expected.
+    // Runs an action with a level, and compares its result with the expected one. Returns whether the action failed
+    // with `OutOfMemory` although this was not expected.
     fn run_step(
         &mut self,
         level: LevelName,
@@ -177,8 +177,8 @@ impl<'t, E: Engine + Copy> Levels<'t, E> {
     }
 }
 
-// Compares the outcome of an action with the expected result, and writes into the report if they differ. Returns whether
-// the action failed with `OutOfMemory` although this was not expected.
+// Compares the outcome of an action with the expected result, and writes into the report if they differ. Returns
+// whether the action failed with `OutOfMemory` although this was not expected.
 fn compare(
     level: LevelName,
     kept: &Kept,

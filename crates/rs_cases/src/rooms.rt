@@ -80,8 +80,8 @@ fn outcome<E: Into<Refusal>>(
     }
 }
 
-/// Encodes originals with `encode_into`, and returns the rooms. Clears `agrees` if the call did not accept the rooms, or
-/// failed and changed them.
+/// Encodes originals with `encode_into`, and returns the rooms. Clears `agrees` if the call did not accept the rooms,
+/// or failed and changed them.
 ///
 /// # Errors
 ///
@@ -151,8 +151,8 @@ fn decode_in(
     decode_into(alloc, k, r, originals, recoveries, &mut lent_rooms, engine)
 }
 
-/// Reconstructs the missing originals with `reconstruct_into`, and returns the rooms by their indexes. Clears `agrees` if
-/// the call did not accept the rooms or the names of the originals, or failed and changed the rooms.
+/// Reconstructs the missing originals with `reconstruct_into`, and returns the rooms by their indexes. Clears `agrees`
+/// if the call did not accept the rooms or the names of the originals, or failed and changed the rooms.
 ///
 /// # Errors
 ///

@@ -17,8 +17,8 @@ fn joined(alloc: Global, shards: &[&[u8]]) -> Result<Vec<u8>, AllocError> {
     Ok(bytes)
 }
 
-/// Splits a message with `split`, and encodes the originals with `encode_slice`. Only `split` is watched. Clears `agrees` if
-/// the pieces are not the given originals, unless the encode fails.
+/// Splits a message with `split`, and encodes the originals with `encode_slice`. Only `split` is watched. Clears
+/// `agrees` if the pieces are not the given originals, unless the encode fails.
 ///
 /// # Errors
 ///
@@ -45,8 +45,8 @@ pub fn encode(
     Ok(recovery)
 }
 
-/// Decodes received shards with `decode_slice`, completes the originals with `complete`, and joins the message with `join`.
-/// Returns the parts of the message that are the missing originals. Only `complete` and `join` are watched.
+/// Decodes received shards with `decode_slice`, completes the originals with `complete`, and joins the message with
+/// `join`. Returns the parts of the message that are the missing originals. Only `complete` and `join` are watched.
 ///
 /// # Errors
 ///
@@ -89,7 +89,8 @@ fn whole_message(
     join(alloc, &originals, original_count.saturating_mul(size))
 }
 
-// Returns the parts of a message that are the originals with these indexes. Clears `agrees` if the message is too short.
+// Returns the parts of a message that are the originals with these indexes. Clears `agrees` if the message is too
+// short.
 fn parts_of(
     alloc: Global,
     message: &[u8],

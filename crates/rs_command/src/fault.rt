@@ -10,8 +10,8 @@ use std::io::Write;
 pub enum Fault {
     /// The words are not a valid command line.
     Usage,
-    /// The command line is valid, but the counts or the shards are not, or memory could not be allocated. The value is the
-    /// error.
+    /// The command line is valid, but the counts or the shards are not, or memory could not be allocated. The value is
+    /// the error.
     Refused(Error),
 }
 

@@ -8,8 +8,8 @@ use std::io::{ErrorKind, Write};
 
 /// A writer, such as standard output, and a record of whether a write to it has failed.
 ///
-/// The contracts of the standard library do not state whether a write to a writer has failed. The contracts of this crate
-/// state it with this record: only [`Stream::write_some`] changes it.
+/// The contracts of the standard library do not state whether a write to a writer has failed. The contracts of this
+/// crate state it with this record: only [`Stream::write_some`] changes it.
 #[derive(Drop)]
 pub struct Stream<W: Write> {
     /// The writer.
@@ -44,8 +44,8 @@ impl<W: Write> Stream<W> {
         self.has_failed
     }
 
-    /// Writes a first part of these bytes, of which there is at least one, and returns its length. Returns 0 if the write
-    /// fails: if the writer returns an error or takes none of the bytes. An interrupted write is repeated.
+    /// Writes a first part of these bytes, of which there is at least one, and returns its length. Returns 0 if the
+    /// write fails: if the writer returns an error or takes none of the bytes. An interrupted write is repeated.
     pub(crate) fn write_some(&mut self, bytes: &[u8]) -> usize
         requires { 0 < length bytes.now }
         ensures within { result ≤ length bytes.now }

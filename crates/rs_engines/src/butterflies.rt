@@ -8,8 +8,8 @@ use crate::byte_vector::ByteVector;
 use crate::factors::{Factor, ThreeFactors};
 use crate::words::{Words, add};
 
-/// The butterflies of one direction of a transform. The direction decides the order of the two sums of a butterfly, and the order
-/// of two layers.
+/// The butterflies of one direction of a transform. The direction decides the order of the two sums of a butterfly, and
+/// the order of two layers.
 pub trait Butterflies {
     // The relation between the two old and the two new words of a butterfly, for the logarithm of its factor.
     ghost two: { ℕ → OnTwoWords };

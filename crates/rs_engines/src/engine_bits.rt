@@ -1,8 +1,8 @@
 //! The engine that looks up products bit by bit. It is for processors without an instruction for shuffles.
 //!
-//! The words of a chunk are in the lanes of vectors, as in the engines by shuffles. Instead of a shuffle, a look-up takes
-//! a comparison and a sum for each bit of a nibble. Two layers of butterflies are computed one after the other, because a
-//! loop with three factors would spread their bytes over vectors again for each chunk.
+//! The words of a chunk are in the lanes of vectors, as in the engines by shuffles. Instead of a shuffle, a look-up
+//! takes a comparison and a sum for each bit of a nibble. Two layers of butterflies are computed one after the other,
+//! because a loop with three factors would spread their bytes over vectors again for each chunk.
 ghost use Rattle.std.specs.Prelude.{◌≡◌};
 
 use crate::any_factor::factor_of;

@@ -30,7 +30,8 @@ pub struct ByShuffles<V: ByteVector, T: ShuffleTables> {
 /// The engine with vectors of 16 bytes, the width of SSSE3. It is the fastest engine in the default build, x86-64-v2.
 pub type Ssse3<'t> = ByShuffles<u8x16, &'t Tables>;
 
-/// The engine with vectors of 32 bytes, the width of AVX2. It is the fastest engine in a build for AVX2, `--cpu=x86-64-v3`.
+/// The engine with vectors of 32 bytes, the width of AVX2. It is the fastest engine in a build for AVX2,
+/// `--cpu=x86-64-v3`.
 pub type Avx2<'t> = ByShuffles<u8x32, &'t Tables>;
 
 /// The width of the vectors of an engine.

@@ -1,4 +1,5 @@
-//! Engines that look up products by nibbles: one at a time, by shuffles, or bit by bit. One more engine is chosen by name.
+//! Engines that look up products by nibbles: one at a time, by shuffles, or bit by bit. One more engine is chosen by
+//! name.
 #![tactic(auto)]
 
 pub mod any_factor;

@@ -39,8 +39,8 @@ pub fn mul_chunk<V: ByteVector>(c: &mut [u8; 64], factor: &Multiply128lutT)
     }
 }
 
-// Adds to as many symbols of a chunk as a vector has lanes, from symbol `at` on, the products of the same symbols of another
-// chunk with a factor.
+// Adds to as many symbols of a chunk as a vector has lanes, from symbol `at` on, the products of the same symbols of
+// another chunk with a factor.
 #[inline(always)]
 fn add_lanes<V: ByteVector, F: Factor>(x: &mut [u8; 64], y: &[u8; 64], at: usize, factor: F)
     requires { at + V.LANES ≤ 32 }

@@ -90,8 +90,8 @@ fn copied(products: &Multiply128lutT) -> Multiply128lutT
     }
 }
 
-/// Adds to each symbol of a row the product of the same symbol of another row with a factor. There is a loop over chunks for
-/// each class of factors.
+/// Adds to each symbol of a row the product of the same symbol of another row with a factor. There is a loop over
+/// chunks for each class of factors.
 #[inline(always)]
 pub fn add_row<V: ByteVector>(x: &mut [[u8; 64]], y: &[[u8; 64]], factor: AnyFactor<'_>)
     requires { length x.old ≡ length y.now }

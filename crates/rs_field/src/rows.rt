@@ -1,5 +1,5 @@
-//! Rows of chunks: how they are lent, laid out, summed and transformed, the trait `Engine`, and the plain engine. Of this
-//! crate, these modules import only from `words`.
+//! Rows of chunks: how they are lent, laid out, summed and transformed, the trait `Engine`, and the plain engine. Of
+//! this crate, these modules import only from `words`.
 pub mod block;
 pub mod bytes;
 pub mod derivative;

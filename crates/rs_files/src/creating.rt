@@ -91,7 +91,8 @@ fn origins_of(alloc: Global, description: &Description) -> Result<Vec<Option<Ori
     Ok(origins)
 }
 
-// Fails if the length of one of the files, or the time of its last change in seconds, is not the one in its description.
+// Fails if the length of one of the files, or the time of its last change in seconds, is not the one in its
+// description.
 fn check_unchanged<R: Files>(
     rt: &R,
     alloc: Global,

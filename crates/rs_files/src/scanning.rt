@@ -253,8 +253,8 @@ fn scan_set<R: Files + Clock + Eprint>(
     Ok(scan)
 }
 
-// Looks for the blocks of a description in the volumes and, if `folder` is given, in the files below that folder. Counts
-// the damaged blocks of each volume. The result has no volumes.
+// Looks for the blocks of a description in the volumes and, if `folder` is given, in the files below that folder.
+// Counts the damaged blocks of each volume. The result has no volumes.
 fn scan_blocks<R: Files + Clock + Eprint>(
     rt: &R,
     alloc: Global,
@@ -407,8 +407,8 @@ impl Scanner {
         Ok(())
     }
 
-    // Looks for blocks in all volumes, counts the damaged blocks of each volume, and appends the paths of the volumes to
-    // `paths`.
+    // Looks for blocks in all volumes, counts the damaged blocks of each volume, and appends the paths of the volumes
+    // to `paths`.
     fn scan_volumes<R: Files + Clock + Eprint>(
         &mut self,
         rt: &R,

@@ -71,8 +71,8 @@ fn tell_file<R: Print>(rt: &R, name: &str, state: FileState) -> io::Result<()> {
     println!(rt; "{word}: {name}")
 }
 
-// Returns where a volume is damaged, and which head was used. Returns `None` if both copies are whole. If the first head
-// is damaged only in its number of records, both heads give the same description, and the message is the same.
+// Returns where a volume is damaged, and which head was used. Returns `None` if both copies are whole. If the first
+// head is damaged only in its number of records, both heads give the same description, and the message is the same.
 fn damage_of(copies: Copies) -> Option<&'static str> {
     match copies {
         Copies::Whole => None,

@@ -1,5 +1,5 @@
-//! Encoders, decoders and their results, with the traits that they have. These modules may import from `passes`, `rows` and
-//! `values`, which may not import from them.
+//! Encoders, decoders and their results, with the traits that they have. These modules may import from `passes`, `rows`
+//! and `values`, which may not import from them.
 pub mod decoder_result;
 pub mod decoders;
 pub mod encoder_result;

@@ -1,5 +1,5 @@
-//! The passes over rows that encode and decode. These modules may import from `rows` and `values`, which may not import from
-//! them.
+//! The passes over rows that encode and decode. These modules may import from `rows` and `values`, which may not import
+//! from them.
 pub mod changes;
 pub mod decoding;
 pub mod direct;

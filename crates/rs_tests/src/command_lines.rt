@@ -9,7 +9,8 @@ use std::process::Abort;
 // The names of the engines.
 const ENGINES: [&str; 4] = ["naive", "nosimd", "avx2", "ssse3"];
 
-// Command lines that succeed, and the lines that the program prints. Two blanks in a row have an empty word between them.
+// Command lines that succeed, and the lines that the program prints. Two blanks in a row have an empty word between
+// them.
 const PRINTED: [(&str, &str); 20] = [
     ("encode ENGINE 2 3 0000 0100", "0200\n0300\n0400\n"),
     ("encode ENGINE 1 3 0709", "0709\n0709\n0709\n"),
@@ -48,8 +49,9 @@ const PRINTED: [(&str, &str); 20] = [
     ("decode ENGINE 1 1 r0=0aFf90Fa", "0 0aff90fa\n"),
 ];
 
-// Valid `encode` command lines whose counts or shards are wrong, and the text of the error, in the order of the errors: the
-// counts, then whether a shard is there, the size of the first shard, each shard in order, and the number of shards.
+// Valid `encode` command lines whose counts or shards are wrong, and the text of the error, in the order of the errors:
+// the counts, then whether a shard is there, the size of the first shard, each shard in order, and the number of
+// shards.
 const NOT_ENCODED: [(&str, &str); 12] = [
     (
         "encode ENGINE 0 0",
@@ -101,9 +103,9 @@ const NOT_ENCODED: [(&str, &str); 12] = [
     ),
 ];
 
-// Valid `decode` command lines whose counts or shards are wrong, and the text of the error, in the order of the errors: the
-// counts, then the size of the first recovery shard, each original in order, each recovery shard in order, the number of
-// shards, and whether a message agrees with them.
+// Valid `decode` command lines whose counts or shards are wrong, and the text of the error, in the order of the errors:
+// the counts, then the size of the first recovery shard, each original in order, each recovery shard in order, the
+// number of shards, and whether a message agrees with them.
 const NOT_DECODED: [(&str, &str); 15] = [
     (
         "decode ENGINE 0 0",
@@ -167,8 +169,8 @@ const NOT_DECODED: [(&str, &str); 15] = [
     ),
 ];
 
-// Words that are no command line: the first wrong word is at each place in turn. The last lines have the characters that are
-// next to hexadecimal digits in ASCII.
+// Words that are no command line: the first wrong word is at each place in turn. The last lines have the characters
+// that are next to hexadecimal digits in ASCII.
 const NO_COMMAND_LINES: [&str; 45] = [
     "version",
     "--version",
@@ -227,8 +229,8 @@ fn words_of(alloc: Global, line: &str, engine: &str) -> Result<Vec<String>, Allo
     Ok(words)
 }
 
-// Checks what `run` returns and writes for a line, with an engine: the status, the bytes of standard output and those of
-// standard error.
+// Checks what `run` returns and writes for a line, with an engine: the status, the bytes of standard output and those
+// of standard error.
 fn check(
     rt: &impl Abort,
     alloc: Global,

@@ -26,8 +26,8 @@ const LOCATOR: usize = 3;
 
 const SUM: usize = 4;
 
-/// The plain engine, which counts its calls, and the entries of all locators that it computed. If it has no logarithms, its
-/// decoders never use direct sums.
+/// The plain engine, which counts its calls, and the entries of all locators that it computed. If it has no logarithms,
+/// its decoders never use direct sums.
 #[derive(Drop)]
 pub struct Counting<'t> {
     naive: Naive<'t>,
@@ -216,12 +216,12 @@ fn after_decode<E: Engine, R: Rate<E>>(
     Ok(decoder.into_parts().0)
 }
 
-// The shards that a decode is given, how often it calls `fft`, `ifft` and a method for a locator, and how often it calls
-// `mul` at most: once for each given shard and once for each restored shard.
+// The shards that a decode is given, how often it calls `fft`, `ifft` and a method for a locator, and how often it
+// calls `mul` at most: once for each given shard and once for each restored shard.
 type Decode<'a> = (&'a [Item], &'a [Item], [u32; 3], u32);
 
-// All shards belong to one message of four originals and four recovery shards. A decode transforms once to check and once
-// to restore.
+// All shards belong to one message of four originals and four recovery shards. A decode transforms once to check and
+// once to restore.
 const DECODES: [Decode<'static>; 3] = [
     (
         &[(3, [3, 0]), (1, [0, 0])],
@@ -308,8 +308,8 @@ fn each_rate_calls_its_engine_so_often(rt: HostRuntime) {
 
 // The shards that a decode is given, how often it calls `mul_add`, and how often it calls `mul` if the engine has no
 // `mul_add` of its own. There is one direct sum for each missing original and one for each surplus shard. A sum adds a
-// multiple of each of four shards, and without `mul_add` this takes two products. All shards belong to one message of four
-// originals and four recovery shards.
+// multiple of each of four shards, and without `mul_add` this takes two products. All shards belong to one message of
+// four originals and four recovery shards.
 type Sums<'a> = (&'a [Item], &'a [Item], u32, u32);
 
 const FEW_LOST: [Sums<'static>; 3] = [

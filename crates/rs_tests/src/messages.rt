@@ -1,5 +1,5 @@
-//! Tests of messages of any length: the examples of doc comments, and messages that come back, which shows that the calls
-//! can allocate memory.
+//! Tests of messages of any length: the examples of doc comments, and messages that come back, which shows that the
+//! calls can allocate memory.
 use rand_chacha::ChaCha8Rng;
 use rand_core::{Rng, SeedableRng};
 use reed_solomon_simd::engine::DefaultEngine;

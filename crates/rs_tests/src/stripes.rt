@@ -40,8 +40,8 @@ fn check_shards(
     assert_eq!(rt; shards, (2, original[0], original[1]));
 }
 
-// Loses originals 0 and 1 of a stripe, restores them, and checks that they come back. A stripe that is shorter than its four
-// shards is filled up with zeros.
+// Loses originals 0 and 1 of a stripe, restores them, and checks that they come back. A stripe that is shorter than its
+// four shards is filled up with zeros.
 fn check_stripe(
     rt: &impl Abort,
     alloc: Global,
@@ -58,8 +58,8 @@ fn check_stripe(
     check_shards(rt, alloc, &original, recovery, engine);
 }
 
-// The file has two whole stripes, and 10 bytes more. The shards of the last stripe have 4 bytes, because that is the smallest even
-// size with which four shards hold 10 bytes.
+// The file has two whole stripes, and 10 bytes more. The shards of the last stripe have 4 bytes, because that is the
+// smallest even size with which four shards hold 10 bytes.
 #[test]
 fn stripes_of_a_file_come_back(rt: HostRuntime) {
     let alloc = rt.alloc();

@@ -2,7 +2,8 @@
 ghost use Rattle.std.specs.Prelude.{◌≡◌, ◌↔◌, ◌<◌, ◌^◌, ◌==◌, true, [], All, OnOk, IsTrue, length};
 ghost use Rattle.std.specs.Str.{is_utf8};
 ghost use Rattle.rs_volumes.specs.Description.{set_of, files_of};
-ghost use Rattle.rs_volumes.specs.Sound.{blocks_of, blocks_in, is_part, has_parts, is_name, is_before, files_outcome, allows_counts, allows_block, set_outcome};
+ghost use Rattle.rs_volumes.specs.Sound.{blocks_of, blocks_in, is_part, has_parts, is_name, is_before, files_outcome};
+ghost use Rattle.rs_volumes.specs.Sound.{allows_counts, allows_block, set_outcome};
 
 use crate::description::{Description, FileEntry};
 use crate::fault::Fault;

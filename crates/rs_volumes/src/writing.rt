@@ -2,7 +2,8 @@
 ghost use Rattle.std.specs.Prelude.{◌≡◌, ◌<◌, ◌^◌, ◌++◌, length, All, OnOk, IfOk};
 ghost use Rattle.std.specs.Int.{w32, w64, to_le_bytes};
 ghost use Rattle.std.specs.List.{flat_map};
-ghost use Rattle.rs_volumes.specs.Description.{file_of, files_of, set_of, file_spelling, name_spelling, opening_spelling, spelling};
+ghost use Rattle.rs_volumes.specs.Description.{file_of, files_of, set_of, file_spelling, name_spelling};
+ghost use Rattle.rs_volumes.specs.Description.{opening_spelling, spelling};
 
 use crate::description::{Description, FileEntry};
 use std::alloc::{AllocError, Global};

@@ -32,8 +32,8 @@ use Rattle.rs_field.proofs.of_code.RoundTrip.{answered, restores_lost}
 use Rattle.rs_field.proofs.of_code.SupportedCounts.{default_fits}
 
 -- If the second of two calls succeeds, the first call succeeded with some value.
-pub then_ok : {S T : Type 0} (f : S → Result T Error) (o : Result S Error) (t : T) → result_and_then f o ≡ Ok t → (s : S)
-    × (o ≡ Ok s) × (f s ≡ Ok t)
+pub then_ok : {S T : Type 0} (f : S → Result T Error) (o : Result S Error) (t : T) → result_and_then f o ≡ Ok t →
+    (s : S) × (o ≡ Ok s) × (f s ≡ Ok t)
 then_ok {S} {T} f o t h1 = search rules
 
 -- ---- what was coded

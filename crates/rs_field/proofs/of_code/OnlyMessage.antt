@@ -1,5 +1,6 @@
--- If one-call `decode` succeeds, the received shards belong to exactly one message, and its lost originals are restored.
-use Rattle.std.proofs.Common.{rules, ◌≡◌, ℕ, ◌+◌, ◌<◌, Bool, true, false, List, [], ◌∷◌, length, refl, sym, ap, subst, ◌∙◌}
+-- If one-call `decode` succeeds, the received shards belong to one message only, and its lost originals are restored.
+use Rattle.std.proofs.Common.{rules, ◌≡◌, ℕ, ◌+◌, ◌<◌, Bool, true, false, List, [], ◌∷◌, length, refl, sym, ap, subst}
+use Rattle.std.proofs.Common.{◌∙◌}
 use Rattle.std.proofs.Common.{inl, inr, arith, All, nat_eq}
 use Rattle.std.specs.Prelude.{Result, Ok, Err, Some, None, IfOk, MatchResult}
 use Rattle.std.specs.List.{AllByRecursion, IsDistinct}
@@ -221,7 +222,8 @@ module _ (k r : ℕ) (kept : Items) (first : ℕ × Shard) (rest : Items) (out :
       (record { all = originals; free = own.2.free; once = own.2.once; within = own.2.within })
       agrees.shards.length_is agrees.own in
       let fitting : AllByRecursion (λ item. (item.0 < r) × (length item.1 ≡ size)) (first ∷ rest) =
-      subst (λ (d : Configuration). AllByRecursion (λ item. (item.0 < d.recovery_count) × (length item.1 ≡ d.shard_bytes))
+      subst (λ (d : Configuration).
+        AllByRecursion (λ item. (item.0 < d.recovery_count) × (length item.1 ≡ d.shard_bytes))
       (first ∷ rest)) own.0 coded.2.within in
       let got : AreLeft agrees.coded.0 (first ∷ rest) =
       entered_left r size (first ∷ rest) s.recovery agrees.coded.0

@@ -4,7 +4,8 @@ use Rattle.rs_field.specs.declared.words.steps.Steps.{Steps}
 use Rattle.rs_field.specs.code.Counts.{Rate}
 use Rattle.rs_field.specs.code.Frame.{block_rows, encoder_rows, decoder_rows}
 pub use Rattle.rs_field.specs.words.StepBounds.{CountsUpTo, CountsRows, CountsPairs, CountsProducts, WalshCounts}
-pub use Rattle.rs_field.specs.words.StepBounds.{LocatorCountsBelow, LocatorCounts, TransformCounts, RowProductCounts, RowSumCounts}
+pub use Rattle.rs_field.specs.words.StepBounds.{LocatorCountsBelow, LocatorCounts, TransformCounts, RowProductCounts}
+pub use Rattle.rs_field.specs.words.StepBounds.{RowSumCounts}
 unfoldable pub use Rattle.rs_field.specs.words.StepBounds.{log2, transform_steps}
 
 -- a bound on the row steps of an encode with c blocks of m rows: c + 1 transforms of m rows, and two steps for each row

@@ -74,7 +74,8 @@ pub fn codeword_laws()
 {}
 
 /// States that any k shards belong to exactly one message, and that each word of any other shard of this message is a
-/// sum of their words, each multiplied by a factor. These sums also decide whether further shards belong to the message.
+/// sum of their words, each multiplied by a factor. These sums also decide whether further shards belong to the
+/// message.
 pub fn direct_laws()
     ensures message { HasOneMessage }
     ensures sums { IsSummedDirectly }
@@ -82,9 +83,9 @@ pub fn direct_laws()
 {}
 
 /// States that a decoder of any rate that gets at least k of the originals and recovery shards of a message returns
-/// exactly the lost originals, and never fails. The same holds for an encoder followed by a decoder. It also holds for the
-/// functions `encode` and `decode`, except that they may fail with `OutOfMemory`. If `decode` succeeds, the shards that it
-/// got belong to exactly one message, and it returns the lost originals of this message.
+/// exactly the lost originals, and never fails. The same holds for an encoder followed by a decoder. It also holds for
+/// the functions `encode` and `decode`, except that they may fail with `OutOfMemory`. If `decode` succeeds, the shards
+/// that it got belong to exactly one message, and it returns the lost originals of this message.
 pub fn round_trip_laws()
     ensures lost { RestoresLost }
     ensures encoded { RestoresEncoded }

@@ -19,9 +19,9 @@ use crate::words::{GF_MODULUS, GF_ORDER, GfElement, Steps};
 /// An engine: the transforms of rows, the product of a row, and the locator that encoders and decoders need.
 ///
 /// The transforms are those of Lin, Chung and Han ("Novel polynomial basis and its application to Reed-Solomon erasure
-/// codes"), in the form of Leopard-RS. They compute values from coefficients in the basis of subspace polynomials, separately
-/// for each symbol. The points of the values are `skew_delta`, `skew_delta + 1` and so on. Every call succeeds and allocates
-/// nothing.
+/// codes"), in the form of Leopard-RS. They compute values from coefficients in the basis of subspace polynomials,
+/// separately for each symbol. The points of the values are `skew_delta`, `skew_delta + 1` and so on. Every call
+/// succeeds and allocates nothing.
 ///
 /// A type that provides `fft`, `ifft`, `mul` and `eval_poly` is an engine. The other five calls have default bodies.
 pub trait Engine: Drop {
@@ -144,11 +144,11 @@ pub trait Engine: Drop {
             → symbol (chunk x.new k) s ≡ product (symbol (chunk x.old k) s) (power log_m) }
         ensures counts { RowProductCounts steps.old steps.new };
 
-    /// Adds `y` times the generator to the power `log_m` to `x`, symbol by symbol. 65535 represents the factor zero, as in
-    /// butterflies. Both rows have the same number of chunks.
+    /// Adds `y` times the generator to the power `log_m` to `x`, symbol by symbol. 65535 represents the factor zero, as
+    /// in butterflies. Both rows have the same number of chunks.
     ///
-    /// The default body divides `x` by the factor, adds `y`, and multiplies the sum by the factor. These are three row steps.
-    /// The engines of this library take one.
+    /// The default body divides `x` by the factor, adds `y`, and multiplies the sum by the factor. These are three row
+    /// steps. The engines of this library take one.
     fn mul_add(&self, steps: &mut Steps, x: &mut [[u8; 64]], y: &[[u8; 64]], log_m: GfElement)
         requires { length x.old ≡ length y.now }
         ensures sums { (k s : ℕ) → k < length x.old → s < 32
@@ -165,11 +165,11 @@ pub trait Engine: Drop {
         }
     }
 
-    /// Computes the locator of the marked points, at all points at once: entry x becomes, modulo 65535, the sum over all
-    /// points y other than x of entry y times the logarithm of `x XOR y`.
+    /// Computes the locator of the marked points, at all points at once: entry x becomes, modulo 65535, the sum over
+    /// all points y other than x of entry y times the logarithm of `x XOR y`.
     ///
-    /// There are 65536 entries, and those from `truncated_size` on are 0; `truncated_size` is at most 65536. Only the residue of
-    /// a new entry is fixed: 0 and 65535 both represent zero. The locator is that of Leopard-RS.
+    /// There are 65536 entries, and those from `truncated_size` on are 0; `truncated_size` is at most 65536. Only the
+    /// residue of a new entry is fixed: 0 and 65535 both represent zero. The locator is that of Leopard-RS.
     fn eval_poly(&self, steps: &mut Steps, erasures: &mut [GfElement], truncated_size: usize)
         requires size { length erasures.old ≡ 65536 }
         requires truncated { truncated_size ≤ 65536 }
@@ -178,12 +178,12 @@ pub trait Engine: Drop {
             (λ x. slice_index erasures.new x) }
         ensures counts { LocatorCounts steps.old steps.new };
 
-    /// Computes the locator of marked points among the first ones, at these points. There are as many points as entries, a
-    /// power of two and at most 65536: entry x becomes, modulo 65535, the sum over these points y other than x of entry y times
-    /// the logarithm of `x XOR y`.
+    /// Computes the locator of marked points among the first ones, at these points. There are as many points as
+    /// entries, a power of two and at most 65536: entry x becomes, modulo 65535, the sum over these points y other than
+    /// x of entry y times the logarithm of `x XOR y`.
     ///
-    /// Only the residue of a new entry is fixed: 0 and 65535 both represent zero. The default body makes one `eval_poly` over
-    /// 65536 entries on the stack, with no point after the entries marked.
+    /// Only the residue of a new entry is fixed: 0 and 65535 both represent zero. The default body makes one
+    /// `eval_poly` over 65536 entries on the stack, with no point after the entries marked.
     fn locate(&self, steps: &mut Steps, erasures: &mut [GfElement])
         requires power { (d : ℕ) × (length erasures.old ≡ 2 ^ d) }
         requires few { length erasures.old ≤ 65536 }
@@ -198,11 +198,11 @@ pub trait Engine: Drop {
         erasures.copy_from_slice(&padded[..count]);
     }
 
-    /// Sets each entry of `logs` to the logarithm of its index, except for entry 0, and returns true. Or returns false if
-    /// the engine has no logarithms. There are at most 65536 entries.
+    /// Sets each entry of `logs` to the logarithm of its index, except for entry 0, and returns true. Or returns false
+    /// if the engine has no logarithms. There are at most 65536 entries.
     ///
-    /// A decoder needs logarithms for direct sums. If an engine has none, its decoders always use transforms. The default
-    /// body returns false.
+    /// A decoder needs logarithms for direct sums. If an engine has none, its decoders always use transforms. The
+    /// default body returns false.
     fn logarithms(&self, logs: &mut [GfElement]) -> bool
         requires few { length logs.old ≤ 65536 }
         ensures values { result ≡ true

@@ -20,11 +20,12 @@ pub struct ThreeLogarithms {
     pub log_m23: GfElement,
 }
 
-/// The parts in which engines differ: the tables that they read, the butterflies of two rows, and the products of a row.
+/// The parts in which engines differ: the tables that they read, the butterflies of two rows, and the products of a
+/// row.
 ///
-/// Each type with these parts is an engine: the module `kernel_engine` implements [`Engine`](super::engine::Engine) for it, with
-/// the transforms, the products and the locator. The factor of a butterfly is given by its logarithm `log_m`; 65535 represents the
-/// factor zero.
+/// Each type with these parts is an engine: the module `kernel_engine` implements [`Engine`](super::engine::Engine) for
+/// it, with the transforms, the products and the locator. The factor of a butterfly is given by its logarithm `log_m`;
+/// 65535 represents the factor zero.
 pub trait Kernel: Drop {
     /// Returns the tables of transforms and locators.
     fn tables(&self) -> LentTables<'_>;
@@ -109,8 +110,8 @@ pub trait Kernel: Drop {
         ensures { (k s : ℕ) → k < length x.old → s < 32
             → symbol (chunk x.new k) s ≡ product (symbol (chunk x.old k) s) (power log_m) };
 
-    /// Adds `y` times the factor of a butterfly to `x`; 65535 represents the factor zero. Both rows have the same number of
-    /// chunks.
+    /// Adds `y` times the factor of a butterfly to `x`; 65535 represents the factor zero. Both rows have the same
+    /// number of chunks.
     fn mul_add_row(&self, x: &mut [[u8; 64]], y: &[[u8; 64]], log_m: GfElement)
         requires { length x.old ≡ length y.now }
         ensures { (k s : ℕ) → k < length x.old → s < 32

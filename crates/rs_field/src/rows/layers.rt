@@ -1,4 +1,5 @@
-//! The layers of butterflies that a transform does at once: one, between the halves of its rows, or two, between their quarters.
+//! The layers of butterflies that a transform does at once: one, between the halves of its rows, or two, between their
+//! quarters.
 //!
 //! The forward layers go before the transforms of the parts that they leave, and the backward ones after them.
 ghost use Rattle.std.specs.Prelude.{◌≡◌, ℕ, ◌+◌, ◌*◌, ◌<◌, ◌≤◌, length};

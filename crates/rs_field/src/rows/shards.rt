@@ -23,8 +23,8 @@ pub struct ShardsRefMut<'a> {
 }
 
 impl<'a> ShardsRefMut<'a> {
-    /// Makes a list of `shard_count` rows of `shard_len_64` chunks each, over the first `shard_count * shard_len_64` chunks of
-    /// `data`. Further chunks stay as they are.
+    /// Makes a list of `shard_count` rows of `shard_len_64` chunks each, over the first `shard_count * shard_len_64`
+    /// chunks of `data`. Further chunks stay as they are.
     pub fn new(
         shard_count: usize,
         shard_len_64: usize,
@@ -58,8 +58,8 @@ impl<'a> ShardsRefMut<'a> {
         self.len() == 0
     }
 
-    /// Lends rows `pos` and `pos + dist` for writing. What is written to them is in the list afterwards, and every other row is
-    /// unchanged. `dist` is not 0, and both rows are in the list.
+    /// Lends rows `pos` and `pos + dist` for writing. What is written to them is in the list afterwards, and every
+    /// other row is unchanged. `dist` is not 0, and both rows are in the list.
     pub fn dist2_mut(&mut self, pos: usize, dist: usize) -> (&mut [[u8; 64]], &mut [[u8; 64]])
         requires fits { Fits self.old }
         requires apart { 0 < dist }
@@ -74,8 +74,8 @@ impl<'a> ShardsRefMut<'a> {
         two_runs(self.all(), a, len, b, len)
     }
 
-    /// Lends rows `pos`, `pos + dist`, `pos + 2 * dist` and `pos + 3 * dist` for writing. What is written to them is in the
-    /// list afterwards, and every other row is unchanged. `dist` is not 0, and the four rows are in the list.
+    /// Lends rows `pos`, `pos + dist`, `pos + 2 * dist` and `pos + 3 * dist` for writing. What is written to them is in
+    /// the list afterwards, and every other row is unchanged. `dist` is not 0, and the four rows are in the list.
     pub fn dist4_mut(
         &mut self,
         pos: usize,
@@ -108,8 +108,8 @@ impl<'a> ShardsRefMut<'a> {
         (front.0, front.1, back.0, back.1)
     }
 
-    /// Lends the rows before `mid` and the rows from `mid` on as two lists. What is written to them is in this list afterwards,
-    /// and everything after the rows is unchanged. `mid` is at most the number of rows.
+    /// Lends the rows before `mid` and the rows from `mid` on as two lists. What is written to them is in this list
+    /// afterwards, and everything after the rows is unchanged. `mid` is at most the number of rows.
     pub fn split_at_mut(&mut self, mid: usize) -> (ShardsRefMut<'_>, ShardsRefMut<'_>)
         requires fits { Fits self.old }
         requires within { mid ≤ self.old.shard_count }
@@ -149,8 +149,8 @@ impl<'a> ShardsRefMut<'a> {
         &self.chunks[start..start + self.shard_len_64]
     }
 
-    /// Lends row `index`, which is in the list, for writing. What is written to it is in the list afterwards, and every other
-    /// row is unchanged.
+    /// Lends row `index`, which is in the list, for writing. What is written to it is in the list afterwards, and every
+    /// other row is unchanged.
     pub fn row_mut(&mut self, index: usize) -> &mut [[u8; 64]]
         requires fits { Fits self.old }
         requires within { index < self.old.shard_count }
@@ -181,8 +181,8 @@ impl<'a> ShardsRefMut<'a> {
     }
 }
 
-// Lends the n chunks from a on and the m chunks from b on, by the pointer to the chunks: the checker does not follow a loan
-// through `split_at_mut` if some of the chunks are not lent.
+// Lends the n chunks from a on and the m chunks from b on, by the pointer to the chunks: the checker does not follow a
+// loan through `split_at_mut` if some of the chunks are not lent.
 fn two_runs(
     chunks: &mut [[u8; 64]],
     a: usize,

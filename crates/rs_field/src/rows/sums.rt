@@ -20,8 +20,8 @@ fn xor_chunk(x: &mut [u8; 64], y: &[u8; 64])
     *x = sum(u8x64::from_array(*x), u8x64::from_array(*y)).to_array();
 }
 
-/// Adds `ys` to `xs`, chunk by chunk: each byte becomes its XOR with the byte at the same place, and so each symbol becomes
-/// its sum with the symbol there. Both lists have the same number of chunks.
+/// Adds `ys` to `xs`, chunk by chunk: each byte becomes its XOR with the byte at the same place, and so each symbol
+/// becomes its sum with the symbol there. Both lists have the same number of chunks.
 pub fn xor(xs: &mut [[u8; 64]], ys: &[[u8; 64]])
     requires { length xs.old ≡ length ys.now }
     ensures bytes { (k i : ℕ) → k < length xs.old → i < 64
@@ -54,8 +54,8 @@ fn xor_runs(chunks: &mut [[u8; 64]], a: usize, b: usize, n: usize)
     }
 }
 
-/// Adds `count` rows from `y` on to the rows from `x` on, and counts one row step for each. Both ranges are among the rows
-/// and have no row in common. The second range is unchanged.
+/// Adds `count` rows from `y` on to the rows from `x` on, and counts one row step for each. Both ranges are among the
+/// rows and have no row in common. The second range is unchanged.
 pub fn xor_within(steps: &mut Steps, data: &mut ShardsRefMut<'_>, x: usize, y: usize, count: usize)
     requires fits { Fits «data».old }
     requires apart { (x + count ≤ y) ⊎ (y + count ≤ x) }

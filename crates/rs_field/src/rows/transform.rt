@@ -55,8 +55,8 @@ pub(crate) fn transform<K: Kernel>(
     }
 }
 
-// Transforms the rows of a block of more than four rows. `transform_parts` is inlined into each arm of the match, so that
-// its loop is compiled for one direction.
+// Transforms the rows of a block of more than four rows. `transform_parts` is inlined into each arm of the match, so
+// that its loop is compiled for one direction.
 #[cycle(transform)]
 fn transform_many<K: Kernel>(
     direction: Direction,

@@ -31,13 +31,13 @@ fn products(steps: &mut Steps, entries: &mut [GfElement], factors: &[GfElement])
     }
 }
 
-/// Computes the locator of the marked points, at all points at once: entry x becomes, modulo 65535, the sum over all points
-/// y other than x of entry y times the logarithm of `x XOR y`.
+/// Computes the locator of the marked points, at all points at once: entry x becomes, modulo 65535, the sum over all
+/// points y other than x of entry y times the logarithm of `x XOR y`.
 ///
 /// There are 65536 entries, and those from `truncated_size` on are 0. `log_walsh` is the table of
-/// [`get_log_walsh`](super::tables::get_log_walsh). Only the residue of a new entry is fixed: 0 and 65535 both represent
-/// zero. If the old entries are 0 or 1, the new entry is the logarithm of the locator's value at a point whose entry was 0,
-/// and of the value of its derivative at a point whose entry was 1.
+/// [`get_log_walsh`](super::tables::get_log_walsh). Only the residue of a new entry is fixed: 0 and 65535 both
+/// represent zero. If the old entries are 0 or 1, the new entry is the logarithm of the locator's value at a point
+/// whose entry was 0, and of the value of its derivative at a point whose entry was 1.
 ///
 /// The method is that of Lin, Chung and Han in the form of Leopard-RS: two Walsh-Hadamard transforms and the products
 /// between them. It counts no row step, and at most 1048576 pair sums and 65536 products.
@@ -56,12 +56,12 @@ pub fn eval_poly(
     locate_marked(steps, erasures, truncated_size, log_walsh);
 }
 
-/// Computes the locator of marked points among the first ones, at these points. There are n points, as many as entries: entry
-/// x becomes, modulo 65535, the sum over these points y other than x of entry y times the logarithm of `x XOR y`.
+/// Computes the locator of marked points among the first ones, at these points. There are n points, as many as entries:
+/// entry x becomes, modulo 65535, the sum over these points y other than x of entry y times the logarithm of `x XOR y`.
 ///
 /// n is a power of two, at most 65536. `log_walsh` is the table of
-/// [`get_log_walsh_below`](super::tables::get_log_walsh_below) for n. Only the residue of a new entry is fixed: 0 and 65535
-/// both represent zero. It counts no row step, and at most n * log2 n pair sums and n products.
+/// [`get_log_walsh_below`](super::tables::get_log_walsh_below) for n. Only the residue of a new entry is fixed: 0 and
+/// 65535 both represent zero. It counts no row step, and at most n * log2 n pair sums and n products.
 pub fn locate(steps: &mut Steps, erasures: &mut [GfElement], log_walsh: LogWalsh<'_>)
     requires power { (d : ℕ) × (length erasures.old ≡ 2 ^ d) }
     requires few { length erasures.old ≤ 65536 }

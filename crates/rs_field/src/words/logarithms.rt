@@ -18,8 +18,8 @@ pub(crate) fn put_logarithms(logs: &mut [GfElement], skew: Skew<'_>)
     }
 }
 
-// Returns the logarithm of the word z, if `logs` has the logarithms of all smaller words. The table has the logarithms of
-// the even words. The product of 2i and 2i + 1 is i, so the logarithm of the odd word 2i + 1 is a difference.
+// Returns the logarithm of the word z, if `logs` has the logarithms of all smaller words. The table has the logarithms
+// of the even words. The product of 2i and 2i + 1 is i, so the logarithm of the odd word 2i + 1 is a difference.
 fn next_logarithm(logs: &[GfElement], z: usize, skew: Skew<'_>) -> GfElement
     requires table { IsSkew skew.now }
     requires some { 0 < z }

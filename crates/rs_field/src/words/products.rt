@@ -6,7 +6,8 @@ ghost use Rattle.rs_field.specs.words.Tables.{IsExpLog};
 use super::GfElement;
 use super::table_types::{Exp, Log};
 
-/// Returns `x` times the generator to the power `log_m`. 65535 is the factor one. The tables are those of an [`ExpLog`].
+/// Returns `x` times the generator to the power `log_m`. 65535 is the factor one. The tables are those of an
+/// [`ExpLog`].
 pub fn mul(x: GfElement, log_m: GfElement, exp: Exp<'_>, log: Log<'_>) -> GfElement
     requires { IsExpLog exp.now log.now }
     ensures { result ≡ product x (power log_m) }

@@ -6,9 +6,9 @@ use std::marker::{Model, PhantomData};
 
 /// Counts of row steps, pair sums and products, for proofs only: three whole numbers without an upper limit.
 ///
-/// A row step is one butterfly on two rows, or one sum, product, copy, clearing, tail move or test for zero of a row. A pair
-/// sum is one sum with its difference modulo 65535, and a product one product modulo 65535. A running program cannot read a
-/// count, and no call of `Steps` lowers one.
+/// A row step is one butterfly on two rows, or one sum, product, copy, clearing, tail move or test for zero of a row. A
+/// pair sum is one sum with its difference modulo 65535, and a product one product modulo 65535. A running program
+/// cannot read a count, and no call of `Steps` lowers one.
 #[derive(Drop)]
 pub struct Steps {
     marker: PhantomData<u8>,

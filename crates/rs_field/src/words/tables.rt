@@ -83,8 +83,8 @@ pub fn get_log_walsh(tables: &Tables) -> LogWalsh<'_>
     tables.lent().log_walsh()
 }
 
-/// Returns the transform of the logarithms of the words below `points`, each times 65536 / `points`, for locators at as many
-/// points. `points` is a power of two, at most 65536.
+/// Returns the transform of the logarithms of the words below `points`, each times 65536 / `points`, for locators at as
+/// many points. `points` is a power of two, at most 65536.
 pub fn get_log_walsh_below(tables: &Tables, points: usize) -> LogWalsh<'_>
     requires power { (d : ℕ) × (points ≡ 2 ^ d) }
     requires few { points ≤ 65536 }
@@ -167,8 +167,8 @@ fn push_log_walsh(table: &mut Vec<GfElement>, log: Log<'_>, points: usize) -> Re
     Ok(())
 }
 
-// Appends the logarithms of the words below `points` to the entries of the table, each times 65536 / points: the two transforms
-// of a locator multiply by `points`, and 65536 is one modulo 65535.
+// Appends the logarithms of the words below `points` to the entries of the table, each times 65536 / points: the two
+// transforms of a locator multiply by `points`, and 65536 is one modulo 65535.
 fn push_logs(table: &mut Vec<GfElement>, log: Log<'_>, points: usize) -> Result<(), AllocError>
     requires log { IsLog log.now }
     requires some { 0 < points }

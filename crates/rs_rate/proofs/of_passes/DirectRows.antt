@@ -183,7 +183,8 @@ module _ (given base : ℕ → Bool) (locator : ℕ → ℕ) (w size : ℕ) wher
 
     -- One more row was tested.
     pub one_more_tested : (new : ShardsRefMut) (c : Steps) → given n ≡ true → base n ≡ false → SameExtent mid new
-        → SameRowsOutside n (n + 1) mid new → CountsUpTo (1 + 3 * how_many w base) 0 0 b c → RowsTested (n + 1) old new a c
+        → SameRowsOutside n (n + 1) mid new → CountsUpTo (1 + 3 * how_many w base) 0 0 b c
+        → RowsTested (n + 1) old new a c
     one_more_tested new c is outside extent others counts =
         subst (λ (m : ℕ). RowsTested m old new a c) (sym (add-one n)) (record {
           fits = fits_kept extent before.fits;
@@ -225,4 +226,5 @@ module _ (given base : ℕ → Bool) (locator : ℕ → ℕ) (w size : ℕ) wher
         → CountsUpTo (how_many w (λ p. given p && not (base p)) * (1 + 3 * how_many w base)) 0 0 a b
     counts_tested fit =
         counts_within
-        (mul-le-mul_right (1 + 3 * how_many w base) (how_many-rises n w (λ p. given p && not (base p)) fit)) before.counts
+        (mul-le-mul_right (1 + 3 * how_many w base)
+          (how_many-rises n w (λ p. given p && not (base p)) fit)) before.counts

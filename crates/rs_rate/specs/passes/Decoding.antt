@@ -43,7 +43,7 @@ restore_steps c surplus =
 abbrev pub sum_steps : Configuration → ℕ → ℕ
 sum_steps c sums = sums * (1 + 3 * c.original_count)
 
--- a bound on the row steps of finding the words of the missing originals: three transforms, and three steps for each row
+-- a bound on the row steps of finding the words of the missing originals: three transforms, and three steps a row
 abbrev pub find_steps : Configuration → ℕ
 find_steps c = let w = rows_to_decode c in 3 * transform_steps w + 3 * w
 

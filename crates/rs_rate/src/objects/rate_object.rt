@@ -27,7 +27,8 @@ impl<E: Engine, C: RateMarker, R: ObjectRows + Drop> RateObject<E, C, R> {
     ghost use Rattle.rs_field.specs.code.Outcome.{answer_of};
     ghost use Rattle.rs_rate.specs.values.Configured.{configuration_at};
 
-    /// Makes an object with nothing added, for counts that its rate supports. If a `work` is passed, its memory is used.
+    /// Makes an object with nothing added, for counts that its rate supports. If a `work` is passed, its memory is
+    /// used.
     ///
     /// # Errors
     ///

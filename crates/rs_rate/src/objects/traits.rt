@@ -32,8 +32,8 @@ pub trait Rate<E: Engine>: Sized {
 
     /// Returns whether the rate supports `original_count` originals with `recovery_count` recovery shards.
     ///
-    /// Every rate requires that k = `original_count` and r = `recovery_count` are at least 1. Each rate also has a condition in
-    /// which p(n) is the least power of two that is not below n:
+    /// Every rate requires that k = `original_count` and r = `recovery_count` are at least 1. Each rate also has a
+    /// condition in which p(n) is the least power of two that is not below n:
     ///
     /// | Rate | Condition |
     /// |---|---|
@@ -41,8 +41,8 @@ pub trait Rate<E: Engine>: Sized {
     /// | high | p(r) + k <= 65536 |
     /// | default | min(p(k), p(r)) + max(k, r) <= 65536 |
     ///
-    /// For example, the high rate and the default rate support 61440 originals with 4096 recovery shards, but the low rate does
-    /// not: p(61440) is 65536.
+    /// For example, the high rate and the default rate support 61440 originals with 4096 recovery shards, but the low
+    /// rate does not: p(61440) is 65536.
     fn supports(original_count: usize, recovery_count: usize) -> bool
         ensures { result ≡ supports_counts rate original_count recovery_count }
     {
@@ -148,10 +148,10 @@ pub trait Rate<E: Engine>: Sized {
 
 /// The encoder of a rate, over an engine.
 ///
-/// A round is: add `original_count` originals in order, then call `encode`, which lends the recovery shards. The round ends
-/// inside `encode`: the encoder then has the same configuration with nothing added, whether the result is dropped or
-/// forgotten. The index of an original is its place in the order of adding, counted from 0. A call that fails changes
-/// nothing. Only `new` and `reset` allocate.
+/// A round is: add `original_count` originals in order, then call `encode`, which lends the recovery shards. The round
+/// ends inside `encode`: the encoder then has the same configuration with nothing added, whether the result is dropped
+/// or forgotten. The index of an original is its place in the order of adding, counted from 0. A call that fails
+/// changes nothing. Only `new` and `reset` allocate.
 pub trait RateEncoder<E: Engine>: Sized {
     ghost use Rattle.std.specs.Prelude.{◌≡◌, ◌≢◌, ◌≤◌, ℕ, Err, IfOk, IfSome, OnOk, OnErr};
     ghost use Rattle.std.specs.Borrow.{sem};
@@ -183,8 +183,8 @@ pub trait RateEncoder<E: Engine>: Sized {
     /// The number of chunks for which an encoder has memory.
     ghost room: { Self → ℕ };
 
-    /// Returns whether the rate supports `original_count` originals with `recovery_count` recovery shards. [`Rate::supports`]
-    /// states which counts these are.
+    /// Returns whether the rate supports `original_count` originals with `recovery_count` recovery shards.
+    /// [`Rate::supports`] states which counts these are.
     fn supports(original_count: usize, recovery_count: usize) -> bool
         ensures { result ≡ supports_counts rate original_count recovery_count };
 
@@ -202,7 +202,8 @@ pub trait RateEncoder<E: Engine>: Sized {
         ensures { result
             ≡ validation_outcome (configuration rate original_count recovery_count shard_bytes) };
 
-    /// Makes an encoder with nothing added, for shards of `shard_bytes` bytes. If a `work` is passed, its memory is used.
+    /// Makes an encoder with nothing added, for shards of `shard_bytes` bytes. If a `work` is passed, its memory is
+    /// used.
     ///
     /// # Errors
     ///
@@ -235,9 +236,10 @@ pub trait RateEncoder<E: Engine>: Sized {
     ///
     /// # Errors
     ///
-    /// The errors of [`new`](Self::new), in the same order. After an error the configuration and the added shards are what they
-    /// were. `reset` never fails with [`Error::OutOfMemory`] if the encoder already holds enough memory. That is the case if
-    /// the counts are unchanged and the shard size is not larger, or if the encoder has been this large before.
+    /// The errors of [`new`](Self::new), in the same order. After an error the configuration and the added shards are
+    /// what they were. `reset` never fails with [`Error::OutOfMemory`] if the encoder already holds enough memory. That
+    /// is the case if the counts are unchanged and the shard size is not larger, or if the encoder has been this large
+    /// before.
     fn reset(
         &mut self,
         original_count: usize,
@@ -272,11 +274,11 @@ pub trait RateEncoder<E: Engine>: Sized {
         ensures engine { engine_of self.new ≡ engine_of self.old }
         ensures room { room self.new ≡ room self.old };
 
-    /// Computes the recovery shards of the added originals, lends them, and ends the round. Recovery shards are numbered
-    /// from 0.
+    /// Computes the recovery shards of the added originals, lends them, and ends the round. Recovery shards are
+    /// numbered from 0.
     ///
-    /// The method is the transform of Lin, Chung and Han, in the form of Leopard-RS. With c blocks of m rows, it counts at most
-    /// `(c + 1) * (m/2 * log2 m) + 2 * c * m` row steps on `steps`, no pair sum and no product.
+    /// The method is the transform of Lin, Chung and Han, in the form of Leopard-RS. With c blocks of m rows, it counts
+    /// at most `(c + 1) * (m/2 * log2 m) + 2 * c * m` row steps on `steps`, no pair sum and no product.
     ///
     /// # Errors
     ///
@@ -290,7 +292,8 @@ pub trait RateEncoder<E: Engine>: Sized {
             × (engine_of now ≡ engine_of self.old)
             × (room now ≡ room self.old))) };
 
-    /// Returns the engine and the work. Another encoder can use the work, which has room for this encoder's configuration.
+    /// Returns the engine and the work. Another encoder can use the work, which has room for this encoder's
+    /// configuration.
     fn into_parts(self) -> (E, EncoderWork)
         ensures engine { result.0 ≡ engine_of self }
         ensures room { work_room result.1 ≡ room self }
@@ -308,10 +311,10 @@ pub trait RateEncoder<E: Engine>: Sized {
 
 /// The decoder of a rate, over an engine.
 ///
-/// A round is: add shards by their index, in any order, until at least `original_count` are there; then call `decode`, which
-/// lends the missing originals. The round ends inside `decode`: the decoder then has the same configuration with nothing
-/// added, whether the result is dropped or forgotten. Originals are numbered from 0 in the order in which they were encoded,
-/// and recovery shards are numbered from 0 on their own. A call that fails changes nothing, except for
+/// A round is: add shards by their index, in any order, until at least `original_count` are there; then call `decode`,
+/// which lends the missing originals. The round ends inside `decode`: the decoder then has the same configuration with
+/// nothing added, whether the result is dropped or forgotten. Originals are numbered from 0 in the order in which they
+/// were encoded, and recovery shards are numbered from 0 on their own. A call that fails changes nothing, except for
 /// [`Error::InconsistentShards`], which ends the round. Only `new` and `reset` allocate.
 pub trait RateDecoder<E: Engine>: Sized {
     ghost use Rattle.std.specs.Prelude.{◌≡◌, ◌≢◌, ◌≤◌, ℕ, Err, IfOk, IfSome, OnOk, OnErr};
@@ -344,8 +347,8 @@ pub trait RateDecoder<E: Engine>: Sized {
     /// The numbers of chunks, of rows and of locator entries for which a decoder has memory.
     ghost room: { Self → DecoderRoom };
 
-    /// Returns whether the rate supports `original_count` originals with `recovery_count` recovery shards. [`Rate::supports`]
-    /// states which counts these are.
+    /// Returns whether the rate supports `original_count` originals with `recovery_count` recovery shards.
+    /// [`Rate::supports`] states which counts these are.
     fn supports(original_count: usize, recovery_count: usize) -> bool
         ensures { result ≡ supports_counts rate original_count recovery_count };
 
@@ -363,7 +366,8 @@ pub trait RateDecoder<E: Engine>: Sized {
         ensures { result
             ≡ validation_outcome (configuration rate original_count recovery_count shard_bytes) };
 
-    /// Makes a decoder with nothing added, for shards of `shard_bytes` bytes. If a `work` is passed, its memory is used.
+    /// Makes a decoder with nothing added, for shards of `shard_bytes` bytes. If a `work` is passed, its memory is
+    /// used.
     ///
     /// # Errors
     ///
@@ -396,9 +400,10 @@ pub trait RateDecoder<E: Engine>: Sized {
     ///
     /// # Errors
     ///
-    /// The errors of [`new`](Self::new), in the same order. After an error the configuration and the added shards are what they
-    /// were. `reset` never fails with [`Error::OutOfMemory`] if the decoder already holds enough memory. That is the case if
-    /// the counts are unchanged and the shard size is not larger, or if the decoder has been this large before.
+    /// The errors of [`new`](Self::new), in the same order. After an error the configuration and the added shards are
+    /// what they were. `reset` never fails with [`Error::OutOfMemory`] if the decoder already holds enough memory. That
+    /// is the case if the counts are unchanged and the shard size is not larger, or if the decoder has been this large
+    /// before.
     fn reset(
         &mut self,
         original_count: usize,
@@ -460,7 +465,8 @@ pub trait RateDecoder<E: Engine>: Sized {
     ///
     /// # Errors
     ///
-    /// - [`Error::NotEnoughShards`] if fewer than `original_count` shards were added. The decoder then keeps what was added.
+    /// - [`Error::NotEnoughShards`] if fewer than `original_count` shards were added. The decoder then keeps what was
+    ///   added.
     /// - [`Error::InconsistentShards`] if more than `original_count` shards were added and no message agrees with them
     ///   all. This error ends the round.
     fn decode(&mut self, steps: &mut Steps) -> Result<DecoderResult<'_>, Error>
@@ -472,7 +478,8 @@ pub trait RateDecoder<E: Engine>: Sized {
             × (engine_of now ≡ engine_of self.old)
             × (room now ≡ room self.old))) };
 
-    /// Returns the engine and the work. Another decoder can use the work, which has room for this decoder's configuration.
+    /// Returns the engine and the work. Another decoder can use the work, which has room for this decoder's
+    /// configuration.
     fn into_parts(self) -> (E, DecoderWork)
         ensures engine { result.0 ≡ engine_of self }
         ensures room { work_room result.1 ≡ room self }

@@ -22,8 +22,8 @@ use std::alloc::Global;
 /// The most bytes of a piece that [`add_change`] takes.
 const MOST_BYTES: usize = 2048;
 
-/// Returns a logarithm for each recovery shard. If the original with this index changes, each word of recovery shard i changes
-/// by the change of the original's word times the generator to the power of logarithm i.
+/// Returns a logarithm for each recovery shard. If the original with this index changes, each word of recovery shard i
+/// changes by the change of the original's word times the generator to the power of logarithm i.
 ///
 /// # Errors
 ///
@@ -85,8 +85,8 @@ fn recovery_factors(alloc: Global, base: &SumBase, x: usize) -> Result<Vec<GfEle
     Ok(factors)
 }
 
-/// Adds a piece of a change, times a factor, to the same piece of a recovery shard. Both pieces have the same even number of
-/// bytes, at most 2048. `log_m` is the logarithm of the factor, below 65535.
+/// Adds a piece of a change, times a factor, to the same piece of a recovery shard. Both pieces have the same even
+/// number of bytes, at most 2048. `log_m` is the logarithm of the factor, below 65535.
 pub fn add_change<E: Engine>(
     engine: &E,
     steps: &mut Steps,

@@ -31,7 +31,8 @@ use rs_field::engine::{Engine, GfElement, ShardsRefMut, Steps};
 use rs_field::error::Error;
 use rs_field::frame::Frame;
 
-// Restores the missing originals and returns their number, or fails if no message agrees with all given shards. The round ends.
+// Restores the missing originals and returns their number, or fails if no message agrees with all given shards. The
+// round ends.
 pub(crate) fn decode_rows<E: Engine>(
     engine: &E,
     steps: &mut Steps,
@@ -74,9 +75,9 @@ pub(crate) fn decode_rows<E: Engine>(
     answer
 }
 
-// Restores the missing originals in their rows if some message agrees with all given shards, and returns whether one does. If
-// all originals and no recovery shards are given, there is nothing to restore. Afterwards the marks are those of restored
-// originals. `entries` is memory for the locator.
+// Restores the missing originals in their rows if some message agrees with all given shards, and returns whether one
+// does. If all originals and no recovery shards are given, there is nothing to restore. Afterwards the marks are those
+// of restored originals. `entries` is memory for the locator.
 #[tactic(auto, unfolding(crate::specs::values::ChunkCounts::chunk_count))]
 fn restore<E: Engine>(
     engine: &E,
@@ -130,8 +131,8 @@ pub(crate) fn make_locator<E: Engine>(
     are_words(entries);
 }
 
-// Sets the entries of the erased rows to 1 and all other entries to 0. A row is erased if it is not known to be zero and its
-// shard is not given.
+// Sets the entries of the erased rows to 1 and all other entries to 0. A row is erased if it is not known to be zero
+// and its shard is not given.
 fn mark_erased(entries: &mut [GfElement], given: &[bool], frame: Frame)
     requires marked { length entries.old ≤ length given.now }
     ensures rows { (row : ℕ) → row < length entries.old
@@ -144,8 +145,8 @@ fn mark_erased(entries: &mut [GfElement], given: &[bool], frame: Frame)
     }
 }
 
-// Restores the words of the missing originals if some message agrees with all given shards, and returns whether one does.
-// Afterwards the marks are those of restored originals.
+// Restores the words of the missing originals if some message agrees with all given shards, and returns whether one
+// does. Afterwards the marks are those of restored originals.
 fn find_words<E: Engine>(
     engine: &E,
     steps: &mut Steps,
@@ -171,9 +172,9 @@ fn find_words<E: Engine>(
     restore_rows(engine, steps, rows, marks, entries, tally)
 }
 
-// Restores the words of the missing originals by direct sums over k given shards, if the other given shards agree with these.
-// Returns whether they do. Afterwards the marks are those of restored originals. Returns `None` if transforms cost less, if
-// sums could take more steps, or if the engine has no logarithms. Then nothing has changed.
+// Restores the words of the missing originals by direct sums over k given shards, if the other given shards agree with
+// these. Returns whether they do. Afterwards the marks are those of restored originals. Returns `None` if transforms
+// cost less, if sums could take more steps, or if the engine has no logarithms. Then nothing has changed.
 fn find_by_sums<E: Engine>(
     engine: &E,
     steps: &mut Steps,

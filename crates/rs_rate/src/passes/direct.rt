@@ -1,11 +1,11 @@
-//! The decoding of a round by direct sums: each word of a missing original is the sum of the words of k given shards, the
-//! base, each times a factor. If the given shards belong to one message, each word of a given shard outside the base is such
-//! a sum too, and the decoder checks this. If there are few such shards and few missing originals, this takes less time than
-//! transforms, unless the shards are very short.
+//! The decoding of a round by direct sums: each word of a missing original is the sum of the words of k given shards,
+//! the base, each times a factor. If the given shards belong to one message, each word of a given shard outside the
+//! base is such a sum too, and the decoder checks this. If there are few such shards and few missing originals, this
+//! takes less time than transforms, unless the shards are very short.
 //!
-//! The factors come from Lagrange's formula for the polynomial of a column times the locator of the erased rows. The points
-//! of the rows are all words below a power of two, so the formula needs no weights. At an erased row, the derivative of this
-//! product is the missing word times the derivative of the locator.
+//! The factors come from Lagrange's formula for the polynomial of a column times the locator of the erased rows. The
+//! points of the rows are all words below a power of two, so the formula needs no weights. At an erased row, the
+//! derivative of this product is the missing word times the derivative of the locator.
 ghost use Rattle.std.specs.Prelude.{◌≡◌, ◌≢◌, ℕ, ◌+◌, ◌*◌, ◌/◌, ◌%◌, ◌^◌, ◌<◌, ◌≤◌, ◌↔◌, not, true, false, length};
 ghost use Rattle.std.specs.Prelude.{slice_index, bit_xor, if◌then◌else◌, IsTrue};
 ghost use Rattle.rs_field.specs.code.Frame.{original_row};
@@ -77,8 +77,8 @@ pub(crate) fn are_sums_used(tally: Tally) -> bool
         && are_sums_within_steps(configuration, sums)
 }
 
-// Returns whether this number of sums is within the steps of transforms, also with an engine that takes three row steps to
-// add a multiple of a row.
+// Returns whether this number of sums is within the steps of transforms, also with an engine that takes three row steps
+// to add a multiple of a row.
 fn are_sums_within_steps(configuration: Configuration, sums: usize) -> bool
     requires configured { IsConfigured configuration }
     requires few { sums ≤ 131072 }
@@ -106,8 +106,8 @@ pub(crate) fn mark_base(base: &mut [bool], given: &[bool], count: usize)
     }
 }
 
-// Returns whether the given rows outside the base are equal to their direct sums over the base. If they are, sets the rows of
-// the missing originals to their direct sums. Rows of the base do not change.
+// Returns whether the given rows outside the base are equal to their direct sums over the base. If they are, sets the
+// rows of the missing originals to their direct sums. Rows of the base do not change.
 pub(crate) fn sum_rows<E: Engine>(
     engine: &E,
     steps: &mut Steps,
@@ -148,8 +148,8 @@ pub(crate) fn sum_rows<E: Engine>(
     agrees
 }
 
-// For each given row outside the base, adds the direct sum over the base to the row. Stops at the first row that is not zero
-// after the addition. Returns whether all these rows are zero, so that each of them was equal to its sum.
+// For each given row outside the base, adds the direct sum over the base to the row. Stops at the first row that is not
+// zero after the addition. Returns whether all these rows are zero, so that each of them was equal to its sum.
 fn are_equal_to_sums<E: Engine>(
     engine: &E,
     steps: &mut Steps,
@@ -190,8 +190,8 @@ fn are_equal_to_sums<E: Engine>(
     true
 }
 
-// Adds the direct sum over the base to row y, which is not in the base. Returns whether the row is zero after the addition. It
-// is zero exactly if it was equal to its sum. The check counts one row step.
+// Adds the direct sum over the base to row y, which is not in the base. Returns whether the row is zero after the
+// addition. It is zero exactly if it was equal to its sum. The check counts one row step.
 fn is_equal_to_sum<E: Engine>(
     engine: &E,
     steps: &mut Steps,

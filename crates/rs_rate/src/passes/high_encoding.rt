@@ -1,5 +1,5 @@
-//! The coding of the high rate. The recovery shards are values at the points of the first block. The originals are values
-//! at the points after this block.
+//! The coding of the high rate. The recovery shards are values at the points of the first block. The originals are
+//! values at the points after this block.
 ghost use Rattle.std.specs.Prelude.{◌≡◌, ℕ, ◌+◌, ◌*◌, ◌%◌, ◌^◌, ◌<◌, ◌≤◌, true};
 ghost use Rattle.rs_field.specs.words.StepBounds.{CountsUpTo, transform_steps};
 ghost use Rattle.rs_field.specs.code.Counts.{next_power, supports, high_rate};
@@ -37,7 +37,8 @@ pub(crate) fn code_high<E: Engine>(
     engine.fft(steps, rows, 0, block, recovery_count, 0);
 }
 
-// Transforms each block of originals backward into the coefficients of its combination, and sums these in the first block.
+// Transforms each block of originals backward into the coefficients of its combination, and sums these in the first
+// block.
 fn sum_blocks<E: Engine>(
     engine: &E,
     steps: &mut Steps,
@@ -68,8 +69,8 @@ fn sum_blocks<E: Engine>(
     }
 }
 
-// Transforms the `block` rows from `start` on backward. They become the coefficients of the combination whose values are the
-// originals of these rows, at the points from `start + block` on, and zero after them.
+// Transforms the `block` rows from `start` on backward. They become the coefficients of the combination whose values
+// are the originals of these rows, at the points from `start + block` on, and zero after them.
 fn pass_block<E: Engine>(
     engine: &E,
     steps: &mut Steps,

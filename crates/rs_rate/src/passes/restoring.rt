@@ -28,8 +28,8 @@ use rs_field::engine::layout::is_zero_row;
 use rs_field::engine::rows::{clear_rows, mul_row_at};
 use rs_field::engine::{Engine, GF_MODULUS, GfElement, ShardsRefMut, Steps};
 
-// Restores the words of the missing originals if some message agrees with all given shards, and returns whether one does.
-// Afterwards the marks are those of restored originals.
+// Restores the words of the missing originals if some message agrees with all given shards, and returns whether one
+// does. Afterwards the marks are those of restored originals.
 pub(crate) fn restore_rows<E: Engine>(
     engine: &E,
     steps: &mut Steps,
@@ -60,8 +60,8 @@ pub(crate) fn restore_rows<E: Engine>(
     agrees
 }
 
-// Replaces the given words by the coefficients of the polynomial through the located words, and returns whether the last
-// coefficients, as many as there are surplus shards, are zero.
+// Replaces the given words by the coefficients of the polynomial through the located words, and returns whether the
+// last coefficients, as many as there are surplus shards, are zero.
 fn interpolate<E: Engine>(
     engine: &E,
     steps: &mut Steps,
@@ -88,8 +88,8 @@ fn interpolate<E: Engine>(
     are_zero_rows(steps, rows, first, configuration.shard_bytes)
 }
 
-// Multiplies the given rows by the powers of the generator that the locator gives for their points, and clears the other rows.
-// Each row counts at most one row step.
+// Multiplies the given rows by the powers of the generator that the locator gives for their points, and clears the
+// other rows. Each row counts at most one row step.
 fn locate_rows<E: Engine>(
     engine: &E,
     steps: &mut Steps,
@@ -117,8 +117,8 @@ fn locate_rows<E: Engine>(
     }
 }
 
-// Returns whether all rows from row `first` on are zero in each column of shards of this size. Each row that is checked counts
-// one row step.
+// Returns whether all rows from row `first` on are zero in each column of shards of this size. Each row that is checked
+// counts one row step.
 fn are_zero_rows(
     steps: &mut Steps,
     rows: &ShardsRefMut<'_>,
@@ -144,8 +144,8 @@ fn are_zero_rows(
     true
 }
 
-// Divides the rows of the missing originals by the powers of the generator that the locator gives for their points. Each row
-// counts at most one row step.
+// Divides the rows of the missing originals by the powers of the generator that the locator gives for their points.
+// Each row counts at most one row step.
 fn reveal_rows<E: Engine>(
     engine: &E,
     steps: &mut Steps,

@@ -119,8 +119,8 @@ fn marked_rows(alloc: Global, marks: &[bool], count: usize) -> Result<Vec<usize>
     Ok(rows)
 }
 
-// Sets each entry except for entry 0 to the logarithm of its index, modulo 65535: the locator of point 0 at the other points.
-// All entries are 0 before.
+// Sets each entry except for entry 0 to the logarithm of its index, modulo 65535: the locator of point 0 at the other
+// points. All entries are 0 before.
 pub(crate) fn locate_zero<E: Engine>(
     engine: &E,
     steps: &mut Steps,
@@ -145,9 +145,9 @@ pub fn clear_sum(sum: &mut [[u8; 64]])
     }
 }
 
-/// Adds a piece of a shard, times a factor, to a sum of pieces of its size. `sum` holds the words of the sum: it has one chunk
-/// of 64 bytes for every 64 bytes of the piece, and one for the rest. The size of the piece is even. `log_m` is the logarithm
-/// of the factor, below 65535.
+/// Adds a piece of a shard, times a factor, to a sum of pieces of its size. `sum` holds the words of the sum: it has
+/// one chunk of 64 bytes for every 64 bytes of the piece, and one for the rest. The size of the piece is even. `log_m`
+/// is the logarithm of the factor, below 65535.
 pub fn add_times<E: Engine>(
     engine: &E,
     steps: &mut Steps,

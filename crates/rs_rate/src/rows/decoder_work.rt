@@ -94,9 +94,9 @@ impl DecoderMemory {
         }
     }
 
-    // Allocates memory that is laid out for a configuration, without given shards. The function is not inlined: if it were, the
-    // compiler would treat the clearing as rarely executed and would not use `memset`. The chunks are allocated last,
-    // because clearing them removes from the cache what other allocations read.
+    // Allocates memory that is laid out for a configuration, without given shards. The function is not inlined: if it
+    // were, the compiler would treat the clearing as rarely executed and would not use `memset`. The chunks are
+    // allocated last, because clearing them removes from the cache what other allocations read.
     #[inline(never)]
     fn new(alloc: Global, configuration: Configuration) -> Result<DecoderMemory, Error>
         requires { IsConfigured configuration }
@@ -116,7 +116,8 @@ impl DecoderMemory {
         })
     }
 
-    // Returns memory that is laid out for a configuration, without given shards. If there is a `work`, its memory is used.
+    // Returns memory that is laid out for a configuration, without given shards. If there is a `work`, its memory is
+    // used.
     #[inline(always)]
     fn laid_out(
         alloc: Global,
@@ -160,8 +161,8 @@ impl DecoderMemory {
         make_room(&mut self.entries, rows)
     }
 
-    // Lays the memory out for a configuration, without given shards. All memory is allocated first. The entries of the locator may have
-    // any values, because each decode writes them.
+    // Lays the memory out for a configuration, without given shards. All memory is allocated first. The entries of the
+    // locator may have any values, because each decode writes them.
     fn lay_out(&mut self, configuration: Configuration) -> Result<(), Error>
         requires { IsConfigured configuration }
         ensures laid_out { OnOk result (IsLaidOut configuration self.new) }
@@ -185,8 +186,8 @@ impl DecoderMemory {
         Ok(())
     }
 
-    // Enters a shard of `shard_bytes` bytes in row `row`: lays it into the row, and marks the row. Fails with `repeated`
-    // if the row holds a given shard, and then with `DifferentShardSize`.
+    // Enters a shard of `shard_bytes` bytes in row `row`: lays it into the row, and marks the row. Fails with
+    // `repeated` if the row holds a given shard, and then with `DifferentShardSize`.
     fn enter(
         &mut self,
         row: usize,
@@ -348,8 +349,8 @@ impl DecoderRows {
         Ok(())
     }
 
-    // Adds a recovery shard: copies it into its row and marks the row. Fails with `InvalidRecoveryShardIndex`, then with
-    // `DuplicateRecoveryShardIndex`, then with `DifferentShardSize`.
+    // Adds a recovery shard: copies it into its row and marks the row. Fails with `InvalidRecoveryShardIndex`, then
+    // with `DuplicateRecoveryShardIndex`, then with `DifferentShardSize`.
     pub(crate) fn add_recovery_shard(&mut self, index: usize, shard: &[u8]) -> Result<(), Error>
         ensures answer { (rate : Rate)
             → result ≡ answer_of (with_recovery (decoder_state rate self.old) index shard.now) }

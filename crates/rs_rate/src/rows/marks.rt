@@ -1,5 +1,5 @@
-//! The marks of a decoder's rows. While shards are added, they say which rows hold given shards. After a decode they say
-//! which rows hold restored originals.
+//! The marks of a decoder's rows. While shards are added, they say which rows hold given shards. After a decode they
+//! say which rows hold restored originals.
 ghost use Rattle.std.specs.Prelude.{◌≡◌, ◌≢◌, ℕ, ◌^◌, ◌<◌, ◌≤◌, ◌⊎◌, not, true, false, length, IfOk, IfErr, OnOk};
 ghost use Rattle.rs_field.specs.rows.MarkedRows.{is_marked};
 ghost use Rattle.rs_rate.specs.rows.Marks.{given_marks, restored_marks, mark_count, mark_room, AreSameMarks};

@@ -41,8 +41,8 @@ pub(crate) fn set_length<T: Copy>(items: &mut Vec<T>, count: usize, item: T)
     let _ = items.resize(count, item);
 }
 
-// Sets the number of chunks, for which there must be room. Added chunks are zeros. If the function is inlined and the vector
-// is a local variable, this becomes a `memset`.
+// Sets the number of chunks, for which there must be room. Added chunks are zeros. If the function is inlined and the
+// vector is a local variable, this becomes a `memset`.
 #[inline(always)]
 pub(crate) fn set_chunks(chunks: &mut Vec<[u8; 64]>, count: usize)
     requires { count ≤ vec_capacity chunks.old }

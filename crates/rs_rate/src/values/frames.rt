@@ -112,8 +112,8 @@ pub(crate) fn high_frame(original_count: usize, recovery_count: usize) -> Option
     Some(with_high_blocks(original_count, recovery_count, block_rows))
 }
 
-// Returns whether the default rate is the low rate for these counts: its blocks are smaller than those of the high rate,
-// or the blocks are equal and there are more originals than recovery shards.
+// Returns whether the default rate is the low rate for these counts: its blocks are smaller than those of the high
+// rate, or the blocks are equal and there are more originals than recovery shards.
 fn default_is_low(original_count: usize, recovery_count: usize) -> bool
     requires originals { original_count ≤ 65536 }
     requires recovery { recovery_count ≤ 65536 }

@@ -1,4 +1,5 @@
-//! The three rates as types. A rate decides which counts it supports, and whether it is the low or the high rate for them.
+//! The three rates as types. A rate decides which counts it supports, and whether it is the low or the high rate for
+//! them.
 ghost use Rattle.std.specs.Prelude.{◌≡◌};
 ghost use Rattle.rs_field.specs.code.Counts.{Rate as WhichRate, low_rate, high_rate, default_rate};
 ghost use Rattle.rs_rate.specs.values.Configured.{frame_if};

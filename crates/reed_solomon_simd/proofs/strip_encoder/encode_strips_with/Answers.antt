@@ -5,7 +5,8 @@ use Rattle.rs_field.specs.code.OneCall.{default_of}
 use Rattle.rs_field.proofs.of_code.Pieces.{done-none, done-further, done-all}
 use Rattle.rs_rate.specs.rows.EncoderView.{encoder_state}
 use Rattle.reed_solomon_simd.proofs.StripLoops.{cut-first, strip-next, cut-last}
-use Rattle.reed_solomon_simd.proofs.strip_encoder.encode_strips_with.Goals.{then-left-width+in_ok-reset, else-left-width}
+use Rattle.reed_solomon_simd.proofs.strip_encoder.encode_strips_with.Goals.{then-left-width+in_ok-reset}
+use Rattle.reed_solomon_simd.proofs.strip_encoder.encode_strips_with.Goals.{else-left-width}
 use Rattle.reed_solomon_simd.proofs.strip_encoder.encode_strips_with.Goals as goal
 
 pub loop-start-init : goal.loop-start-init
