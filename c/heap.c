@@ -1,7 +1,7 @@
-/* The memory of the library, over malloc. Each block lies at a multiple of 64, where rows of shards are coded fastest: malloc gives
-   64 bytes more, and the byte before a block is the distance from where malloc's own block begins. (aligned_alloc takes several
-   times as long as malloc.) A host with an allocator of its own links these three functions from an object of its own, all three,
-   before the library. */
+/* The memory of the library, over malloc. Each block lies at a multiple of 64, where rows of shards are coded fastest:
+   malloc gives 64 bytes more, and the byte before a block is the distance from where malloc's own block begins.
+   (aligned_alloc takes several times as long as malloc.) A host with an allocator of its own links these three
+   functions from an object of its own, all three, before the library. */
 #include <stdbool.h>
 #include <stdint.h>
 #include <stdlib.h>

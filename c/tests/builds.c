@@ -1,12 +1,12 @@
-/* The builds that one library for x86-64 holds, side by side: the same tables, and the same bytes of encodes and decodes, each over the
-   tables that another build made. It needs a processor that can run all of them. */
+/* The builds that one library for x86-64 holds, side by side: the same tables, and the same bytes of encodes and
+   decodes, each over the tables that another build made. It needs a processor that can run all of them. */
 #include "reed_solomon_simd.h"
 
 #include <stdio.h>
 #include <stdlib.h>
 #include <string.h>
 
-#define DECLARED(level) \
+#define DECLARED(level)                                \
     __typeof__(rs_tables_make) rs_tables_make_##level; \
     __typeof__(rs_encode) rs_encode_##level;           \
     __typeof__(rs_decode) rs_decode_##level
@@ -40,11 +40,13 @@ static void message(size_t k, size_t r, size_t size) {
     for (int build = 0; build < BUILDS; build++) {
         const struct rs_tables *others = tables[(build + 1) % BUILDS];
         struct rs_fault fault;
-        if (encodes[build](others, k, r, size, originals, k * size, recovery[build], r * size, &fault)) wrong("no encode", build);
+        if (encodes[build](others, k, r, size, originals, k * size, recovery[build], r * size, &fault))
+            wrong("no encode", build);
         if (memcmp(recovery[build], recovery[0], r * size)) wrong("other recovery shards", build);
         memcpy(restored, originals, k * size);
         memset(restored, '?', lost * size);
-        if (decodes[build](others, k, r, size, restored, k * size, recovery[build], r * size, marks, k + r, &fault)) wrong("no decode", build);
+        if (decodes[build](others, k, r, size, restored, k * size, recovery[build], r * size, marks, k + r, &fault))
+            wrong("no decode", build);
         if (memcmp(restored, originals, k * size)) wrong("other originals", build);
     }
 }

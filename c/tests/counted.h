@@ -1,4 +1,5 @@
-/* A malloc of the test's own, which counts the requests of each thread, and those of one size. Its memory is not used again. */
+/* A malloc of the test's own, which counts the requests of each thread, and those of one size. Its memory is not used
+   again. */
 #include <stddef.h>
 #include <string.h>
 

@@ -1,4 +1,5 @@
-/* The allocator of the library by itself. With the word `refused` it runs where memory is limited: it wants a refusal. */
+/* The allocator of the library by itself. With the word `refused` it runs where memory is limited: it wants a refusal.
+ */
 #include <stdbool.h>
 #include <stdint.h>
 #include <stdio.h>
@@ -32,8 +33,8 @@ static uint8_t *filled(size_t size) {
     return bytes;
 }
 
-/* A block that changes its size keeps its first bytes, and lies at a multiple of 64. The distances from malloc's blocks differ,
-   since malloc gives `apart` bytes in between. */
+/* A block that changes its size keeps its first bytes, and lies at a multiple of 64. The distances from malloc's blocks
+   differ, since malloc gives `apart` bytes in between. */
 static void resized(size_t from, size_t to, size_t apart) {
     uint8_t *old = filled(from);
     void *between = malloc(apart);
@@ -63,7 +64,8 @@ static void refusals(size_t size) {
 int main(int count, char **words) {
     static const size_t sizes[] = {1, 16, 64, 1000, 1023, 1024, 1025, 4096, 100000, 1000000};
     struct tried empty = rattle_alloc(0, 1), other = rattle_alloc(0, 16);
-    if (!empty.ok || !other.ok || !empty.at || !other.at || empty.at == other.at) wrong("a block of no byte has no place of its own");
+    if (!empty.ok || !other.ok || !empty.at || !other.at || empty.at == other.at)
+        wrong("a block of no byte has no place of its own");
     rattle_dealloc(empty.at);
     rattle_dealloc(other.at);
     for (size_t i = 0; i < sizeof sizes / sizeof *sizes; i++)

@@ -1,5 +1,5 @@
-/* What several tests share: the tables, the end of a test that fails, memory, random numbers, and the values of a fault. A test defines
-   TEST as its name before it includes this file. */
+/* What several tests share: the tables, the end of a test that fails, memory, random numbers, and the values of a
+   fault. A test defines TEST as its name before it includes this file. */
 #include "reed_solomon_simd.h"
 
 #include <stdio.h>

@@ -1,6 +1,6 @@
-/* The library over an allocator of this program's. Each request for memory is refused in turn, a call makes as many requests as are
-   recorded here, and all that was taken comes back, after a refusal too. The C layer is built with RS_STACK_BYTES=0, so that no block lies
-   on the stack. */
+/* The library over an allocator of this program's. Each request for memory is refused in turn, a call makes as many
+   requests as are recorded here, and all that was taken comes back, after a refusal too. The C layer is built with
+   RS_STACK_BYTES=0, so that no block lies on the stack. */
 #include "reed_solomon_simd.h"
 
 #include <stdbool.h>
@@ -13,11 +13,25 @@ struct tried {
     void *at;
 };
 
-/* How many requests for memory the calls make. rs_decode has rows, and rs_decode_shards sums the received shards, because few are lost. */
-enum { TABLES = 6, ENCODE = 1, ENCODE_SHARDS = 1, DECODE = 4, DECODE_SHARDS = 7, RECONSTRUCT = 9, VERIFY = 3, VERIFY_FEWER = 5, UPDATE = 5 };
-/* With a surplus shard, a decode restores to vectors first: the list of them, and each vector. rs_decode then sums, too: it has two requests
-   more than with rows. */
+/* How many requests for memory the calls make. rs_decode has rows, and rs_decode_shards sums the received shards,
+   because few are lost. */
+enum {
+    TABLES = 6,
+    ENCODE = 1,
+    ENCODE_SHARDS = 1,
+    DECODE = 4,
+    DECODE_SHARDS = 7,
+    RECONSTRUCT = 9,
+    VERIFY = 3,
+    VERIFY_FEWER = 5,
+    UPDATE = 5
+};
+/* With a surplus shard, a decode restores to vectors first: the list of them, and each vector. rs_decode then sums,
+   too: it has two requests more than with rows. */
 enum { LIST = 1, SUMS = 2 };
+/* The calls over received shards first make a list of the originals and one of the recovery shards. With two lost
+   originals and rooms that do not fit, a decode makes a list and two vectors. */
+enum { LISTS = 2, RESTORED = LIST + 2 };
 
 static long requests, refused, blocks;
 /* How many bytes the blocks have, and the most that they had. */
@@ -157,7 +171,8 @@ static uint32_t update(void) {
     const uint8_t *own = originals + size;
     struct rs_room to[2] = {{recovery, size}, {recovery + size, size}};
     struct rs_fault fault;
-    uint32_t answer = rs_update(tables, 3, 2, 1, is_changed ? other : own, size, is_changed ? own : other, size, to, 2, &fault);
+    uint32_t answer =
+        rs_update(tables, 3, 2, 1, is_changed ? other : own, size, is_changed ? own : other, size, to, 2, &fault);
     if (!answer) is_changed = !is_changed;
     return answer == fault.number ? answer : 99;
 }
@@ -191,6 +206,63 @@ static uint32_t decode_none_anywhere(void) {
     struct rs_shard all[3] = {{2, originals, size}, {0, originals, size}, {1, originals, size}};
     struct rs_fault fault;
     uint32_t answer = rs_decode_shards(tables, 3, 2, all, 3, all, 0, NULL, 0, &fault);
+    return answer == fault.number ? answer : 99;
+}
+
+/* Calls over arrays in which a pointer is NULL, so that each of these arrays is copied. */
+static uint32_t decode_nothing_anywhere(void) {
+    const struct rs_shard all[3] = {{2, NULL, 0}, {0, originals, size}, {1, NULL, 0}};
+    struct rs_fault fault;
+    uint32_t answer = rs_decode_shards(tables, 3, 2, all, 3, NULL, 0, NULL, 0, &fault);
+    return answer == fault.number ? answer : 99;
+}
+
+static uint32_t encode_with_null(void) {
+    const struct rs_bytes from[3] = {{originals, size}, {NULL, 0}, {originals, size}};
+    const struct rs_room to[2] = {{NULL, 0}, {recovery, size}};
+    struct rs_fault fault;
+    uint32_t answer = rs_encode_shards(tables, 3, 2, from, 3, to, 2, &fault);
+    return answer == fault.number ? answer : 99;
+}
+
+static uint32_t decode_with_null(void) {
+    const struct rs_shard own[2] = {{1, originals, size}, {0, NULL, 0}}, other[2] = {{1, recovery, size}, {0, NULL, 0}};
+    const struct rs_room to[1] = {{NULL, 0}};
+    struct rs_fault fault;
+    uint32_t answer = rs_decode_shards(tables, 3, 2, own, 2, other, 2, to, 1, &fault);
+    return answer == fault.number ? answer : 99;
+}
+
+/* The shards fit, and the rooms do not. */
+static uint32_t decode_into_null(void) {
+    const struct rs_shard own = {1, originals + size, size};
+    const struct rs_shard other[2] = {{1, recovery + size, size}, {0, recovery, size}};
+    const struct rs_room to[2] = {{originals, size}, {NULL, 0}};
+    struct rs_fault fault;
+    uint32_t answer = rs_decode_shards(tables, 3, 2, &own, 1, other, 2, to, 2, &fault);
+    return answer == fault.number ? answer : 99;
+}
+
+static uint32_t verify_with_null(void) {
+    const struct rs_shard own[2] = {{1, originals, size}, {0, NULL, 0}}, other[2] = {{1, recovery, size}, {0, NULL, 0}};
+    struct rs_fault fault;
+    uint32_t answer = rs_verify(tables, 3, 2, own, 2, other, 2, &fault);
+    return answer == fault.number ? answer : 99;
+}
+
+static uint32_t reconstruct_with_null(void) {
+    const struct rs_shard own[2] = {{1, originals, size}, {0, NULL, 0}}, other[2] = {{1, recovery, size}, {0, NULL, 0}};
+    const struct rs_wanted wanted = {RS_ORIGINAL, 2};
+    const struct rs_room to = {NULL, 0};
+    struct rs_fault fault;
+    uint32_t answer = rs_reconstruct(tables, 3, 2, own, 2, other, 2, &wanted, 1, &to, 1, &fault);
+    return answer == fault.number ? answer : 99;
+}
+
+static uint32_t update_with_null(void) {
+    const struct rs_room to[2] = {{recovery, size}, {NULL, 0}};
+    struct rs_fault fault;
+    uint32_t answer = rs_update(tables, 3, 2, 1, originals, size, originals, size, to, 2, &fault);
     return answer == fault.number ? answer : 99;
 }
 
@@ -231,7 +303,8 @@ static void refusals(void) {
     refused_call(rs_encode(tables, 3, 2, 1201, originals, 3600, recovery, 2400, &fault), RS_WRONG_LENGTH);
     refused_call(rs_encode(tables, 3, 2, 3, originals, 9, recovery, 6, &fault), RS_INVALID_SHARD_SIZE);
     refused_call(rs_decode(tables, 3, 2, 1200, originals, 3600, recovery, 2400, few, 5, &fault), RS_NOT_ENOUGH_SHARDS);
-    refused_call(rs_decode(tables, 3, 2, 1200, originals, 3600, recovery, 2400, all, 5, &fault), RS_INCONSISTENT_SHARDS);
+    refused_call(rs_decode(tables, 3, 2, 1200, originals, 3600, recovery, 2400, all, 5, &fault),
+                 RS_INCONSISTENT_SHARDS);
     refused_call(rs_encode_shards(tables, 3, 2, from, 0, to, 2, &fault), RS_TOO_FEW_ORIGINAL_SHARDS);
     refused_call(rs_encode_shards(tables, 3, 2, from, 2, to, 2, &fault), RS_TOO_FEW_ORIGINAL_SHARDS);
     refused_call(rs_encode_shards(tables, 3, 2, from, 3, to, 2, &fault), RS_DIFFERENT_SHARD_SIZE);
@@ -252,7 +325,8 @@ static void refusals(void) {
     free(unmade);
 }
 
-/* 100 originals of 1 MiB, 30 recovery shards, and 30 originals lost: beside the tables and the shards, a call holds 4 MiB at most. */
+/* 100 originals of 1 MiB, 30 recovery shards, and 30 originals lost: beside the tables and the shards, a call holds 4
+   MiB at most. */
 static void bounded(void) {
     enum { K = 100, R = 30, SIZE = 1 << 20, MOST = 4 << 20 };
     uint8_t *shards = malloc((size_t)(K + R) * SIZE), *restored = malloc((size_t)R * SIZE), marks[K + R];
@@ -273,7 +347,8 @@ static void bounded(void) {
     if (rs_encode_shards(tables, K, R, from, K, to, R, &fault)) wrong("a long encode fails");
     if (most_held - held > MOST) wrong("rs_encode_shards holds more than 4 MiB");
     most_held = held;
-    if (rs_encode(tables, K, R, SIZE, shards, (size_t)K * SIZE, shards + (size_t)K * SIZE, (size_t)R * SIZE, &fault)) wrong("a long encode fails");
+    if (rs_encode(tables, K, R, SIZE, shards, (size_t)K * SIZE, shards + (size_t)K * SIZE, (size_t)R * SIZE, &fault))
+        wrong("a long encode fails");
     if (most_held - held > MOST) wrong("rs_encode holds more than 4 MiB");
     most_held = held;
     if (rs_decode_shards(tables, K, R, own, K - R, other, R, back, R, &fault)) wrong("a long decode fails");
@@ -283,7 +358,8 @@ static void bounded(void) {
     memset(marks, 1, sizeof marks);
     memset(marks, 0, R);
     most_held = held;
-    if (rs_decode(tables, K, R, SIZE, shards, (size_t)K * SIZE, shards + (size_t)K * SIZE, (size_t)R * SIZE, marks, K + R, &fault))
+    if (rs_decode(tables, K, R, SIZE, shards, (size_t)K * SIZE, shards + (size_t)K * SIZE, (size_t)R * SIZE, marks,
+                  K + R, &fault))
         wrong("a long decode fails");
     if (most_held - held > MOST) wrong("rs_decode holds more than 4 MiB");
     if (memcmp(shards, restored, (size_t)R * SIZE)) wrong("a long decode restores other bytes in their places");
@@ -307,13 +383,14 @@ static uint32_t counted(uint32_t (*call)(void)) {
     return answer;
 }
 
-/* Makes a call, and refuses each of its requests for memory in turn. */
-static void each(const char *name, uint32_t (*call)(void), void *written, size_t length, long number) {
+/* Makes a call, and refuses each of its requests for memory in turn. With all of them, the call returns `last`. */
+static void each_before(uint32_t last, const char *name, uint32_t (*call)(void), void *written, size_t length,
+                        long number) {
     uint8_t *before = copy_of(written, length);
     for (refused = 1;; refused++) {
         uint32_t answer = counted(call);
         if (requests < refused) {
-            if (answer) wrong("a call with memory is refused");
+            if (answer != last) wrong("a call with memory is refused");
             if (requests != number) wrong("a call makes another number of requests");
             break;
         }
@@ -325,8 +402,12 @@ static void each(const char *name, uint32_t (*call)(void), void *written, size_t
     free(before);
 }
 
-/* Makes a call over inconsistent shards, and refuses each of its requests for memory in turn. The call checks the shards before it
- * fails because one of the `results` requests for results is refused. */
+static void each(const char *name, uint32_t (*call)(void), void *written, size_t length, long number) {
+    each_before(RS_OK, name, call, written, length, number);
+}
+
+/* Makes a call over inconsistent shards, and refuses each of its requests for memory in turn. The call checks the
+   shards before it fails because one of the `results` requests for results is refused. */
 static void inconsistent(const char *name, uint32_t (*call)(void), void *written, size_t length, long results) {
     uint8_t *before = copy_of(written, length);
     long found = 0;
@@ -346,6 +427,11 @@ static void inconsistent(const char *name, uint32_t (*call)(void), void *written
     free(before);
 }
 
+/* Changes the last byte of a shard, or changes it back. */
+static void change_last_byte(uint8_t *shard) {
+    shard[size - 1] ^= 1;
+}
+
 /* Messages of one size: each request of each call refused, and what was lost comes back. */
 static void messages(void) {
     memset(originals, 7, sizeof originals);
@@ -356,19 +442,19 @@ static void messages(void) {
     for (int anywhere = 0; anywhere < 2; anywhere++) {
         memset(originals, 1, size);
         memset(originals + 2 * size, 1, size);
-        each(anywhere ? "rs_decode_shards" : "rs_decode", anywhere ? decode_shards : decode, originals, sizeof originals,
-             anywhere ? DECODE_SHARDS : DECODE);
+        each(anywhere ? "rs_decode_shards" : "rs_decode", anywhere ? decode_shards : decode, originals,
+             sizeof originals, anywhere ? DECODE_SHARDS : DECODE);
         memset(originals, 1, size);
         each(anywhere ? "rs_decode_shards with a surplus shard" : "rs_decode with a surplus shard",
              anywhere ? decode_shards_surplus : decode_surplus, originals, sizeof originals,
              (anywhere ? DECODE_SHARDS : DECODE + SUMS) + LIST + 1);
         for (size_t n = 0; n < 3 * size; n++)
             if (originals[n] != 7) wrong("not what was encoded");
-        originals[2 * size - 1] ^= 1;
+        change_last_byte(originals + size);
         if (!anywhere) inconsistent("rs_reconstruct", reconstruct_surplus, recovery, sizeof recovery, LIST + 1);
-        inconsistent(anywhere ? "rs_decode_shards" : "rs_decode", anywhere ? decode_shards_surplus : decode_surplus, originals,
-                     sizeof originals, LIST + 1);
-        originals[2 * size - 1] ^= 1;
+        inconsistent(anywhere ? "rs_decode_shards" : "rs_decode", anywhere ? decode_shards_surplus : decode_surplus,
+                     originals, sizeof originals, LIST + 1);
+        change_last_byte(originals + size);
     }
     memset(recovery, 1, size);
     memset(originals + 2 * size, 1, size);
@@ -377,6 +463,20 @@ static void messages(void) {
     each("rs_update back", update, recovery, sizeof recovery, UPDATE);
     each("rs_verify", verify_whole, originals, sizeof originals, VERIFY);
     each("rs_verify without an original", verify_two, originals, sizeof originals, VERIFY_FEWER);
+}
+
+/* Arrays with NULL: first each copy is refused, in turn, and then what the call requests before it finds the fault. */
+static void arrays_with_null(void) {
+    static const uint32_t differs = RS_DIFFERENT_SHARD_SIZE, too_short = RS_WRONG_LENGTH;
+    enum { BYTES = sizeof originals, OTHERS = sizeof recovery };
+    each("rs_decode_shards of originals of no bytes", decode_nothing_anywhere, originals, BYTES, 1);
+    each_before(differs, "rs_encode_shards with NULL", encode_with_null, recovery, OTHERS, 2);
+    each_before(differs, "rs_decode_shards with NULL", decode_with_null, originals, BYTES, 3 + LISTS);
+    each_before(too_short, "rs_decode_shards into NULL", decode_into_null, originals, BYTES,
+                1 + DECODE_SHARDS + RESTORED);
+    each_before(differs, "rs_verify with NULL", verify_with_null, originals, BYTES, 2 + LISTS);
+    each_before(differs, "rs_reconstruct with NULL", reconstruct_with_null, originals, BYTES, 3 + LISTS);
+    each_before(too_short, "rs_update with NULL", update_with_null, recovery, OTHERS, 1);
 }
 
 int main(void) {
@@ -397,6 +497,7 @@ int main(void) {
     each("rs_decode_shards without recovery shards", decode_none_anywhere, originals, sizeof originals, 0);
     each("rs_fault_text", text_made, text, sizeof text, 0);
     each("rs_supports", supports, text, sizeof text, 0);
+    arrays_with_null();
     refusals();
     bounded();
     free(tables);

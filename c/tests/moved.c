@@ -1,5 +1,5 @@
-/* The allocator of the library over a malloc whose blocks move at each change of their size, and have guarded ends. This file includes the
-   allocator, so that it calls the functions below instead of those of the C library. */
+/* The allocator of the library over a malloc whose blocks move at each change of their size, and have guarded ends.
+   This file includes the allocator, so that it calls the functions below instead of those of the C library. */
 #include <stdint.h>
 #include <stdio.h>
 #include <stdlib.h>
@@ -12,8 +12,8 @@ static void wrong(const char *what) {
     exit(1);
 }
 
-/* A block with GUARD bytes before it, which hold its size and the distance from its memory, and GUARD bytes after it. The blocks lie at
-   changing distances from a multiple of 64. */
+/* A block with GUARD bytes before it, which hold its size and the distance from its memory, and GUARD bytes after it.
+   The blocks lie at changing distances from a multiple of 64. */
 static void *guarded(size_t size) {
     static size_t number;
     size_t distance = GUARD + number++ % 4 * 16;

@@ -1,9 +1,8 @@
-/* The shared object, opened by dlopen: the first call of a thread with work memory requests nothing from malloc. The word is the path of the
-   shared object. */
+/* The shared object, opened by dlopen: the first call of a thread with work memory requests nothing from malloc. The
+   word is the path of the shared object. */
 #include "counted.h"
 #include "reed_solomon_simd.h"
 
-#include <dlfcn.h>
 #include <pthread.h>
 #include <stdio.h>
 #include <stdlib.h>
@@ -17,12 +16,7 @@ static void wrong(const char *what) {
     exit(1);
 }
 
-/* The address of a call. */
-static void *call(void *library, const char *name) {
-    void *at = dlsym(library, name);
-    if (!at) wrong(name);
-    return at;
-}
+#include "symbols.h"
 
 static void *first_call(void *recovery) {
     static const uint8_t originals[6] = {2, 0, 0, 0, 4, 0};

@@ -1,5 +1,5 @@
-/* rs_verify, rs_reconstruct and rs_update. Words: `rounds SEED COUNT MOST`, with at most MOST originals and recovery shards, and MOST at
-   most 3000; `pairs FILE`; `refusals`. */
+/* rs_verify, rs_reconstruct and rs_update. Words: `rounds SEED COUNT MOST`, with at most MOST originals and recovery
+   shards, and MOST at most 3000; `pairs FILE`; `refusals`. */
 #define TEST "received"
 #include "helpers.h"
 
@@ -24,7 +24,8 @@ static struct message made_of(size_t k, size_t r, size_t size, uint64_t *state) 
         m.order[i] = m.order[other];
         m.order[other] = i;
     }
-    if (rs_encode(tables, m.k, m.r, m.size, m.shards, m.k * m.size, m.shards + m.k * m.size, m.r * m.size, NULL)) wrong("an encode fails");
+    if (rs_encode(tables, m.k, m.r, m.size, m.shards, m.k * m.size, m.shards + m.k * m.size, m.r * m.size, NULL))
+        wrong("an encode fails");
     return m;
 }
 
@@ -53,7 +54,8 @@ static uint32_t verified(const struct message *m, const struct received *a, stru
     return rs_verify(tables, m->k, m->r, a->shards[0], a->counts[0], a->shards[1], a->counts[1], fault);
 }
 
-/* Reconstructs the shards of the order from place `from` on, and compares them, or the unchanged rooms if the call fails. */
+/* Reconstructs the shards of the order from place `from` on, and compares them, or the unchanged rooms if the call
+   fails. */
 static uint32_t reconstructed(const struct message *m, const struct received *a, size_t from, struct rs_fault *fault) {
     static struct rs_wanted wanted[2 * MOST_SHARDS];
     static struct rs_room rooms[2 * MOST_SHARDS];
@@ -66,9 +68,11 @@ static uint32_t reconstructed(const struct message *m, const struct received *a,
         rooms[count].bytes = memset(room(m->size), '#', m->size);
         rooms[count].length = m->size;
     }
-    answer = rs_reconstruct(tables, m->k, m->r, a->shards[0], a->counts[0], a->shards[1], a->counts[1], wanted, count, rooms, count, fault);
+    answer = rs_reconstruct(tables, m->k, m->r, a->shards[0], a->counts[0], a->shards[1], a->counts[1], wanted, count,
+                            rooms, count, fault);
     for (size_t i = 0; i < count; i++) {
-        if (!answer && memcmp(rooms[i].bytes, m->shards + m->order[from + i] * m->size, m->size)) wrong("another shard is reconstructed");
+        if (!answer && memcmp(rooms[i].bytes, m->shards + m->order[from + i] * m->size, m->size))
+            wrong("another shard is reconstructed");
         for (size_t j = 0; answer && j < m->size; j++)
             if (rooms[i].bytes[j] != '#') wrong("a call that fails has written");
         free(rooms[i].bytes);
@@ -85,15 +89,18 @@ static void update(struct message *m, uint64_t *state) {
     struct rs_fault fault = {99, 99, 99, 99};
     for (size_t i = 0; i < m->size; i++) original[i] = (uint8_t)(drawn(state) >> 24);
     for (size_t i = 0; i < m->r; i++) rooms[i].bytes = updated + i * m->size, rooms[i].length = m->size;
-    if (rs_update(tables, m->k, m->r, index, before, m->size, original, m->size, rooms, m->r, &fault) || !told(&fault, RS_OK, 0, 0, 0))
+    if (rs_update(tables, m->k, m->r, index, before, m->size, original, m->size, rooms, m->r, &fault) ||
+        !told(&fault, RS_OK, 0, 0, 0))
         wrong("an update fails");
-    if (rs_encode(tables, m->k, m->r, m->size, m->shards, m->k * m->size, recovery, length, NULL)) wrong("an encode fails");
+    if (rs_encode(tables, m->k, m->r, m->size, m->shards, m->k * m->size, recovery, length, NULL))
+        wrong("an encode fails");
     if (memcmp(updated, recovery, length)) wrong("an update makes other recovery shards than an encode");
     free(before);
     free(updated);
 }
 
-/* A round with a message of random counts. In each second round, at most four shards are wanted and at most one is surplus. */
+/* A round with a message of random counts. In each second round, at most four shards are wanted and at most one is
+   surplus. */
 static void round_of(uint64_t *state, size_t most) {
     struct message m = made(state, most);
     update(&m, state);
@@ -103,12 +110,15 @@ static void round_of(uint64_t *state, size_t most) {
     struct received a = first_of(&m, count);
     struct rs_fault fault = {99, 99, 99, 99};
     if (verified(&m, &a, &fault) || !told(&fault, RS_OK, 0, 0, 0)) wrong("shards of one message are refused");
-    if (reconstructed(&m, &a, from, &fault) || !told(&fault, RS_OK, 0, 0, 0)) wrong("wanted shards aren't reconstructed");
+    if (reconstructed(&m, &a, from, &fault) || !told(&fault, RS_OK, 0, 0, 0))
+        wrong("wanted shards aren't reconstructed");
     if (count > m.k) {
         uint8_t *damaged = m.shards + m.order[drawn(state) % count] * m.size + drawn(state) % m.size;
         *damaged ^= (uint8_t)(1 + drawn(state) % 255);
-        if (verified(&m, &a, &fault) != RS_INCONSISTENT_SHARDS || !told(&fault, RS_INCONSISTENT_SHARDS, a.counts[0], a.counts[1], 0) ||
-            reconstructed(&m, &a, from, &fault) != RS_INCONSISTENT_SHARDS || reconstructed(&m, &a, from, NULL) != RS_INCONSISTENT_SHARDS)
+        if (verified(&m, &a, &fault) != RS_INCONSISTENT_SHARDS ||
+            !told(&fault, RS_INCONSISTENT_SHARDS, a.counts[0], a.counts[1], 0) ||
+            reconstructed(&m, &a, from, &fault) != RS_INCONSISTENT_SHARDS ||
+            reconstructed(&m, &a, from, NULL) != RS_INCONSISTENT_SHARDS)
             wrong("a damaged shard isn't noticed");
     }
     free(m.shards);
@@ -122,7 +132,8 @@ static uint64_t digest(const uint8_t *from, size_t length) {
     return digest;
 }
 
-/* The shards of a codeword at these two places are lost, and come back. If both places are the same, one shard is lost. */
+/* The shards of a codeword at these two places are lost, and come back. If both places are the same, one shard is lost.
+ */
 static void lose(struct message *m, size_t first, size_t second) {
     struct rs_fault fault = {99, 99, 99, 99};
     size_t count = 0;
@@ -131,11 +142,12 @@ static void lose(struct message *m, size_t first, size_t second) {
     m->order[count] = first;
     m->order[m->k + m->r - 1] = second;
     struct received a = first_of(m, count);
-    if (verified(m, &a, &fault) || reconstructed(m, &a, count, &fault) || !told(&fault, RS_OK, 0, 0, 0)) wrong("lost shards don't come back");
+    if (verified(m, &a, &fault) || reconstructed(m, &a, count, &fault) || !told(&fault, RS_OK, 0, 0, 0))
+        wrong("lost shards don't come back");
 }
 
-/* Every lost shard, and every pair of lost shards, for all counts up to 12:12. The file has a digest of each codeword, which the Rust crate
-   has made. So the shards that come back are compared with those of the crate. */
+/* Every lost shard, and every pair of lost shards, for all counts up to 12:12. The file has a digest of each codeword,
+   which the Rust crate has made. So the shards that come back are compared with those of the crate. */
 static void pairs(const char *name) {
     FILE *file = fopen(name, "r");
     char line[160];
@@ -148,7 +160,8 @@ static void pairs(const char *name) {
         struct message m = made_of(k, r, 66, &state);
         if (digest(m.shards, (k + r) * 66) != wanted) wrong("a codeword isn't that of the Rust crate");
         for (size_t first = 0; first < k + r; first++)
-            for (size_t second = first; second < (r > 1 ? k + r : first + 1); second++, count++) lose(&m, first, second);
+            for (size_t second = first; second < (r > 1 ? k + r : first + 1); second++, count++)
+                lose(&m, first, second);
         free(m.shards);
         free(m.order);
         codewords++;
@@ -164,18 +177,20 @@ static struct rs_shard own[4], other[3];
 static struct rs_room rooms[3];
 
 /* Both calls over these numbers of shards fail with this fault, and write nothing. */
-static void refused(size_t k, size_t r, const struct rs_shard *o, size_t on, const struct rs_shard *q, size_t qn, uint32_t number,
-                    size_t first, size_t second, size_t third) {
+static void refused(size_t k, size_t r, const struct rs_shard *o, size_t on, const struct rs_shard *q, size_t qn,
+                    uint32_t number, size_t first, size_t second, size_t third) {
     const struct rs_wanted wanted = {RS_RECOVERY, 1};
     struct rs_fault fault = {99, 99, 99, 99}, again = fault;
-    if (rs_verify(tables, k, r, o, on, q, qn, &fault) != number || !told(&fault, number, first, second, third)) wrong("a verification fails with another fault");
-    if (rs_reconstruct(tables, k, r, o, on, q, qn, &wanted, 1, rooms, 1, &again) != number || !told(&again, number, first, second, third))
+    if (rs_verify(tables, k, r, o, on, q, qn, &fault) != number || !told(&fault, number, first, second, third))
+        wrong("a verification fails with another fault");
+    if (rs_reconstruct(tables, k, r, o, on, q, qn, &wanted, 1, rooms, 1, &again) != number ||
+        !told(&again, number, first, second, third))
         wrong("a reconstruction fails with another fault");
 }
 
 /* A reconstruction from all originals fails with this fault. */
-static void unwanted(const struct rs_wanted *wanted, size_t count, size_t places, uint32_t number, size_t first, size_t second, size_t third,
-                     const char *text) {
+static void unwanted(const struct rs_wanted *wanted, size_t count, size_t places, uint32_t number, size_t first,
+                     size_t second, size_t third, const char *text) {
     struct rs_fault fault = {99, 99, 99, 99};
     char got[128];
     if (rs_reconstruct(tables, 3, 2, own, 3, NULL, 0, wanted, count, rooms, places, &fault) != number ||
@@ -185,8 +200,8 @@ static void unwanted(const struct rs_wanted *wanted, size_t count, size_t places
 }
 
 /* An update fails with this fault, and changes nothing. */
-static void not_updated(size_t k, size_t r, size_t index, size_t before, size_t after, size_t places, uint32_t number, size_t first,
-                        size_t second, size_t third) {
+static void not_updated(size_t k, size_t r, size_t index, size_t before, size_t after, size_t places, uint32_t number,
+                        size_t first, size_t second, size_t third) {
     struct rs_fault fault = {99, 99, 99, 99};
     if (rs_update(tables, k, r, index, bytes, before, bytes + 4, after, rooms, places, &fault) != number ||
         !told(&fault, number, first, second, third) ||
@@ -195,8 +210,9 @@ static void not_updated(size_t k, size_t r, size_t index, size_t before, size_t 
 }
 
 static void refusals(void) {
-    const struct rs_wanted large[2] = {{RS_RECOVERY, 0}, {RS_ORIGINAL, 3}}, larger = {RS_RECOVERY, 2}, twice[3] = {{1, 1}, {1, 0}, {7, 1}},
-                           taken = {RS_ORIGINAL, 2}, both[2] = {{RS_RECOVERY, 0}, {RS_RECOVERY, 1}}, twice_original[2] = {{0, 0}, {0, 0}};
+    const struct rs_wanted large[2] = {{RS_RECOVERY, 0}, {RS_ORIGINAL, 3}}, larger = {RS_RECOVERY, 2},
+                           twice[3] = {{1, 1}, {1, 0}, {7, 1}}, taken = {RS_ORIGINAL, 2},
+                           both[2] = {{RS_RECOVERY, 0}, {RS_RECOVERY, 1}}, twice_original[2] = {{0, 0}, {0, 0}};
     static const struct rs_tables unmade;
     uint8_t before[28];
     for (size_t i = 0; i < sizeof bytes; i++) bytes[i] = (uint8_t)(i * 7);
@@ -220,13 +236,15 @@ static void refusals(void) {
     other[1].index = 1, other[1].length = 2;
     refused(3, 2, own, 2, other, 2, RS_DIFFERENT_SHARD_SIZE, 4, 2, 3);
     unwanted(large, 2, 2, RS_WANTED_INDEX_TOO_LARGE, 3, 3, RS_ORIGINAL, "wanted index too large: original 3, count 3");
-    unwanted(&larger, 1, 0, RS_WANTED_INDEX_TOO_LARGE, 2, 2, RS_RECOVERY, "wanted index too large: recovery shard 2, count 2");
+    unwanted(&larger, 1, 0, RS_WANTED_INDEX_TOO_LARGE, 2, 2, RS_RECOVERY,
+             "wanted index too large: recovery shard 2, count 2");
     unwanted(twice, 3, 3, RS_WANTED_TWICE, 1, RS_RECOVERY, 0, "shard wanted twice: recovery shard 1");
     unwanted(&taken, 1, 1, RS_WANTED_RECEIVED, 2, RS_ORIGINAL, 0, "wanted shard was received: original 2");
     unwanted(twice_original, 2, 2, RS_WANTED_RECEIVED, 0, RS_ORIGINAL, 0, "wanted shard was received: original 0");
     unwanted(both, 2, 1, RS_WRONG_NUMBER_OF_ROOMS, 2, 1, 0, "wrong number of rooms: expected 2, got 1");
     unwanted(both, 2, 2, RS_WRONG_LENGTH, 4, 2, 1, "wrong length: expected 4 bytes, got 2 bytes");
-    if (rs_reconstruct(tables, 3, 2, own, 3, NULL, 0, NULL, 0, NULL, 0, NULL)) wrong("nothing is wanted, and it is refused");
+    if (rs_reconstruct(tables, 3, 2, own, 3, NULL, 0, NULL, 0, NULL, 0, NULL))
+        wrong("nothing is wanted, and it is refused");
     not_updated(3, 0, 7, 3, 4, 0, RS_UNSUPPORTED_SHARD_COUNT, 3, 0, 0);
     not_updated(3, 2, 7, 3, 4, 0, RS_INVALID_SHARD_SIZE, 3, 0, 0);
     not_updated(3, 2, 3, 4, 2, 0, RS_INVALID_ORIGINAL_SHARD_INDEX, 3, 3, 0);
@@ -248,12 +266,9 @@ int main(int count, char **words) {
         uint64_t state = strtoull(words[2], NULL, 10);
         for (unsigned long n = strtoul(words[3], NULL, 10); n > 0; n--) round_of(&state, most);
         puts("received: rounds");
-    } else if (count == 3 && !strcmp(words[1], "pairs"))
-        pairs(words[2]);
-    else if (count == 2 && !strcmp(words[1], "refusals"))
-        refusals();
-    else
-        wrong("no such words");
+    } else if (count == 3 && !strcmp(words[1], "pairs")) pairs(words[2]);
+    else if (count == 2 && !strcmp(words[1], "refusals")) refusals();
+    else wrong("no such words");
     free(at);
     return 0;
 }

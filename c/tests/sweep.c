@@ -1,5 +1,5 @@
-/* Counts by sizes that users have, over buffers and over arrays: encodes, loses as many originals as can be lost, decodes, compares.
-   What a case takes in all stays below 512 MiB. */
+/* Counts by sizes that users have, over buffers and over arrays: encodes, loses as many originals as can be lost,
+   decodes, compares. What a case takes in all stays below 512 MiB. */
 #include "reed_solomon_simd.h"
 
 #include <stdio.h>
@@ -47,7 +47,8 @@ static void over_buffers(struct message *m) {
     struct rs_fault fault;
     uint8_t *marks = malloc(k + r);
     if (!marks) wrong("no memory for the test", k, r, size);
-    if (rs_encode(tables, k, r, size, m->originals, k * size, m->recovery, r * size, &fault)) wrong("rs_encode fails", k, r, size);
+    if (rs_encode(tables, k, r, size, m->originals, k * size, m->recovery, r * size, &fault))
+        wrong("rs_encode fails", k, r, size);
     memcpy(m->copy, m->originals, k * size);
     memset(marks, 1, k + r);
     for (size_t i = 0; i < m->lost; i++) {
@@ -57,7 +58,8 @@ static void over_buffers(struct message *m) {
     }
     /* As many recovery shards are lost as can be: the first ones. */
     for (size_t i = 0; i < r - m->lost; i++) marks[k + i] = 0;
-    if (rs_decode(tables, k, r, size, m->copy, k * size, m->recovery, r * size, marks, k + r, &fault)) wrong("rs_decode fails", k, r, size);
+    if (rs_decode(tables, k, r, size, m->copy, k * size, m->recovery, r * size, marks, k + r, &fault))
+        wrong("rs_decode fails", k, r, size);
     if (memcmp(m->copy, m->originals, k * size)) wrong("rs_decode restores other bytes", k, r, size);
     free(marks);
 }
@@ -74,7 +76,8 @@ static void over_arrays(struct message *m) {
     if (rs_encode_shards(tables, k, r, from, k, rooms, r, &fault)) wrong("rs_encode_shards fails", k, r, size);
     if (memcmp(m->other, m->recovery, r * size)) wrong("rs_encode_shards and rs_encode differ", k, r, size);
     /* The first originals are lost, and the last recovery shards. */
-    for (size_t i = m->lost; i < k; i++, own++) given[own].index = i, given[own].bytes = m->originals + i * size, given[own].length = size;
+    for (size_t i = m->lost; i < k; i++, own++)
+        given[own].index = i, given[own].bytes = m->originals + i * size, given[own].length = size;
     for (size_t i = 0; i < m->lost; i++) {
         other[i].index = m->lost - 1 - i;
         other[i].bytes = m->other + other[i].index * size;
@@ -82,7 +85,8 @@ static void over_arrays(struct message *m) {
         rooms[i].bytes = memset(m->copy + i * size, '?', size);
         rooms[i].length = size;
     }
-    if (rs_decode_shards(tables, k, r, given, own, other, m->lost, rooms, m->lost, &fault)) wrong("rs_decode_shards fails", k, r, size);
+    if (rs_decode_shards(tables, k, r, given, own, other, m->lost, rooms, m->lost, &fault))
+        wrong("rs_decode_shards fails", k, r, size);
     if (memcmp(m->copy, m->originals, m->lost * size)) wrong("rs_decode_shards restores other bytes", k, r, size);
     free(from);
     free(rooms);
@@ -91,7 +95,8 @@ static void over_arrays(struct message *m) {
 }
 
 static void swept(size_t k, size_t r, size_t size) {
-    struct message m = {k, r, size, k < r ? k : r, malloc(k * size), malloc(r * size), malloc(k * size), malloc(r * size)};
+    struct message m =
+        {k, r, size, k < r ? k : r, malloc(k * size), malloc(r * size), malloc(k * size), malloc(r * size)};
     if (!m.originals || !m.recovery || !m.copy || !m.other) wrong("no memory for the test", k, r, size);
     draw(m.originals, k * size, k * 1000003 + size);
     over_buffers(&m);

@@ -1,4 +1,5 @@
-/* The library from C. Words: `rows FILE..` reads cases of rs_cases; `refusals`; `rounds SEED COUNT`; `pieces SEED COUNT`; `mixes SEED COUNT`; `threads`. */
+/* The library from C. Words: `rows FILE..` reads cases of rs_cases; `refusals`; `rounds SEED COUNT`; `pieces SEED
+   COUNT`; `mixes SEED COUNT`; `threads`. */
 #define _DEFAULT_SOURCE
 #define TEST "test"
 #include "helpers.h"
@@ -96,8 +97,10 @@ static uint32_t decode_anywhere(const struct message *m, uint8_t *restored, stru
 static uint32_t encode(const struct message *m, struct rs_fault *fault) {
     struct rs_fault other;
     uint8_t *recovery = room(m->r * m->size);
-    uint32_t answer = rs_encode(tables, m->k, m->r, m->size, m->originals, m->k * m->size, m->recovery, m->r * m->size, fault);
-    if (encode_anywhere(m, recovery, &other) != answer || !told(fault, other.number, other.first, other.second, other.third) ||
+    uint32_t answer =
+        rs_encode(tables, m->k, m->r, m->size, m->originals, m->k * m->size, m->recovery, m->r * m->size, fault);
+    if (encode_anywhere(m, recovery, &other) != answer ||
+        !told(fault, other.number, other.first, other.second, other.third) ||
         (!answer && memcmp(recovery, m->recovery, m->r * m->size)))
         wrong("two encodes differ");
     free(recovery);
@@ -108,12 +111,14 @@ static uint32_t encode(const struct message *m, struct rs_fault *fault) {
 static uint32_t decode(const struct message *m, struct rs_fault *fault) {
     struct rs_fault other;
     uint8_t *restored = copied(m->originals, m->k * m->size);
-    uint32_t answer = rs_decode(tables, m->k, m->r, m->size, m->originals, m->k * m->size, m->recovery, m->r * m->size, m->marks,
-                                m->k + m->r, fault);
-    if (decode_anywhere(m, restored, &other) != answer || !told(fault, other.number, other.first, other.second, other.third))
+    uint32_t answer = rs_decode(tables, m->k, m->r, m->size, m->originals, m->k * m->size, m->recovery, m->r * m->size,
+                                m->marks, m->k + m->r, fault);
+    if (decode_anywhere(m, restored, &other) != answer ||
+        !told(fault, other.number, other.first, other.second, other.third))
         wrong("two decodes differ");
     for (size_t i = 0; i < m->k * m->size; i++)
-        if (!m->marks[i / m->size] && restored[i] != (answer ? '#' : m->originals[i])) wrong("two decodes differ in bytes");
+        if (!m->marks[i / m->size] && restored[i] != (answer ? '#' : m->originals[i]))
+            wrong("two decodes differ in bytes");
     free(restored);
     return answer;
 }
@@ -147,7 +152,8 @@ static void row_encodes(char *words) {
         i++;
     }
     if (i != k + r) wrong("a case has another number of shards");
-    if (encode(&m, &fault) || !told(&fault, 0, 0, 0, 0) || memcmp(m.recovery, wanted.recovery, r * size)) wrong("a row isn't encoded so");
+    if (encode(&m, &fault) || !told(&fault, 0, 0, 0, 0) || memcmp(m.recovery, wanted.recovery, r * size))
+        wrong("a row isn't encoded so");
     let_go(&m);
     let_go(&wanted);
 }
@@ -171,7 +177,8 @@ static void row_decodes(char *words) {
             read_shard(shard + 1, wanted.originals + i * size, size);
         }
     }
-    if (decode(&m, &fault) || !told(&fault, 0, 0, 0, 0) || memcmp(m.originals, wanted.originals, k * size)) wrong("a row isn't decoded so");
+    if (decode(&m, &fault) || !told(&fault, 0, 0, 0, 0) || memcmp(m.originals, wanted.originals, k * size))
+        wrong("a row isn't decoded so");
     let_go(&m);
     let_go(&wanted);
 }
@@ -194,21 +201,24 @@ static void rows(const char *name) {
 }
 
 /* A refused call: its fault, with the buffers as they were. */
-static void refused(const struct message *m, int decodes, size_t originals, size_t recovery, size_t marks, uint32_t number,
-                    size_t first, size_t second, size_t third) {
+static void refused(const struct message *m, int decodes, size_t originals, size_t recovery, size_t marks,
+                    uint32_t number, size_t first, size_t second, size_t third) {
     static const uint8_t none[1];
     uint8_t *old[2] = {room(originals), room(recovery)};
     struct rs_fault fault = {99, 99, 99, 99};
     uint32_t answer;
     memcpy(old[0], m->originals ? m->originals : none, originals);
     memcpy(old[1], m->recovery ? m->recovery : none, recovery);
-    answer = decodes ? rs_decode(tables, m->k, m->r, m->size, m->originals, originals, m->recovery, recovery, m->marks, marks, &fault)
+    answer = decodes ? rs_decode(tables, m->k, m->r, m->size, m->originals, originals, m->recovery, recovery, m->marks,
+                                 marks, &fault)
                      : rs_encode(tables, m->k, m->r, m->size, m->originals, originals, m->recovery, recovery, &fault);
     if (answer != number || !told(&fault, number, first, second, third)) {
-        printf("test: %" PRIu32 " %zu %zu %zu told, wanted %" PRIu32 "\n", fault.number, fault.first, fault.second, fault.third, number);
+        printf("test: %" PRIu32 " %zu %zu %zu told, wanted %" PRIu32 "\n", fault.number, fault.first, fault.second,
+               fault.third, number);
         wrong("another fault");
     }
-    if (memcmp(old[0], m->originals, originals) || memcmp(old[1], m->recovery, recovery)) wrong("a refused call has written");
+    if (memcmp(old[0], m->originals, originals) || memcmp(old[1], m->recovery, recovery))
+        wrong("a refused call has written");
     free(old[0]);
     free(old[1]);
 }
@@ -217,10 +227,12 @@ struct given {
     size_t index, size;
 };
 
-/* A refused call over arrays: shards of these indexes and sizes, and rooms of these sizes, each array up to an entry of size END. */
+/* A refused call over arrays: shards of these indexes and sizes, and rooms of these sizes, each array up to an entry of
+   size END. */
 #define END ((size_t)-1)
-static void refused_anywhere(int decodes, size_t k, size_t r, const struct given *originals, const struct given *recovery,
-                             const size_t *lengths, uint32_t number, size_t first, size_t second, size_t third) {
+static void refused_anywhere(int decodes, size_t k, size_t r, const struct given *originals,
+                             const struct given *recovery, const size_t *lengths, uint32_t number, size_t first,
+                             size_t second, size_t third) {
     const struct given *given[2] = {originals, recovery};
     struct rs_shard shards[2][8];
     struct rs_bytes bytes[8];
@@ -242,10 +254,12 @@ static void refused_anywhere(int decodes, size_t k, size_t r, const struct given
         rooms[counts[2]].length = lengths[counts[2]];
         rooms[counts[2]].bytes = memset(room(lengths[counts[2]]), '#', lengths[counts[2]]);
     }
-    answer = decodes ? rs_decode_shards(tables, k, r, shards[0], counts[0], shards[1], counts[1], rooms, counts[2], &fault)
-                     : rs_encode_shards(tables, k, r, bytes, counts[0], rooms, counts[2], &fault);
+    answer = decodes
+                 ? rs_decode_shards(tables, k, r, shards[0], counts[0], shards[1], counts[1], rooms, counts[2], &fault)
+                 : rs_encode_shards(tables, k, r, bytes, counts[0], rooms, counts[2], &fault);
     if (answer != number || !told(&fault, number, first, second, third)) {
-        printf("test: %" PRIu32 " %zu %zu %zu told, wanted %" PRIu32 "\n", fault.number, fault.first, fault.second, fault.third, number);
+        printf("test: %" PRIu32 " %zu %zu %zu told, wanted %" PRIu32 "\n", fault.number, fault.first, fault.second,
+               fault.third, number);
         wrong("another fault over arrays");
     }
     for (size_t i = 0; i < counts[2]; i++) {
@@ -257,10 +271,24 @@ static void refused_anywhere(int decodes, size_t k, size_t r, const struct given
         for (size_t i = 0; i < counts[kind]; i++) free((void *)shards[kind][i].bytes);
 }
 
-#define SHARDS(...) (const struct given[]){__VA_ARGS__, {0, END}}
-#define NO_SHARD (const struct given[]){{0, END}}
-#define ROOMS(...) (const size_t[]){__VA_ARGS__, END}
-#define NO_ROOM (const size_t[]){END}
+#define SHARDS(...)          \
+    (const struct given[]) { \
+        __VA_ARGS__, {       \
+            0, END           \
+        }                    \
+    }
+#define NO_SHARD             \
+    (const struct given[]) { \
+        { 0, END }           \
+    }
+#define ROOMS(...)       \
+    (const size_t[]) {   \
+        __VA_ARGS__, END \
+    }
+#define NO_ROOM        \
+    (const size_t[]) { \
+        END            \
+    }
 
 static void encodes_refused_anywhere(void) {
     const struct given *three = SHARDS({0, 4}, {1, 4}, {2, 4});
@@ -273,7 +301,8 @@ static void encodes_refused_anywhere(void) {
     refused_anywhere(0, 3, 2, SHARDS({0, 3}, {1, 4}), NO_SHARD, NO_ROOM, RS_INVALID_SHARD_SIZE, 3, 0, 0);
     refused_anywhere(0, 3, 2, SHARDS({0, 4}, {1, 4}, {2, 6}, {3, 4}), NO_SHARD, two, RS_DIFFERENT_SHARD_SIZE, 4, 6, 2);
     refused_anywhere(0, 3, 2, SHARDS({0, 4}, {1, 2}, {2, 6}), NO_SHARD, two, RS_DIFFERENT_SHARD_SIZE, 4, 2, 1);
-    refused_anywhere(0, 3, 2, SHARDS({0, 4}, {1, 4}, {2, 4}, {3, 6}), NO_SHARD, two, RS_TOO_MANY_ORIGINAL_SHARDS, 3, 0, 0);
+    refused_anywhere(0, 3, 2, SHARDS({0, 4}, {1, 4}, {2, 4}, {3, 6}), NO_SHARD, two, RS_TOO_MANY_ORIGINAL_SHARDS, 3, 0,
+                     0);
     refused_anywhere(0, 3, 2, SHARDS({0, 4}, {1, 4}), NO_SHARD, NO_ROOM, RS_TOO_FEW_ORIGINAL_SHARDS, 3, 2, 0);
     refused_anywhere(0, 3, 2, three, NO_SHARD, NO_ROOM, RS_WRONG_NUMBER_OF_ROOMS, 2, 0, 0);
     refused_anywhere(0, 3, 2, three, NO_SHARD, ROOMS(4), RS_WRONG_NUMBER_OF_ROOMS, 2, 1, 0);
@@ -287,11 +316,14 @@ static void decodes_refused_anywhere(void) {
     refused_anywhere(1, 0, 2, NO_SHARD, one, NO_ROOM, RS_UNSUPPORTED_SHARD_COUNT, 0, 2, 0);
     refused_anywhere(1, 3, 0, three, NO_SHARD, NO_ROOM, RS_UNSUPPORTED_SHARD_COUNT, 3, 0, 0);
     refused_anywhere(1, 3, 2, SHARDS({9, 1}), SHARDS({9, 0}), NO_ROOM, RS_INVALID_SHARD_SIZE, 0, 0, 0);
-    refused_anywhere(1, 3, 2, SHARDS({0, 4}, {3, 2}), SHARDS({9, 4}), NO_ROOM, RS_INVALID_ORIGINAL_SHARD_INDEX, 3, 3, 0);
+    refused_anywhere(1, 3, 2, SHARDS({0, 4}, {3, 2}), SHARDS({9, 4}), NO_ROOM, RS_INVALID_ORIGINAL_SHARD_INDEX, 3, 3,
+                     0);
     refused_anywhere(1, 3, 2, SHARDS({SIZE_MAX, 4}), one, NO_ROOM, RS_INVALID_ORIGINAL_SHARD_INDEX, 3, SIZE_MAX, 0);
-    refused_anywhere(1, 3, 2, SHARDS({1, 4}, {1, 2}), SHARDS({9, 4}), NO_ROOM, RS_DUPLICATE_ORIGINAL_SHARD_INDEX, 1, 0, 0);
+    refused_anywhere(1, 3, 2, SHARDS({1, 4}, {1, 2}), SHARDS({9, 4}), NO_ROOM, RS_DUPLICATE_ORIGINAL_SHARD_INDEX, 1, 0,
+                     0);
     refused_anywhere(1, 3, 2, SHARDS({1, 2}), SHARDS({9, 4}), NO_ROOM, RS_DIFFERENT_SHARD_SIZE, 4, 2, 0);
-    refused_anywhere(1, 3, 2, SHARDS({2, 4}, {0, 6}, {1, 2}), SHARDS({0, 4}, {1, 6}), NO_ROOM, RS_DIFFERENT_SHARD_SIZE, 4, 6, 1);
+    refused_anywhere(1, 3, 2, SHARDS({2, 4}, {0, 6}, {1, 2}), SHARDS({0, 4}, {1, 6}), NO_ROOM, RS_DIFFERENT_SHARD_SIZE,
+                     4, 6, 1);
     refused_anywhere(1, 3, 2, one, SHARDS({2, 4}), NO_ROOM, RS_INVALID_RECOVERY_SHARD_INDEX, 2, 2, 0);
     refused_anywhere(1, 3, 2, one, SHARDS({0, 4}, {0, 6}), NO_ROOM, RS_DUPLICATE_RECOVERY_SHARD_INDEX, 0, 0, 0);
     refused_anywhere(1, 3, 2, one, SHARDS({0, 4}, {1, 6}), NO_ROOM, RS_DIFFERENT_SHARD_SIZE, 4, 6, 2);
@@ -306,45 +338,66 @@ static void decodes_refused_anywhere(void) {
     refused_anywhere(1, 3, 3, NO_SHARD, SHARDS({1, 4}, {0, 4}, {2, 4}), ROOMS(4, 4, 6), RS_WRONG_LENGTH, 4, 6, 2);
     refused_anywhere(1, 3, 2, NO_SHARD, NO_SHARD, NO_ROOM, RS_NOT_ENOUGH_SHARDS, 3, 0, 0);
     refused_anywhere(1, 3, 2, SHARDS({2, 1}, {0, 0}), NO_SHARD, ROOMS(4), RS_NOT_ENOUGH_SHARDS, 3, 2, 0);
-    refused_anywhere(1, 3, 2, SHARDS({2, 4}, {3, 4}, {2, 4}), NO_SHARD, NO_ROOM, RS_INVALID_ORIGINAL_SHARD_INDEX, 3, 3, 0);
-    refused_anywhere(1, 3, 2, SHARDS({2, 4}, {2, 4}, {3, 4}), NO_SHARD, NO_ROOM, RS_DUPLICATE_ORIGINAL_SHARD_INDEX, 2, 0, 0);
+    refused_anywhere(1, 3, 2, SHARDS({2, 4}, {3, 4}, {2, 4}), NO_SHARD, NO_ROOM, RS_INVALID_ORIGINAL_SHARD_INDEX, 3, 3,
+                     0);
+    refused_anywhere(1, 3, 2, SHARDS({2, 4}, {2, 4}, {3, 4}), NO_SHARD, NO_ROOM, RS_DUPLICATE_ORIGINAL_SHARD_INDEX, 2,
+                     0, 0);
     refused_anywhere(1, 3, 2, three, NO_SHARD, ROOMS(0), RS_WRONG_NUMBER_OF_ROOMS, 0, 1, 0);
     refused_anywhere(1, 3, 2, SHARDS({2, 9}, {0, 0}, {1, 5}), NO_SHARD, NO_ROOM, RS_OK, 0, 0, 0);
 }
 
 /* The texts are those of the Rust crate, whole or as much as fits. */
 static void texts(void) {
-    static const struct rs_fault faults[] = {{0, 0, 0, 0},  {1, 0, 0, 0},  {2, 70000, 7, 0}, {3, 5, 0, 0},  {4, 64, 66, 9},
-                                             {5, 3, 1, 0},  {6, 3, 0, 0},  {7, 9, 4, 2},     {8, 3, 8, 0},  {9, 2, 6, 0},
-                                             {10, 1, 0, 0}, {11, 4, 0, 0}, {12, 3, 2, 0},    {13, 12, 11, 2}, {14, 2, 3, 0},
-                                             {15, 1, 1, 1}, {19, 1, 1, 1},  {UINT32_MAX, 1, 1, 1},
-                                             {7, SIZE_MAX, SIZE_MAX, SIZE_MAX}, {8, 0, 10, 0},
-                                             {16, 3, 5, 0}, {16, SIZE_MAX, SIZE_MAX, 1}, {17, 4, 1, 0}, {18, 2, 0, 0}};
-    static const char *const wanted[] = {
-        "",
-        "out of memory",
-        "unsupported shard count: 70000 original shards with 7 recovery shards",
-        "invalid shard size: 5 bytes (must non-zero and multiple of 2)",
-        "different shard size: expected 64 bytes, got 66 bytes",
-        "too few original shards: got 1 shards while original_count is 3",
-        "too many original shards: got more than original_count (3) shards",
-        "not enough shards: 4 original + 2 recovery < 9 original_count",
-        "invalid original shard index: 8 >= original_count 3",
-        "invalid recovery shard index: 6 >= recovery_count 2",
-        "duplicate original shard index: 1",
-        "duplicate recovery shard index: 4",
-        "inconsistent shards: 3 original + 2 recovery agree with no message",
-        "wrong length: expected 12 bytes, got 11 bytes",
-        "wrong number of rooms: expected 2, got 3",
-        "tables not made: rs_tables_make has not filled them",
-        "",
-        "",
-        "not enough shards: 18446744073709551615 original + 18446744073709551615 recovery < 18446744073709551615 original_count",
-        "invalid original shard index: 10 >= original_count 0",
-        "wanted index too large: original 5, count 3",
-        "wanted index too large: recovery shard 18446744073709551615, count 18446744073709551615",
-        "shard wanted twice: recovery shard 4",
-        "wanted shard was received: original 2"};
+    static const struct rs_fault faults[] = {{0, 0, 0, 0},
+                                             {1, 0, 0, 0},
+                                             {2, 70000, 7, 0},
+                                             {3, 5, 0, 0},
+                                             {4, 64, 66, 9},
+                                             {5, 3, 1, 0},
+                                             {6, 3, 0, 0},
+                                             {7, 9, 4, 2},
+                                             {8, 3, 8, 0},
+                                             {9, 2, 6, 0},
+                                             {10, 1, 0, 0},
+                                             {11, 4, 0, 0},
+                                             {12, 3, 2, 0},
+                                             {13, 12, 11, 2},
+                                             {14, 2, 3, 0},
+                                             {15, 1, 1, 1},
+                                             {19, 1, 1, 1},
+                                             {UINT32_MAX, 1, 1, 1},
+                                             {7, SIZE_MAX, SIZE_MAX, SIZE_MAX},
+                                             {8, 0, 10, 0},
+                                             {16, 3, 5, 0},
+                                             {16, SIZE_MAX, SIZE_MAX, 1},
+                                             {17, 4, 1, 0},
+                                             {18, 2, 0, 0}};
+    static const char *const wanted[] =
+        {"",
+         "out of memory",
+         "unsupported shard count: 70000 original shards with 7 recovery shards",
+         "invalid shard size: 5 bytes (must non-zero and multiple of 2)",
+         "different shard size: expected 64 bytes, got 66 bytes",
+         "too few original shards: got 1 shards while original_count is 3",
+         "too many original shards: got more than original_count (3) shards",
+         "not enough shards: 4 original + 2 recovery < 9 original_count",
+         "invalid original shard index: 8 >= original_count 3",
+         "invalid recovery shard index: 6 >= recovery_count 2",
+         "duplicate original shard index: 1",
+         "duplicate recovery shard index: 4",
+         "inconsistent shards: 3 original + 2 recovery agree with no message",
+         "wrong length: expected 12 bytes, got 11 bytes",
+         "wrong number of rooms: expected 2, got 3",
+         "tables not made: rs_tables_make has not filled them",
+         "",
+         "",
+         "not enough shards: 18446744073709551615 original + 18446744073709551615 recovery < 18446744073709551615 "
+         "original_count",
+         "invalid original shard index: 10 >= original_count 0",
+         "wanted index too large: original 5, count 3",
+         "wanted index too large: recovery shard 18446744073709551615, count 18446744073709551615",
+         "shard wanted twice: recovery shard 4",
+         "wanted shard was received: original 2"};
     for (size_t i = 0; i < sizeof faults / sizeof *faults; i++)
         for (size_t length = 0; length < 130; length++) {
             char text[130];
@@ -399,8 +452,10 @@ static void refused_unmade(const struct rs_tables *unmade) {
                           : call == 1 ? rs_decode_shards(unmade, 3, 2, own, 1, other, 2, rooms, 2, &fault)
                           : call == 2 ? rs_decode_shards(unmade, 3, 2, own, 3, other, 0, rooms, 0, &fault)
                                       : rs_decode_shards(unmade, 0, 0, own, 0, other, 0, rooms, 2, &fault);
-        if (answer != RS_TABLES_NOT_MADE || !told(&fault, RS_TABLES_NOT_MADE, 0, 0, 0)) wrong("tables that were not made aren't noticed");
-        if (memcmp(m.recovery, some, 8) || memcmp(all, m.originals, 12)) wrong("a call over tables that were not made has written");
+        if (answer != RS_TABLES_NOT_MADE || !told(&fault, RS_TABLES_NOT_MADE, 0, 0, 0))
+            wrong("tables that were not made aren't noticed");
+        if (memcmp(m.recovery, some, 8) || memcmp(all, m.originals, 12))
+            wrong("a call over tables that were not made has written");
     }
     tables = made_tables;
     let_go(&m);
@@ -413,34 +468,42 @@ static void nulls(void) {
     struct rs_bytes from[3] = {{bytes, 4}, {NULL, 0}, {bytes, 4}}, empty = {NULL, 0};
     struct rs_room to[3] = {{bytes, 4}, {NULL, 0}, {NULL, 0}};
     struct rs_shard own[3] = {{2, NULL, 0}, {0, NULL, 0}, {1, bytes, 4}}, other[2] = {{0, bytes, 4}, {1, NULL, 0}};
-    if (rs_encode(tables, 3, 2, 4, NULL, 0, bytes, 8, &fault) != RS_WRONG_LENGTH || !told(&fault, RS_WRONG_LENGTH, 12, 0, 0) ||
+    if (rs_encode(tables, 3, 2, 4, NULL, 0, bytes, 8, &fault) != RS_WRONG_LENGTH ||
+        !told(&fault, RS_WRONG_LENGTH, 12, 0, 0) ||
         rs_encode(tables, 3, 2, 4, bytes, 12, NULL, 0, NULL) != RS_WRONG_LENGTH ||
         rs_encode(tables, 3, 2, 0, NULL, 0, NULL, 0, NULL) != RS_INVALID_SHARD_SIZE)
         wrong("an encode with NULL");
-    if (rs_decode(tables, 3, 2, 4, bytes, 12, bytes, 8, NULL, 0, &fault) != RS_WRONG_LENGTH || !told(&fault, RS_WRONG_LENGTH, 5, 0, 2) ||
+    if (rs_decode(tables, 3, 2, 4, bytes, 12, bytes, 8, NULL, 0, &fault) != RS_WRONG_LENGTH ||
+        !told(&fault, RS_WRONG_LENGTH, 5, 0, 2) ||
         rs_decode(tables, 3, 2, 0, NULL, 0, NULL, 0, marks, 5, NULL) != RS_OK)
         wrong("a decode with NULL");
     if (rs_encode_shards(tables, 3, 2, NULL, 0, NULL, 0, &fault) != RS_TOO_FEW_ORIGINAL_SHARDS ||
         rs_encode_shards(tables, 3, 2, &empty, 1, NULL, 0, NULL) != RS_INVALID_SHARD_SIZE ||
-        rs_encode_shards(tables, 3, 2, from, 3, to, 2, &fault) != RS_DIFFERENT_SHARD_SIZE || !told(&fault, RS_DIFFERENT_SHARD_SIZE, 4, 0, 1) ||
-        rs_encode_shards(tables, 1, 2, from, 1, to, 2, &fault) != RS_WRONG_LENGTH || !told(&fault, RS_WRONG_LENGTH, 4, 0, 1))
+        rs_encode_shards(tables, 3, 2, from, 3, to, 2, &fault) != RS_DIFFERENT_SHARD_SIZE ||
+        !told(&fault, RS_DIFFERENT_SHARD_SIZE, 4, 0, 1) ||
+        rs_encode_shards(tables, 1, 2, from, 1, to, 2, &fault) != RS_WRONG_LENGTH ||
+        !told(&fault, RS_WRONG_LENGTH, 4, 0, 1))
         wrong("an encode over arrays with NULL");
     if (rs_decode_shards(tables, 3, 2, NULL, 0, NULL, 0, NULL, 0, &fault) != RS_NOT_ENOUGH_SHARDS ||
         rs_decode_shards(tables, 3, 2, own, 3, NULL, 0, NULL, 0, NULL) != RS_OK ||
         rs_decode_shards(tables, 3, 2, own, 3, other + 1, 1, NULL, 0, NULL) != RS_INVALID_SHARD_SIZE ||
         rs_decode_shards(tables, 3, 2, own + 2, 1, other, 2, to + 1, 2, &fault) != RS_DIFFERENT_SHARD_SIZE ||
         !told(&fault, RS_DIFFERENT_SHARD_SIZE, 4, 0, 2) ||
-        rs_decode_shards(tables, 1, 1, NULL, 0, other, 1, to + 1, 1, &fault) != RS_WRONG_LENGTH || !told(&fault, RS_WRONG_LENGTH, 4, 0, 0))
+        rs_decode_shards(tables, 1, 1, NULL, 0, other, 1, to + 1, 1, &fault) != RS_WRONG_LENGTH ||
+        !told(&fault, RS_WRONG_LENGTH, 4, 0, 0))
         wrong("a decode over arrays with NULL");
-    if (own[0].bytes || own[1].bytes || other[1].bytes || from[1].bytes || to[1].bytes) wrong("an array with NULL has changed");
+    if (own[0].bytes || own[1].bytes || other[1].bytes || from[1].bytes || to[1].bytes)
+        wrong("an array with NULL has changed");
     memset(bytes, 7, sizeof bytes);
     to[0].bytes = bytes + 8;
     other[0].bytes = bytes + 4;
-    if (rs_encode(tables, 1, 1, 4, bytes, 4, bytes + 4, 4, NULL) || rs_decode_shards(tables, 1, 1, NULL, 0, other, 1, to, 1, NULL))
+    if (rs_encode(tables, 1, 1, 4, bytes, 4, bytes + 4, 4, NULL) ||
+        rs_decode_shards(tables, 1, 1, NULL, 0, other, 1, to, 1, NULL))
         wrong("a round without a fault");
 }
 
-/* Arrays of up to five entries, each of which has no byte or four bytes, at any index. An entry without bytes has NULL if `with_null`. */
+/* Arrays of up to five entries, each of which has no byte or four bytes, at any index. An entry without bytes has NULL
+   if `with_null`. */
 struct mixed {
     struct rs_shard shards[2][5];
     struct rs_bytes bytes[5];
@@ -478,12 +541,14 @@ static void mixes(uint64_t seed, unsigned count) {
             for (int i = 0; i < 2; i++) {
                 size_t *c = m[i].counts;
                 mix(&m[i], drawing, i);
-                answer[i] = decodes ? rs_decode_shards(tables, k, r, i && !c[0] ? NULL : m[i].shards[0], c[0], i && !c[1] ? NULL : m[i].shards[1],
-                                                       c[1], i && !c[2] ? NULL : m[i].rooms, c[2], &fault[i])
-                                    : rs_encode_shards(tables, k, r, i && !c[0] ? NULL : m[i].bytes, c[0], i && !c[2] ? NULL : m[i].rooms, c[2],
-                                                       &fault[i]);
+                answer[i] = decodes ? rs_decode_shards(tables, k, r, i && !c[0] ? NULL : m[i].shards[0], c[0],
+                                                       i && !c[1] ? NULL : m[i].shards[1], c[1],
+                                                       i && !c[2] ? NULL : m[i].rooms, c[2], &fault[i])
+                                    : rs_encode_shards(tables, k, r, i && !c[0] ? NULL : m[i].bytes, c[0],
+                                                       i && !c[2] ? NULL : m[i].rooms, c[2], &fault[i]);
             }
-            if (answer[0] != answer[1] || !told(&fault[1], fault[0].number, fault[0].first, fault[0].second, fault[0].third))
+            if (answer[0] != answer[1] ||
+                !told(&fault[1], fault[0].number, fault[0].first, fault[0].second, fault[0].third))
                 wrong("NULL changes an answer");
             if (memcmp(m[0].written, m[1].written, sizeof m[0].written)) wrong("NULL changes what is written");
             succeeded += !answer[0];
@@ -503,27 +568,44 @@ static void const_rooms(void) {
     for (size_t i = 0; i < 12; i++) originals[i] = (uint8_t)(3 * i + 1);
     for (size_t i = 0; i < 3; i++) from[i].bytes = originals + 4 * i, from[i].length = 4;
     for (size_t i = 0; i < 2; i++) {
-        rooms[i].bytes = recovery + 4 * i, rooms[i + 2].bytes = restored + 4 * i, rooms[i].length = rooms[i + 2].length = 4;
+        rooms[i].bytes = recovery + 4 * i, rooms[i + 2].bytes = restored + 4 * i,
+        rooms[i].length = rooms[i + 2].length = 4;
         other[i].index = i, other[i].bytes = recovery + 4 * i, other[i].length = 4;
     }
     own.index = 1, own.bytes = originals + 4, own.length = 4;
     if (mprotect(rooms, 4096, PROT_READ)) wrong("no protection of memory");
-    if (rs_encode_shards(tables, 3, 2, from, 3, rooms, 2, &fault) || rs_decode_shards(tables, 3, 2, &own, 1, other, 2, rooms + 2, 2, &fault) ||
-        memcmp(restored, originals, 4) || memcmp(restored + 4, originals + 8, 4))
+    if (rs_encode_shards(tables, 3, 2, from, 3, rooms, 2, &fault) ||
+        rs_decode_shards(tables, 3, 2, &own, 1, other, 2, rooms + 2, 2, &fault) || memcmp(restored, originals, 4) ||
+        memcmp(restored + 4, originals + 8, 4))
         wrong("constant arrays of rooms");
     munmap(rooms, 4096);
 }
 
 /* The name of each number, and how long shards must be. */
 static void names_and_sizes(void) {
-#define NAMED(number) if (strcmp(rs_status_name(number), #number)) wrong("the name of " #number)
-    NAMED(RS_OK); NAMED(RS_OUT_OF_MEMORY); NAMED(RS_UNSUPPORTED_SHARD_COUNT); NAMED(RS_INVALID_SHARD_SIZE); NAMED(RS_DIFFERENT_SHARD_SIZE);
-    NAMED(RS_TOO_FEW_ORIGINAL_SHARDS); NAMED(RS_TOO_MANY_ORIGINAL_SHARDS); NAMED(RS_NOT_ENOUGH_SHARDS); NAMED(RS_INVALID_ORIGINAL_SHARD_INDEX);
-    NAMED(RS_INVALID_RECOVERY_SHARD_INDEX); NAMED(RS_DUPLICATE_ORIGINAL_SHARD_INDEX); NAMED(RS_DUPLICATE_RECOVERY_SHARD_INDEX);
-    NAMED(RS_INCONSISTENT_SHARDS); NAMED(RS_WRONG_LENGTH); NAMED(RS_WRONG_NUMBER_OF_ROOMS); NAMED(RS_TABLES_NOT_MADE);
-    NAMED(RS_WANTED_INDEX_TOO_LARGE); NAMED(RS_WANTED_TWICE); NAMED(RS_WANTED_RECEIVED);
-    if (strcmp(rs_status_name(19), "unknown") || rs_shard_bytes(0, 3) != 2 || rs_shard_bytes(35, 3) != 12 || rs_shard_bytes(SIZE_MAX, 1) ||
-        rs_tables_bytes() != sizeof *tables)
+#define NAMED(number) \
+    if (strcmp(rs_status_name(number), #number)) wrong("the name of " #number)
+    NAMED(RS_OK);
+    NAMED(RS_OUT_OF_MEMORY);
+    NAMED(RS_UNSUPPORTED_SHARD_COUNT);
+    NAMED(RS_INVALID_SHARD_SIZE);
+    NAMED(RS_DIFFERENT_SHARD_SIZE);
+    NAMED(RS_TOO_FEW_ORIGINAL_SHARDS);
+    NAMED(RS_TOO_MANY_ORIGINAL_SHARDS);
+    NAMED(RS_NOT_ENOUGH_SHARDS);
+    NAMED(RS_INVALID_ORIGINAL_SHARD_INDEX);
+    NAMED(RS_INVALID_RECOVERY_SHARD_INDEX);
+    NAMED(RS_DUPLICATE_ORIGINAL_SHARD_INDEX);
+    NAMED(RS_DUPLICATE_RECOVERY_SHARD_INDEX);
+    NAMED(RS_INCONSISTENT_SHARDS);
+    NAMED(RS_WRONG_LENGTH);
+    NAMED(RS_WRONG_NUMBER_OF_ROOMS);
+    NAMED(RS_TABLES_NOT_MADE);
+    NAMED(RS_WANTED_INDEX_TOO_LARGE);
+    NAMED(RS_WANTED_TWICE);
+    NAMED(RS_WANTED_RECEIVED);
+    if (strcmp(rs_status_name(19), "unknown") || rs_shard_bytes(0, 3) != 2 || rs_shard_bytes(35, 3) != 12 ||
+        rs_shard_bytes(SIZE_MAX, 1) || rs_tables_bytes() != sizeof *tables)
         wrong("a name or a size");
 }
 
@@ -584,8 +666,9 @@ static void refusals(void) {
     refused(&m, 1, 12, 8, 5, RS_INCONSISTENT_SHARDS, 3, 2, 0);
     m.marks[0] = 0;
     refused(&m, 1, 12, 8, 5, RS_INCONSISTENT_SHARDS, 2, 2, 0);
-    if (rs_supports(0, 1) || rs_supports(1, 0) || rs_supports(most, most) || rs_supports(32769, 32768) || !rs_supports(32768, 32768) ||
-        !rs_supports(65535, 1) || !rs_supports(1, 65535) || rs_supports(65535, 2) || rs_version() != RS_VERSION)
+    if (rs_supports(0, 1) || rs_supports(1, 0) || rs_supports(most, most) || rs_supports(32769, 32768) ||
+        !rs_supports(32768, 32768) || !rs_supports(65535, 1) || !rs_supports(1, 65535) || rs_supports(65535, 2) ||
+        rs_version() != RS_VERSION)
         wrong("other counts or another version");
     let_go(&m);
     encodes_refused_anywhere();
@@ -624,9 +707,11 @@ static void round_of(uint64_t *state, size_t k, size_t r, size_t size, size_t fr
         size_t i;
         do i = drawn(state) % (k + r);
         while (!m.marks[i]);
-        uint8_t *byte = (i < k ? m.originals + i * size : m.recovery + (i - k) * size) + from + drawn(state) % (size - from);
+        uint8_t *byte =
+            (i < k ? m.originals + i * size : m.recovery + (i - k) * size) + from + drawn(state) % (size - from);
         *byte ^= 1;
-        if (decode(&m, &fault) != RS_INCONSISTENT_SHARDS || fault.first + fault.second != left) wrong("a damaged shard isn't noticed");
+        if (decode(&m, &fault) != RS_INCONSISTENT_SHARDS || fault.first + fault.second != left)
+            wrong("a damaged shard isn't noticed");
         *byte ^= 1;
         if (memcmp(rubbish, m.originals, k * size)) wrong("a refused decode has written");
     }
@@ -641,14 +726,15 @@ static void random_round(uint64_t *state) {
     round_of(state, k, r, 2 + 2 * (drawn(state) % 100), 0);
 }
 
-/* Shards about as long as the strips in which a call codes them: 4096 bytes in an encode, 2048 bytes in a decode. Surplus shards
-   are damaged in the last strip of a decode alone. */
+/* Shards about as long as the strips in which a call codes them: 4096 bytes in an encode, 2048 bytes in a decode.
+   Surplus shards are damaged in the last strip of a decode alone. */
 static void strips(uint64_t seed) {
     static const size_t counts[][2] = {{1, 1}, {1, 5}, {5, 1}, {2, 3}, {10, 4}, {33, 31}};
     static const size_t sizes[] = {2046, 2048, 2050, 2082, 4094, 4096, 4098, 4130, 6144, 8192, 8194, 8226};
     for (size_t c = 0; c < sizeof counts / sizeof *counts; c++)
         for (size_t s = 0; s < sizeof sizes / sizeof *sizes; s++)
-            for (int n = 0; n < 4; n++) round_of(&seed, counts[c][0], counts[c][1], sizes[s], (sizes[s] - 1) / 2048 * 2048);
+            for (int n = 0; n < 4; n++)
+                round_of(&seed, counts[c][0], counts[c][1], sizes[s], (sizes[s] - 1) / 2048 * 2048);
     puts("test: shards about as long as strips");
 }
 
@@ -665,9 +751,11 @@ static void rounds(uint64_t seed, unsigned count) {
     printf("test: %u rounds\n", count);
 }
 
-/* Encodes a message in pieces that end at multiples of 64 bytes, the last one at the end; loses shards; decodes in other pieces. */
+/* Encodes a message in pieces that end at multiples of 64 bytes, the last one at the end; loses shards; decodes in
+   other pieces. */
 static void pieces_round(uint64_t *state) {
-    size_t k = 1 + drawn(state) % 40, r = 1 + drawn(state) % 40, size = 2 + 2 * (drawn(state) % 600), most = k < r ? k : r;
+    size_t k = 1 + drawn(state) % 40, r = 1 + drawn(state) % 40, size = 2 + 2 * (drawn(state) % 600),
+           most = k < r ? k : r;
     size_t lost = drawn(state) % (most + 1), own = 0, others = 0, next = 0;
     struct message m = made(k, r, size), whole = made(k, r, size);
     struct rs_bytes *from = room(k * sizeof *from);
@@ -698,11 +786,12 @@ static void pieces_round(uint64_t *state) {
         own = next = 0;
         for (size_t i = 0; i < k; i++)
             if (m.marks[i])
-                given[own].index = i, given[own].bytes = m.originals + i * size + begin, given[own++].length = end - begin;
-            else
-                to[next].bytes = m.originals + i * size + begin, to[next++].length = end - begin;
+                given[own].index = i, given[own].bytes = m.originals + i * size + begin,
+                given[own++].length = end - begin;
+            else to[next].bytes = m.originals + i * size + begin, to[next++].length = end - begin;
         for (size_t i = 0; i < others; i++)
-            other[i].index = r - 1 - i, other[i].bytes = m.recovery + (r - 1 - i) * size + begin, other[i].length = end - begin;
+            other[i].index = r - 1 - i, other[i].bytes = m.recovery + (r - 1 - i) * size + begin,
+            other[i].length = end - begin;
         if (rs_decode_shards(tables, k, r, given, own, other, others, to, next, &fault)) wrong("a piece isn't decoded");
     }
     if (memcmp(m.originals, whole.originals, k * size)) wrong("pieces are decoded to other bytes than the whole");
@@ -738,22 +827,17 @@ int main(int count, char **words) {
     make_tables();
     if (count > 2 && !strcmp(words[1], "rows"))
         for (int i = 2; i < count; i++) rows(words[i]);
-    else if (count == 2 && !strcmp(words[1], "refusals"))
-        refusals();
+    else if (count == 2 && !strcmp(words[1], "refusals")) refusals();
     else if (count == 4 && !strcmp(words[1], "rounds"))
         rounds(strtoull(words[2], NULL, 10), (unsigned)strtoul(words[3], NULL, 10));
     else if (count == 4 && !strcmp(words[1], "mixes"))
         mixes(strtoull(words[2], NULL, 10), (unsigned)strtoul(words[3], NULL, 10));
     else if (count == 4 && !strcmp(words[1], "pieces"))
         pieces(strtoull(words[2], NULL, 10), (unsigned)strtoul(words[3], NULL, 10));
-    else if (count == 3 && !strcmp(words[1], "strips"))
-        strips(strtoull(words[2], NULL, 10));
-    else if (count == 3 && !strcmp(words[1], "largest"))
-        largest(strtoull(words[2], NULL, 10));
-    else if (count == 2 && !strcmp(words[1], "threads"))
-        threads();
-    else
-        wrong("no such words");
+    else if (count == 3 && !strcmp(words[1], "strips")) strips(strtoull(words[2], NULL, 10));
+    else if (count == 3 && !strcmp(words[1], "largest")) largest(strtoull(words[2], NULL, 10));
+    else if (count == 2 && !strcmp(words[1], "threads")) threads();
+    else wrong("no such words");
     free(tables);
     return 0;
 }

@@ -1,4 +1,5 @@
-/* One message is encoded by four threads, each of which encodes a piece of all shards. The result is that of one call for the whole shards. */
+/* One message is encoded by four threads, each of which encodes a piece of all shards. The result is that of one call
+   for the whole shards. */
 #include <pthread.h>
 #include <reed_solomon_simd.h>
 #include <stdio.h>

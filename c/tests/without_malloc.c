@@ -1,4 +1,5 @@
-/* The example of docs/C.md for work memory: messages are encoded without a request to malloc, and each one comes back. */
+/* The example of docs/C.md for work memory: messages are encoded without a request to malloc, and each one comes back.
+ */
 #include "counted.h"
 #include "reed_solomon_simd.h"
 
@@ -23,7 +24,8 @@ static void store(const uint8_t *shards) {
     memcpy(restored, originals, sizeof restored);
     memset(restored, '?', R * SIZE);
     memset(marks + R, 1, K);
-    if (rs_decode_with_work(&tables, K, R, SIZE, restored, K * SIZE, shards, R * SIZE, marks, K + R, work, WORK, NULL) ||
+    if (rs_decode_with_work(&tables, K, R, SIZE, restored, K * SIZE, shards, R * SIZE, marks, K + R, work, WORK,
+                            NULL) ||
         memcmp(restored, originals, sizeof restored))
         exit(1);
 }
@@ -32,7 +34,8 @@ static void store(const uint8_t *shards) {
 static int encode_all(void) {
     if (rs_work_bytes(K, R, SIZE, 0) > WORK) return 1;
     while (next_message(originals)) {
-        if (rs_encode_with_work(&tables, K, R, SIZE, originals, K * SIZE, recovery, R * SIZE, work, WORK, NULL)) return 1;
+        if (rs_encode_with_work(&tables, K, R, SIZE, originals, K * SIZE, recovery, R * SIZE, work, WORK, NULL))
+            return 1;
         store(recovery);
     }
     return 0;
