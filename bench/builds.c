@@ -1,7 +1,7 @@
 /* Times the three builds that the library for x86-64 holds: rs_encode and rs_decode of each build, in turns, by the processor time of the
-   thread. As many originals as possible are lost. After c/build, on a machine with AVX2:
+   thread. As many originals as possible are lost. After `make -C c`, on a machine with AVX2:
 
-       cc -O2 -Iinclude -o builds bench/builds.c c/out/parts/layer.o c/out/parts/work.o c/out/parts/heap.o c/out/parts/rs_v?.o
+       cc -O2 -Iinclude -o builds bench/builds.c c/out/parts/{layer,work,sizes,heap}.o c/out/parts/rs_v?.o
        ./builds 65536 25
 
    The arguments are the bytes of a shard and the number of turns. It prints the median times in microseconds, with quartiles. */
