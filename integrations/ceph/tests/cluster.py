@@ -82,6 +82,10 @@ class Failure(Exception):
     """A step of the test has failed."""
 
 
+class TooSlow(Failure):
+    """The machine has not done a step in its time."""
+
+
 def end_with_parent():
     """Lets the kernel end a child when the thread that started it ends (PR_SET_PDEATHSIG)."""
     LIBC.prctl(1, signal.SIGKILL)
@@ -119,13 +123,20 @@ class Cluster:
             raise Failure(f"{' '.join(words)}: {done.stderr.strip()[-500:]}")
         return done.stdout
 
-    def dead_end(self, text, *words):
-        """Starts a daemon that must end by itself within half a minute, and write this text."""
-        done = subprocess.run(words, stdout=subprocess.PIPE, stderr=subprocess.STDOUT, text=True, timeout=30,
-                              check=False, env=dict(os.environ, CEPH_CONF=str(self.configuration)),
-                              preexec_fn=end_with_parent)
-        if done.returncode == 0 or text not in done.stdout:
-            raise Failure(f"{' '.join(words)} ends with code {done.returncode}: {done.stdout.strip()[-500:]}")
+    def dead_end(self, text, starts, *words):
+        """Starts a daemon that must end by itself within half a minute, until it has written this text.
+
+        A daemon that ends at its start can end before the thread that writes its messages has written the last one.
+        """
+        for _ in range(starts):
+            done = subprocess.run(words, stdout=subprocess.PIPE, stderr=subprocess.STDOUT, text=True, timeout=30,
+                                  check=False, env=dict(os.environ, CEPH_CONF=str(self.configuration)),
+                                  preexec_fn=end_with_parent)
+            if done.returncode == 0:
+                raise Failure(f"{' '.join(words)} ends with code 0: {done.stdout.strip()[-500:]}")
+            if text in done.stdout:
+                return
+        raise Failure(f"{' '.join(words)} ends {starts} times without its reason: {done.stdout.strip()[-500:]}")
 
     def ask(self, prefix, *, manager=False, **words):
         """Sends a command to the monitor or the manager, and returns its answer and the text beside it."""
@@ -147,7 +158,7 @@ class Cluster:
                 if daemon.poll() is not None:
                     raise Failure(f"{name} has ended with code {daemon.returncode}: {self.last_words(name)}")
             if time.time() - start > seconds:
-                raise Failure(f"not in {seconds} s: {what}")
+                raise TooSlow(f"not in {seconds} s: {what}")
             time.sleep(0.5)
         self.say(f"{what} (after {time.time() - start:.0f} s)")
 

@@ -223,7 +223,7 @@ module _ (k r : ℕ) (kept : Items) (first : ℕ × Shard) (rest : Items) (out :
       agrees.shards.length_is agrees.own in
       let fitting : AllByRecursion (λ item. (item.0 < r) × (length item.1 ≡ size)) (first ∷ rest) =
       subst (λ (d : Configuration).
-        AllByRecursion (λ item. (item.0 < d.recovery_count) × (length item.1 ≡ d.shard_bytes))
+      AllByRecursion (λ item. (item.0 < d.recovery_count) × (length item.1 ≡ d.shard_bytes))
       (first ∷ rest)) own.0 coded.2.within in
       let got : AreLeft agrees.coded.0 (first ∷ rest) =
       entered_left r size (first ∷ rest) s.recovery agrees.coded.0

@@ -227,4 +227,4 @@ module _ (given base : ℕ → Bool) (locator : ℕ → ℕ) (w size : ℕ) wher
     counts_tested fit =
         counts_within
         (mul-le-mul_right (1 + 3 * how_many w base)
-          (how_many-rises n w (λ p. given p && not (base p)) fit)) before.counts
+        (how_many-rises n w (λ p. given p && not (base p)) fit)) before.counts
