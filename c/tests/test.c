@@ -619,6 +619,9 @@ static void unmade(void) {
     memcpy(other, tables, sizeof *other);
     other->words[RS_TABLE_WORDS - 1] = 0;
     refused_unmade(other);
+    /* Tables that are made can be made again. */
+    memcpy(other, tables, sizeof *other);
+    if (rs_tables_make(other) || memcmp(other, tables, sizeof *other)) wrong("tables that are made again");
     free(other);
     puts("test: tables that were not made");
 }
