@@ -1,15 +1,17 @@
 -- A field that is read is the field that was written, and what was written is read again.
-use Rattle.std.proofs.Common.{rules, ◌≡◌, ℕ, ◌+◌, ◌^◌, ◌<◌, ◌≤◌, Bool, true, false, cond, eqb, ltb, List, ◌++◌, length}
+use Rattle.std.proofs.Common.{rules, ◌≡◌, ℕ, ◌+◌, ◌-◌, ◌^◌, ◌<◌, ◌≤◌, Bool, true, false, cond, eqb, ltb, List, ◌++◌}
+use Rattle.std.proofs.Common.{length}
 use Rattle.std.proofs.Common.{get_or, take, drop, Result, Ok, Err, refl, sym, ap, subst, ◌∙◌, append_assoc, arith}
 use Rattle.std.specs.Int.{Width, w16, w32, w64, byte_len, from_le_bytes, to_le_bytes}
 use Rattle.std.proofs.lemmas.Bool.{ltb-false, le-ltb, eqb-true, eq-eqb}
 use Rattle.std.proofs.lemmas.List.{take_at, drop_at, take-append-drop, length-append, length-take, get_or-drop}
-use Rattle.std.proofs.lemmas.List.{get_or-take, get_or_past}
+use Rattle.std.proofs.lemmas.List.{get_or-take, get_or_past, length-drop}
+use Rattle.std.proofs.lemmas.Slice.Eq.{bytes_eq-Decides}
 use Rattle.std.proofs.lemmas.Nat.{le_bytes_2, le_bytes_4, le_bytes_8}
 use Rattle.rs_volumes.specs.declared.fault.Fault.{Fault}
-use Rattle.rs_volumes.specs.declared.fault.Fault.TheVariants.{Short}
+use Rattle.rs_volumes.specs.declared.fault.Fault.TheVariants.{Short, Magic}
 use Rattle.rs_volumes.specs.Description.{name_spelling}
-use Rattle.rs_volumes.specs.Reading.{◌>>=◌, number_at, fixed_at, name_at}
+use Rattle.rs_volumes.specs.Reading.{◌>>=◌, number_at, fixed_at, taken_at, name_at, magic_at}
 
 abbrev pub IsBytes : List ℕ → Type 0
 IsBytes bytes = (i : ℕ) → get_or bytes i 0 < 256
@@ -17,7 +19,7 @@ IsBytes bytes = (i : ℕ) → get_or bytes i 0 < 256
 pub IsBytes-drop : (n : ℕ) (bytes : List ℕ) → IsBytes bytes → IsBytes (drop n bytes)
 IsBytes-drop n bytes h i = rw get_or-drop (h (n + i))
 
-IsBytes-take : (n : ℕ) (bytes : List ℕ) → IsBytes bytes → IsBytes (take n bytes)
+pub IsBytes-take : (n : ℕ) (bytes : List ℕ) → IsBytes bytes → IsBytes (take n bytes)
 IsBytes-take n bytes h i = search (rules, get_or-take, get_or_past, length-take)
 
 -- If two steps succeed, the first step returned a value, and the second one succeeded with this value.
@@ -48,6 +50,13 @@ ok_is e = cc
 pub record Takes (bytes text rest : List ℕ) : Type 0 where
   pub parts : bytes ≡ text ++ rest
   pub rest_fits : IsBytes rest
+
+-- The text that was taken from the front of bytes consists of bytes.
+pub taken_fits : {bytes text rest : List ℕ} → IsBytes bytes → Takes bytes text rest → IsBytes text
+taken_fits {bytes = bytes} {text = text} {rest = rest} fits t =
+    let front : take (length text) bytes ≡ text =
+    ap (take (length text)) t.parts ∙ take_at text rest (length text) refl in
+    subst IsBytes front (IsBytes-take (length text) bytes fits)
 
 -- What two readers took, one after the other, is what both took together.
 pub Takes-then : {a x b y c : List ℕ} → Takes a x b → Takes b y c → Takes a (x ++ y) c
@@ -138,29 +147,111 @@ fixed_again wanted fault rest lt =
     let same : eqb wanted wanted ≡ true = eq-eqb wanted wanted refl in
     rw (number_again wide32 lt rest, same) refl
 
+-- ---- bytes
+
+-- Bytes that are taken are the text that was taken, and they have this length.
+pub taken_takes : {count : ℕ} {bytes : List ℕ} {x : List ℕ × List ℕ} → IsBytes bytes → taken_at count bytes ≡ Ok x
+    → Takes bytes x.0 x.1 × (length x.0 ≡ count)
+unfolding taken_at
+taken_takes {count = count} {bytes = bytes} fits e =
+    let g = guard_ok Short e in
+    let long : count ≤ length bytes = ltb-false _ _ g.0 in
+    let len : length (take count bytes) ≡ count = omega (arith, length-take count bytes) in
+    subst (λ (p : List ℕ × List ℕ). Takes bytes p.0 p.1 × (length p.0 ≡ count)) (ok_is g.1) (
+      record { parts = sym (take-append-drop count bytes); rest_fits = IsBytes-drop count bytes fits },
+      len,
+    )
+
+-- If taking bytes and a further step succeed, the bytes were taken from the front, and the step succeeded with them.
+pub taken_first : {B : Type 0} {count : ℕ} {bytes : List ℕ} {f : List ℕ × List ℕ → Result B Fault} {y : B}
+    → IsBytes bytes → (taken_at count bytes >>= f) ≡ Ok y
+    → (x : List ℕ × List ℕ) × Takes bytes x.0 x.1 × (length x.0 ≡ count) × (f x ≡ Ok y)
+taken_first fits e =
+    let a = bind_ok e in
+    let t = taken_takes fits a.1 in
+    (a.0, t.0, t.1, a.2)
+
+-- Bytes of this length are taken.
+pub taken_again : (text rest : List ℕ) (count : ℕ) → length text ≡ count
+    → taken_at count (text ++ rest) ≡ Ok (text, rest)
+unfolding taken_at
+taken_again text rest count len =
+    let long : ltb (length (text ++ rest)) count ≡ false = le-ltb _ _ (omega (arith, length-append text rest)) in
+    rw (long, take_at text rest count len, drop_at text rest count len) refl
+
 -- ---- names
 
 -- A name that is read has the bytes that were taken as its spelling, and its length fits its field.
 pub name_takes : {bytes : List ℕ} {x : List ℕ × List ℕ} → IsBytes bytes → name_at bytes ≡ Ok x
     → Takes bytes (name_spelling x.0) x.1 × (length x.0 < 2 ^ 16)
 unfolding name_at
-name_takes {bytes = bytes} fits e =
+name_takes {bytes = bytes} {x = x} fits e =
     let n = number_first wide16 fits e in
-    let k : ℕ = n.0.0 in
-    let left : List ℕ = n.0.1 in
-    let g = guard_ok Short n.3 in
-    let long : k ≤ length left = ltb-false _ _ g.0 in
-    let len : length (take k left) ≡ k = omega (arith, length-take k left) in
-    let small : length (take k left) < 2 ^ 16 = omega (arith, n.2) in
-    let second : Takes left (take k left) (drop k left) =
-    record { parts = sym (take-append-drop k left); rest_fits = IsBytes-drop k left n.1.rest_fits } in
-    let whole : Takes bytes (name_spelling (take k left)) (drop k left) =
-    subst (λ (m : ℕ). Takes bytes (to_le_bytes w16 m ++ take k left) (drop k left)) (sym len)
-    (Takes-then n.1 second) in
-    subst (λ (p : List ℕ × List ℕ). Takes bytes (name_spelling p.0) p.1 × (length p.0 < 2 ^ 16)) (ok_is g.1)
-    (whole, small)
+    let t = taken_takes n.1.rest_fits n.3 in
+    let whole : Takes bytes (name_spelling x.0) x.1 =
+    subst (λ (m : ℕ). Takes bytes (to_le_bytes w16 m ++ x.0) x.1) (sym t.1) (Takes-then n.1 t.0) in
+    (whole, omega (arith, n.2, t.1))
+
+-- If reading a name and a further step succeed, the name was taken from the front, and the step succeeded with it.
+pub name_first : {B : Type 0} {bytes : List ℕ} {f : List ℕ × List ℕ → Result B Fault} {y : B} → IsBytes bytes
+    → (name_at bytes >>= f) ≡ Ok y
+    → (x : List ℕ × List ℕ) × Takes bytes (name_spelling x.0) x.1 × (length x.0 < 2 ^ 16) × (f x ≡ Ok y)
+name_first fits e =
+    let a = bind_ok e in
+    let t = name_takes fits a.1 in
+    (a.0, t.0, t.1, a.2)
 
 -- A name whose length fits its field is read from its spelling.
 pub name_again : (name rest : List ℕ) → length name < 2 ^ 16 → name_at (name_spelling name ++ rest) ≡ Ok (name, rest)
 unfolding name_at
-name_again name rest lt = search (rules, length-append, take_at, drop_at)
+name_again name rest lt =
+    let regrouped : name_spelling name ++ rest ≡ to_le_bytes w16 (length name) ++ (name ++ rest) = simp append_assoc in
+    ap name_at regrouped ∙ rw (number_again wide16 lt (name ++ rest)) (taken_again name rest (length name) refl)
+
+-- ---- magic numbers
+
+-- A magic number that is read was taken from the front.
+pub magic_takes : {magic bytes rest : List ℕ} → IsBytes bytes → magic_at magic bytes ≡ Ok rest → Takes bytes magic rest
+unfolding magic_at
+magic_takes {magic = magic} {bytes = bytes} fits e =
+    let g = guard_passed Magic e in
+    let front : take 8 bytes ≡ magic = (bytes_eq-Decides (take 8 bytes) magic).0 g.0 in
+    subst (λ (r : List ℕ). Takes bytes magic r) g.1 (record {
+      parts = sym (take-append-drop 8 bytes) ∙ ap (λ (t : List ℕ). t ++ drop 8 bytes) front;
+      rest_fits = IsBytes-drop 8 bytes fits;
+    })
+
+-- ---- lengths
+
+-- Reading a number takes the bytes of its width.
+pub number_length : (w : Width) (bytes : List ℕ) (n : ℕ) (rest : List ℕ) → number_at w bytes ≡ Ok (n, rest)
+    → length rest ≡ length bytes - byte_len w
+number_length w bytes n rest e =
+    sym (ap (λ (p : ℕ × List ℕ). length p.1) (ok_is (guard_ok Short e).1)) ∙ length-drop (byte_len w) bytes
+
+-- There are as many bytes as the width of a number that is read.
+pub number_enough : (w : Width) (bytes : List ℕ) (x : ℕ × List ℕ) → number_at w bytes ≡ Ok x
+    → byte_len w ≤ length bytes
+number_enough w bytes x e = ltb-false _ _ (guard_ok Short e).0
+
+-- Taking bytes leaves no more than there were.
+pub taken_length : (count : ℕ) (bytes : List ℕ) (x : List ℕ × List ℕ) → taken_at count bytes ≡ Ok x
+    → length x.1 ≤ length bytes
+unfolding taken_at
+taken_length count bytes x e =
+    let n : length x.1 ≡ length (drop count bytes) =
+    sym (ap (λ (p : List ℕ × List ℕ). length p.1) (ok_is (guard_ok Short e).1)) in
+    omega (arith, n, length-drop count bytes)
+
+-- Reading a fixed number takes four bytes.
+pub fixed_length : (wanted : ℕ) (fault : Fault) (bytes rest : List ℕ) → fixed_at wanted fault bytes ≡ Ok rest
+    → length rest ≡ length bytes - 4
+unfolding fixed_at
+fixed_length wanted fault bytes rest e =
+    let a = bind_ok e in
+    sym (ap length (guard_passed fault a.2).1) ∙ number_length w32 bytes a.0.0 a.0.1 a.1
+
+-- Reading a magic number takes eight bytes.
+pub magic_length : (magic bytes rest : List ℕ) → magic_at magic bytes ≡ Ok rest → length rest ≡ length bytes - 8
+unfolding magic_at
+magic_length magic bytes rest e = sym (ap length (guard_passed Magic e).1) ∙ length-drop 8 bytes

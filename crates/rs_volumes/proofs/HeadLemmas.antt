@@ -1,56 +1,18 @@
--- A head that is read is spelled so, and a head that is spelled is read again.
-use Rattle.std.proofs.Common.{◌≡◌, ℕ, ◌-◌, List, ◌++◌, length, take, drop, Result, Ok, Err, refl, sym, ap, subst, ◌∙◌}
-use Rattle.std.proofs.Common.{arith}
+-- A head of version 1 that is read is spelled so, and a head that is spelled is read again.
+use Rattle.std.proofs.Common.{◌≡◌, ℕ, List, ◌++◌, Result, Ok, Err, refl, subst, arith}
 use Rattle.std.specs.Prelude.{IfOk}
-use Rattle.std.specs.Int.{Width, w32, w64, byte_len, to_le_bytes}
-use Rattle.std.proofs.lemmas.List.{length-drop, take-append-drop}
-use Rattle.std.proofs.lemmas.Slice.Eq.{bytes_eq-Decides}
+use Rattle.std.specs.Int.{w32, w64, to_le_bytes}
 use Rattle.rs_volumes.specs.declared.fault.Fault.{Fault}
-use Rattle.rs_volumes.specs.declared.fault.Fault.TheVariants.{Short, Magic, Version, Reserved}
-use Rattle.rs_volumes.specs.declared.head.Head.{Head}
-use Rattle.rs_volumes.specs.Heads.{VolumeHead, HeadFits, head_of, magic, head_spelling, magic_at, head_in}
-use Rattle.rs_volumes.specs.Reading.{Reads, number_at, fixed_at}
-use Rattle.rs_volumes.proofs.Fields.{IsBytes, IsBytes-drop, bind_ok, guard_ok, guard_passed, ok_is, Takes, also, wide64}
-use Rattle.rs_volumes.proofs.Fields.{number_first, number_again, fixed_first, fixed_again}
+use Rattle.rs_volumes.specs.declared.fault.Fault.TheVariants.{Version, Reserved}
+use Rattle.rs_volumes.specs.declared.first.Head.{Head}
+use Rattle.rs_volumes.specs.Heads.{VolumeHead, HeadFits, head_of, magic, head_spelling, head_in}
+use Rattle.rs_volumes.specs.Reading.{Reads, magic_at}
+use Rattle.rs_volumes.proofs.Fields.{IsBytes, bind_ok, ok_is, also, wide64, number_first, number_again, fixed_first}
+use Rattle.rs_volumes.proofs.Fields.{fixed_again, magic_takes}
 
--- ---- lengths
-
--- Reading a number takes the bytes of its width.
-pub number_length : (w : Width) (bytes : List ℕ) (n : ℕ) (rest : List ℕ) → number_at w bytes ≡ Ok (n, rest)
-    → length rest ≡ length bytes - byte_len w
-number_length w bytes n rest e =
-    sym (ap (λ (p : ℕ × List ℕ). length p.1) (ok_is (guard_ok Short e).1)) ∙ length-drop (byte_len w) bytes
-
--- Reading a fixed number takes four bytes.
-pub fixed_length : (wanted : ℕ) (fault : Fault) (bytes rest : List ℕ) → fixed_at wanted fault bytes ≡ Ok rest
-    → length rest ≡ length bytes - 4
-unfolding fixed_at
-fixed_length wanted fault bytes rest e =
-    let a = bind_ok e in
-    sym (ap length (guard_passed fault a.2).1) ∙ number_length w32 bytes a.0.0 a.0.1 a.1
-
--- Reading the magic number takes eight bytes.
-pub magic_length : (bytes rest : List ℕ) → magic_at bytes ≡ Ok rest → length rest ≡ length bytes - 8
-unfolding magic_at
-magic_length bytes rest e = sym (ap length (guard_passed Magic e).1) ∙ length-drop 8 bytes
-
--- ---- the magic number
-
-magic_takes : {bytes rest : List ℕ} → IsBytes bytes → magic_at bytes ≡ Ok rest → Takes bytes magic rest
-unfolding magic_at
-magic_takes {bytes = bytes} fits e =
-    let g = guard_passed Magic e in
-    let front : take 8 bytes ≡ magic = (bytes_eq-Decides (take 8 bytes) magic).0 g.0 in
-    subst (λ (r : List ℕ). Takes bytes magic r) g.1 (record {
-      parts = sym (take-append-drop 8 bytes) ∙ ap (λ (t : List ℕ). t ++ drop 8 bytes) front;
-      rest_fits = IsBytes-drop 8 bytes fits;
-    })
-
-magic_again : (rest : List ℕ) → magic_at (magic ++ rest) ≡ Ok rest
+magic_again : (rest : List ℕ) → magic_at magic (magic ++ rest) ≡ Ok rest
 unfolding magic_at
 magic_again rest = refl
-
--- ---- heads
 
 head_takes : {bytes : List ℕ} {h : VolumeHead} → IsBytes bytes → head_in bytes ≡ Ok h → bytes ≡ head_spelling h
 unfolding head_in

@@ -1,17 +1,11 @@
--- The steps of the loops that check names and files.
-use Rattle.std.proofs.Common.{rules, ◌≡◌, ◌≢◌, ℕ, ◌+◌, ◌-◌, ◌^◌, ◌<◌, ◌≤◌, Bool, true, false, eqb, ltb, List, [], ◌∷◌}
-use Rattle.std.proofs.Common.{◌++◌, length, get_or, take, drop, drop-cons, Ok, Err, refl, ap, ◌∙◌, add-one, arith, inl}
-use Rattle.std.proofs.Common.{inr}
+-- The steps of the loops that check names.
+use Rattle.std.proofs.Common.{rules, ◌≡◌, ◌≢◌, ℕ, ◌+◌, ◌-◌, ◌<◌, ◌≤◌, true, false, eqb, ltb, List, [], ◌∷◌}
+use Rattle.std.proofs.Common.{◌++◌, length, get_or, take, drop, drop-cons, refl, ap, ◌∙◌, add-one, arith, inl, inr}
 use Rattle.std.specs.List.{between}
-use Rattle.std.proofs.lemmas.Bool.{lt-ltb, le-ltb, cases_lt, le-leb, lt-leb}
+use Rattle.std.proofs.lemmas.Bool.{lt-ltb, le-ltb, cases_lt}
 use Rattle.std.proofs.lemmas.List.{take_more, get_or-drop, length-drop, drop_all}
 use Rattle.std.proofs.lemmas.List.Edits.{between_none}
-use Rattle.std.proofs.lemmas.Str.{IsUtf8-from_is_utf8}
-use Rattle.std.specs.Str.{IsUtf8, is_utf8}
-use Rattle.rs_volumes.specs.Description.{SetFile, file_of, files_of}
-use Rattle.rs_volumes.specs.declared.description.FileEntry.{FileEntry}
-use Rattle.rs_volumes.specs.declared.fault.Fault.TheVariants.{Length, Name, Order}
-use Rattle.rs_volumes.specs.Sound.{is_part, has_parts, is_before, is_name, blocks_of, blocks_in, files_outcome}
+use Rattle.rs_volumes.specs.Names.{is_part, has_parts, rank, is_before, is_folder_of}
 
 -- ---- the parts of a name
 
@@ -63,7 +57,7 @@ before_further one other i h k e = search (rules, drop-cons)
 
 pub before_differs : (one other : List ℕ) (i : ℕ) → i < length one → i < length other
     → get_or one i 0 ≢ get_or other i 0
-    → is_before (drop i one) (drop i other) ≡ ltb (get_or one i 0) (get_or other i 0)
+    → is_before (drop i one) (drop i other) ≡ ltb (rank (get_or one i 0)) (rank (get_or other i 0))
 unfolding is_before
 before_differs one other i h k e = search (rules, drop-cons)
 
@@ -91,81 +85,37 @@ before_ends one other i h =
 -- the steps of the loop that compares two names
 pub ruleset steps_in_order = (before_further, before_differs, before_longer, before_ends)
 
--- ---- UTF-8
+-- ---- folders
 
-by_test : (b : Bool) → (b ≡ true → ⊥) → b ≡ false
-by_test true h = absurd (h refl)
-by_test false h = refl
+pub folder_further : (one other : List ℕ) (i : ℕ) → i < length one → i < length other
+    → get_or one i 0 ≡ get_or other i 0
+    → is_folder_of (drop i one) (drop i other) ≡ is_folder_of (drop (i + 1) one) (drop (i + 1) other)
+unfolding is_folder_of
+folder_further one other i h k e = search (rules, drop-cons)
 
-pub is_no_text : (bs : List ℕ) → (IsUtf8 bs → ⊥) → is_utf8 bs ≡ false
-is_no_text bs never = by_test (is_utf8 bs) (λ e. never (IsUtf8-from_is_utf8 bs e))
+pub folder_differs : (one other : List ℕ) (i : ℕ) → i < length one → i < length other
+    → get_or one i 0 ≢ get_or other i 0 → is_folder_of (drop i one) (drop i other) ≡ false
+unfolding is_folder_of
+folder_differs one other i h k e = search (rules, drop-cons)
 
--- ---- the blocks of files
+pub folder_longer : (one other : List ℕ) (i : ℕ) → i < length one → length other ≤ i
+    → is_folder_of (drop i one) (drop i other) ≡ false
+unfolding is_folder_of
+folder_longer one other i h k = rw (drop-cons one i 0 h, drop_all i other k) refl
 
-drop_item : {X : Type 0} (xs : List X) (i : ℕ) (x : X) → i < length xs → x ≡ get_or xs i x
-    → drop i xs ≡ x ∷ drop (i + 1) xs
-drop_item xs i x h e = search (rules, drop-cons)
+pub folder_ends : (one other : List ℕ) (i : ℕ) → length one ≡ i → i < length other
+    → is_folder_of (drop i one) (drop i other) ≡ eqb (get_or other (length one) 0) 47
+unfolding is_folder_of
+folder_ends one other i h inside =
+    let ended : length one ≤ i = omega arith in
+    rw (drop_all i one ended, drop-cons other i 0 inside, h) refl
 
-equal_after : (a b left : ℕ) → a ≤ left → eqb (a + b) left ≡ eqb b (left - a)
-equal_after a b left h = search rules
+pub folder_is_all : (one other : List ℕ) (i : ℕ) → length one ≡ i → length other ≤ i
+    → is_folder_of (drop i one) (drop i other) ≡ false
+unfolding is_folder_of
+folder_is_all one other i h outside =
+    let ended : length one ≤ i = omega arith in
+    rw (drop_all i one ended, drop_all i other outside) refl
 
-fills_further : (block : ℕ) (file : SetFile) (rest : List SetFile) (left : ℕ) → blocks_of block file.size ≤ left
-    → eqb (blocks_in block (file ∷ rest)) left ≡ eqb (blocks_in block rest) (left - blocks_of block file.size)
-unfolding blocks_in
-fills_further block file rest left h = equal_after (blocks_of block file.size) (blocks_in block rest) left h
-
-fills_not : (block : ℕ) (file : SetFile) (rest : List SetFile) (left : ℕ) → left < blocks_of block file.size
-    → eqb (blocks_in block (file ∷ rest)) left ≡ false
-unfolding blocks_in
-fills_not block file rest left h = search rules
-
-fills_end : (block left : ℕ) → eqb (blocks_in block []) left ≡ eqb left 0
-unfolding blocks_in
-fills_end block left = search rules
-
--- ---- a file in a list of entries
-
-module _ (files : List FileEntry) {i : ℕ} {file : FileEntry} (h : i < length files)
-    (e : file ≡ get_or files i file) where
-  cut : files_of (drop i files) ≡ file_of file ∷ files_of (drop (i + 1) files)
-  cut = ap files_of (drop_item files i file h e)
-
-  pub fills_at : (block left : ℕ) → blocks_of block file.size ≤ left
-      → eqb (blocks_in block (files_of (drop i files))) left ≡ eqb (blocks_in block (files_of (drop (i + 1) files)))
-      (left - blocks_of block file.size)
-  fills_at block left le = search (rules, cut, fills_further)
-
-  pub overfills_at : (block left : ℕ) → left < blocks_of block file.size
-      → eqb (blocks_in block (files_of (drop i files))) left ≡ false
-  overfills_at block left lt = search (rules, cut, fills_not)
-
-  pub length_fault : (previous : List ℕ) → 2 ^ 62 ≤ file.size
-      → files_outcome previous (files_of (drop i files)) ≡ Err Length
-  unfolding files_outcome
-  length_fault previous le = ap (files_outcome previous) cut ∙ rw (le-leb _ _ le) refl
-
-  module _ (short : file.size < 2 ^ 62) where
-    pub name_fault : (previous : List ℕ) → is_name file.name.items ≡ false
-        → files_outcome previous (files_of (drop i files)) ≡ Err Name
-    unfolding files_outcome
-    name_fault previous bad = ap (files_outcome previous) cut ∙ rw (lt-leb _ _ short, bad) refl
-
-    pub order_fault : (previous : List ℕ) → is_name file.name.items ≡ true → is_before previous file.name.items ≡ false
-        → files_outcome previous (files_of (drop i files)) ≡ Err Order
-    unfolding files_outcome
-    order_fault previous good bad = ap (files_outcome previous) cut ∙ rw (lt-leb _ _ short, good, bad) refl
-
-    pub passes_at : (previous : List ℕ) → is_name file.name.items ≡ true → is_before previous file.name.items ≡ true
-        → files_outcome previous (files_of (drop i files))
-        ≡ files_outcome file.name.items (files_of (drop (i + 1) files))
-    unfolding files_outcome
-    passes_at previous good later = ap (files_outcome previous) cut ∙ rw (lt-leb _ _ short, good, later) refl
-
-pub fills_past : (files : List FileEntry) (i block left : ℕ) → length files ≤ i
-    → eqb (blocks_in block (files_of (drop i files))) left ≡ eqb left 0
-fills_past files i block left h = rw (drop_all i files h) (fills_end block left)
-
-pub passes_past : (files : List FileEntry) (i : ℕ) (previous : List ℕ) → length files ≤ i
-    → files_outcome previous (files_of (drop i files)) ≡ Ok tt
-unfolding files_outcome
-passes_past files i previous h = rw (drop_all i files h) refl
+-- the steps of the loop that looks for a folder
+pub ruleset steps_in_folder = (folder_further, folder_differs, folder_longer, folder_ends, folder_is_all)

@@ -1,11 +1,10 @@
--- The head of a volume, its one spelling in bytes, and how it is read.
-use Rattle.std.specs.Prelude.{ℕ, ◌<◌, ◌^◌, List, [], ◌∷◌, ◌++◌, Result, Ok, Err, take, drop, if◌then◌else◌}
+-- The head of a volume of version 1, its one spelling in bytes, and how it is read.
+use Rattle.std.specs.Prelude.{ℕ, ◌<◌, ◌^◌, List, [], ◌∷◌, ◌++◌, Result, Ok}
 use Rattle.std.specs.Int.{w32, w64, to_le_bytes}
-use Rattle.std.specs.Str.{bytes_eq}
 use Rattle.rs_volumes.specs.declared.fault.Fault.{Fault}
-use Rattle.rs_volumes.specs.declared.fault.Fault.TheVariants.{Magic, Version, Reserved}
-use Rattle.rs_volumes.specs.declared.head.Head.{Head}
-use Rattle.rs_volumes.specs.Reading.{◌>>=◌, number_at, fixed_at}
+use Rattle.rs_volumes.specs.declared.fault.Fault.TheVariants.{Version, Reserved}
+use Rattle.rs_volumes.specs.declared.first.Head.{Head}
+use Rattle.rs_volumes.specs.Reading.{◌>>=◌, number_at, fixed_at, magic_at}
 
 -- a head: the number of bytes of the description, the number of block records, and the digest of the description
 pub record VolumeHead : Type 0 where
@@ -31,14 +30,10 @@ pub record HeadFits (h : VolumeHead) : Type 0 where
   pub description_bytes : h.description_bytes < 2 ^ 64
   pub record_count : h.record_count < 2 ^ 64
 
--- the magic number at the front, and the bytes after it
-unfoldable pub magic_at : List ℕ → Result (List ℕ) Fault
-magic_at bytes = if bytes_eq (take 8 bytes) magic then Ok (drop 8 bytes) else Err Magic
-
 -- the head that takes all of the bytes, or the first fault
 unfoldable pub head_in : List ℕ → Result VolumeHead Fault
 head_in bytes = do
-  version ← magic_at bytes
+  version ← magic_at magic bytes
   reserved ← fixed_at 1 Version version
   numbers ← fixed_at 0 Reserved reserved
   size ← number_at w64 numbers

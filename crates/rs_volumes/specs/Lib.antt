@@ -1,8 +1,12 @@
 pub mod Description
 pub mod Reading
-pub mod Heads
-pub mod Places
+pub mod Names
+pub mod Data
 pub mod Sound
+pub mod Records
+pub mod Places
+pub mod First
+pub mod Heads
 pub mod Hashing
 pub mod Failing
 pub mod Holding

@@ -1,20 +1,30 @@
-//! Checks whether a description is sound: whether its numbers fit each other, and its names are safe.
-ghost use Rattle.std.specs.Prelude.{◌≡◌, ◌↔◌, ◌<◌, ◌^◌, ◌==◌, true, [], All, OnOk, IsTrue, length};
-ghost use Rattle.std.specs.Str.{is_utf8};
-ghost use Rattle.rs_volumes.specs.Description.{set_of, files_of};
-ghost use Rattle.rs_volumes.specs.Sound.{blocks_of, blocks_in, is_part, has_parts, is_name, is_before, files_outcome};
-ghost use Rattle.rs_volumes.specs.Sound.{allows_counts, allows_block, set_outcome};
+//! Checks whether a description of version 2 is sound: whether its numbers fit each other, and its names are safe.
+ghost use Rattle.std.specs.Prelude.{◌≡◌, ◌+◌, ◌↔◌, ◌<◌, ◌≤◌, ◌^◌, ◌==◌, true, [], All, IfSome, OnOk, IsTrue, length};
+ghost use Rattle.std.specs.List.{flat_map};
+ghost use Rattle.rs_volumes.specs.Description.{set_of, entry_of, entries_of, fields_of, field_spelling, HasShortNames};
+ghost use Rattle.rs_volumes.specs.Data.{blocks_of, round_up, end_after, end_of, below_limit, unit_of};
+ghost use Rattle.rs_volumes.specs.Names.{has_parts, NoneInside};
+ghost use Rattle.rs_volumes.specs.Sound.{allows_counts, allows_block, allows_target, is_file, is_large, known_fields};
+ghost use Rattle.rs_volumes.specs.Sound.{entry_outcome, entries_outcome, data_outcome, set_outcome};
 
-use crate::description::{Description, FileEntry};
+use crate::description::{Description, Entry, Field, Kind, Version};
 use crate::fault::Fault;
+pub use crate::names::is_before;
+use crate::names::{has_parts, is_folder_of};
 use reed_solomon_simd::ReedSolomonEncoder;
 
-/// Returns the number of blocks of a file with `size` bytes. A last block that is not full counts.
+/// The number of bytes at whose multiples the files of a set of version 2 begin in its data.
+pub const UNIT: u64 = 64;
+
+/// The data of a set has fewer bytes than this.
+pub const LIMIT: u64 = 1 << 62;
+
+/// Returns the number of blocks of `size` bytes. A last block that is not full counts.
 ///
 /// # Examples
 ///
-/// With blocks of 4096 bytes, files of 0, 1, 4096 and 4097 bytes have 0, 1, 1 and 2 blocks.
-#[tactic(auto, unfolding(crate::specs::Sound::blocks_of))]
+/// With blocks of 4096 bytes, 0, 1, 4096 and 4097 bytes have 0, 1, 1 and 2 blocks.
+#[tactic(auto, unfolding(crate::specs::Data::blocks_of))]
 pub fn block_count(block_bytes: u64, size: u64) -> u64
     requires block { 0 < block_bytes }
     requires block_fits { block_bytes < 2 ^ 63 }
@@ -24,110 +34,16 @@ pub fn block_count(block_bytes: u64, size: u64) -> u64
     (size + (block_bytes - 1)) / block_bytes
 }
 
-// Returns whether a part of a name is allowed between two slashes: it is not empty, `.` or `..`.
-#[tactic(auto, unfolding(crate::specs::Sound::is_part))]
-fn is_part(part: &[u8]) -> bool
-    ensures { result ≡ is_part part.now }
-{
-    !part.is_empty() && part != b".".as_slice() && part != b"..".as_slice()
-}
-
-// Returns whether all parts of a name are allowed, and the name has no zero byte.
-#[tactic(auto, using(crate::proofs::NameLemmas::steps_in_parts))]
-fn has_parts(name: &[u8]) -> bool
-    ensures { result ≡ has_parts [] name.now }
-{
-    let mut start = 0;
-    for (end, byte) in name.iter().enumerate() {
-        if *byte == 0 {
-            return false;
-        }
-        if *byte == b'/' {
-            if !is_part(&name[start..end]) {
-                return false;
-            }
-            start = end + 1;
-        }
-    }
-    is_part(&name[start..])
-}
-
-/// Returns whether a name is allowed in a description. An allowed name is UTF-8 and relative, and has no zero byte. No
-/// part of the name is empty, `.` or `..`.
+/// Returns whether a name is allowed in a description of version 2. An allowed name is relative, and has no zero byte.
+/// No part of the name is empty, `.` or `..`.
 ///
 /// # Examples
 ///
 /// `photos/2026/a.jpg` is allowed. `/etc/passwd`, `../a`, `a//b` and an empty name are not.
-#[tactic(auto, unfolding(crate::specs::Sound::is_name))]
 pub fn is_name(name: &[u8]) -> bool
-    ensures { result ≡ is_name name.now }
+    ensures { result ≡ has_parts [] name.now }
 {
-    has_parts(name) && is_text(name)
-}
-
-// Returns whether bytes are UTF-8.
-fn is_text(bytes: &[u8]) -> bool
-    ensures { result ≡ is_utf8 bytes.now }
-{
-    match std::str::from_utf8(bytes) {
-        Ok(_) => true,
-        Err(_) => false,
-    }
-}
-
-/// Returns whether the name `one` comes before the name `other` in the order of their bytes.
-#[tactic(auto, using(crate::proofs::NameLemmas::steps_in_order))]
-pub fn is_before(one: &[u8], other: &[u8]) -> bool
-    ensures { result ≡ is_before one.now other.now }
-{
-    for (index, byte) in one.iter().enumerate() {
-        if index >= other.len() {
-            return false;
-        }
-        if *byte != other[index] {
-            return *byte < other[index];
-        }
-    }
-    one.len() < other.len()
-}
-
-// Checks the lengths and names of files, and that the names are in strictly increasing order.
-fn check_files(files: &[FileEntry]) -> Result<(), Fault>
-    ensures answer { result ≡ files_outcome [] (files_of files.now) }
-    ensures sized { OnOk result (All (λ file. file.size < 2 ^ 62) files.now) }
-{
-    let mut previous: &[u8] = b"";
-    for file in files {
-        if file.size >= 1 << 62 {
-            return Err(Fault::Length);
-        }
-        if !is_name(file.name.as_slice()) {
-            return Err(Fault::Name);
-        }
-        if !is_before(previous, file.name.as_slice()) {
-            return Err(Fault::Order);
-        }
-        previous = file.name.as_slice();
-    }
-    Ok(())
-}
-
-// Returns whether the files have exactly `count` blocks.
-fn fills(block_bytes: u64, count: u64, files: &[FileEntry]) -> bool
-    requires block { 0 < block_bytes }
-    requires block_fits { block_bytes < 2 ^ 63 }
-    requires sized { All (λ file. file.size < 2 ^ 62) files.now }
-    ensures { result ≡ (blocks_in block_bytes (files_of files.now) == count) }
-{
-    let mut left = count;
-    for file in files {
-        let blocks = block_count(block_bytes, file.size);
-        if blocks > left {
-            return false;
-        }
-        left -= blocks;
-    }
-    left == 0
+    has_parts(name)
 }
 
 /// Returns whether the numbers of blocks are allowed: the code supports them, or both are 0.
@@ -148,20 +64,207 @@ pub fn allows_counts(original_count: u32, recovery_count: u32) -> bool
 pub fn allows_block(block_bytes: u64) -> bool
     ensures answer { result ≡ allows_block block_bytes }
     ensures some { result ≡ true → 0 < block_bytes }
-    ensures few { result ≡ true → block_bytes < 2 ^ 63 }
+    ensures few { result ≡ true → block_bytes ≤ 2 ^ 40 }
 {
     block_bytes > 0 && block_bytes % 2 == 0 && block_bytes <= 1 << 40
 }
 
-/// Checks whether a description is sound. The function does not look at the digests.
+/// Returns the smallest multiple of `unit` that is at least `at`.
+///
+/// # Examples
+///
+/// The smallest multiples of 64 that are at least 0, 1, 64 and 65 are 0, 64, 64 and 128.
+#[tactic(auto, unfolding(crate::specs::Data::round_up))]
+pub fn round_up(unit: u64, at: u64) -> u64
+    requires some { 0 < unit }
+    requires unit_fits { unit ≤ 2 ^ 62 }
+    requires at_fits { at < 2 ^ 62 }
+    ensures { result ≡ round_up unit at }
+{
+    block_count(unit, at) * unit
+}
+
+/// Returns the end in the data of a file with `size` bytes, if the end of the file before is `at`. Returns `None` if
+/// the end is 2^62 or more.
+#[tactic(auto, using(crate::proofs::DataLemmas::ends_of_files))]
+pub fn end_after(unit: u64, at: u64, size: u64) -> Option<u64>
+    requires some { 0 < unit }
+    requires unit_fits { unit ≤ 2 ^ 62 }
+    requires at_fits { at < 2 ^ 62 }
+    ensures answer { result ≡ below_limit (end_after unit at size) }
+    ensures few { IfSome result (λ end. end < 2 ^ 62) }
+{
+    if size == 0 {
+        return Some(at);
+    }
+    let start = round_up(unit, at);
+    if start >= LIMIT || size >= LIMIT - start {
+        return None;
+    }
+    Some(start + size)
+}
+
+/// Returns the number of bytes of the data of entries, if each file begins at a multiple of `unit`. Returns `None` if
+/// they are 2^62 or more.
+///
+/// # Examples
+///
+/// With the unit 64, files of 1, 0 and 65 bytes have data of 129 bytes.
+pub fn data_end(unit: u64, entries: &[Entry]) -> Option<u64>
+    requires some { 0 < unit }
+    requires unit_fits { unit ≤ 2 ^ 62 }
+    ensures answer { result ≡ below_limit (end_of unit 0 (entries_of entries.now)) }
+    ensures few { IfSome result (λ end. end < 2 ^ 62) }
+{
+    let mut end = 0;
+    for entry in entries {
+        end = end_after(unit, end, entry.size)?;
+    }
+    Some(end)
+}
+
+/// Returns the number of bytes at whose multiples the files of a set begin in its data.
+#[tactic(auto, unfolding(crate::specs::Data::unit_of, crate::specs::Data::unit_in))]
+pub fn unit_of(description: &Description) -> u64
+    ensures answer { result ≡ unit_of (set_of description.now) }
+    ensures some { 0 < description.now.block_bytes → 0 < result }
+    ensures few { description.now.block_bytes ≤ 2 ^ 62 → result ≤ 2 ^ 62 }
+{
+    match description.version {
+        Version::First => description.block_bytes,
+        Version::Second => UNIT,
+    }
+}
+
+// Returns whether an entry of this kind has bytes.
+#[tactic(auto, unfolding(crate::specs::Sound::is_file))]
+fn is_file(kind: Kind) -> bool
+    ensures { result ≡ is_file kind }
+{
+    match kind {
+        Kind::File => true,
+        Kind::Link => false,
+        Kind::Folder => false,
+    }
+}
+
+// Returns whether an entry of this kind may have this target.
+#[tactic(auto, unfolding(crate::specs::Sound::allows_target))]
+fn allows_target(kind: Kind, target: &[u8]) -> bool
+    ensures { result ≡ allows_target kind target.now }
+{
+    match kind {
+        Kind::Link => !target.is_empty() && !target.contains(&0),
+        Kind::File => target.is_empty(),
+        Kind::Folder => target.is_empty(),
+    }
+}
+
+// Checks an entry alone.
+#[tactic(auto, unfolding(crate::specs::Sound::entry_outcome))]
+fn check_entry(entry: &Entry) -> Result<(), Fault>
+    ensures { result ≡ entry_outcome (entry_of entry.now) }
+{
+    let is_file = is_file(entry.kind);
+    if entry.mode >= 4096 {
+        return Err(Fault::Mode);
+    }
+    if entry.nanoseconds >= 1_000_000_000 {
+        return Err(Fault::Nanoseconds);
+    }
+    if entry.size >= LIMIT {
+        return Err(Fault::Length);
+    }
+    if !is_file && entry.size != 0 {
+        return Err(Fault::Size);
+    }
+    if !allows_target(entry.kind, entry.target.as_slice()) {
+        return Err(Fault::Target);
+    }
+    if !is_file && entry.digest != [0; 32] {
+        return Err(Fault::FileDigest);
+    }
+    if !is_name(entry.name.as_slice()) {
+        return Err(Fault::Name);
+    }
+    Ok(())
+}
+
+// Checks entries, and that their names are in strictly increasing order and no name is a folder of the next one.
+fn check_entries(entries: &[Entry]) -> Result<(), Fault>
+    ensures { result ≡ entries_outcome [] (entries_of entries.now) }
+{
+    let mut previous: &[u8] = b"";
+    for entry in entries {
+        check_entry(entry)?;
+        let name = entry.name.as_slice();
+        if !is_before(previous, name) {
+            return Err(Fault::Order);
+        }
+        if is_folder_of(previous, name) {
+            return Err(Fault::Inside);
+        }
+        previous = name;
+    }
+    Ok(())
+}
+
+// Returns whether this program may read the fields: each kind is below 2^31.
+fn has_known_fields(fields: &[Field]) -> bool
+    ensures { result ≡ known_fields (fields_of fields.now) }
+{
+    for field in fields {
+        if field.kind >= 1 << 31 {
+            return false;
+        }
+    }
+    true
+}
+
+// Returns whether blocks of this size are larger than data of `end` bytes. Blocks of at most 4096 bytes never are, and
+// the end of the data is rounded up to a multiple of 4096.
+#[tactic(auto, unfolding(crate::specs::Sound::is_large))]
+fn is_large(block_bytes: u64, end: u64) -> bool
+    requires { end < 2 ^ 62 }
+    ensures { result ≡ is_large block_bytes end }
+{
+    block_bytes > 4096 && block_bytes > round_up(4096, end)
+}
+
+// Checks that the blocks fit the data of the entries: they are not larger than the data, and there are `count` of them.
+#[tactic(auto, using(crate::proofs::CheckLemmas::outcomes_of_data))]
+fn check_data(block_bytes: u64, count: u64, entries: &[Entry]) -> Result<(), Fault>
+    requires block { 0 < block_bytes }
+    requires block_fits { block_bytes ≤ 2 ^ 40 }
+    ensures { result ≡ data_outcome block_bytes count (entries_of entries.now) }
+{
+    let Some(end) = data_end(UNIT, entries) else {
+        return Err(Fault::Length);
+    };
+    if is_large(block_bytes, end) {
+        return Err(Fault::LargeBlock);
+    }
+    if block_count(block_bytes, end) != count {
+        return Err(Fault::Blocks);
+    }
+    Ok(())
+}
+
+/// Checks whether a description of version 2 is sound. The function does not look at the digests and sums of the
+/// blocks.
 ///
 /// # Errors
 ///
-/// In this order: [`Fault::BlockSize`], [`Fault::Counts`], then for each file [`Fault::Length`], [`Fault::Name`] and
-/// [`Fault::Order`], and at the end [`Fault::Blocks`].
+/// In this order: [`Fault::BlockSize`], [`Fault::Counts`], [`Fault::Volumes`], [`Fault::Field`], then for each entry
+/// [`Fault::Mode`], [`Fault::Nanoseconds`], [`Fault::Length`], [`Fault::Size`], [`Fault::Target`],
+/// [`Fault::FileDigest`], [`Fault::Name`], [`Fault::Order`] and [`Fault::Inside`], and at the end [`Fault::Length`] for
+/// the data of all files, [`Fault::LargeBlock`] and [`Fault::Blocks`].
 #[tactic(auto, unfolding(crate::specs::Sound::set_outcome))]
 pub fn check(description: &Description) -> Result<(), Fault>
-    ensures { result ≡ set_outcome (set_of description.now) }
+    // The definition `set_outcome` states the result: success, or the fault that is reported.
+    ensures exact { result ≡ set_outcome (set_of description.now) }
+    // If the function succeeds, no name of an entry is a folder of another one.
+    ensures apart { OnOk result (NoneInside (entries_of description.now.entries.items)) }
 {
     if !allows_block(description.block_bytes) {
         return Err(Fault::BlockSize);
@@ -169,40 +272,61 @@ pub fn check(description: &Description) -> Result<(), Fault>
     if !allows_counts(description.original_count, description.recovery_count) {
         return Err(Fault::Counts);
     }
-    let files = description.files.as_slice();
-    check_files(files)?;
-    let count = u64::from(description.original_count);
-    if !fills(description.block_bytes, count, files) {
-        return Err(Fault::Blocks);
+    if description.volumes == 0 {
+        return Err(Fault::Volumes);
     }
-    Ok(())
+    if !has_known_fields(description.fields.as_slice()) {
+        return Err(Fault::Field);
+    }
+    let entries = description.entries.as_slice();
+    check_entries(entries)?;
+    let count = u64::from(description.original_count);
+    check_data(description.block_bytes, count, entries)
 }
 
-/// Returns whether a description can be written: it has fewer than 2^32 files, and each name is shorter than 2^16
-/// bytes.
+/// Returns whether a description can be written: it has fewer than 2^32 entries, the permission bits of each entry are
+/// below 2^16, each name and each target is shorter than 2^16 bytes, and the fields have fewer than 2^32 bytes in all.
 pub fn fits(description: &Description) -> bool
-    ensures count { IsTrue result → length description.now.files.items < 2 ^ 32 }
-    ensures names { IsTrue result
-        → All (λ file. length file.name.items < 2 ^ 16) description.now.files.items }
-    ensures no_other { length description.now.files.items < 2 ^ 32
-        → All (λ file. length file.name.items < 2 ^ 16) description.now.files.items
+    ensures count { IsTrue result → length description.now.entries.items < 2 ^ 32 }
+    ensures names { IsTrue result → All HasShortNames description.now.entries.items }
+    ensures fields { IsTrue result
+        → length (flat_map field_spelling (fields_of description.now.fields.items)) < 2 ^ 32 }
+    ensures no_other { length description.now.entries.items < 2 ^ 32
+        → All HasShortNames description.now.entries.items
+        → length (flat_map field_spelling (fields_of description.now.fields.items)) < 2 ^ 32
         → IsTrue result }
 {
-    let files = description.files.as_slice();
-    if files.len() >= 1 << 32 {
+    let entries = description.entries.as_slice();
+    if entries.len() >= 1 << 32 {
         return false;
     }
-    has_short_names(files)
+    has_short_names(entries) && has_short_fields(description.fields.as_slice())
 }
 
-// Returns whether each name is shorter than 2^16 bytes.
-fn has_short_names(files: &[FileEntry]) -> bool
-    ensures { IsTrue result ↔ All (λ file. length file.name.items < 2 ^ 16) files.now }
+// Returns whether the permission bits of each entry are below 2^16, and its name and target are shorter than 2^16
+// bytes.
+fn has_short_names(entries: &[Entry]) -> bool
+    ensures { IsTrue result ↔ All HasShortNames entries.now }
 {
-    for file in files {
-        if file.name.len() >= 1 << 16 {
+    for entry in entries {
+        if entry.mode >= 1 << 16 || entry.name.len() >= 1 << 16 || entry.target.len() >= 1 << 16 {
             return false;
         }
+    }
+    true
+}
+
+// Returns whether the fields have fewer than 2^32 bytes in all.
+fn has_short_fields(fields: &[Field]) -> bool
+    ensures { IsTrue result ↔ (length (flat_map field_spelling (fields_of fields.now)) < 2 ^ 32) }
+{
+    let mut left = (1usize << 32) - 1;
+    for field in fields {
+        let len = field.bytes.len();
+        if left < 8 || len > left - 8 {
+            return false;
+        }
+        left -= 8 + len;
     }
     true
 }

@@ -11,13 +11,15 @@ use std::fmt;
 pub enum Fault {
     /// The bytes do not begin with the magic number of a volume.
     Magic,
-    /// The version is not 1.
+    /// The version of the head of a volume is not 1.
     Version,
+    /// The check of the head of a record is not that of its bytes.
+    Check,
     /// A number that must be zero is not.
     Reserved,
     /// The bytes end before the last field is complete.
     Short,
-    /// More bytes follow the last digest.
+    /// More bytes follow the last digest or the last sum.
     Trailing,
     /// The number of the code is not 1.
     Code,
@@ -27,12 +29,33 @@ pub enum Fault {
     BlockSize,
     /// The code does not support the numbers of blocks, and they are not both 0.
     Counts,
-    /// A file has 2^62 bytes or more.
+    /// The number of volumes is 0.
+    Volumes,
+    /// A field has a kind of 2^31 or more, which a reader must know, and this one does not.
+    Field,
+    /// An entry is neither a file nor a link nor a folder.
+    Kind,
+    /// The permission bits of an entry are 4096 or more.
+    Mode,
+    /// The nanoseconds of an entry are 10^9 or more.
+    Nanoseconds,
+    /// A file, or the data of all files, has 2^62 bytes or more.
     Length,
-    /// A name is empty, is not UTF-8, is absolute, has a zero byte, or has an empty part or a part `.` or `..`.
+    /// A link or a folder has a length above 0.
+    Size,
+    /// The target of a link is empty or has a zero byte, or a file or a folder has a target.
+    Target,
+    /// A link or a folder has a digest that is not 32 zeros.
+    FileDigest,
+    /// A name is empty, is absolute, has a zero byte, or has an empty part or a part `.` or `..`. In version 1 also:
+    /// the name is not UTF-8.
     Name,
     /// The names are not in strictly increasing order.
     Order,
+    /// The name of an entry is a folder of the next name.
+    Inside,
+    /// The blocks are larger than the data of the files.
+    LargeBlock,
     /// The number of blocks of the files is not the number of original blocks in the description.
     Blocks,
 }
@@ -42,6 +65,7 @@ impl fmt::Display for Fault {
         let text = match self {
             Fault::Magic => "it does not begin as a volume does",
             Fault::Version => "its version is not 1: a newer program may read it",
+            Fault::Check => "the head of a record is damaged",
             Fault::Reserved => "a number that must be zero is not",
             Fault::Short => "it ends too early",
             Fault::Trailing => "bytes follow its description",
@@ -49,9 +73,19 @@ impl fmt::Display for Fault {
             Fault::Digest => "it uses a digest that this program does not know",
             Fault::BlockSize => "its block size is zero, odd or too large",
             Fault::Counts => "its numbers of blocks are not supported",
+            Fault::Volumes => "its number of volumes is 0",
+            Fault::Field => "it needs a newer program",
+            Fault::Kind => "an entry is neither a file nor a link nor a folder",
+            Fault::Mode => "the permission bits of an entry are too large",
+            Fault::Nanoseconds => "the time of an entry is not allowed",
             Fault::Length => "a file is too long",
-            Fault::Name => "the name of a file is not allowed",
-            Fault::Order => "the names of its files are not in order",
+            Fault::Size => "a link or a folder has a length",
+            Fault::Target => "the target of a link is not allowed",
+            Fault::FileDigest => "a link or a folder has a digest",
+            Fault::Name => "the name of an entry is not allowed",
+            Fault::Order => "the names of its entries are not in order",
+            Fault::Inside => "an entry that is no folder has entries in it",
+            Fault::LargeBlock => "its blocks are larger than its files",
             Fault::Blocks => "the number of its blocks does not fit its files",
         };
         write!(f, "{text}")

@@ -10,13 +10,16 @@ pub mod creating;
 pub mod description;
 pub mod digest;
 pub mod fault;
+pub mod first;
 pub mod hashing;
-pub mod head;
+mod names;
 mod numbers;
+mod opening;
 mod outputs;
 pub mod pieces;
 pub mod placement;
 mod reading;
+pub mod record;
 pub mod restoring;
 mod writing;
 

@@ -1,6 +1,7 @@
-//! Reads numbers from the front of bytes.
+//! Reads numbers and bytes from the front of bytes.
+ghost use Rattle.std.specs.Prelude.{◌≡◌, ◌≤◌, length};
 ghost use Rattle.std.specs.Int.{w16, w32, w64};
-ghost use Rattle.rs_volumes.specs.Reading.{Reads, number_at, fixed_at};
+ghost use Rattle.rs_volumes.specs.Reading.{Reads, number_at, fixed_at, taken_at, name_at, magic_at};
 
 use crate::fault::Fault;
 
@@ -50,6 +51,61 @@ pub fn fixed_of(wanted: u32, fault: Fault, bytes: &[u8]) -> Result<&[u8], Fault>
     let (number, rest) = u32_at(bytes)?;
     if number != wanted {
         return Err(fault);
+    }
+    Ok(rest)
+}
+
+/// Returns the first `count` bytes and the remaining bytes.
+#[tactic(auto, unfolding(crate::specs::Reading::taken_at))]
+pub fn taken_of(count: usize, bytes: &[u8]) -> Result<(&[u8], &[u8]), Fault>
+    ensures { Reads (λ x. (x.0.now, x.1.now)) result (taken_at count bytes.now) }
+{
+    if bytes.len() < count {
+        return Err(Fault::Short);
+    }
+    Ok(bytes.split_at(count))
+}
+
+/// Reads a length of two bytes and then as many bytes, and returns these bytes and the remaining bytes.
+#[tactic(auto, unfolding(crate::specs::Reading::name_at))]
+pub fn name_of(bytes: &[u8]) -> Result<(&[u8], &[u8]), Fault>
+    ensures { Reads (λ x. (x.0.now, x.1.now)) result (name_at bytes.now) }
+{
+    let (len, rest) = u16_at(bytes)?;
+    taken_of(len as usize, rest)
+}
+
+/// Returns 32 bytes as an array.
+pub fn digest_in(bytes: &[u8]) -> [u8; 32]
+    requires { length bytes.now ≡ 32 }
+    ensures { result ≡ bytes.now }
+{
+    let mut digest = [0u8; 32];
+    digest.copy_from_slice(bytes);
+    digest
+}
+
+/// Reads a digest of 32 bytes, and returns the digest and the remaining bytes.
+#[tactic(auto, unfolding(crate::specs::Reading::taken_at))]
+pub fn digest_at(bytes: &[u8]) -> Result<([u8; 32], &[u8]), Fault>
+    ensures { Reads (λ x. (x.0, x.1.now)) result (taken_at 32 bytes.now) }
+{
+    if bytes.len() < 32 {
+        return Err(Fault::Short);
+    }
+    let (front, rest) = bytes.split_at(32);
+    Ok((digest_in(front), rest))
+}
+
+/// Reads a magic number, and returns the remaining bytes.
+#[tactic(auto, unfolding(crate::specs::Reading::magic_at))]
+pub fn magic_of<'a>(magic: &[u8; 8], bytes: &'a [u8]) -> Result<&'a [u8], Fault>
+    requires { 8 ≤ length bytes.now }
+    ensures { Reads (λ x. x.now) result (magic_at magic.now bytes.now) }
+{
+    let (front, rest) = bytes.split_at(8);
+    if front != magic.as_slice() {
+        return Err(Fault::Magic);
     }
     Ok(rest)
 }

@@ -1,74 +1,114 @@
-//! Where the original blocks lie in the files.
-ghost use Rattle.std.specs.Prelude.{◌≡◌, ◌<◌, ◌++◌, OnOk, IfOk};
-ghost use Rattle.rs_volumes.specs.Description.{files_of};
-ghost use Rattle.rs_volumes.specs.Places.{Cover, file_places, set_places};
+//! Where the bytes of the files lie in the original blocks.
+ghost use Rattle.std.specs.Prelude.{◌≡◌, ◌+◌, ◌*◌, ◌<◌, ◌≤◌, ◌^◌, ◌++◌, All, OnOk, IfOk};
+ghost use Rattle.rs_volumes.specs.Description.{entries_of, set_of};
+ghost use Rattle.rs_volumes.specs.Data.{unit_of};
+ghost use Rattle.rs_volumes.specs.Reading.{Gives};
+ghost use Rattle.rs_volumes.specs.Places.{Cover, IsPlaced, Rises, place_in, file_places, places_in};
 
+use crate::checking::{allows_block, block_count, end_after, unit_of};
 use crate::description::Description;
+use crate::fault::{Fault, ReadError};
 use std::alloc::{AllocError, Global};
 
-/// The place of an original block in the files.
+/// A run of bytes of a file that lies in an original block.
 #[derive(Clone, Copy, Debug)]
 pub struct Place {
-    /// The index of the file in the description.
+    /// The index of the block.
+    pub block: usize,
+    /// The offset in bytes of the run in the block.
+    pub at: u64,
+    /// The index of the file among the entries of the description.
     pub file: usize,
-    /// The offset in bytes of the block in the file.
+    /// The offset in bytes of the run in the file.
     pub offset: u64,
-    /// The number of bytes of the block that are in the file. The other bytes of the block are zeros.
+    /// The number of bytes of the run. It is above zero.
     pub bytes: u64,
 }
 
-// Appends the places of the blocks of one file with `size` bytes. `file` is the index of the file.
-fn push_places(
-    places: &mut Vec<Place>,
+// A file in the data: its index, its first byte, and the byte after its last one.
+#[derive(Clone, Copy)]
+struct Extent {
     file: usize,
-    size: u64,
-    block_bytes: u64,
-) -> Result<(), AllocError>
-    requires { 0 < block_bytes }
-    ensures { OnOk result (places.new.items
-        ≡ places.old.items ++ file_places file block_bytes size) }
+    start: u64,
+    end: u64,
+}
+
+// Returns the place of the bytes of a file that lie in a block.
+#[tactic(auto, unfolding(crate::specs::Places::place_in))]
+fn place_in(block_bytes: u64, extent: &Extent, block: u64) -> Place
+    requires fits { block * block_bytes + block_bytes < 2 ^ 64 }
+    requires begins { extent.now.start < block * block_bytes + block_bytes }
+    requires ends { block * block_bytes < extent.now.end }
+    requires some { extent.now.start < extent.now.end }
+    ensures { result ≡ place_in block_bytes extent.now.file extent.now.start extent.now.end block }
 {
-    let full = size / block_bytes;
-    for number in 0..full {
-        places.push(Place {
-            file,
-            offset: number * block_bytes,
-            bytes: block_bytes,
-        })?;
+    let first = block * block_bytes;
+    let from = extent.start.max(first);
+    let until = extent.end.min(first + block_bytes);
+    Place {
+        block: block as usize,
+        at: from - first,
+        file: extent.file,
+        offset: from - extent.start,
+        bytes: until - from,
     }
-    let bytes = size % block_bytes;
-    if bytes > 0 {
-        places.push(Place {
-            file,
-            offset: full * block_bytes,
-            bytes,
-        })?;
+}
+
+// Appends the places of a file that is not empty.
+fn push_places(places: &mut Vec<Place>, block_bytes: u64, extent: &Extent) -> Result<(), AllocError>
+    requires block { 0 < block_bytes }
+    requires block_fits { block_bytes ≤ 2 ^ 40 }
+    requires some { extent.now.start < extent.now.end }
+    requires end_fits { extent.now.end < 2 ^ 62 }
+    ensures { OnOk result (places.new.items
+        ≡ places.old.items ++ file_places block_bytes extent.now.file extent.now.start extent.now.end) }
+{
+    for block in extent.start / block_bytes..block_count(block_bytes, extent.end) {
+        places.push(place_in(block_bytes, extent, block))?;
     }
     Ok(())
 }
 
-/// Returns the place of each original block, in order of the indexes of the blocks.
+/// Returns the places of the bytes of the files of a set, in order of the data.
 ///
 /// # Errors
 ///
-/// [`AllocError`] if memory cannot be allocated.
+/// - [`Fault::BlockSize`] if the size of a block is zero, odd, or above 2^40 bytes.
+/// - [`Fault::Length`] if the data of the files has 2^62 bytes or more.
+/// - [`ReadError::Memory`] if memory cannot be allocated.
 ///
 /// # Examples
 ///
-/// With blocks of 4096 bytes, a file of 4097 bytes has two blocks. The first one has the offset 0 and 4096 bytes, and
-/// the second one has the offset 4096 and 1 byte.
-pub fn places_of(alloc: Global, description: &Description) -> Result<Vec<Place>, AllocError>
-    requires { 0 < description.now.block_bytes }
-    // The places are those of the definition `set_places`.
-    ensures exact { IfOk result (λ places. places.items
-        ≡ set_places 0 description.now.block_bytes (files_of description.now.files.items)) }
+/// With blocks of 4096 bytes, let files have 4097 bytes and 10 bytes. In version 2 the places are the bytes 0 to 4095
+/// of block 0 for the first file, byte 0 of block 1 for its last byte, and the bytes 64 to 73 of block 1 for the second
+/// file.
+pub fn places_of(alloc: Global, description: &Description) -> Result<Vec<Place>, ReadError>
+    // The definition `places_in` states the result: the places, or the fault that is reported.
+    ensures exact { Gives (λ v. v.items) result (places_in (set_of description.now)) }
     // The places cover each file exactly once, in order.
     ensures cover { IfOk result
-        (λ places. Cover (files_of description.now.files.items) places.items) }
+        (λ places. Cover (entries_of description.now.entries.items) places.items) }
+    // Each place lies in its file and in its block, and its position in the data is that of its bytes of the file.
+    ensures placed { IfOk result (λ places. All (IsPlaced (set_of description.now)) places.items) }
+    // The positions rise, and no place overlaps the next one.
+    ensures rising { IfOk result (λ places. Rises description.now.block_bytes 0 places.items) }
 {
+    let block_bytes = description.block_bytes;
+    if !allows_block(block_bytes) {
+        return Err(ReadError::Fault(Fault::BlockSize));
+    }
+    let unit = unit_of(description);
     let mut places = Vec::new(alloc);
-    for (index, file) in description.files.as_slice().iter().enumerate() {
-        push_places(&mut places, index, file.size, description.block_bytes)?;
+    let mut at = 0;
+    for (file, entry) in description.entries.as_slice().iter().enumerate() {
+        let Some(end) = end_after(unit, at, entry.size) else {
+            return Err(ReadError::Fault(Fault::Length));
+        };
+        if entry.size > 0 {
+            let start = end - entry.size;
+            push_places(&mut places, block_bytes, &Extent { file, start, end })?;
+        }
+        at = end;
     }
     Ok(places)
 }

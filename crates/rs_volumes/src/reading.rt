@@ -1,105 +1,122 @@
-//! Reads a description from its bytes.
-ghost use Rattle.std.specs.Prelude.{◌≡◌, ◌<◌, ◌^◌, IfOk, Ok};
-ghost use Rattle.rs_volumes.specs.Description.{FileSet, file_of, files_of, set_of, spelling};
-ghost use Rattle.rs_volumes.specs.Reading.{Gives, name_at, file_at, files_at, opening_at, digests_in, description_in};
+//! Reads a description of version 2 from its bytes.
+ghost use Rattle.std.specs.Prelude.{◌≡◌, IfOk, Ok, length};
+ghost use Rattle.rs_volumes.specs.Description.{FileSet, entry_of, entries_of, field_of, fields_of, set_of, spelling};
+ghost use Rattle.rs_volumes.specs.Data.{blocks_of, data_of};
+ghost use Rattle.rs_volumes.specs.Reading.{Reads, Gives, kind_at, entry_at, entries_at, field_at, fields_in, fields_at};
+ghost use Rattle.rs_volumes.specs.Reading.{tail_in, description_in};
 ghost use Rattle.rs_volumes.specs.Sound.{IsSound, reading};
 
 use crate::checking::check;
-use crate::description::{Description, FileEntry};
+use crate::description::{Description, Entry, Field, Kind, Version};
 use crate::fault::{Fault, ReadError};
-use crate::numbers::{fixed_of, u16_at, u32_at, u64_at};
+use crate::numbers::{digest_at, name_of, taken_of, u16_at, u32_at, u64_at};
+use crate::opening::opening_of;
 use std::alloc::Global;
 
-// Reads the length of a name and then the name, and returns the name and the remaining bytes.
-#[tactic(auto, unfolding(crate::specs::Reading::name_at))]
-fn name_of(alloc: Global, bytes: &[u8]) -> Result<(Vec<u8>, &[u8]), ReadError>
-    ensures { Gives (λ x. (x.0.items, x.1.now)) result (name_at bytes.now) }
+// Reads the kind of an entry, and returns the kind and the remaining bytes.
+#[tactic(auto, unfolding(crate::specs::Reading::kind_at, crate::specs::Reading::kind_with))]
+fn kind_of(bytes: &[u8]) -> Result<(Kind, &[u8]), Fault>
+    ensures { Reads (λ x. (x.0, x.1.now)) result (kind_at bytes.now) }
 {
-    let (len, rest) = u16_at(bytes)?;
-    let len = len as usize;
-    if rest.len() < len {
-        return Err(ReadError::Fault(Fault::Short));
+    let (number, rest) = u16_at(bytes)?;
+    match number {
+        1 => Ok((Kind::File, rest)),
+        2 => Ok((Kind::Link, rest)),
+        3 => Ok((Kind::Folder, rest)),
+        _ => Err(Fault::Kind),
     }
-    let (name, rest) = rest.split_at(len);
-    Ok((Vec::from_slice(alloc, name)?, rest))
 }
 
-// Reads a file of a description, and returns the file and the remaining bytes.
-#[tactic(auto, unfolding(crate::specs::Reading::file_at))]
-fn entry_of(alloc: Global, bytes: &[u8]) -> Result<(FileEntry, &[u8]), ReadError>
-    ensures { Gives (λ x. (file_of x.0, x.1.now)) result (file_at bytes.now) }
+// Reads an entry of a description, and returns the entry and the remaining bytes.
+#[tactic(auto, unfolding(crate::specs::Reading::entry_at))]
+fn entry_of(alloc: Global, bytes: &[u8]) -> Result<(Entry, &[u8]), ReadError>
+    ensures { Gives (λ x. (entry_of x.0, x.1.now)) result (entry_at bytes.now) }
 {
-    let (size, rest) = u64_at(bytes)?;
-    let (modified, rest) = u64_at(rest)?;
-    let (mode, rest) = u32_at(rest)?;
-    let (name, rest) = name_of(alloc, rest)?;
-    let file = FileEntry {
+    let (kind, rest) = kind_of(bytes)?;
+    let (mode, rest) = u16_at(rest)?;
+    let (nanoseconds, rest) = u32_at(rest)?;
+    let (size, rest) = u64_at(rest)?;
+    let (seconds, rest) = u64_at(rest)?;
+    let (name, rest) = name_of(rest)?;
+    let (target, rest) = name_of(rest)?;
+    let (digest, rest) = digest_at(rest)?;
+    let entry = Entry {
+        kind,
+        mode: u32::from(mode),
         size,
-        modified,
-        mode,
-        name,
+        seconds,
+        nanoseconds,
+        name: Vec::from_slice(alloc, name)?,
+        target: Vec::from_slice(alloc, target)?,
+        digest,
     };
-    Ok((file, rest))
+    Ok((entry, rest))
 }
 
-// Reads `count` files of a description, and returns the files and the remaining bytes.
-fn entries_of(alloc: Global, count: u32, bytes: &[u8]) -> Result<(Vec<FileEntry>, &[u8]), ReadError>
-    ensures { Gives (λ x. (files_of x.0.items, x.1.now)) result (files_at count bytes.now) }
+// Reads `count` entries of a description, and returns the entries and the remaining bytes.
+fn entries_of(alloc: Global, count: u32, bytes: &[u8]) -> Result<(Vec<Entry>, &[u8]), ReadError>
+    ensures { Gives (λ x. (entries_of x.0.items, x.1.now)) result (entries_at count bytes.now) }
 {
-    let mut files = Vec::new(alloc);
+    let mut entries = Vec::new(alloc);
     let mut rest = bytes;
     for _ in 0..count {
-        let (file, after) = entry_of(alloc, rest)?;
-        files.push(file)?;
+        let (entry, after) = entry_of(alloc, rest)?;
+        entries.push(entry)?;
         rest = after;
     }
-    Ok((files, rest))
+    Ok((entries, rest))
 }
 
-// The numbers with which a description begins.
-#[derive(Clone, Copy)]
-struct Numbers {
-    block_bytes: u64,
+// Reads a field of a description, and returns the field and the remaining bytes.
+#[tactic(auto, unfolding(crate::specs::Reading::field_at))]
+fn field_of(alloc: Global, bytes: &[u8]) -> Result<(Field, &[u8]), ReadError>
+    ensures { Gives (λ x. (field_of x.0, x.1.now)) result (field_at bytes.now) }
+{
+    let (kind, rest) = u32_at(bytes)?;
+    let (len, rest) = u32_at(rest)?;
+    let (bytes, rest) = taken_of(len as usize, rest)?;
+    let bytes = Vec::from_slice(alloc, bytes)?;
+    Ok((Field { kind, bytes }, rest))
+}
+
+// Reads fields up to the end of the bytes.
+fn fields_in(alloc: Global, bytes: &[u8]) -> Result<Vec<Field>, ReadError>
+    ensures { Gives (λ v. fields_of v.items) result (fields_in (length bytes.now) bytes.now) }
+{
+    let mut fields = Vec::new(alloc);
+    let mut rest = bytes;
+    while !rest.is_empty() {
+        let (field, after) = field_of(alloc, rest)?;
+        fields.push(field)?;
+        rest = after;
+    }
+    Ok(fields)
+}
+
+// Reads the number of bytes of the fields and then the fields, and returns the fields and the remaining bytes.
+#[tactic(auto, unfolding(crate::specs::Reading::fields_at))]
+fn fields_of(alloc: Global, bytes: &[u8]) -> Result<(Vec<Field>, &[u8]), ReadError>
+    ensures { Gives (λ x. (fields_of x.0.items, x.1.now)) result (fields_at bytes.now) }
+{
+    let (len, rest) = u32_at(bytes)?;
+    let (bytes, rest) = taken_of(len as usize, rest)?;
+    Ok((fields_in(alloc, bytes)?, rest))
+}
+
+// Reads the digests of k + r blocks and the sums of k blocks, k being `original_count` and r `recovery_count`. Fails if
+// the bytes are not exactly these digests and sums.
+#[tactic(auto, unfolding(crate::specs::Reading::tail_in))]
+fn tail_of(
+    alloc: Global,
     original_count: u32,
     recovery_count: u32,
-    file_count: u32,
-}
-
-// Reads the numbers with which a description begins, and returns the numbers and the remaining bytes.
-#[tactic(auto, unfolding(crate::specs::Reading::opening_at))]
-fn numbers_of(bytes: &[u8]) -> Result<(Numbers, &[u8]), ReadError>
-    ensures { Gives (λ x. (
-      record {
-        block_bytes = x.0.block_bytes;
-        original_count = x.0.original_count;
-        recovery_count = x.0.recovery_count;
-        file_count = x.0.file_count;
-      },
-      x.1.now,
-    )) result (opening_at bytes.now) }
+    bytes: &[u8],
+) -> Result<(Vec<u8>, Vec<u8>), ReadError>
+    ensures { Gives (λ x. (x.0.items, x.1.items)) result
+        (tail_in original_count recovery_count bytes.now) }
 {
-    let rest = fixed_of(1, Fault::Code, bytes)?;
-    let rest = fixed_of(1, Fault::Digest, rest)?;
-    let (block_bytes, rest) = u64_at(rest)?;
-    let (original_count, rest) = u32_at(rest)?;
-    let (recovery_count, rest) = u32_at(rest)?;
-    let (file_count, rest) = u32_at(rest)?;
-    let numbers = Numbers {
-        block_bytes,
-        original_count,
-        recovery_count,
-        file_count,
-    };
-    Ok((numbers, rest))
-}
-
-// Reads the digests of `blocks` blocks. Fails if the bytes are not exactly these digests.
-#[tactic(auto, unfolding(crate::specs::Reading::digests_in))]
-fn digests_of(alloc: Global, blocks: u64, bytes: &[u8]) -> Result<Vec<u8>, ReadError>
-    requires { blocks < 2 ^ 34 }
-    ensures { Gives (λ v. v.items) result (digests_in blocks bytes.now) }
-{
-    let wanted = 32 * blocks;
+    let digests = 32 * (u64::from(original_count) + u64::from(recovery_count));
+    let wanted = digests + 8 * u64::from(original_count);
     let given = bytes.len() as u64;
     if given < wanted {
         return Err(ReadError::Fault(Fault::Short));
@@ -107,7 +124,11 @@ fn digests_of(alloc: Global, blocks: u64, bytes: &[u8]) -> Result<Vec<u8>, ReadE
     if given > wanted {
         return Err(ReadError::Fault(Fault::Trailing));
     }
-    Ok(Vec::from_slice(alloc, bytes)?)
+    let (digests, sums) = bytes.split_at(digests as usize);
+    Ok((
+        Vec::from_slice(alloc, digests)?,
+        Vec::from_slice(alloc, sums)?,
+    ))
 }
 
 // Reads a description without checking whether it is sound.
@@ -115,16 +136,21 @@ fn digests_of(alloc: Global, blocks: u64, bytes: &[u8]) -> Result<Vec<u8>, ReadE
 fn description_of(alloc: Global, bytes: &[u8]) -> Result<Description, ReadError>
     ensures { Gives set_of result (description_in bytes.now) }
 {
-    let (numbers, rest) = numbers_of(bytes)?;
-    let (files, rest) = entries_of(alloc, numbers.file_count, rest)?;
-    let blocks = u64::from(numbers.original_count) + u64::from(numbers.recovery_count);
-    let digests = digests_of(alloc, blocks, rest)?;
+    let (opening, rest) = opening_of(bytes)?;
+    let (volumes, rest) = u32_at(rest)?;
+    let (fields, rest) = fields_of(alloc, rest)?;
+    let (entries, rest) = entries_of(alloc, opening.entry_count, rest)?;
+    let (digests, sums) = tail_of(alloc, opening.original_count, opening.recovery_count, rest)?;
     Ok(Description {
-        block_bytes: numbers.block_bytes,
-        original_count: numbers.original_count,
-        recovery_count: numbers.recovery_count,
-        files,
+        version: Version::Second,
+        block_bytes: opening.block_bytes,
+        original_count: opening.original_count,
+        recovery_count: opening.recovery_count,
+        volumes,
+        fields,
+        entries,
         digests,
+        sums,
     })
 }
 
@@ -140,16 +166,15 @@ fn checked_of(alloc: Global, bytes: &[u8]) -> Result<Description, ReadError>
     }
 }
 
-/// Reads a description, and checks whether the description is sound. No byte may follow the description.
+/// Reads a description of version 2, and checks whether the description is sound. No byte may follow the description.
 ///
 /// # Errors
 ///
-/// - [`ReadError::Fault`] for the first field that cannot be read: [`Fault::Short`], [`Fault::Code`], [`Fault::Digest`]
-///   or, at the end, [`Fault::Trailing`].
+/// - [`ReadError::Fault`] if the bytes are no description. The fields are read in the order of their bytes:
+///   [`Fault::Code`] and [`Fault::Digest`] for the first two numbers, [`Fault::Kind`] for the kind of an entry,
+///   [`Fault::Short`] where the bytes end too early, and [`Fault::Trailing`] if bytes follow the last sum.
 /// - [`ReadError::Memory`] if memory cannot be allocated for a field.
-/// - [`ReadError::Fault`] if the description is not sound. The order of these checks is: [`Fault::BlockSize`],
-///   [`Fault::Counts`], then for each file [`Fault::Length`], [`Fault::Name`] and [`Fault::Order`], and at the end
-///   [`Fault::Blocks`].
+/// - [`ReadError::Fault`] if the description is not sound: the first fault that [`check`] finds.
 ///
 /// # Examples
 ///
@@ -160,6 +185,9 @@ pub fn read_description(alloc: Global, bytes: &[u8]) -> Result<Description, Read
     ensures found { IfOk result (λ d. IsSound (set_of d) × (bytes.now ≡ spelling (set_of d))) }
     // If the bytes are the spelling of a sound set, the result is this set, or memory cannot be allocated.
     ensures only { (s : FileSet) → IsSound s → bytes.now ≡ spelling s → Gives set_of result (Ok s) }
+    // If the function succeeds, there are as many original blocks as the data of the set has blocks.
+    ensures counted { IfOk result
+        (λ d. d.original_count ≡ blocks_of d.block_bytes (data_of (set_of d))) }
     // For all bytes, the definition `reading` states the result: the set, or the fault that is reported.
     ensures exact { Gives set_of result (reading bytes.now) }
 {

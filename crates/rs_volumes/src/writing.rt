@@ -1,35 +1,37 @@
-//! Writes a description as bytes.
+//! Writes a description as bytes, in version 2.
 ghost use Rattle.std.specs.Prelude.{◌≡◌, ◌<◌, ◌^◌, ◌++◌, length, All, OnOk, IfOk};
-ghost use Rattle.std.specs.Int.{w32, w64, to_le_bytes};
+ghost use Rattle.std.specs.Int.{w16, w32, w64, to_le_bytes};
 ghost use Rattle.std.specs.List.{flat_map};
-ghost use Rattle.rs_volumes.specs.Description.{file_of, files_of, set_of, file_spelling, name_spelling};
-ghost use Rattle.rs_volumes.specs.Description.{opening_spelling, spelling};
+ghost use Rattle.rs_volumes.specs.Description.{entry_of, entries_of, field_of, fields_of, set_of, kind_number};
+ghost use Rattle.rs_volumes.specs.Description.{entry_spelling, entry_numbers, name_spelling, field_spelling};
+ghost use Rattle.rs_volumes.specs.Description.{fields_spelling, spelling, HasShortNames};
 
-use crate::description::{Description, FileEntry};
+use crate::description::{Description, Entry, Field, Kind};
+use crate::opening::{Opening, put_opening};
 use std::alloc::{AllocError, Global};
 
-// Appends the numbers with which a description begins.
-fn put_opening(out: &mut Vec<u8>, block: u64, k: u32, r: u32, files: u32) -> Result<(), AllocError>
-    ensures { OnOk result (out.new.items ≡ out.old.items ++ opening_spelling block k r files) }
+// Returns the number of a kind.
+#[tactic(auto, unfolding(crate::specs::Description::kind_number))]
+fn number_of(kind: Kind) -> u16
+    ensures { result ≡ kind_number kind }
 {
-    out.extend_from_slice(&1u32.to_le_bytes())?;
-    out.extend_from_slice(&1u32.to_le_bytes())?;
-    out.extend_from_slice(&block.to_le_bytes())?;
-    out.extend_from_slice(&k.to_le_bytes())?;
-    out.extend_from_slice(&r.to_le_bytes())?;
-    out.extend_from_slice(&files.to_le_bytes())?;
-    Ok(())
+    match kind {
+        Kind::File => 1,
+        Kind::Link => 2,
+        Kind::Folder => 3,
+    }
 }
 
-// Appends the length, the time and the permission bits of a file.
-fn put_numbers(out: &mut Vec<u8>, size: u64, modified: u64, mode: u32) -> Result<(), AllocError>
-    ensures { OnOk result (out.new.items
-        ≡ out.old.items ++ (to_le_bytes w64 size ++
-        (to_le_bytes w64 modified ++ to_le_bytes w32 mode))) }
+// Appends the numbers of an entry: kind, permission bits, nanoseconds, length and seconds.
+fn put_numbers(out: &mut Vec<u8>, entry: &Entry) -> Result<(), AllocError>
+    requires { entry.now.mode < 2 ^ 16 }
+    ensures { OnOk result (out.new.items ≡ out.old.items ++ entry_numbers (entry_of entry.now)) }
 {
-    out.extend_from_slice(&size.to_le_bytes())?;
-    out.extend_from_slice(&modified.to_le_bytes())?;
-    out.extend_from_slice(&mode.to_le_bytes())?;
+    out.extend_from_slice(&number_of(entry.kind).to_le_bytes())?;
+    out.extend_from_slice(&(entry.mode as u16).to_le_bytes())?;
+    out.extend_from_slice(&entry.nanoseconds.to_le_bytes())?;
+    out.extend_from_slice(&entry.size.to_le_bytes())?;
+    out.extend_from_slice(&entry.seconds.to_le_bytes())?;
     Ok(())
 }
 
@@ -43,29 +45,67 @@ fn put_name(out: &mut Vec<u8>, name: &[u8]) -> Result<(), AllocError>
     Ok(())
 }
 
-// Appends a file of a description.
-fn put_file(out: &mut Vec<u8>, file: &FileEntry) -> Result<(), AllocError>
-    requires { length file.now.name.items < 2 ^ 16 }
-    ensures { OnOk result (out.new.items ≡ out.old.items ++ file_spelling (file_of file.now)) }
+// Appends an entry of a description.
+fn put_entry(out: &mut Vec<u8>, entry: &Entry) -> Result<(), AllocError>
+    requires { HasShortNames entry.now }
+    ensures { OnOk result (out.new.items ≡ out.old.items ++ entry_spelling (entry_of entry.now)) }
 {
-    put_numbers(out, file.size, file.modified, file.mode)?;
-    put_name(out, file.name.as_slice())?;
+    put_numbers(out, entry)?;
+    put_name(out, entry.name.as_slice())?;
+    put_name(out, entry.target.as_slice())?;
+    out.extend_from_slice(&entry.digest)?;
     Ok(())
 }
 
-// Appends the files of a description.
-fn put_files(out: &mut Vec<u8>, files: &[FileEntry]) -> Result<(), AllocError>
-    requires { All (λ file. length file.name.items < 2 ^ 16) files.now }
+// Appends the entries of a description.
+fn put_entries(out: &mut Vec<u8>, entries: &[Entry]) -> Result<(), AllocError>
+    requires { All HasShortNames entries.now }
     ensures { OnOk result (out.new.items
-        ≡ out.old.items ++ flat_map file_spelling (files_of files.now)) }
+        ≡ out.old.items ++ flat_map entry_spelling (entries_of entries.now)) }
 {
-    for file in files {
-        put_file(out, file)?;
+    for entry in entries {
+        put_entry(out, entry)?;
     }
     Ok(())
 }
 
-/// Writes a description as bytes. Each description has one spelling.
+// Appends a field of a description.
+fn put_field(out: &mut Vec<u8>, field: &Field) -> Result<(), AllocError>
+    requires { length field.now.bytes.items < 2 ^ 32 }
+    ensures { OnOk result (out.new.items ≡ out.old.items ++ field_spelling (field_of field.now)) }
+{
+    out.extend_from_slice(&field.kind.to_le_bytes())?;
+    out.extend_from_slice(&(field.bytes.len() as u32).to_le_bytes())?;
+    out.extend_from_slice(field.bytes.as_slice())?;
+    Ok(())
+}
+
+// Returns the bytes of fields, one after another.
+fn bytes_of(alloc: Global, fields: &[Field]) -> Result<Vec<u8>, AllocError>
+    requires { All (λ field. length field.bytes.items < 2 ^ 32) fields.now }
+    ensures { IfOk result (λ v. v.items ≡ flat_map field_spelling (fields_of fields.now)) }
+{
+    let mut out = Vec::new(alloc);
+    for field in fields {
+        put_field(&mut out, field)?;
+    }
+    Ok(out)
+}
+
+// Appends the number of bytes of the fields and then the fields.
+fn put_fields(alloc: Global, out: &mut Vec<u8>, fields: &[Field]) -> Result<(), AllocError>
+    requires each { All (λ field. length field.bytes.items < 2 ^ 32) fields.now }
+    requires whole { length (flat_map field_spelling (fields_of fields.now)) < 2 ^ 32 }
+    ensures { OnOk result (out.new.items
+        ≡ out.old.items ++ fields_spelling (fields_of fields.now)) }
+{
+    let bytes = bytes_of(alloc, fields)?;
+    out.extend_from_slice(&(bytes.len() as u32).to_le_bytes())?;
+    out.extend_from_slice(bytes.as_slice())?;
+    Ok(())
+}
+
+/// Writes a description as bytes, in version 2. Each description has one spelling.
 ///
 /// # Errors
 ///
@@ -73,22 +113,28 @@ fn put_files(out: &mut Vec<u8>, files: &[FileEntry]) -> Result<(), AllocError>
 ///
 /// # Examples
 ///
-/// A set of one file with a name of five bytes, one original block and one recovery block has a description of 119
-/// bytes: 28 for the numbers at the beginning, 27 for the file, and 32 for each of the two digests.
+/// A set of one file with a name of five bytes, one original block, one recovery block and no field has a description
+/// of 173 bytes: 36 for the numbers at the beginning, 65 for the file, 32 for each of the two digests, and 8 for the
+/// sums.
 pub fn write_description(alloc: Global, description: &Description) -> Result<Vec<u8>, AllocError>
-    requires count { length description.now.files.items < 2 ^ 32 }
-    requires names { All (λ file. length file.name.items < 2 ^ 16) description.now.files.items }
+    requires count { length description.now.entries.items < 2 ^ 32 }
+    requires names { All HasShortNames description.now.entries.items }
+    requires fields { length (flat_map field_spelling (fields_of description.now.fields.items))
+        < 2 ^ 32 }
     ensures { IfOk result (λ v. v.items ≡ spelling (set_of description.now)) }
 {
     let mut out = Vec::new(alloc);
-    put_opening(
-        &mut out,
-        description.block_bytes,
-        description.original_count,
-        description.recovery_count,
-        description.files.len() as u32,
-    )?;
-    put_files(&mut out, description.files.as_slice())?;
-    out.extend_from_slice(&description.digests)?;
+    let opening = Opening {
+        block_bytes: description.block_bytes,
+        original_count: description.original_count,
+        recovery_count: description.recovery_count,
+        entry_count: description.entries.len() as u32,
+    };
+    put_opening(&mut out, &opening)?;
+    out.extend_from_slice(&description.volumes.to_le_bytes())?;
+    put_fields(alloc, &mut out, description.fields.as_slice())?;
+    put_entries(&mut out, description.entries.as_slice())?;
+    out.extend_from_slice(description.digests.as_slice())?;
+    out.extend_from_slice(description.sums.as_slice())?;
     Ok(out)
 }

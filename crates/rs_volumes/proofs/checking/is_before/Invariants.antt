@@ -1,6 +1,0 @@
-use Rattle.std.proofs.Common.{◌≡◌, drop}
-use Rattle.rs_volumes.specs.Sound.{is_before}
-use Rattle.rs_volumes.proofs.checking.is_before.Given as goal
-
-abbrev pub invariant-loop-index : goal.invariant-loop-index
-invariant-loop-index l = is_before l.one l.other ≡ is_before (drop l.index l.one) (drop l.index l.other)
