@@ -6,6 +6,8 @@ mod command_lines;
 #[cfg(test)]
 mod counting;
 #[cfg(test)]
+mod descriptions;
+#[cfg(test)]
 mod examples;
 #[cfg(test)]
 mod levels;

@@ -5,10 +5,10 @@ use super::shards::drawn;
 use reed_solomon_simd::engine::DefaultEngine;
 use reed_solomon_simd::engine::tables::Tables;
 use rs_callers::blocks::Blocks;
-use rs_volumes::checking::fits;
+use rs_volumes::checking::{UNIT, data_end, fits};
 use rs_volumes::coding_error::CodingError;
 use rs_volumes::creating::{Shape, create};
-use rs_volumes::description::{Description, FileEntry};
+use rs_volumes::description::{Description, Entry, Kind, Version};
 use rs_volumes::digest::{digest_of, is_digest};
 use rs_volumes::placement::{Place, places_of};
 use rs_volumes::restoring::{Plan, restore};
@@ -17,7 +17,7 @@ use std::alloc::{AllocError, Global};
 use std::process::Abort;
 
 // The names of the files of a set.
-const NAMES: [&[u8]; 6] = [b"a", b"b", b"b/c", b"d", b"e", b"f"];
+const NAMES: [&[u8]; 6] = [b"a", b"b", b"c/c", b"d", b"e", b"f"];
 
 // Returns the contents of the files. Most of them have a length near the size of a block.
 fn files_of(alloc: Global, block_bytes: usize) -> Result<Vec<Vec<u8>>, AllocError> {
@@ -35,15 +35,18 @@ fn files_of(alloc: Global, block_bytes: usize) -> Result<Vec<Vec<u8>>, AllocErro
 }
 
 // Returns the entries of the files.
-fn entries_of(alloc: Global, files: &[Vec<u8>]) -> Result<Vec<FileEntry>, AllocError> {
+fn entries_of(alloc: Global, files: &[Vec<u8>]) -> Result<Vec<Entry>, AllocError> {
     let mut entries = Vec::new(alloc);
     for (name, file) in NAMES.iter().zip(files) {
-        let name = Vec::from_slice(alloc, name)?;
-        entries.push(FileEntry {
-            size: file.len() as u64,
-            modified: 0,
+        entries.push(Entry {
+            kind: Kind::File,
             mode: 0o644,
-            name,
+            size: file.len() as u64,
+            seconds: 0,
+            nanoseconds: 0,
+            name: Vec::from_slice(alloc, name)?,
+            target: Vec::new(alloc),
+            digest: digest_of(file.as_slice()),
         })?;
     }
     Ok(entries)
@@ -56,22 +59,33 @@ fn bytes_at(file: &[u8], offset: u64, count: u64) -> &[u8] {
     &file[start..end]
 }
 
-// Returns the original blocks of files, where the last block of a file is padded with zeros.
+// Copies the bytes of a file at a place into the block of this place.
+fn put_place(block: &mut [u8], place: &Place, bytes: &[u8]) {
+    let start = (place.at as usize).min(block.len());
+    for (to, from) in block[start..].iter_mut().zip(bytes) {
+        *to = *from;
+    }
+}
+
+// Returns `count` original blocks of files, where the bytes outside of the files are zeros.
 fn blocks_of(
     alloc: Global,
     files: &[Vec<u8>],
     places: &[Place],
     block_bytes: usize,
+    count: usize,
 ) -> Result<Blocks, AllocError> {
     let mut blocks = Vec::new(alloc);
+    for _ in 0..count {
+        blocks.push(vec![in alloc; 0; block_bytes]?)?;
+    }
     for place in places {
-        let bytes = match files.get(place.file) {
-            Some(file) => bytes_at(file.as_slice(), place.offset, place.bytes),
-            None => &[],
-        };
-        let mut block = Vec::from_slice(alloc, bytes)?;
-        block.resize(block_bytes, 0)?;
-        blocks.push(block)?;
+        if let Some(block) = blocks.get_mut(place.block) {
+            if let Some(file) = files.get(place.file) {
+                let bytes = bytes_at(file.as_slice(), place.offset, place.bytes);
+                put_place(block.as_mut_slice(), place, bytes);
+            }
+        }
     }
     Ok(Blocks { alloc, blocks })
 }
@@ -113,19 +127,27 @@ fn plan_of(
     Ok(plan)
 }
 
-// Checks that the blocks hold the files.
+// Checks that the blocks hold the files: each byte of the files is at one place, and has the same value there.
 fn check_files(rt: &impl Abort, files: &[Vec<u8>], places: &[Place], blocks: &[Vec<u8>]) {
-    assert_eq!(rt; places.len(), blocks.len());
-    for (place, block) in places.iter().zip(blocks) {
-        if let Some(file) = files.get(place.file) {
-            let own = bytes_at(file.as_slice(), place.offset, place.bytes);
-            assert!(rt;
-                bytes_at(block.as_slice(), 0, place.bytes) == own,
-                "file {}",
-                place.file
-            );
-        }
+    let mut placed = 0usize;
+    for place in places {
+        placed = placed.saturating_add(place.bytes as usize);
+        let (Some(file), Some(block)) = (files.get(place.file), blocks.get(place.block)) else {
+            assert!(rt; false, "file {}", place.file);
+            continue;
+        };
+        let own = bytes_at(file.as_slice(), place.offset, place.bytes);
+        assert!(rt;
+            bytes_at(block.as_slice(), place.at, place.bytes) == own,
+            "file {}",
+            place.file
+        );
     }
+    let mut total = 0usize;
+    for file in files {
+        total = total.saturating_add(file.len());
+    }
+    assert_eq!(rt; placed, total);
 }
 
 // A set in memory: its files, its description, the places of its original blocks, and all its blocks.
@@ -149,6 +171,28 @@ fn shape_of(description: &Description) -> Shape {
     }
 }
 
+// Returns the description of entries, without the digests of the blocks. The sums of the blocks are zeros.
+fn description_of(
+    rt: &impl Abort,
+    alloc: Global,
+    block_bytes: usize,
+    entries: Vec<Entry>,
+) -> Description {
+    let end = data_end(UNIT, entries.as_slice()).expect(rt, "the data");
+    let count = (end as usize).div_ceil(block_bytes.max(1)).min(65536);
+    Description {
+        version: Version::Second,
+        block_bytes: block_bytes as u64,
+        original_count: count as u32,
+        recovery_count: RECOVERY_COUNT as u32,
+        volumes: 1,
+        fields: Vec::new(alloc),
+        entries,
+        digests: Vec::new(alloc),
+        sums: vec![in alloc; 0; count * 8].expect(rt, "sums"),
+    }
+}
+
 // Makes a set. Its description is written and read again.
 fn make_set(
     rt: &impl Abort,
@@ -161,20 +205,20 @@ fn make_set(
     requires chunks { piece_bytes % 64 ≡ 0 }
 {
     let files = files_of(alloc, block_bytes).expect(rt, "files");
-    let mut description = Description {
-        block_bytes: block_bytes.max(1) as u64,
-        original_count: 0,
-        recovery_count: RECOVERY_COUNT as u32,
-        files: entries_of(alloc, files.as_slice()).expect(rt, "entries"),
-        digests: Vec::new(alloc),
-    };
+    let entries = entries_of(alloc, files.as_slice()).expect(rt, "entries");
+    let mut description = description_of(rt, alloc, block_bytes, entries);
+    let count = description.original_count as usize;
     let places = places_of(alloc, &description).expect(rt, "places");
-    description.original_count = places.len().min(65536) as u32;
     let shape = shape_of(&description);
-    let mut source = blocks_of(alloc, files.as_slice(), places.as_slice(), block_bytes).expect(
-        rt, "blocks",
-    );
-    let mut blocks = Blocks::empty(alloc, places.len().saturating_add(RECOVERY_COUNT)).expect(
+    let mut source = blocks_of(
+        alloc,
+        files.as_slice(),
+        places.as_slice(),
+        block_bytes,
+        count,
+    )
+    .expect(rt, "blocks");
+    let mut blocks = Blocks::empty(alloc, count.saturating_add(RECOVERY_COUNT)).expect(
         rt, "blocks",
     );
     description.digests = create(
