@@ -1,51 +1,33 @@
 //! `create`: makes a volume with the recovery blocks of files.
-use crate::counted::Counted;
+use crate::assembly::LARGEST_DESCRIPTION;
+use crate::counted::{Counted, Kinds};
 use crate::failure::{Failure, Result};
-use crate::folder::{Cut, cut_files, piece_bytes, shape_of};
+use crate::folder::{Cut, cut_data, piece_bytes, shape_of};
+use crate::hashing::{CHUNK, add_bytes};
+use crate::identity::open_regular;
 use crate::names::{Shown, front_of_volume, path_in, text_of};
 use crate::output::at_path;
 use crate::progress::Progress;
-use crate::settings::{NO_OUTPUT, Recovery, Request, STATUS_WHOLE};
-use crate::source::{FileBlocks, Holders, Origin, failure_of};
-use crate::volume::LARGEST_DESCRIPTION;
+use crate::settings::{
+    NO_OUTPUT, Recovery, Request, STATUS_FAILED, STATUS_LOST, STATUS_WHOLE, VERSION,
+};
+use crate::source::{FileBlocks, Holders, Origin, SummedBlocks, failure_of};
+use crate::updating::may_replace;
 use crate::volume_sink::{VolumeSink, Volumes, check_output};
 use crate::walking::{Found, find};
 use reed_solomon_simd::engine::tables::Tables;
 use reed_solomon_simd::engine::{DefaultEngine, EngineKind};
-use rs_volumes::checking::fits;
-use rs_volumes::creating::{Shape, create as create_blocks};
-use rs_volumes::description::{Description, FileEntry};
+use rs_volumes::checking::{UNIT, data_end, fits};
+use rs_volumes::creating::create as create_blocks;
+use rs_volumes::description::{CREATOR, Description, Entry, Field, Kind, Version};
+use rs_volumes::digest::digest_of;
 use rs_volumes::placement::places_of;
 use rs_volumes::write_description;
+use sha2::{Digest, Sha256};
 use std::alloc::{AllocError, Global};
 use std::os::unix::fs::MetadataExt;
 use std::rt::{Clock, Files, Runtime};
 use std::{fs, io};
-
-/// The number of bytes of a description before its first file.
-const OPENING_BYTES: u64 = 28;
-
-/// The number of bytes of a file in a description, without its name.
-const ENTRY_BYTES: u64 = 22;
-
-// Returns the number of bytes of the description of a set. Fails if the description is larger than 1 GiB: `open_volume`
-// does not read such a description.
-fn description_bytes(files: &[FileEntry], cut: Cut) -> Result<u64> {
-    let mut bytes = OPENING_BYTES;
-    for file in files {
-        bytes = bytes
-            .saturating_add(ENTRY_BYTES)
-            .saturating_add(file.name.len() as u64);
-    }
-    let blocks = u64::from(cut.original_count) + u64::from(cut.recovery_count);
-    bytes = bytes.saturating_add(32 * blocks);
-    if bytes > LARGEST_DESCRIPTION {
-        return Err(Failure::of(
-            "the names of the files are too long for one description of at most 1 GiB: make several sets of fewer files",
-        ));
-    }
-    Ok(bytes)
-}
 
 // Returns the path of the volume that `create` writes: the path after `-o`, or the only FILE with `.rsv` at its end.
 fn output_of(alloc: Global, request: &Request) -> Result<String> {
@@ -58,58 +40,265 @@ fn output_of(alloc: Global, request: &Request) -> Result<String> {
     }
 }
 
-/// Returns the path of each file of a set below `folder`.
+/// Returns the path of each entry of a set below `folder`. The path of an entry whose name is not UTF-8 is empty.
 ///
 /// # Errors
 ///
 /// [`AllocError`] if memory cannot be allocated.
-pub fn paths_of(
-    alloc: Global,
-    folder: &str,
-    files: &[FileEntry],
-) -> Result<Vec<String>, AllocError> {
+pub fn paths_of(alloc: Global, folder: &str, entries: &[Entry]) -> Result<Vec<String>, AllocError> {
     let mut paths = Vec::new(alloc);
-    for file in files {
-        paths.push(path_in(alloc, folder, text_of(file.name.as_slice()))?)?;
+    for entry in entries {
+        paths.push(match text_of(entry.name.as_slice()) {
+            Some(name) => path_in(alloc, folder, name)?,
+            None => String::new(alloc),
+        })?;
     }
     Ok(paths)
 }
 
-// Returns where each original block of a set lies in its files. The list is empty if the block size is 0.
-fn origins_of(alloc: Global, description: &Description) -> Result<Vec<Option<Origin>>, AllocError> {
-    let mut origins = Vec::new(alloc);
-    if description.block_bytes == 0 {
-        return Ok(origins);
-    }
-    for place in &places_of(alloc, description)? {
-        origins.push(Some(Origin {
-            holder: place.file,
-            offset: place.offset,
-            bytes: place.bytes,
-        }))?;
-    }
-    Ok(origins)
+// Returns the name and the version of this program as a field of a description.
+fn creator(alloc: Global) -> Result<Field, AllocError> {
+    let text = format!(in alloc; "rs_files {VERSION}")?;
+    Ok(Field {
+        kind: CREATOR,
+        bytes: Vec::from_slice(alloc, text.as_bytes())?,
+    })
 }
 
-// Fails if the length of one of the files, or the time of its last change in seconds, is not the one in its
-// description.
-fn check_unchanged<R: Files>(
-    rt: &R,
+// Returns the description of a set, without the digests and sums of its blocks.
+fn description_of(
     alloc: Global,
-    paths: &[String],
-    files: &[FileEntry],
-) -> Result<()> {
-    for (path, file) in paths.iter().zip(files) {
-        check_file(rt, alloc, path.as_str(), file)?;
-    }
-    Ok(())
+    entries: Vec<Entry>,
+    cut: Cut,
+    volumes: u32,
+) -> Result<Description, AllocError> {
+    let mut fields = Vec::new(alloc);
+    fields.push(creator(alloc)?)?;
+    Ok(Description {
+        version: Version::Second,
+        block_bytes: cut.block_bytes,
+        original_count: cut.original_count,
+        recovery_count: cut.recovery_count,
+        volumes,
+        fields,
+        entries,
+        digests: Vec::new(alloc),
+        sums: Vec::new(alloc),
+    })
 }
 
-// Fails if the length of a file, or the time of its last change in seconds, is not the one in its description.
-fn check_file<R: Files>(rt: &R, alloc: Global, path: &str, file: &FileEntry) -> Result<()> {
+/// Returns the bytes of a description.
+///
+/// # Errors
+///
+/// Fails if there are 2^32 entries or more, if a name has 65536 bytes or more, or if memory cannot be allocated.
+pub fn written(alloc: Global, description: &Description) -> Result<Vec<u8>> {
+    if fits(description) {
+        Ok(write_description(alloc, description)?)
+    } else {
+        Err(Failure::of("there are too many files, or a name is too long"))
+    }
+}
+
+// The files of a request, of which volumes are made.
+#[derive(Drop)]
+struct Making<'a, R: Files + Clock + Eprint> {
+    rt: &'a R,
+    alloc: Global,
+    request: &'a Request,
+    description: Description,
+    // The path of each entry, and whether the path is a symbolic link to a file.
+    paths: Vec<String>,
+    linked: Vec<bool>,
+}
+
+impl<'a, R: Files + Clock + Eprint> Making<'a, R> {
+    // Begins to make `volumes` volumes of the files that were found. No digest is known yet.
+    fn new(
+        rt: &'a R,
+        alloc: Global,
+        request: &'a Request,
+        found: Found,
+        cut: Cut,
+        volumes: usize,
+    ) -> Result<Making<'a, R>> {
+        let Found {
+            folder,
+            entries,
+            linked,
+            ..
+        } = found;
+        Ok(Making {
+            rt,
+            alloc,
+            request,
+            paths: paths_of(alloc, folder.as_str(), entries.as_slice())?,
+            description: description_of(alloc, entries, cut, volumes.min(1000) as u32)?,
+            linked,
+        })
+    }
+
+    // Returns the number of bytes of the description with all digests and sums. Fails if it is larger than 1 GiB: no reader
+    // reads such a description.
+    fn description_bytes(&self) -> Result<u64> {
+        let originals = u64::from(self.description.original_count);
+        let recovery = u64::from(self.description.recovery_count);
+        let front = written(self.alloc, &self.description)?.len() as u64;
+        let bytes = front
+            .saturating_add(40 * originals)
+            .saturating_add(32 * recovery);
+        if bytes > LARGEST_DESCRIPTION {
+            return Err(Failure::of(
+                "the names of the files are too long for one description of at most 1 GiB: make several sets of fewer files",
+            ));
+        }
+        Ok(bytes)
+    }
+
+    // Returns the number of bytes that are read: each file for its own digest, and all blocks.
+    fn bytes_to_read(&self) -> u64 {
+        let blocks = u64::from(self.description.original_count);
+        let mut total = blocks.saturating_mul(self.description.block_bytes);
+        for entry in &self.description.entries {
+            total = total.saturating_add(entry.size);
+        }
+        total
+    }
+
+    // Computes the digests of all files.
+    fn hash_files(&mut self, progress: &mut Progress) -> Result<()> {
+        let mut buffer = vec![in self.alloc; 0u8; CHUNK]?;
+        for index in 0..self.paths.len() {
+            let own = match self.hash_file(index, progress, &mut buffer) {
+                Ok(own) => own,
+                Err(error) => return Err(self.failure_at(index, error)),
+            };
+            if let Some(entry) = self.description.entries.get_mut(index) {
+                entry.digest = own;
+            }
+        }
+        Ok(())
+    }
+
+    // Returns the failure for a file that cannot be read.
+    fn failure_at(&self, index: usize, error: io::Error) -> Failure {
+        match self.paths.get(index) {
+            Some(path) => Failure::at(self.alloc, path.as_str(), error),
+            None => Failure::of(error),
+        }
+    }
+
+    // Returns the SHA-256 of the file with this index, and 32 zeros for another entry. A file without bytes is not opened.
+    fn hash_file(
+        &self,
+        index: usize,
+        progress: &mut Progress,
+        buffer: &mut [u8],
+    ) -> io::Result<[u8; 32]> {
+        let (Some(entry), Some(path)) = (self.description.entries.get(index), self.paths.get(index))
+        else {
+            return Ok([0; 32]);
+        };
+        if entry.kind != Kind::File {
+            return Ok([0; 32]);
+        }
+        if entry.size == 0 {
+            return Ok(digest_of(&[]));
+        }
+        let follows = self.linked.get(index).copied().unwrap_or(false);
+        let mut file = open_regular(self.rt, path.as_str(), follows)?;
+        let mut hasher = Sha256::new();
+        let mut left = entry.size;
+        for _ in 0..u64::MAX {
+            let part = left.min(CHUNK as u64);
+            if part == 0 {
+                break;
+            }
+            add_bytes(&mut hasher, &mut file, part, buffer)?;
+            progress.advance(self.rt, part);
+            left = left.saturating_sub(part);
+        }
+        Ok(hasher.finalize())
+    }
+
+    // Makes the recovery blocks, and writes blocks into the sink. Sets the digests and the sums of all blocks. A set
+    // without blocks has none.
+    fn code(&mut self, progress: Progress, sink: &mut VolumeSink<'_, R>) -> Result<()> {
+        let shape = shape_of(&self.description);
+        if shape.original_count == 0 {
+            return Ok(());
+        }
+        let places = places_of(self.alloc, &self.description)?;
+        let origins = vec![in self.alloc; Some(Origin::Files); shape.original_count]?;
+        let holders = Holders {
+            paths: self.paths.as_slice(),
+            follows: self.linked.as_slice(),
+            places: places.as_slice(),
+            origins: origins.as_slice(),
+        };
+        let blocks = FileBlocks::new(self.rt, self.alloc, holders, progress);
+        let mut source = SummedBlocks::new(blocks, shape.original_count)?;
+        let tables = Tables::new(self.alloc)?;
+        let engine = DefaultEngine::new(&tables, EngineKind::Ssse3);
+        let piece = piece_bytes(&shape, self.request.memory);
+        let outcome = create_blocks(self.alloc, shape, piece, engine, &mut source, sink);
+        source.blocks.end();
+        match outcome {
+            Ok(digests) => {
+                self.description.digests = digests;
+                self.description.sums = source.sums()?;
+                Ok(())
+            }
+            Err(error) => {
+                let (read, written) = (source.blocks.path_of(&error), sink.path_of(&error));
+                Err(failure_of(self.alloc, read, written, error))
+            }
+        }
+    }
+
+    // Fails if a file is not as it was when it was found.
+    fn check_unchanged(&self) -> Result<()> {
+        for (path, entry) in self.paths.iter().zip(self.description.entries.as_slice()) {
+            if entry.kind == Kind::File {
+                check_file(self.rt, self.alloc, path.as_str(), entry)?;
+            }
+        }
+        Ok(())
+    }
+
+    // Writes the description and the heads of all records into the volumes. Fails if `read_description` does not accept
+    // the description, so that no volume with an unsound description is written.
+    fn describe(&self, sink: &mut VolumeSink<'_, R>) -> Result<()> {
+        let bytes = written(self.alloc, &self.description)?;
+        rs_volumes::read_description(self.alloc, bytes.as_slice())?;
+        sink.describe(bytes.as_slice())
+    }
+
+    // Begins all volumes, with room for their records, writes into them, and gives them their final names.
+    fn write(&mut self, outputs: &[String], volumes: &mut Volumes<R>) -> Result<()> {
+        for output in outputs {
+            volumes.begin(self.rt, self.alloc, output.as_str())?;
+        }
+        let total = self.bytes_to_read();
+        let mut progress = Progress::new(self.rt, self.request.progress, total);
+        self.hash_files(&mut progress)?;
+        let mut sink = VolumeSink::new(self.rt, self.alloc, volumes);
+        self.code(progress, &mut sink)?;
+        self.check_unchanged()?;
+        self.describe(&mut sink)?;
+        volumes.finish(self.rt, self.alloc, self.request.force)
+    }
+}
+
+// Fails if the length of a file, or the time of its last change, is not the one in its description.
+fn check_file<R: Files>(rt: &R, alloc: Global, path: &str, entry: &Entry) -> Result<()> {
     let metadata = at_path(alloc, path, fs::metadata(rt, path))?;
-    let modified = u64::from_le_bytes(metadata.mtime().to_le_bytes());
-    if metadata.len() == file.size && modified == file.modified {
+    let seconds = u64::from_le_bytes(metadata.mtime().to_le_bytes());
+    let nanoseconds = metadata.mtime_nsec();
+    if metadata.len() == entry.size
+        && seconds == entry.seconds
+        && nanoseconds == i64::from(entry.nanoseconds)
+    {
         return Ok(());
     }
     Err(Failure::at(
@@ -119,105 +308,20 @@ fn check_file<R: Files>(rt: &R, alloc: Global, path: &str, file: &FileEntry) -> 
     ))
 }
 
-// Makes the recovery blocks of files, and writes blocks into the sink. Returns the digests of all blocks. A set without
-// blocks has no digests.
-fn code_files<R: Files + Clock + Eprint>(
-    rt: &R,
-    alloc: Global,
-    request: &Request,
-    description: &Description,
-    holders: Holders<'_>,
-    sink: &mut VolumeSink<'_, R>,
-) -> Result<Vec<u8>> {
-    let shape = shape_of(description);
-    if shape.original_count == 0 {
-        return Ok(Vec::new(alloc));
-    }
-    let origins = origins_of(alloc, description)?;
-    let total = (shape.original_count as u64).saturating_mul(description.block_bytes);
-    let progress = Progress::new(rt, request.progress, total);
-    let mut source = FileBlocks::new(rt, alloc, holders, origins.as_slice(), progress);
-    code_blocks(alloc, shape, request.memory, &mut source, sink)
-}
-
-// Makes the recovery blocks of the blocks of a source, and writes blocks into the sink. Returns the digests of all
-// blocks. `memory` is the number of bytes that the function may use, approximately.
-fn code_blocks<R: Files + Clock + Eprint>(
-    alloc: Global,
-    shape: Shape,
-    memory: u64,
-    source: &mut FileBlocks<'_, R>,
-    sink: &mut VolumeSink<'_, R>,
-) -> Result<Vec<u8>> {
-    let tables = Tables::new(alloc)?;
-    let engine = DefaultEngine::new(&tables, EngineKind::Ssse3);
-    let piece = piece_bytes(&shape, memory);
-    let outcome = create_blocks(alloc, shape, piece, engine, source, sink);
-    source.end();
-    match outcome {
-        Ok(digests) => Ok(digests),
-        Err(error) => Err(failure_of(alloc, source.path_of(&error), sink.path_of(&error), error)),
-    }
-}
-
-// Returns the description of a set, without the digests of its blocks.
-fn description_of(alloc: Global, files: Vec<FileEntry>, cut: Cut) -> Description {
-    Description {
-        block_bytes: cut.block_bytes,
-        original_count: cut.original_count,
-        recovery_count: cut.recovery_count,
-        files,
-        digests: Vec::new(alloc),
-    }
-}
-
-// Writes blocks, the description and the heads into the volumes. Sets the digests of the description.
-fn fill<R: Files + Clock + Eprint>(
-    rt: &R,
-    alloc: Global,
-    request: &Request,
-    description: &mut Description,
-    holders: Holders<'_>,
-    volumes: &mut Volumes<R>,
-) -> Result<()> {
-    let mut sink = VolumeSink::new(rt, alloc, volumes);
-    description.digests = code_files(rt, alloc, request, description, holders, &mut sink)?;
-    check_unchanged(rt, alloc, holders.paths, description.files.as_slice())?;
-    describe(alloc, description, &mut sink)
-}
-
-// Writes the description and the heads into the volumes.
-fn describe<R: Files>(
-    alloc: Global,
-    description: &Description,
-    sink: &mut VolumeSink<'_, R>,
-) -> Result<()> {
-    let bytes = written(alloc, description)?;
-    sink.describe(bytes.as_slice())
-}
-
-// Returns the bytes of a description. Fails if `read_description` does not accept these bytes, so that no volume
-// with an unsound description is written.
-fn written(alloc: Global, description: &Description) -> Result<Vec<u8>> {
-    if !fits(description) {
-        return Err(Failure::of("there are too many files, or a name is too long"));
-    }
-    let bytes = write_description(alloc, description)?;
-    rs_volumes::read_description(alloc, bytes.as_slice())?;
-    Ok(bytes)
-}
-
-/// What `create` or `split` made.
+/// What `create`, `split` or `update` made.
 #[derive(Clone, Copy)]
 pub struct Made {
-    /// The number of files.
-    pub files: usize,
+    /// The numbers of entries.
+    pub entries: Kinds,
     /// The block size and the numbers of blocks.
     pub cut: Cut,
+    /// The exit status. It is `STATUS_FAILED` if names that are not UTF-8 were left out, unless the request allows this.
+    pub status: u8,
 }
 
-/// Makes the recovery blocks of the files of a request, and writes volumes at the paths `outputs`. One volume gets the
-/// recovery blocks. Several volumes get all blocks, which are dealt to them in turn.
+/// Makes the recovery blocks of files, and writes volumes at the paths `outputs`. One volume gets the recovery blocks.
+/// Several volumes get all blocks, which are dealt to them in turn. Returns `None`, and writes nothing, if old volumes must
+/// not be replaced, for a reason of [`may_replace`].
 ///
 /// # Errors
 ///
@@ -225,12 +329,13 @@ pub struct Made {
 ///
 /// - for each volume, for a reason of [`check_output`],
 /// - for a reason of [`find`],
-/// - for a reason of [`cut_files`],
+/// - for a reason of [`may_replace`],
+/// - for a reason of [`cut_data`],
+/// - if there are 2^32 entries or more, or a name has 65536 bytes or more,
 /// - if the description is larger than 1 GiB,
 /// - for each volume, for a reason of [`Volumes::begin`],
 /// - if a file cannot be read, a block cannot be written into its volume, or the code fails,
 /// - for each file, if its length or the time of its last change cannot be read, or is not the one from before,
-/// - if there are 2^32 files or more, or a name has 65536 bytes or more,
 /// - if `read_description` does not accept the description,
 /// - for a reason of [`VolumeSink::describe`],
 /// - for a reason of [`Volumes::finish`].
@@ -241,97 +346,81 @@ pub fn make<R: Runtime>(
     rt: &R,
     alloc: Global,
     request: &Request,
+    files: &[String],
     recovery: Recovery,
     outputs: &[String],
-) -> Result<Made> {
+) -> Result<Option<Made>> {
     for output in outputs {
         check_output(rt, alloc, output.as_str(), request.force)?;
     }
-    let found = find(rt, alloc, request.paths.as_slice(), outputs)?;
-    let files = found.files.as_slice();
-    let cut = cut_files(files, request.block_bytes, recovery)?;
-    let made = Made {
-        files: files.len(),
+    let found = find(rt, alloc, files, outputs)?;
+    if !may_replace(rt, alloc, request, outputs, &found)? {
+        return Ok(None);
+    }
+    let data_bytes = data_end(UNIT, found.entries.as_slice()).unwrap_or(u64::MAX);
+    let cut = cut_data(data_bytes, request.block_bytes, recovery)?;
+    let mut made = Made {
+        entries: Kinds::none(),
         cut,
+        status: STATUS_WHOLE,
     };
-    write_volumes(rt, alloc, request, found, cut, outputs)?;
-    Ok(made)
-}
-
-// Writes the volumes of the files that were found, and gives them their final names.
-fn write_volumes<R: Files + Clock + Eprint>(
-    rt: &R,
-    alloc: Global,
-    request: &Request,
-    found: Found,
-    cut: Cut,
-    outputs: &[String],
-) -> Result<()> {
-    let Found {
-        folder,
-        files,
-        linked,
-    } = found;
-    let paths = paths_of(alloc, folder.as_str(), files.as_slice())?;
-    let holders = Holders {
-        paths: paths.as_slice(),
-        follows: linked.as_slice(),
-    };
-    let mut description = description_of(alloc, files, cut);
-    let length = description_bytes(description.files.as_slice(), cut)?;
-    let mut volumes = Volumes::new(alloc, cut, outputs.len(), length);
-    let outcome = begin_and_fill(
-        rt,
-        alloc,
-        request,
-        &mut description,
-        holders,
-        outputs,
-        &mut volumes,
-    );
-    if outcome.is_err() {
+    for entry in &found.entries {
+        made.entries.add(entry.kind);
+    }
+    if found.has_left_out && !request.skip_names {
+        made.status = STATUS_FAILED;
+    }
+    let mut making = Making::new(rt, alloc, request, found, cut, outputs.len())?;
+    let mut volumes = Volumes::new(alloc, &making.description, making.description_bytes()?);
+    if let Err(failure) = making.write(outputs, &mut volumes) {
         volumes.remove(rt);
+        return Err(failure);
     }
-    outcome
+    Ok(Some(made))
 }
 
-// Begins all volumes, with room for their blocks, writes into them, and gives them their final names.
-fn begin_and_fill<R: Files + Clock + Eprint>(
+/// Makes one volume with the recovery blocks of files, and prints what was made. Returns the exit status. It is
+/// `STATUS_LOST` if an old volume must not be replaced.
+///
+/// # Errors
+///
+/// Fails for a reason of [`make`], or if the result cannot be printed.
+pub fn make_volume<R: Runtime>(
     rt: &R,
     alloc: Global,
     request: &Request,
-    description: &mut Description,
-    holders: Holders<'_>,
-    outputs: &[String],
-    volumes: &mut Volumes<R>,
-) -> Result<()> {
-    for output in outputs {
-        volumes.begin(rt, alloc, output.as_str())?;
+    files: &[String],
+    recovery: Recovery,
+    output: String,
+) -> Result<u8> {
+    let outputs = [output];
+    let Some(made) = make(rt, alloc, request, files, recovery, &outputs)? else {
+        return Ok(STATUS_LOST);
+    };
+    if !request.quiet {
+        tell(rt, outputs[0].as_str(), made)?;
     }
-    fill(rt, alloc, request, description, holders, volumes)?;
-    volumes.finish(rt, alloc, request.force)
+    Ok(made.status)
 }
 
 /// Runs `create`: makes the recovery blocks of files, and writes them into one volume. Returns the exit status.
 ///
 /// # Errors
 ///
-/// Fails if the name of the volume is not known. Then fails for a reason of [`make`].
+/// Fails if the name of the volume is not known. Then fails for a reason of [`make_volume`].
 pub fn create<R: Runtime>(rt: &R, alloc: Global, request: &Request) -> Result<u8> {
-    let outputs = [output_of(alloc, request)?];
-    let made = make(rt, alloc, request, request.recovery, &outputs)?;
-    if !request.quiet {
-        tell(rt, outputs[0].as_str(), made)?;
-    }
-    Ok(STATUS_WHOLE)
+    let output = output_of(alloc, request)?;
+    let recovery = request.recovery.unwrap_or(Recovery::Percent(10));
+    let files = request.paths.as_slice();
+    make_volume(rt, alloc, request, files, recovery, output)
 }
 
 // Prints what was made at a path.
 fn tell<R: Print>(rt: &R, path: &str, made: Made) -> io::Result<()> {
-    let files = Counted(made.files as u64, "file");
+    let entries = made.entries;
     let originals = Counted(u64::from(made.cut.original_count), "block");
     let recovery = Counted(u64::from(made.cut.recovery_count), "recovery block");
     let bytes = made.cut.block_bytes;
     let path = Shown(path);
-    println!(rt; "{path}: {files} in {originals} of {bytes} bytes, {recovery}")
+    println!(rt; "{path}: {entries} in {originals} of {bytes} bytes, {recovery}")
 }

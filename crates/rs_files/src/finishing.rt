@@ -1,22 +1,23 @@
 //! Restores files, and says how many were restored.
 use crate::counted::Counted;
 use crate::failure::Result;
+use crate::placing::Goal;
 use crate::restoring::write_blocks;
 use crate::scanning::Scan;
 use crate::settings::Request;
-use crate::targets::{Goal, Restored, Targets};
+use crate::targets::{Restored, Targets};
 use std::alloc::Global;
 use std::io;
 use std::rt::{Clock, Files};
 
-// Prints how many files were restored.
+// Prints how many entries were restored.
 fn tell_restored<R: Print>(rt: &R, restored: Restored) -> io::Result<()> {
-    let files = Counted(restored.count as u64, "file");
+    let entries = restored.entries;
     if restored.kept == 0 {
-        return println!(rt; "restored {files}");
+        return println!(rt; "restored {entries}");
     }
     let damaged = Counted(restored.kept as u64, "damaged file");
-    println!(rt; "restored {files}, and kept {damaged} as NAME.damaged")
+    println!(rt; "restored {entries}, and kept {damaged} as NAME.damaged")
 }
 
 // Prints on standard error how many files could not be restored, also if only errors are printed.
@@ -55,7 +56,8 @@ pub fn restore_files<R: Files + Clock + Print + Eprint>(
         folder,
         in_place,
         force: request.force,
-        files: found.description.files.as_slice(),
+        quiet: request.quiet,
+        set: found.description(),
     };
     let mut targets = Targets::new(alloc);
     let outcome = restore_into(rt, alloc, request, found, goal, &mut targets);
@@ -68,8 +70,8 @@ pub fn restore_files<R: Files + Clock + Print + Eprint>(
     Ok(restored.failed == 0)
 }
 
-// Begins the parts of files, writes their blocks, and gives them their final names.
-fn restore_into<R: Files + Clock + Eprint>(
+// Begins the parts of files, writes their blocks, and gives all entries their final names.
+fn restore_into<R: Files + Clock + Print + Eprint>(
     rt: &R,
     alloc: Global,
     request: &Request,
@@ -79,5 +81,5 @@ fn restore_into<R: Files + Clock + Eprint>(
 ) -> Result<Restored> {
     targets.begin(rt, alloc, found, goal)?;
     write_blocks(rt, alloc, found, targets, request.memory, request.progress)?;
-    Ok(targets.finish(rt, alloc, goal))
+    Ok(targets.finish(rt, alloc, found, goal))
 }

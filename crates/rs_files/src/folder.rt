@@ -3,15 +3,21 @@ ghost use Rattle.std.specs.Prelude.{◌≡◌, ◌<◌, ◌≤◌, ◌^◌, ◌%
 
 use crate::failure::{Failure, Result};
 use crate::settings::Recovery;
-use rs_volumes::checking::{allows_block, allows_counts, block_count};
+use rs_volumes::checking::{allows_block, allows_counts};
 use rs_volumes::creating::Shape;
-use rs_volumes::description::{Description, FileEntry};
+use rs_volumes::description::Description;
 
-/// The largest number of blocks by default, if at most 1000 files are not empty.
+/// The largest number of blocks by default.
 const BLOCKS: u64 = 2000;
 
 /// The code supports fewer original blocks than this.
 const MOST_BLOCKS: u64 = 65536;
+
+/// The default size of a block is a multiple of this number of bytes.
+const PAGE: u64 = 4096;
+
+/// The number of these multiples in the largest block, which has 2^40 bytes.
+const MOST_PAGES: u64 = 1 << 28;
 
 /// The block size of a set and its numbers of blocks.
 #[derive(Clone, Copy)]
@@ -24,174 +30,111 @@ pub struct Cut {
     pub recovery_count: u32,
 }
 
-// Returns the number of blocks of all files. Returns `None` if this number is above 65536, or if a file has 2^62 bytes
-// or more.
-fn blocks_of(files: &[FileEntry], block_bytes: u64) -> Option<u64>
-    requires some { 0 < block_bytes }
-    requires few { block_bytes < 2 ^ 63 }
-    ensures { IfSome result (λ blocks. blocks ≤ 65536) }
-{
-    let mut total = 0u64;
-    for file in files {
-        if file.size >= 1 << 62 {
-            return None;
-        }
-        let blocks = block_count(block_bytes, file.size);
-        if blocks > 65536 || total > 65536 {
-            return None;
-        }
-        total += blocks;
-    }
-    if total > 65536 { None } else { Some(total) }
-}
-
-// Returns the number of files that are not empty.
-fn filled_count(files: &[FileEntry]) -> u64 {
-    files.iter().filter(|file| file.size > 0).count() as u64
-}
-
-// Returns the largest number of blocks by default. It is 2000 if at most 1000 files are not empty. Otherwise it is
-// twice the number of files that are not empty, but at most 65536.
-fn blocks_wanted(files: &[FileEntry]) -> u64 {
-    let filled = filled_count(files);
-    if filled <= BLOCKS / 2 {
-        BLOCKS
-    } else {
-        filled.saturating_mul(2).min(MOST_BLOCKS)
-    }
-}
-
-/// Returns the default block size: the smallest multiple of 4096 bytes for which the files do not have too many blocks,
-/// and the code supports the numbers of blocks.
-///
-/// The largest number of blocks is 2000 if at most 1000 files are not empty. Otherwise it is twice the number of files
-/// that are not empty, but at most 65536.
-///
-/// # Errors
-///
-/// In this order, fails if:
-///
-/// - 65536 files or more are not empty,
-/// - the files have too many blocks even with blocks of 2^40 bytes, or a file has 2^62 bytes or more,
-/// - the code does not support the numbers of blocks with any block size.
-pub fn default_block(files: &[FileEntry], recovery: Recovery) -> Result<u64> {
-    if filled_count(files) >= MOST_BLOCKS {
-        return Err(too_many_files());
-    }
-    let wanted = blocks_wanted(files);
-    match smallest_block(files, wanted, recovery) {
-        Some(bytes) => Ok(bytes),
-        None if smallest_block(files, MOST_BLOCKS, recovery).is_some() => {
-            Err(Failure::of(format_args!(
-                "the files are too large for {wanted} blocks, the largest number by default: use --block 1024G, or make several sets of fewer files"
-            )))
-        }
-        None => Err(too_much(files, recovery)),
-    }
-}
-
-// Returns the failure for too many files that are not empty.
-fn too_many_files() -> Failure {
-    Failure::of(
-        "there are too many files: make several sets of at most 65535 files that are not empty",
-    )
-}
-
-// Returns the smallest multiple of 4096 bytes with which the files can be cut into at most `wanted` blocks. Returns
-// `None` if blocks of 2^40 bytes are too small.
-fn smallest_block(files: &[FileEntry], wanted: u64, recovery: Recovery) -> Option<u64> {
-    let mut low = 0u64;
-    let mut high = 1u64 << 28;
-    if !can_cut(files, high, wanted, recovery) {
+// Cuts data of `data_bytes` bytes into at most `wanted` blocks. Returns `None` if it has more blocks, or if the code
+// does not support the numbers of blocks.
+fn cut_into(data_bytes: u64, block_bytes: u64, wanted: u64, recovery: Recovery) -> Option<Cut> {
+    if block_bytes == 0 || data_bytes.div_ceil(block_bytes) > wanted.min(MOST_BLOCKS) {
         return None;
     }
+    let original_count = data_bytes.div_ceil(block_bytes).min(MOST_BLOCKS) as u32;
+    let recovery_count = recovery_count(u64::from(original_count), recovery);
+    if allows_counts(original_count, recovery_count) {
+        Some(Cut {
+            block_bytes,
+            original_count,
+            recovery_count,
+        })
+    } else {
+        None
+    }
+}
+
+// Cuts data into at most `wanted` blocks of the smallest multiple of 4096 bytes for which the code supports the numbers
+// of blocks. Returns `None` if blocks of 2^40 bytes are too small. If a size will do, each larger size will do.
+fn cut_small(data_bytes: u64, wanted: u64, recovery: Recovery) -> Option<Cut> {
+    let mut low = 0u64;
+    let mut high = MOST_PAGES;
+    let mut cut = cut_into(data_bytes, high * PAGE, wanted, recovery)?;
     for _ in 0..64 {
         let gap = high.saturating_sub(low);
         if gap <= 1 {
             break;
         }
         let middle = low.saturating_add(gap / 2);
-        if can_cut(files, middle, wanted, recovery) {
-            high = middle;
-        } else {
-            low = middle;
+        match cut_into(data_bytes, middle.saturating_mul(PAGE), wanted, recovery) {
+            Some(smaller) => {
+                cut = smaller;
+                high = middle;
+            }
+            None => low = middle,
         }
     }
-    Some(high.saturating_mul(4096))
+    Some(cut)
 }
 
-// Returns whether the files can be cut into blocks of `pages` * 4096 bytes: they have at most `wanted` blocks, and the
-// code supports the numbers of blocks. If this holds for some size, it holds for each larger size up to 2^40 bytes.
-fn can_cut(files: &[FileEntry], pages: u64, wanted: u64, recovery: Recovery) -> bool {
-    if pages == 0 || pages > 1 << 28 {
-        return false;
-    }
-    match blocks_of(files, pages * 4096) {
-        Some(blocks) => {
-            blocks <= wanted && allows_counts(blocks as u32, recovery_count(blocks, recovery))
-        }
-        None => false,
-    }
+// Returns the largest block that data may have: the number of its bytes rounded up to a multiple of 4096, or 4096 if it
+// has no bytes.
+fn largest_block(data_bytes: u64) -> u64 {
+    data_bytes.div_ceil(PAGE).max(1).saturating_mul(PAGE)
 }
 
-/// Chooses the block size and the numbers of blocks. If `block` is `None`, the function uses the default block size.
+/// Chooses the block size and the numbers of blocks of data with `data_bytes` bytes. If `block` is `None`, the block
+/// size is the smallest multiple of 4096 bytes for which the data has at most 2000 blocks, and the code supports the
+/// numbers of blocks. If `block` is larger than the data, the block size is that of the data, rounded up to a multiple
+/// of 4096.
 ///
 /// # Errors
 ///
 /// In this order, fails if:
 ///
-/// - no default block size is possible,
+/// - the data has 2^62 bytes or more,
 /// - the block size is odd, 0, or above 2^40,
-/// - the files have more than 65536 blocks, or a file has 2^62 bytes or more, or the code does not support the numbers
-///   of blocks. The message says which block size would do, or why none would do.
-pub fn cut_files(files: &[FileEntry], block: Option<u64>, recovery: Recovery) -> Result<Cut> {
-    let block_bytes = match block {
-        Some(bytes) => bytes,
-        None => default_block(files, recovery)?,
+/// - the data has more than 65536 blocks, or the code does not support the numbers of blocks. The message says which
+///   block
+///   size would do, or why none would do.
+pub fn cut_data(data_bytes: u64, block: Option<u64>, recovery: Recovery) -> Result<Cut> {
+    if data_bytes >= 1 << 62 {
+        return Err(Failure::of("the files have 2^62 bytes or more: no set can have such files"));
+    }
+    let Some(block) = block else {
+        return match cut_small(data_bytes, BLOCKS, recovery) {
+            Some(cut) => Ok(cut),
+            None => Err(too_much(data_bytes, recovery)),
+        };
     };
-    if !allows_block(block_bytes) {
+    if !allows_block(block) {
         return Err(Failure::of("a block must have an even number of bytes, from 2 to 2^40"));
     }
-    if let Some(blocks) = blocks_of(files, block_bytes) {
-        let original_count = blocks as u32;
-        let recovery_count = recovery_count(blocks, recovery);
-        if allows_counts(original_count, recovery_count) {
-            return Ok(Cut {
-                block_bytes,
-                original_count,
-                recovery_count,
-            });
-        }
+    let block = block.min(largest_block(data_bytes));
+    if let Some(cut) = cut_into(data_bytes, block, MOST_BLOCKS, recovery) {
+        return Ok(cut);
     }
-    match smallest_block(files, MOST_BLOCKS, recovery) {
-        Some(needed) => Err(Failure::of(format_args!(
-            "blocks of {block_bytes} bytes are too small for these files and this many recovery blocks: use --block {needed} or a larger number"
-        ))),
-        None => Err(too_much(files, recovery)),
+    match cut_small(data_bytes, MOST_BLOCKS, recovery) {
+        Some(cut) => {
+            let needed = cut.block_bytes;
+            Err(Failure::of(format_args!(
+                "blocks of {block} bytes are too small for these files and this many recovery blocks: use --block {needed} or a larger number"
+            )))
+        }
+        None => Err(too_much(data_bytes, recovery)),
     }
 }
 
-// Returns the failure for files that cannot be cut into blocks of any size.
-fn too_much(files: &[FileEntry], recovery: Recovery) -> Failure {
-    if files.iter().any(|file| file.size >= 1 << 62) {
-        return Failure::of("a file has 2^62 bytes or more: no set can have such a file");
+// Returns the failure for data that cannot be cut into blocks of any size.
+fn too_much(data_bytes: u64, recovery: Recovery) -> Failure {
+    if cut_small(data_bytes, MOST_BLOCKS, recovery).is_some() {
+        return Failure::of(format_args!(
+            "the files are too large for {BLOCKS} blocks, the largest number by default: use --block 1024G, or make several sets of fewer files"
+        ));
     }
-    if filled_count(files) >= MOST_BLOCKS {
-        return too_many_files();
-    }
-    match (blocks_of(files, 1 << 40), recovery) {
-        (Some(blocks), Recovery::Spread { volumes, lose }) if blocks < MOST_BLOCKS => {
-            Failure::of(format_args!(
-                "no block size allows {lose} of {volumes} volumes to be lost: allow fewer with --lose, or make several sets of fewer files"
-            ))
-        }
-        (Some(blocks), _) if blocks < MOST_BLOCKS => Failure::of(
+    if data_bytes.div_ceil(MOST_PAGES * PAGE) < MOST_BLOCKS {
+        return Failure::of(
             "no block size allows this many recovery blocks: ask for fewer with -r, or make several sets of fewer files",
-        ),
-        _ => Failure::of(
-            "the files have more than 65535 blocks, even with the largest blocks of 2^40 bytes: make several sets of fewer files",
-        ),
+        );
     }
+    Failure::of(
+        "the files have more than 65535 blocks, even with the largest blocks of 2^40 bytes: make several sets of fewer files",
+    )
 }
 
 // Returns the number of recovery blocks that a request asks for. A percentage gives at least 1 and at most 65536

@@ -7,7 +7,7 @@ use std::rt::Files;
 use std::{fs, io};
 
 /// The device of a file and its number there, which identify it while it is open.
-#[derive(Clone, Copy, PartialEq, Eq)]
+#[derive(Clone, Copy, PartialEq, Eq, PartialOrd, Ord)]
 pub struct Identity {
     device: u64,
     number: u64,

@@ -1,76 +1,119 @@
 //! `info`: shows what a volume describes.
+use crate::assembly::Set;
 use crate::counted::Counted;
 use crate::failure::{Failure, Result};
-use crate::json::{add, files_of, object_of};
-use crate::names::{Shown, text_of};
+use crate::json::{add, add_text, entries_of, object_of, text_in, word_of};
+use crate::names::{Name, Shown};
+use crate::records::Walk;
 use crate::settings::{Request, STATUS_WHOLE};
-use crate::volume::{Volume, open_volume};
-use rs_volumes::description::FileEntry;
+use crate::volume::{Form, open_sized, open_volume};
+use rs_volumes::description::{CREATOR, Description, Entry, Kind, Version};
+use rs_volumes::record::BLOCK;
 use serde_json::Value;
 use std::alloc::{AllocError, Global};
 use std::io;
 use std::rt::Files;
 
-// Prints what a volume describes as JSON.
-fn tell_json<R: Print>(rt: &R, alloc: Global, volume: &Volume) -> Result<()> {
-    let text = volume_json(alloc, volume)?;
+// Returns the name and the version of the program that made a set, if the description has them.
+fn creator_of(description: &Description) -> Option<&[u8]> {
+    for field in &description.fields {
+        if field.kind == CREATOR {
+            return Some(field.bytes.as_slice());
+        }
+    }
+    None
+}
+
+// Prints what a volume with this number of blocks describes as JSON.
+fn tell_json<R: Print>(rt: &R, alloc: Global, description: &Description, here: u64) -> Result<()> {
+    let text = volume_json(alloc, description, here)?;
     Ok(println!(rt; "{text}")?)
 }
 
-// Returns what a volume describes as the text of a JSON object.
-fn volume_json(alloc: Global, volume: &Volume) -> Result<String, AllocError> {
+// Returns what a volume with this number of blocks describes as the text of a JSON object.
+fn volume_json(alloc: Global, description: &Description, here: u64) -> Result<String, AllocError> {
+    let version = match description.version {
+        Version::First => 1,
+        Version::Second => 2,
+    };
     let numbers = [
-        ("block_bytes", volume.description.block_bytes),
-        (
-            "original_blocks",
-            u64::from(volume.description.original_count),
-        ),
-        (
-            "recovery_blocks",
-            u64::from(volume.description.recovery_count),
-        ),
-        ("blocks_here", volume.record_count),
+        ("format", version),
+        ("block_bytes", description.block_bytes),
+        ("original_blocks", u64::from(description.original_count)),
+        ("recovery_blocks", u64::from(description.recovery_count)),
+        ("volumes", u64::from(description.volumes)),
+        ("blocks_here", here),
     ];
     let mut object = object_of(alloc, &numbers)?;
-    let files = files_of(alloc, volume.description.files.as_slice(), &[])?;
+    if let Some(creator) = creator_of(description) {
+        let creator = text_in(alloc, creator)?;
+        add_text(alloc, &mut object, "creator", creator.as_str())?;
+    }
+    let files = entries_of(alloc, description.entries.as_slice(), &[])?;
     add(alloc, &mut object, "files", files)?;
     Value::Object(object).to_string(alloc)
 }
 
-// Prints what a volume describes.
-fn tell<R: Print>(rt: &R, path: &str, volume: &Volume) -> io::Result<()> {
-    let block = volume.description.block_bytes;
-    let k = Counted(
-        u64::from(volume.description.original_count),
-        "original block",
-    );
-    let r = Counted(
-        u64::from(volume.description.recovery_count),
-        "recovery block",
-    );
-    let records = volume.record_count;
+// Prints what a volume with this number of blocks describes.
+fn tell<R: Print>(rt: &R, path: &str, description: &Description, here: u64) -> io::Result<()> {
+    let block = description.block_bytes;
+    let k = Counted(u64::from(description.original_count), "original block");
+    let r = Counted(u64::from(description.recovery_count), "recovery block");
     let path = Shown(path);
-    println!(rt; "{path}: {k} and {r} of {block} bytes, {records} of them here")?;
-    tell_files(rt, volume.description.files.as_slice())
-}
-
-// Prints the sizes and the names of files.
-fn tell_files<R: Print>(rt: &R, files: &[FileEntry]) -> io::Result<()> {
-    for file in files {
-        let size = file.size;
-        let name = Shown(text_of(file.name.as_slice()));
-        println!(rt; "{size:>14}  {name}")?;
+    println!(rt; "{path}: {k} and {r} of {block} bytes, {here} of them here")?;
+    if let Some(creator) = creator_of(description) {
+        let creator = Name(creator);
+        let volumes = Counted(u64::from(description.volumes), "volume");
+        println!(rt; "{path}: made by {creator}, in {volumes}")?;
+    }
+    for entry in &description.entries {
+        tell_entry(rt, entry)?;
     }
     Ok(())
 }
 
+// Prints the size and the name of a file, or what another entry is, and its name.
+fn tell_entry<R: Print>(rt: &R, entry: &Entry) -> io::Result<()> {
+    let name = Name(entry.name.as_slice());
+    let size = entry.size;
+    let word = word_of(entry.kind);
+    match entry.kind {
+        Kind::File => println!(rt; "{size:>14}  {name}"),
+        Kind::Link => {
+            let target = Name(entry.target.as_slice());
+            println!(rt; "{word:>14}  {name} -> {target}")
+        }
+        Kind::Folder => println!(rt; "{word:>14}  {name}"),
+    }
+}
+
+// Returns the number of blocks in a volume, which may be damaged.
+fn blocks_in<R: Files>(rt: &R, alloc: Global, set: &Set, path: &str, form: Form) -> Result<u64> {
+    if let Form::First(_, records) = form {
+        return Ok(records.count);
+    }
+    let (file, size) = open_sized(rt, alloc, path)?;
+    let mut walk = Walk::new(alloc, file, size)?;
+    let mut count = 0u64;
+    for _ in 0..u64::MAX {
+        let Some(record) = walk.next() else {
+            break;
+        };
+        if record.head.set == set.digest && record.head.kind == BLOCK {
+            count = count.saturating_add(1);
+        }
+    }
+    Ok(count)
+}
+
 // Opens a volume, and prints what it describes.
 fn tell_volume<R: Files + Print>(rt: &R, alloc: Global, path: &str, json: bool) -> Result<()> {
-    let volume = open_volume(rt, alloc, path)?;
+    let (set, form) = open_volume(rt, alloc, path)?;
+    let here = blocks_in(rt, alloc, &set, path, form)?;
     if json {
-        return tell_json(rt, alloc, &volume);
+        return tell_json(rt, alloc, &set.description, here);
     }
-    Ok(tell(rt, path, &volume)?)
+    Ok(tell(rt, path, &set.description, here)?)
 }
 
 /// Runs `info`: prints what each volume describes. Returns the exit status.

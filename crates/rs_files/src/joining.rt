@@ -2,7 +2,7 @@
 use crate::failure::{Failure, Result};
 use crate::finishing::restore_files;
 use crate::scanning::{Scan, scan_request};
-use crate::settings::{Request, STATUS_FAILED, STATUS_LOST, STATUS_MENDED, STATUS_WHOLE};
+use crate::settings::{Request, STATUS_FAILED, STATUS_LOST, STATUS_WHOLE};
 use crate::verifying::{tell_lost, tell_volumes};
 use std::alloc::Global;
 use std::rt::{Clock, Files};
@@ -48,11 +48,5 @@ fn join_into<R: Files + Clock + Print + Eprint>(
         return Ok(STATUS_LOST);
     }
     let all = restore_files(rt, alloc, request, found, folder, false)?;
-    Ok(if !all {
-        STATUS_FAILED
-    } else if counts.lost == 0 {
-        STATUS_WHOLE
-    } else {
-        STATUS_MENDED
-    })
+    Ok(if all { STATUS_WHOLE } else { STATUS_FAILED })
 }

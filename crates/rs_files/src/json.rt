@@ -1,7 +1,7 @@
 //! Parts of the JSON that is printed.
 use crate::failure::Result;
-use crate::names::text_of;
-use rs_volumes::description::FileEntry;
+use crate::names::{Name, text_of};
+use rs_volumes::description::{Entry, Kind};
 use serde_json::{Map, Value};
 use std::alloc::{AllocError, Global};
 
@@ -49,20 +49,48 @@ pub fn add_text(
     add(alloc, object, name, value)
 }
 
-/// Returns a list of files with their names and sizes. A file with a word in `states` also has this word as its state.
+/// Returns bytes as text. Bytes that are not UTF-8 are escaped, as `\xff`.
 ///
 /// # Errors
 ///
 /// [`AllocError`] if memory cannot be allocated.
-pub fn files_of(
+pub fn text_in(alloc: Global, name: &[u8]) -> Result<String, AllocError> {
+    match text_of(name) {
+        Some(text) => String::from_str(alloc, text),
+        None => format!(in alloc; "{}", Name(name)),
+    }
+}
+
+/// Returns the word for the kind of an entry.
+pub fn word_of(kind: Kind) -> &'static str {
+    match kind {
+        Kind::File => "file",
+        Kind::Link => "link",
+        Kind::Folder => "folder",
+    }
+}
+
+/// Returns a list of entries with their names, kinds and sizes, and with the targets of symbolic links. An entry with a
+/// word in `states` also has this word as its state.
+///
+/// # Errors
+///
+/// [`AllocError`] if memory cannot be allocated.
+pub fn entries_of(
     alloc: Global,
-    files: &[FileEntry],
+    entries: &[Entry],
     states: &[&'static str],
 ) -> Result<Value, AllocError> {
     let mut list = Vec::new(alloc);
-    for (index, file) in files.iter().enumerate() {
-        let mut object = object_of(alloc, &[("size", file.size)])?;
-        add_text(alloc, &mut object, "name", text_of(file.name.as_slice()))?;
+    for (index, entry) in entries.iter().enumerate() {
+        let mut object = object_of(alloc, &[("size", entry.size)])?;
+        let name = text_in(alloc, entry.name.as_slice())?;
+        add_text(alloc, &mut object, "name", name.as_str())?;
+        add_text(alloc, &mut object, "kind", word_of(entry.kind))?;
+        if entry.kind == Kind::Link {
+            let target = text_in(alloc, entry.target.as_slice())?;
+            add_text(alloc, &mut object, "target", target.as_str())?;
+        }
         if let Some(state) = states.get(index) {
             add_text(alloc, &mut object, "state", *state)?;
         }

@@ -1,13 +1,15 @@
 //! `repair`: restores damaged and missing files.
 use crate::failure::Result;
 use crate::finishing::restore_files;
+use crate::rebuilding::rebuild;
 use crate::scanning::{Scan, scan_request};
-use crate::settings::{Request, STATUS_FAILED, STATUS_LOST, STATUS_MENDED, STATUS_WHOLE};
+use crate::searching::find_elsewhere;
+use crate::settings::{Request, STATUS_DAMAGED, STATUS_FAILED, STATUS_LOST, STATUS_WHOLE};
 use crate::verifying::{folder_of, report};
 use std::alloc::Global;
-use std::rt::{Clock, Files};
+use std::rt::{Clock, Files, Runtime};
 
-/// Runs `repair`: restores the damaged and missing files of a set. Returns the exit status. It is `STATUS_FAILED` if a
+/// Runs `repair`: restores the damaged and missing files of a set, and writes damaged volumes anew. Returns the exit status. It is `STATUS_FAILED` if a
 /// file could not be restored.
 ///
 /// # Errors
@@ -16,17 +18,33 @@ use std::rt::{Clock, Files};
 ///
 /// - no volume is named,
 /// - no volume can be read, or volumes belong to different sets,
-/// - the files cannot be restored, for a reason of [`restore_files`].
+/// - the files cannot be restored, for a reason of [`restore_files`],
+/// - the damaged volumes cannot be written anew, for a reason of [`rebuild`].
 ///
 /// Every step fails if memory cannot be allocated.
-pub fn repair<R: Files + Clock + Print + Eprint>(
-    rt: &R,
-    alloc: Global,
-    request: &Request,
-) -> Result<u8> {
+pub fn repair<R: Runtime>(rt: &R, alloc: Global, request: &Request) -> Result<u8> {
     let folder = folder_of(request)?;
-    let found = scan_request(rt, alloc, request, Some(folder))?;
-    repair_found(rt, alloc, request, &found, folder)
+    let mut found = scan_request(rt, alloc, request, Some(folder))?;
+    let elsewhere = find_elsewhere(rt, alloc, request, folder, &mut found)?;
+    if !request.quiet {
+        elsewhere.tell(rt, &found)?;
+    }
+    let status = repair_found(rt, alloc, request, &found, folder)?;
+    if status != STATUS_WHOLE || request.to.is_some() || found.has_whole_volumes() {
+        return Ok(status);
+    }
+    // The files are whole by now.
+    let whole = if found.has_whole_files() {
+        found
+    } else {
+        scan_request(rt, alloc, request, Some(folder))?
+    };
+    let is_whole = rebuild(rt, alloc, request, &whole)?;
+    Ok(if is_whole {
+        STATUS_WHOLE
+    } else {
+        STATUS_DAMAGED
+    })
 }
 
 // Restores the damaged and missing files of a set, if there are some and enough blocks were found. The files are
@@ -46,7 +64,7 @@ fn repair_found<R: Files + Clock + Print + Eprint>(
         };
         let in_place = request.to.is_none();
         let all = restore_files(rt, alloc, request, found, target, in_place)?;
-        return Ok(if all { STATUS_MENDED } else { STATUS_FAILED });
+        return Ok(if all { STATUS_WHOLE } else { STATUS_FAILED });
     }
     report(rt, request, found, counts, folder)?;
     Ok(if counts.lost > counts.recovery {

@@ -1,5 +1,7 @@
 //! Names of files, and the paths that are made from names.
+use rs_volumes::checking::is_before;
 use std::alloc::{AllocError, Global};
+use std::cmp::Ordering;
 use std::fmt;
 use std::fmt::Display;
 
@@ -7,11 +9,38 @@ use std::fmt::Display;
 /// bytes, and some only names of 143 bytes.
 const FRONT_BYTES: usize = 120;
 
-/// Returns the text of a name. A name that is not UTF-8 becomes a question mark. A sound description has no such name.
-pub fn text_of(name: &[u8]) -> &str {
-    match std::str::from_utf8(name) {
-        Ok(text) => text,
-        Err(_) => "?",
+/// Returns the text of a name, or `None` if the name is not UTF-8. This program cannot use such a name as a path.
+pub fn text_of(name: &[u8]) -> Option<&str> {
+    std::str::from_utf8(name).ok()
+}
+
+/// Returns the order of two names in a set: that of their bytes, of which `/` counts as the smallest.
+pub fn order_of(one: &[u8], other: &[u8]) -> Ordering {
+    if one == other {
+        Ordering::Equal
+    } else if is_before(one, other) {
+        Ordering::Less
+    } else {
+        Ordering::Greater
+    }
+}
+
+/// The name of an entry as messages show it. A name that is not UTF-8 is shown with its bytes escaped, as `\xff`.
+#[derive(Clone, Copy)]
+pub struct Name<'a>(pub &'a [u8]);
+
+impl<'a> Display for Name<'a> {
+    fn fmt<W: fmt::Write>(&self, f: &mut fmt::Formatter<W>) -> fmt::Result {
+        if let Some(text) = text_of(self.0) {
+            return write!(f, "{}", Shown(text));
+        }
+        for byte in self.0 {
+            match *byte {
+                b' '..=b'~' => f.write_char(char::from(*byte))?,
+                other => write!(f, "\\x{other:02x}")?,
+            }
+        }
+        Ok(())
     }
 }
 

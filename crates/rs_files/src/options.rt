@@ -3,7 +3,7 @@ use crate::arguments::{bytes_of, recovery_of};
 use crate::failure::Result;
 use crate::names::front_of_volume;
 use crate::settings::{
-    Action, NO_OUTPUT, Recovery, Request, STATUS_FAILED, STATUS_USAGE, STATUS_WHOLE,
+    Action, NO_OUTPUT, Request, STATUS_FAILED, STATUS_USAGE, STATUS_WHOLE, VERSION,
 };
 use clap::error::ErrorKind;
 use clap::{Arg, ArgAction, ArgMatches, Command};
@@ -13,21 +13,26 @@ use std::env;
 use std::rt::Env;
 
 /// The commands, with the names of their paths and their help texts.
-const COMMANDS: [(&str, &str, &str); 6] = [
+const COMMANDS: [(&str, &str, &str); 7] = [
     (
         "create",
         "FILE",
         "Make a volume with recovery blocks beside the files",
     ),
     ("split", "FILE", "Spread the files over volumes"),
+    (
+        "update",
+        "VOLUME",
+        "Make the volume of create anew after files were changed",
+    ),
     ("verify", "VOLUME", "Look for damage"),
     ("repair", "VOLUME", "Restore damaged and missing files"),
     ("join", "VOLUME", "Restore all files from volumes"),
     ("info", "VOLUME", "Show what a volume describes"),
 ];
 
-/// An option: the command that has it, or an empty text if all commands have it; its name; its letter or none; the name
-/// of its value, or none if it takes no value; and its help text.
+/// An option: the commands that have it; its name; its letter or none; the name of its value, or none if it takes no value;
+/// and its help text.
 type Choice = (
     &'static str,
     &'static str,
@@ -36,58 +41,31 @@ type Choice = (
     &'static str,
 );
 
+/// The options that can be given several times.
+const REPEATED: [&str; 2] = ["accept", "search"];
+
 /// The options of all commands.
 const OPTIONS: [Choice; 17] = [
-    ("", "quiet", Some('q'), None, "Print errors alone"),
-    ("", "force", None, None, "Overwrite files that exist"),
-    (
-        "",
-        "progress",
-        None,
-        Some("WHEN"),
-        "Show progress: auto, always or never [default: auto]",
-    ),
-    (
-        "",
-        "memory",
-        None,
-        Some("BYTES"),
-        "Use about this much memory, as 64M [default: 1G]",
-    ),
     (
         "create",
         "output",
         Some('o'),
         Some("VOLUME"),
-        "Write this volume",
-    ),
-    (
-        "create",
-        "recovery",
-        Some('r'),
-        Some("COUNT"),
-        "Make this many recovery blocks, as 10% or 300",
-    ),
-    (
-        "create",
-        "block",
-        None,
-        Some("BYTES"),
-        "Cut the files into blocks of this size",
+        "Write this volume [default: FILE.rsv]",
     ),
     (
         "split",
         "output",
         Some('o'),
         Some("FOLDER"),
-        "Write the volumes into this folder",
+        "Write the volumes into this folder (needed)",
     ),
     (
         "split",
         "volumes",
         Some('n'),
         Some("COUNT"),
-        "Make this many volumes",
+        "Make this many volumes (needed)",
     ),
     (
         "split",
@@ -97,26 +75,46 @@ const OPTIONS: [Choice; 17] = [
         "Allow this many volumes to be lost [default: 1]",
     ),
     (
-        "split",
+        "create update",
+        "recovery",
+        Some('r'),
+        Some("COUNT"),
+        "Make this many recovery blocks, e.g. 10% or 300 [default: 10%, or the share of before]",
+    ),
+    (
+        "create split update",
         "block",
         None,
         Some("BYTES"),
-        "Cut the files into blocks of this size",
+        "Cut the files into blocks of this size [default: about 2000 blocks]",
     ),
     (
-        "verify",
+        "create split update",
+        "accept",
+        None,
+        Some("NAME"),
+        "Protect this file although its bytes changed and its time did not",
+    ),
+    (
+        "create split update",
+        "skip-names",
+        None,
+        None,
+        "Leave out files whose names are not UTF-8",
+    ),
+    (
+        "update verify repair",
         "folder",
         None,
         Some("FOLDER"),
-        "The files are in this folder",
+        "The files are in this folder [default: the folder of the volume]",
     ),
-    ("verify", "json", None, None, "Print the result as JSON"),
     (
-        "repair",
-        "folder",
+        "verify repair",
+        "search",
         None,
         Some("FOLDER"),
-        "The files are in this folder",
+        "Look for lost files and blocks in this folder too",
     ),
     (
         "repair",
@@ -130,9 +128,43 @@ const OPTIONS: [Choice; 17] = [
         "to",
         None,
         Some("FOLDER"),
-        "Write the files into this folder",
+        "Write the files into this folder (needed)",
     ),
-    ("info", "json", None, None, "Print the result as JSON"),
+    (
+        "create split repair join",
+        "force",
+        None,
+        None,
+        "Overwrite files that exist",
+    ),
+    (
+        "create split update repair join",
+        "memory",
+        None,
+        Some("BYTES"),
+        "Use about this much memory, e.g. 64M [default: 1G]",
+    ),
+    (
+        "verify info",
+        "json",
+        None,
+        None,
+        "Print the result as JSON",
+    ),
+    (
+        "create split update verify repair join",
+        "progress",
+        None,
+        Some("WHEN"),
+        "Show progress: auto, always or never [default: auto]",
+    ),
+    (
+        "create split update verify repair join info",
+        "quiet",
+        Some('q'),
+        None,
+        "Print only errors",
+    ),
 ];
 
 /// A request, or the status with which the program ends at once.
@@ -153,6 +185,7 @@ fn arg_of<'a>(alloc: Global, choice: Choice) -> Arg<'a> {
         None => arg,
     };
     match value {
+        Some(shown) if REPEATED.contains(&name) => arg.value_name(shown).action(ArgAction::Append),
         Some(shown) => arg.value_name(shown).action(ArgAction::Set),
         None => arg.action(ArgAction::SetTrue),
     }
@@ -172,7 +205,7 @@ fn args_of<'a>(alloc: Global, name: &'a str, paths: &'a str) -> Result<Vec<Arg<'
     let mut args = Vec::new(alloc);
     args.push(paths_arg(alloc, paths))?;
     for choice in OPTIONS {
-        if choice.0.is_empty() || choice.0 == name {
+        if choice.0.split(' ').any(|command| command == name) {
             args.push(arg_of(alloc, choice))?;
         }
     }
@@ -203,7 +236,7 @@ fn all_commands<'a>(alloc: Global) -> Result<Vec<Command<'a>>, AllocError> {
 fn program<'a>(alloc: Global) -> Result<Command<'a>, AllocError> {
     let commands = all_commands(alloc)?;
     let top = Command::new(alloc, "rs_files")
-        .version("1.0")
+        .version(VERSION)
         .about("Protects files against damage, and spreads them over places")
         .subcommand_required(true)
         .arg_required_else_help(true);
@@ -261,6 +294,7 @@ fn action_of(name: &str) -> Action {
     match name {
         "create" => Action::Create,
         "split" => Action::Split,
+        "update" => Action::Update,
         "verify" => Action::Verify,
         "repair" => Action::Repair,
         "join" => Action::Join,
@@ -280,15 +314,19 @@ fn text_of(
     }
 }
 
-// Returns copies of the paths of the command line.
-fn paths_of(alloc: Global, matches: &ArgMatches<'_>) -> Result<Vec<String>, AllocError> {
-    let mut paths = Vec::new(alloc);
-    if let Some(texts) = matches.get_strs("paths") {
+// Returns copies of the texts of an option that can be given several times, or of the paths.
+fn texts_of(
+    alloc: Global,
+    matches: &ArgMatches<'_>,
+    name: &str,
+) -> Result<Vec<String>, AllocError> {
+    let mut copies = Vec::new(alloc);
+    if let Some(texts) = matches.get_strs(name) {
         for text in texts {
-            paths.push(String::from_str(alloc, text)?)?;
+            copies.push(String::from_str(alloc, text)?)?;
         }
     }
-    Ok(paths)
+    Ok(copies)
 }
 
 // Returns a request with the paths, the folders and the flags of the command line. All other options have their
@@ -300,20 +338,24 @@ fn plain_request(
     terminal: bool,
 ) -> Result<Request, AllocError> {
     let quiet = matches.get_flag("quiet");
+    let action = action_of(name);
     Ok(Request {
-        action: action_of(name),
-        paths: paths_of(alloc, matches)?,
+        action,
+        paths: texts_of(alloc, matches, "paths")?,
         output: text_of(alloc, matches, "output")?,
         to: text_of(alloc, matches, "to")?,
         folder: text_of(alloc, matches, "folder")?,
-        recovery: Recovery::Percent(10),
+        search: texts_of(alloc, matches, "search")?,
+        accept: texts_of(alloc, matches, "accept")?,
+        recovery: None,
         block_bytes: None,
         memory: 1 << 30,
         volumes: 0,
         lose: 1,
+        skip_names: matches.get_flag("skip-names"),
         json: matches.get_flag("json"),
         quiet,
-        force: matches.get_flag("force"),
+        force: matches.get_flag("force") || action == Action::Update,
         progress: terminal && !quiet,
     })
 }
@@ -368,7 +410,7 @@ fn check_filled(request: &Request) -> Result<(), &'static str> {
 fn set_numbers(request: &mut Request, matches: &ArgMatches<'_>) -> Result<(), &'static str> {
     if let Some(text) = matches.get_str("recovery") {
         match recovery_of(text) {
-            Some(recovery) => request.recovery = recovery,
+            Some(recovery) => request.recovery = Some(recovery),
             None => return Err(
                 "--recovery: write a percentage up to 10000%, as 10%, or a number of blocks above 0",
             ),

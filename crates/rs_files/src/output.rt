@@ -1,8 +1,8 @@
 //! Files that appear under their final names only when they are whole.
 use crate::failure::{Failure, Result, warn};
 use crate::identity::{Identity, exists, identity_at, open_found, replaced};
-use crate::names::{folder_to_open, parent_of, path_in, shortened};
-use rs_volumes::description::FileEntry;
+use crate::names::{folder_to_open, order_of, parent_of, path_in, shortened};
+use rs_volumes::description::{Description, Entry, Version};
 use std::alloc::Global;
 use std::fs::{Metadata, OpenFile, OpenOptions};
 use std::io::{Seek, SeekFrom, Write};
@@ -28,9 +28,8 @@ pub struct Part<R: Files> {
 }
 
 /// Returns the path in `folder` of the first of the names `NAME.SUFFIX`, `NAME.SUFFIX2`, `NAME.SUFFIX3` and so on that
-/// is not in use: nothing exists at its path, and no file or folder of the set has this name. `files` are the files of
-/// the set, in order of their names. If `name` is long, it is cut in these names, because a file system limits the
-/// length of a name.
+/// is not in use: nothing exists at its path, and no entry or folder of the set has this name. If `name` is long, it is
+/// cut in these names, because a file system limits the length of a name.
 ///
 /// # Errors
 ///
@@ -41,13 +40,17 @@ pub fn free_path<R: Files>(
     folder: &str,
     name: &str,
     suffix: &str,
-    files: &[FileEntry],
+    set: Option<&Description>,
 ) -> Result<String> {
     let front = shortened(name);
     let mut free = format!(in alloc; "{front}.{suffix}")?;
     for number in 2..u32::MAX {
         let path = path_in(alloc, folder, free.as_str())?;
-        if !is_in_set(alloc, files, free.as_str())? && !exists(rt, path.as_str()) {
+        let is_named = match set {
+            Some(set) => is_in_set(alloc, set, free.as_str())?,
+            None => false,
+        };
+        if !is_named && !exists(rt, path.as_str()) {
             return Ok(path);
         }
         free = format!(in alloc; "{front}.{suffix}{number}")?;
@@ -55,18 +58,23 @@ pub fn free_path<R: Files>(
     Err(Failure::at(alloc, free.as_str(), "it exists"))
 }
 
-// Returns whether one of `files`, which are in order of their names, has this name, or lies in a folder of this name.
-fn is_in_set(alloc: Global, files: &[FileEntry], name: &str) -> Result<bool> {
+// Returns whether an entry of a set has this name, or lies in a folder of this name.
+fn is_in_set(alloc: Global, set: &Description, name: &str) -> Result<bool> {
     let folder = format!(in alloc; "{name}/")?;
     let (name, folder) = (name.as_bytes(), folder.as_str().as_bytes());
-    let same = files.binary_search_by(|file| file.name.as_slice().cmp(name));
-    let below = files.binary_search_by(|file| front_of(file, folder.len()).cmp(folder));
+    let entries = set.entries.as_slice();
+    let order = |one: &[u8], other: &[u8]| match set.version {
+        Version::First => one.cmp(other),
+        Version::Second => order_of(one, other),
+    };
+    let same = entries.binary_search_by(|entry| order(entry.name.as_slice(), name));
+    let below = entries.binary_search_by(|entry| order(front_of(entry, folder.len()), folder));
     Ok(same.is_ok() || below.is_ok())
 }
 
-// Returns the first `count` bytes of the name of a file, or the whole name if it is shorter.
-fn front_of(file: &FileEntry, count: usize) -> &[u8] {
-    let name = file.name.as_slice();
+// Returns the first `count` bytes of the name of an entry, or the whole name if it is shorter.
+fn front_of(entry: &Entry, count: usize) -> &[u8] {
+    let name = entry.name.as_slice();
     &name[..count.min(name.len())]
 }
 
@@ -98,7 +106,7 @@ impl<R: Files> Part<R> {
         size: u64,
         mode: u32,
     ) -> Result<Part<R>> {
-        make_folder(rt, alloc, path)?;
+        make_parent(rt, alloc, path)?;
         let path = String::from_str(alloc, path)?;
         let mut options = OpenOptions::new();
         options.write(true).create_new(true).mode(mode);
@@ -251,8 +259,12 @@ fn can_be(found: &Metadata, closed: &Metadata) -> bool {
         && found.len() == closed.len()
 }
 
-// Makes the folder of a file, and the folders above it.
-fn make_folder<R: Files>(rt: &R, alloc: Global, path: &str) -> Result<()> {
+/// Makes the folder of a file, and the folders above it.
+///
+/// # Errors
+///
+/// Fails if a folder cannot be made.
+pub fn make_parent<R: Files>(rt: &R, alloc: Global, path: &str) -> Result<()> {
     let folder = parent_of(path);
     if folder.is_empty() {
         return Ok(());

@@ -5,12 +5,13 @@ use crate::failure::Result;
 use crate::folder::{piece_bytes, shape_of};
 use crate::output::Part;
 use crate::progress::Progress;
+use crate::runs::{Run, is_padded, places_in, places_of_piece, run_of};
 use crate::scanning::Scan;
 use crate::source::{FileBlocks, Holders, failure_of};
 use crate::targets::Targets;
 use reed_solomon_simd::engine::tables::Tables;
 use reed_solomon_simd::engine::{DefaultEngine, EngineKind};
-use rs_volumes::description::Description;
+use rs_volumes::description::{Description, Version};
 use rs_volumes::pieces::BlockSink;
 use rs_volumes::placement::Place;
 use rs_volumes::restoring::{Plan, restore};
@@ -21,39 +22,68 @@ use std::rt::{Clock, Files};
 
 /// The files that are being restored. This sink writes blocks into them.
 #[derive(Drop)]
-struct FileSink<'a, R: Files + Eprint> {
+struct FileSink<'a, R: Files + Print + Eprint> {
     rt: &'a R,
     alloc: Global,
     /// Whether progress is shown.
     shown: bool,
     /// The files that are restored.
     targets: &'a mut Targets<R>,
-    /// Where each original block lies in its file.
+    /// Where the original blocks lie in the files.
     places: &'a [Place],
+    /// Whether the bytes of a block that are in no file must be zeros. Version 1 of the format does not say this.
+    is_padded: bool,
+    /// For each original block, whether such a byte that was written is not zero.
+    unpadded: Vec<bool>,
 }
 
-impl<'a, R: Files + Eprint> BlockSink for FileSink<'a, R> {
+impl<'a, R: Files + Print + Eprint> FileSink<'a, R> {
+    // Gives up a file that cannot be written. The other files can still be restored.
+    fn give_up(&mut self, file: usize, error: io::Error) {
+        // The message begins on a line of its own.
+        if self.shown {
+            let _ = eprintln!(self.rt; "");
+        }
+        self.targets.give_up(self.rt, self.alloc, file, error);
+    }
+
+    // Writes the bytes of a piece of a block that are in a file.
+    fn write(&mut self, run: &Run, piece: &[u8]) {
+        let bytes = piece.get(run.from..run.to).unwrap_or(&[]);
+        if let Err(error) = self.targets.write(self.rt, run.file, run.offset, bytes) {
+            self.give_up(run.file, error);
+        }
+    }
+
+    // Gives up all files with bytes in a block that has its digest, but has bytes in no file that are not zero.
+    fn give_up_unpadded(&mut self) {
+        for block in 0..self.unpadded.len() {
+            if !self.unpadded.get(block).copied().unwrap_or(false) {
+                continue;
+            }
+            for place in places_in(self.places, block) {
+                let reason = "bytes of its blocks that belong to no file are not zero";
+                self.give_up(place.file, io::Error::new(ErrorKind::InvalidData, reason));
+            }
+        }
+    }
+}
+
+impl<'a, R: Files + Print + Eprint> BlockSink for FileSink<'a, R> {
     ghost written = { λ _. nothing };
 
     fn put(&mut self, index: usize, start: usize, piece: &[u8]) -> io::Result<()> {
-        let Some(place) = self.places.get(index).copied() else {
-            return Err(io::Error::from(ErrorKind::NotFound));
-        };
-        let from = start as u64;
-        if from >= place.bytes {
-            return Ok(());
-        }
-        let count = (place.bytes - from).min(piece.len() as u64) as usize;
-        let offset = place.offset.wrapping_add(from);
-        let written = self
-            .targets
-            .write(self.rt, place.file, offset, &piece[..count]);
-        if let Err(error) = written {
-            // The other files can still be restored. The message begins on a line of its own.
-            if self.shown {
-                let _ = eprintln!(self.rt; "");
+        let start = start as u64;
+        let places = places_in(self.places, index);
+        if self.is_padded && !is_padded(places, start, piece) {
+            if let Some(unpadded) = self.unpadded.get_mut(index) {
+                *unpadded = true;
             }
-            self.targets.give_up(self.rt, self.alloc, place.file, error);
+        }
+        for place in places_of_piece(places, start, piece.len()) {
+            if let Some(run) = run_of(place, start, piece.len()) {
+                self.write(&run, piece);
+            }
         }
         Ok(())
     }
@@ -106,15 +136,19 @@ fn original_blocks(
     Ok(originals)
 }
 
-// Returns for each original block whether its file has a part, so that the block must be written.
+// Returns for each original block whether one of its files has a part, so that the block must be written.
 fn wanted_blocks<R: Files>(
     alloc: Global,
     scan: &Scan,
     parts: &[Option<Part<R>>],
 ) -> Result<Vec<bool>, AllocError> {
-    let mut wanted = Vec::new(alloc);
+    let mut wanted = vec![in alloc; false; scan.description().original_count as usize]?;
     for place in &scan.places {
-        wanted.push(matches!(parts.get(place.file), Some(Some(_))))?;
+        if matches!(parts.get(place.file), Some(Some(_))) {
+            if let Some(is_wanted) = wanted.get_mut(place.block) {
+                *is_wanted = true;
+            }
+        }
     }
     Ok(wanted)
 }
@@ -144,7 +178,7 @@ fn recovery_blocks(
 ///
 /// Fails if a block cannot be read or restored, then if a block does not have its digest. Every step fails if memory
 /// cannot be allocated.
-pub fn write_blocks<R: Files + Clock + Eprint>(
+pub fn write_blocks<R: Files + Clock + Print + Eprint>(
     rt: &R,
     alloc: Global,
     scan: &Scan,
@@ -154,32 +188,32 @@ pub fn write_blocks<R: Files + Clock + Eprint>(
 ) -> Result<()> {
     let plan = plan_for(alloc, scan, targets.parts.as_slice())?;
     let blocks = (plan.originals.len() as u64).saturating_add(plan.recovery.len() as u64);
-    let total = blocks.saturating_mul(scan.description.block_bytes);
+    let description = scan.description();
+    let total = blocks.saturating_mul(description.block_bytes);
     let progress = Progress::new(rt, shown, total);
     let holders = Holders {
         paths: scan.paths.as_slice(),
         follows: &[],
+        places: scan.places.as_slice(),
+        origins: scan.origins.as_slice(),
     };
-    let mut source = FileBlocks::new(rt, alloc, holders, scan.origins.as_slice(), progress);
+    let mut source = FileBlocks::new(rt, alloc, holders, progress);
     let mut sink = FileSink {
         rt,
         alloc,
         shown,
         targets,
         places: scan.places.as_slice(),
+        is_padded: description.version == Version::Second,
+        unpadded: vec![in alloc; false; plan.wanted.len()]?,
     };
-    restore_blocks(
-        alloc,
-        &scan.description,
-        &plan,
-        memory,
-        &mut source,
-        &mut sink,
-    )
+    restore_blocks(alloc, description, &plan, memory, &mut source, &mut sink)?;
+    sink.give_up_unpadded();
+    Ok(())
 }
 
 // Restores the blocks of a plan: reads the blocks of a source, and writes blocks into the sink.
-fn restore_blocks<R: Files + Clock + Eprint>(
+fn restore_blocks<R: Files + Clock + Print + Eprint>(
     alloc: Global,
     description: &Description,
     plan: &Plan,

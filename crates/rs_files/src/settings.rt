@@ -1,10 +1,13 @@
 //! The request that the command line makes, and the exit statuses.
 
+/// The version of the program. Volumes say by which version they were made.
+pub const VERSION: &str = "2.0";
+
 /// The exit status if all is well.
 pub const STATUS_WHOLE: u8 = 0;
 
-/// The exit status if damage was found, and was repaired or can be repaired.
-pub const STATUS_MENDED: u8 = 1;
+/// The exit status of `verify` if damage was found that can be repaired.
+pub const STATUS_DAMAGED: u8 = 1;
 
 /// The exit status if the command line is wrong.
 pub const STATUS_USAGE: u8 = 2;
@@ -12,19 +15,21 @@ pub const STATUS_USAGE: u8 = 2;
 /// The exit status if damage cannot be repaired.
 pub const STATUS_LOST: u8 = 3;
 
-/// The exit status after any other error, also if a file could not be restored.
+/// The exit status after any other error, also if a file could not be protected or restored.
 pub const STATUS_FAILED: u8 = 4;
 
 /// The message about a command line that does not name the volume of `create`.
 pub const NO_OUTPUT: &str = "create: say which volume to write, as -o SET.rsv";
 
 /// A command of the program.
-#[derive(Clone, Copy)]
+#[derive(Clone, Copy, PartialEq, Eq)]
 pub enum Action {
     /// Makes a volume with the recovery blocks of files.
     Create,
     /// Spreads the blocks of files over several volumes.
     Split,
+    /// Makes the volume of a set anew.
+    Update,
     /// Looks for damage.
     Verify,
     /// Restores damaged and missing files.
@@ -60,8 +65,12 @@ pub struct Request {
     pub to: Option<String>,
     /// The folder in which the files of the set are.
     pub folder: Option<String>,
-    /// The number of recovery blocks that `create` makes.
-    pub recovery: Recovery,
+    /// More folders in which lost files and blocks are looked for.
+    pub search: Vec<String>,
+    /// The names of files that are protected although their bytes changed and their times did not.
+    pub accept: Vec<String>,
+    /// The number of recovery blocks that `create` and `update` make. `None` means the default.
+    pub recovery: Option<Recovery>,
     /// The size of a block in bytes. `None` means the default size.
     pub block_bytes: Option<u64>,
     /// The number of bytes of memory that may be used, approximately.
@@ -70,6 +79,8 @@ pub struct Request {
     pub volumes: u32,
     /// How many volumes of `split` may be lost.
     pub lose: u32,
+    /// Whether names that are not UTF-8 may be left out.
+    pub skip_names: bool,
     /// Whether the result is printed as JSON.
     pub json: bool,
     /// Whether only errors are printed.

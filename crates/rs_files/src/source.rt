@@ -4,40 +4,72 @@ ghost use Rattle.rs_field.specs.code.Given.{nothing};
 use crate::failure::Failure;
 use crate::identity::open_regular;
 use crate::progress::Progress;
+use crate::runs::{places_in, places_of_piece, run_of};
 use rs_volumes::coding_error::CodingError;
 use rs_volumes::pieces::BlockSource;
-use std::alloc::Global;
+use rs_volumes::placement::Place;
+use std::alloc::{AllocError, Global};
 use std::io;
 use std::io::{ErrorKind, Read, Seek, SeekFrom};
 use std::rt::{Clock, Files};
 
-/// Where a block lies: in a file or in a volume.
+/// Where a block was found.
 #[derive(Clone, Copy)]
-pub struct Origin {
-    /// The file or volume, by its index in a list of paths.
-    pub holder: usize,
-    /// The offset in bytes of the block in the file or volume.
-    pub offset: u64,
-    /// The number of bytes of the block that the file or volume holds. The other bytes of the block are zeros.
-    pub bytes: u64,
+pub enum Origin {
+    /// In the files of the set, at its places there.
+    Files,
+    /// In a volume.
+    Volume {
+        /// The volume, by its index in a list of paths.
+        holder: usize,
+        /// The offset in bytes of the block in the volume.
+        offset: u64,
+    },
 }
 
 /// The files and volumes from which blocks are read.
 #[derive(Clone, Copy)]
 pub struct Holders<'a> {
-    /// The paths of the files and volumes.
+    /// The paths of the entries of the set, and then of the volumes.
     pub paths: &'a [String],
     /// For each path, whether a symbolic link there is followed. After the end of this list, links are followed.
     pub follows: &'a [bool],
+    /// Where the original blocks lie in the files, in order of the data.
+    pub places: &'a [Place],
+    /// Where each block was found. `None` means that it was not found.
+    pub origins: &'a [Option<Origin>],
+}
+
+impl<'a> Holders<'a> {
+    /// Opens the file or volume with the index `holder` in the list of paths.
+    ///
+    /// # Errors
+    ///
+    /// Fails for a reason of [`open_regular`]. [`ErrorKind::NotFound`] if there is no such path.
+    pub fn open<R: Files>(&self, rt: &R, holder: usize) -> io::Result<R::File> {
+        let follows = self.follows.get(holder).copied().unwrap_or(true);
+        match self.paths.get(holder) {
+            Some(path) => open_regular(rt, path.as_str(), follows),
+            None => Err(io::Error::from(ErrorKind::NotFound)),
+        }
+    }
+
+    /// Returns the index of the path that holds a block, or the first one of a block that lies in several files.
+    fn holder_of(&self, block: usize) -> Option<usize> {
+        match self.origins.get(block).copied()?? {
+            Origin::Volume { holder, .. } => Some(holder),
+            Origin::Files => Some(places_in(self.places, block).first()?.file),
+        }
+    }
 }
 
 /// A file that is open to be read.
 #[derive(Drop)]
 pub struct Opened<F: Drop> {
     /// The index of the file in the list of paths.
-    holder: usize,
+    pub holder: usize,
     /// The open file.
-    file: F,
+    pub file: F,
 }
 
 /// The blocks in files and volumes. This source reads them.
@@ -46,10 +78,10 @@ pub struct FileBlocks<'a, R: Files + Clock + Eprint> {
     rt: &'a R,
     alloc: Global,
     holders: Holders<'a>,
-    /// Where each block is, if it is known.
-    origins: &'a [Option<Origin>],
     /// The file that was read last.
     opened: Option<Opened<R::File>>,
+    /// The file or volume that could not be read.
+    failed: Option<usize>,
     progress: Progress,
 }
 
@@ -59,15 +91,14 @@ impl<'a, R: Files + Clock + Eprint> FileBlocks<'a, R> {
         rt: &'a R,
         alloc: Global,
         holders: Holders<'a>,
-        origins: &'a [Option<Origin>],
         progress: Progress,
     ) -> FileBlocks<'a, R> {
         FileBlocks {
             rt,
             alloc,
             holders,
-            origins,
             opened: None,
+            failed: None,
             progress,
         }
     }
@@ -82,57 +113,61 @@ impl<'a, R: Files + Clock + Eprint> FileBlocks<'a, R> {
         let CodingError::Read(index, _) = error else {
             return "";
         };
-        let Some(Some(origin)) = self.origins.get(*index) else {
-            return "";
+        let holder = match self.failed {
+            Some(holder) => holder,
+            None => self.holders.holder_of(*index).unwrap_or(usize::MAX),
         };
-        match self.holders.paths.get(origin.holder) {
+        match self.holders.paths.get(holder) {
             Some(path) => path.as_str(),
             None => "",
         }
     }
 
-    // Opens the file with the index `holder` in the list of paths.
-    fn open(&self, holder: usize) -> io::Result<R::File> {
-        let follows = self.holders.follows.get(holder).copied().unwrap_or(true);
-        match self.holders.paths.get(holder) {
-            Some(path) => open_regular(self.rt, path.as_str(), follows),
-            None => Err(io::Error::from(ErrorKind::NotFound)),
-        }
-    }
-
-    // Returns whether the file that was read last has the index `holder` in the list of paths.
-    fn has_open(&self, holder: usize) -> bool {
-        match &self.opened {
-            Some(opened) => opened.holder == holder,
-            None => false,
-        }
-    }
-
-    // Fills `piece` with the bytes of a block from byte `start` of the block on. Bytes that the file or volume does not
-    // hold stay as they are.
+    // Fills `piece` with the bytes of a block from byte `start` of the block on. Bytes that no file holds stay as they
+    // are.
     fn read(&mut self, index: usize, start: u64, piece: &mut [u8]) -> io::Result<()> {
-        let Some(Some(origin)) = self.origins.get(index).copied() else {
-            return Err(io::Error::from(ErrorKind::NotFound));
-        };
-        let held = origin.bytes.saturating_sub(start);
-        let count = held.min(piece.len() as u64) as usize;
-        if count == 0 {
-            return Ok(());
+        match self.holders.origins.get(index).copied() {
+            Some(Some(Origin::Files)) => self.read_files(index, start, piece),
+            Some(Some(Origin::Volume { holder, offset })) => {
+                self.fill(holder, offset.saturating_add(start), piece)
+            }
+            _ => Err(io::Error::from(ErrorKind::NotFound)),
         }
-        let offset = origin.offset.wrapping_add(start);
-        self.fill(origin.holder, offset, &mut piece[..count])
+    }
+
+    // Fills `piece` with the bytes of a block that lies in files.
+    fn read_files(&mut self, index: usize, start: u64, piece: &mut [u8]) -> io::Result<()> {
+        let places = places_in(self.holders.places, index);
+        for place in places_of_piece(places, start, piece.len()) {
+            if let Some(run) = run_of(place, start, piece.len()) {
+                if let Some(bytes) = piece.get_mut(run.from..run.to) {
+                    self.fill(run.file, run.offset, bytes)?;
+                }
+            }
+        }
+        Ok(())
     }
 
     // Fills `piece` with the bytes of a file from `offset` on. `holder` is the index of the file in the list of paths.
     fn fill(&mut self, holder: usize, offset: u64, piece: &mut [u8]) -> io::Result<()> {
-        if !self.has_open(holder) {
-            let file = self.open(holder)?;
-            self.opened = Some(Opened { holder, file });
+        let outcome = self.read_from(holder, offset, piece);
+        if outcome.is_err() {
+            self.failed = Some(holder);
         }
-        match &mut self.opened {
-            Some(opened) => read_at(&mut opened.file, offset, piece),
-            None => Err(io::Error::from(ErrorKind::NotFound)),
+        outcome
+    }
+
+    // Reads bytes of a file, and opens it unless it was read last.
+    fn read_from(&mut self, holder: usize, offset: u64, piece: &mut [u8]) -> io::Result<()> {
+        if let Some(opened) = &mut self.opened {
+            if opened.holder == holder {
+                return read_at(&mut opened.file, offset, piece);
+            }
         }
+        let mut file = self.holders.open(self.rt, holder)?;
+        let outcome = read_at(&mut file, offset, piece);
+        self.opened = Some(Opened { holder, file });
+        outcome
     }
 }
 
@@ -143,6 +178,64 @@ impl<'a, R: Files + Clock + Eprint> BlockSource for FileBlocks<'a, R> {
         let mut piece = vec![in self.alloc; 0u8; end - start]?;
         self.read(index, start as u64, &mut piece)?;
         self.progress.advance(self.rt, (end - start) as u64);
+        Ok(piece)
+    }
+}
+
+/// A source of blocks that also computes the sums of the original blocks, which are read piece by piece.
+#[derive(Drop)]
+pub struct SummedBlocks<'a, R: Files + Clock + Eprint> {
+    /// The source.
+    pub blocks: FileBlocks<'a, R>,
+    // For each block the sum of its bytes, and the sum of these sums after each byte. Both are modulo 2^32.
+    sums: Vec<(u32, u32)>,
+}
+
+impl<'a, R: Files + Clock + Eprint> SummedBlocks<'a, R> {
+    /// Makes a source of `count` blocks.
+    ///
+    /// # Errors
+    ///
+    /// [`AllocError`] if memory cannot be allocated.
+    pub fn new(blocks: FileBlocks<'a, R>, count: usize) -> Result<SummedBlocks<'a, R>, AllocError> {
+        let sums = vec![in blocks.alloc; (0, 0); count]?;
+        Ok(SummedBlocks { blocks, sums })
+    }
+
+    /// Returns the sums of all blocks as they are in a description: of each block 4 bytes for the sum of its bytes, and
+    /// 4 bytes for the sum of the products of each byte and the number of bytes from it to the end of the block.
+    ///
+    /// # Errors
+    ///
+    /// [`AllocError`] if memory cannot be allocated.
+    pub fn sums(&self) -> Result<Vec<u8>, AllocError> {
+        let mut bytes = Vec::new(self.blocks.alloc);
+        for (plain, weighted) in &self.sums {
+            bytes.extend_from_slice(&plain.to_le_bytes())?;
+            bytes.extend_from_slice(&weighted.to_le_bytes())?;
+        }
+        Ok(bytes)
+    }
+}
+
+// Returns the sums of a block after more of its bytes.
+fn summed(sums: (u32, u32), bytes: &[u8]) -> (u32, u32) {
+    let (mut plain, mut weighted) = sums;
+    for byte in bytes {
+        plain = plain.wrapping_add(u32::from(*byte));
+        weighted = weighted.wrapping_add(plain);
+    }
+    (plain, weighted)
+}
+
+impl<'a, R: Files + Clock + Eprint> BlockSource for SummedBlocks<'a, R> {
+    ghost blocks = { λ _. nothing };
+
+    fn piece(&mut self, index: usize, start: usize, end: usize) -> io::Result<Vec<u8>> {
+        let piece = self.blocks.piece(index, start, end)?;
+        if let Some(sums) = self.sums.get_mut(index) {
+            *sums = summed(*sums, piece.as_slice());
+        }
         Ok(piece)
     }
 }

@@ -1,9 +1,8 @@
 //! `split`: spreads files over volumes.
-use crate::counted::Counted;
 use crate::creating::make;
 use crate::failure::{Failure, Result};
 use crate::names::path_in;
-use crate::settings::{Recovery, Request, STATUS_WHOLE};
+use crate::settings::{Recovery, Request, STATUS_LOST};
 use std::alloc::{AllocError, Global};
 use std::rt::Runtime;
 
@@ -31,10 +30,13 @@ pub fn split<R: Runtime>(rt: &R, alloc: Global, request: &Request) -> Result<u8>
     let lose = request.lose;
     let outputs = outputs_in(alloc, volumes, folder.as_str())?;
     let recovery = Recovery::Spread { volumes, lose };
-    let made = make(rt, alloc, request, recovery, outputs.as_slice())?;
+    let files = request.paths.as_slice();
+    let Some(made) = make(rt, alloc, request, files, recovery, outputs.as_slice())? else {
+        return Ok(STATUS_LOST);
+    };
     if !request.quiet {
-        let files = Counted(made.files as u64, "file");
-        println!(rt; "{files} in {volumes} volumes, of which {lose} may be lost")?;
+        let entries = made.entries;
+        println!(rt; "{entries} in {volumes} volumes, of which {lose} may be lost")?;
     }
-    Ok(STATUS_WHOLE)
+    Ok(made.status)
 }

@@ -1,15 +1,16 @@
 //! `verify`: looks for damage.
 use crate::counted::Counted;
 use crate::failure::{Failure, Result};
-use crate::json::{add, add_text, files_of, object_of};
-use crate::names::{Shown, folder_to_open, parent_of, text_of};
-use crate::scanning::{Counts, FileState, Scan, ScannedVolume, scan_request};
-use crate::settings::{Request, STATUS_LOST, STATUS_MENDED, STATUS_WHOLE};
-use crate::volume::Copies;
+use crate::json::{add, add_text, entries_of, object_of};
+use crate::names::{Name, Shown, folder_to_open, parent_of};
+use crate::scanning::{Counts, Scan, ScannedVolume, State, scan_request};
+use crate::searching::find_elsewhere;
+use crate::settings::{Request, STATUS_DAMAGED, STATUS_LOST, STATUS_WHOLE};
+use rs_volumes::description::Version;
 use serde_json::{Map, Value};
 use std::alloc::{AllocError, Global};
 use std::io;
-use std::rt::{Clock, Files};
+use std::rt::Runtime;
 
 /// Returns the folder of the files: the folder after `--folder`, or else the folder of the first volume.
 ///
@@ -28,7 +29,7 @@ pub fn folder_of(request: &Request) -> Result<&str> {
 
 /// Returns the exit status for a scan: `STATUS_LOST` if more blocks are lost than recovery blocks are left,
 /// `STATUS_WHOLE` if all recovery blocks and all volumes are whole, and all files are whole or the volumes hold them,
-/// and `STATUS_MENDED` otherwise.
+/// and `STATUS_DAMAGED` otherwise.
 pub fn status_of(scan: &Scan, counts: Counts) -> u8 {
     let are_held = counts.lost == 0 && scan.is_spread();
     if counts.lost > counts.recovery {
@@ -39,53 +40,33 @@ pub fn status_of(scan: &Scan, counts: Counts) -> u8 {
     {
         STATUS_WHOLE
     } else {
-        STATUS_MENDED
+        STATUS_DAMAGED
     }
 }
 
-// Returns the word for the state of a file.
-fn word_of(state: FileState) -> &'static str {
+// Returns the word for the state of an entry.
+fn word_of(state: State) -> &'static str {
     match state {
-        FileState::Whole => "whole",
-        FileState::Damaged => "damaged",
-        FileState::Missing => "missing",
+        State::Whole => "whole",
+        State::Damaged => "damaged",
+        State::Missing => "missing",
     }
 }
 
-// Prints which files are damaged or missing.
+// Prints which entries are damaged or missing.
 fn tell_files<R: Print>(rt: &R, scan: &Scan) -> io::Result<()> {
-    let files = scan.description.files.as_slice();
-    for (file, state) in files.iter().zip(scan.states.as_slice()) {
-        tell_file(rt, text_of(file.name.as_slice()), *state)?;
+    let entries = scan.description().entries.as_slice();
+    for (entry, state) in entries.iter().zip(scan.states.as_slice()) {
+        if *state != State::Whole {
+            let word = word_of(*state);
+            let name = Name(entry.name.as_slice());
+            println!(rt; "{word}: {name}")?;
+        }
     }
     Ok(())
 }
 
-// Prints the state of a file. Prints nothing for a whole file.
-fn tell_file<R: Print>(rt: &R, name: &str, state: FileState) -> io::Result<()> {
-    if state == FileState::Whole {
-        return Ok(());
-    }
-    let word = word_of(state);
-    let name = Shown(name);
-    println!(rt; "{word}: {name}")
-}
-
-// Returns where a volume is damaged, and which head was used. Returns `None` if both copies are whole. If the first
-// head is damaged only in its number of records, both heads give the same description, and the message is the same.
-fn damage_of(copies: Copies) -> Option<&'static str> {
-    match copies {
-        Copies::Whole => None,
-        Copies::FirstDamaged => Some(" at its beginning, its second head was used"),
-        Copies::SecondDamaged => Some(" at its end, its first head was used"),
-        Copies::WrongLength => Some(
-            ": bytes are missing between its two descriptions, or were added",
-        ),
-    }
-}
-
-/// Prints which volumes do not have two equal copies of their head and their description, and which volumes have
-/// damaged blocks.
+/// Prints which volumes are damaged, and how many of their blocks.
 ///
 /// # Errors
 ///
@@ -97,17 +78,22 @@ pub fn tell_volumes<R: Print>(rt: &R, scan: &Scan) -> io::Result<()> {
     Ok(())
 }
 
-// Prints where a volume is damaged, and how many of its blocks are damaged. Prints nothing for a whole volume.
+// Prints what is damaged in a volume. Prints nothing for a whole volume.
 fn tell_volume<R: Print>(rt: &R, volume: &ScannedVolume) -> io::Result<()> {
     let path = Shown(volume.path.as_str());
-    if let Some(damage) = damage_of(volume.copies) {
-        println!(rt; "{path}: the volume is damaged{damage}")?;
+    let damage = volume.damage;
+    if damage.parts > 0 {
+        let parts = Counted(damage.parts, "damaged or missing part");
+        println!(rt; "{path}: the volume has {parts} of its description")?;
     }
-    if volume.damaged_blocks == 0 {
-        return Ok(());
+    if damage.blocks > 0 {
+        let blocks = Counted(damage.blocks, "damaged or missing block");
+        println!(rt; "{path}: the volume has {blocks}")?;
     }
-    let blocks = Counted(volume.damaged_blocks, "damaged block");
-    println!(rt; "{path}: the volume has {blocks}")
+    if damage.has_more {
+        println!(rt; "{path}: the volume is damaged outside of its blocks")?;
+    }
+    Ok(())
 }
 
 // Prints whether the files can be restored, or what to do about damaged volumes.
@@ -115,16 +101,18 @@ fn tell_blocks<R: Print>(rt: &R, scan: &Scan, counts: Counts) -> io::Result<()> 
     let whole = counts.recovery;
     let damaged = counts.recovery_count.saturating_sub(whole);
     let recovery = Counted(counts.recovery_count as u64, "recovery block");
+    let advice = match scan.description().version {
+        Version::First => "make the volume again with update",
+        Version::Second => "repair writes damaged volumes anew",
+    };
     if !scan.has_whole_files() {
         let lost = Counted(counts.lost as u64, "lost block");
         println!(rt; "{lost}, and {whole} of {recovery} left: the files can be repaired")
     } else if damaged > 0 {
-        println!(rt;
-            "all files are whole, but {damaged} of {recovery} cannot be used: make the volumes again, with create --force or split --force"
-        )
+        println!(rt; "all files are whole, but {damaged} of {recovery} cannot be used: {advice}")
     } else if !scan.has_whole_volumes() {
         println!(rt;
-            "all files and recovery blocks are whole, but a volume is damaged or cannot be read: make the volumes again, with create --force or split --force"
+            "all files and recovery blocks are whole, but a volume is damaged or cannot be read: {advice}"
         )
     } else {
         println!(rt; "all files and volumes are whole, with {recovery}")
@@ -133,7 +121,7 @@ fn tell_blocks<R: Print>(rt: &R, scan: &Scan, counts: Counts) -> io::Result<()> 
 
 // Prints whether volumes of `split` hold all blocks, and what to do.
 fn tell_spread<R: Print>(rt: &R, scan: &Scan, counts: Counts) -> io::Result<()> {
-    let k = scan.description.original_count;
+    let k = scan.description().original_count;
     let (lost, left, r) = (counts.lost, counts.recovery, counts.recovery_count);
     let damaged = r.saturating_sub(left);
     if lost > 0 || damaged > 0 {
@@ -227,23 +215,33 @@ fn words_of(alloc: Global, scan: &Scan) -> Result<Vec<&'static str>, AllocError>
 }
 
 // Returns the name of a volume and a word for its state as JSON.
-fn volume_json(alloc: Global, name: &str, word: &str) -> Result<Value, AllocError> {
+fn volume_json(alloc: Global, name: &str, word: &str) -> Result<Map<String, Value>, AllocError> {
     let mut object = Map::new(alloc);
     add_text(alloc, &mut object, "name", name)?;
     add_text(alloc, &mut object, "state", word)?;
-    Ok(Value::Object(object))
+    Ok(object)
 }
 
 // Returns the volumes with their states as JSON.
 fn volumes_json(alloc: Global, scan: &Scan) -> Result<Value, AllocError> {
     let mut volumes = Vec::new(alloc);
     for volume in &scan.volumes {
-        let word = if volume.is_whole() {
-            "whole"
-        } else {
-            "damaged"
-        };
-        volumes.push(volume_json(alloc, volume.path.as_str(), word)?)?;
+        let damage = volume.damage;
+        let word = if damage.is_none() { "whole" } else { "damaged" };
+        let mut object = volume_json(alloc, volume.path.as_str(), word)?;
+        add(
+            alloc,
+            &mut object,
+            "damaged_blocks",
+            Value::from(damage.blocks),
+        )?;
+        add(
+            alloc,
+            &mut object,
+            "damaged_parts",
+            Value::from(damage.parts),
+        )?;
+        volumes.push(Value::Object(object))?;
     }
     add_unreadable(alloc, scan, &mut volumes)?;
     Ok(Value::Array(volumes))
@@ -252,7 +250,8 @@ fn volumes_json(alloc: Global, scan: &Scan) -> Result<Value, AllocError> {
 // Appends the volumes that cannot be read, as JSON.
 fn add_unreadable(alloc: Global, scan: &Scan, volumes: &mut Vec<Value>) -> Result<(), AllocError> {
     for path in &scan.unreadable {
-        volumes.push(volume_json(alloc, path.as_str(), "unreadable")?)?;
+        let object = volume_json(alloc, path.as_str(), "unreadable")?;
+        volumes.push(Value::Object(object))?;
     }
     Ok(())
 }
@@ -272,14 +271,10 @@ fn result_json(alloc: Global, scan: &Scan, counts: Counts) -> Result<String, All
         ("whole_recovery_blocks", counts.recovery as u64),
     ];
     let words = words_of(alloc, scan)?;
-    let files = scan.description.files.as_slice();
+    let entries = scan.description().entries.as_slice();
+    let files = entries_of(alloc, entries, words.as_slice())?;
     let mut object = object_of(alloc, &numbers)?;
-    add(
-        alloc,
-        &mut object,
-        "files",
-        files_of(alloc, files, words.as_slice())?,
-    )?;
+    add(alloc, &mut object, "files", files)?;
     add(alloc, &mut object, "volumes", volumes_json(alloc, scan)?)?;
     Value::Object(object).to_string(alloc)
 }
@@ -295,17 +290,17 @@ fn result_json(alloc: Global, scan: &Scan, counts: Counts) -> Result<String, All
 /// - the result cannot be printed.
 ///
 /// Every step fails if memory cannot be allocated.
-pub fn verify<R: Files + Clock + Print + Eprint>(
-    rt: &R,
-    alloc: Global,
-    request: &Request,
-) -> Result<u8> {
+pub fn verify<R: Runtime>(rt: &R, alloc: Global, request: &Request) -> Result<u8> {
     let folder = folder_of(request)?;
-    let found = scan_request(rt, alloc, request, Some(folder))?;
+    let mut found = scan_request(rt, alloc, request, Some(folder))?;
+    let elsewhere = find_elsewhere(rt, alloc, request, folder, &mut found)?;
     let counts = found.counts();
     if request.json {
         tell_json(rt, alloc, &found, counts)?;
     } else {
+        if !request.quiet {
+            elsewhere.tell(rt, &found)?;
+        }
         report(rt, request, &found, counts, folder)?;
     }
     Ok(status_of(&found, counts))

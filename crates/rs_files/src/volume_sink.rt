@@ -2,15 +2,16 @@
 ghost use Rattle.rs_field.specs.code.Given.{nothing};
 
 use crate::failure::{Failure, Result};
-use crate::folder::Cut;
 use crate::identity::exists;
+use crate::layout::{Deal, Layout, PART_BYTES, first_line, part_bytes};
 use crate::output::{Part, at_path, free_path, sync_folder};
-use crate::volume::{RECORD_HEAD_BYTES, is_volume};
+use crate::volume::is_volume;
 use rs_volumes::coding_error::CodingError;
+use rs_volumes::description::Description;
 use rs_volumes::digest::digest_of;
-use rs_volumes::head::{HEAD_BYTES, Head, write_head};
 use rs_volumes::pieces::BlockSink;
-use std::alloc::Global;
+use rs_volumes::record::{BLOCK, PART, RECORD_HEAD_BYTES, RecordHead, write_record_head};
+use std::alloc::{AllocError, Global};
 use std::io;
 use std::io::ErrorKind;
 use std::rt::Files;
@@ -42,86 +43,64 @@ pub fn check_output<R: Files>(rt: &R, alloc: Global, path: &str, force: bool) ->
     }
 }
 
-/// The volumes that a command writes. The blocks from the index `first` on are dealt to them in turn.
+/// The volumes that a command writes.
 #[derive(Drop)]
 pub struct Volumes<R: Files> {
-    // The file of each volume, which is open and does not have its final name yet.
-    parts: Vec<Part<R>>,
-    // The number of volumes.
-    count: u64,
-    // The index of the first block that is written.
-    first: usize,
-    // The number of blocks that are written.
-    blocks: u64,
+    // The file of each volume, which is open and does not have its final name yet. `None` if the volume is not written.
+    parts: Vec<Option<Part<R>>>,
+    // How the blocks are dealt to the volumes.
+    deal: Deal,
     block_bytes: u64,
     description_bytes: u64,
 }
 
 impl<R: Files> Volumes<R> {
-    /// Makes `count` volumes, of which none has begun yet. One volume gets the recovery blocks. Several volumes get all
-    /// blocks.
-    pub fn new(alloc: Global, cut: Cut, count: usize, description_bytes: u64) -> Volumes<R> {
-        let originals = u64::from(cut.original_count);
-        let recovery = u64::from(cut.recovery_count);
-        let (first, blocks) = if count == 1 {
-            (cut.original_count as usize, recovery)
-        } else {
-            (0, originals + recovery)
-        };
+    /// Makes the volumes of a set, of which none has begun yet. The description will have `description_bytes` bytes.
+    pub fn new(alloc: Global, set: &Description, description_bytes: u64) -> Volumes<R> {
         Volumes {
             parts: Vec::new(alloc),
-            count: count as u64,
-            first,
-            blocks,
-            block_bytes: cut.block_bytes,
+            deal: Deal::of(set.original_count, set.recovery_count, set.volumes),
+            block_bytes: set.block_bytes,
             description_bytes,
         }
     }
 
-    // Returns the number of blocks of the volume with a given number.
-    fn records_of(&self, number: usize) -> u64 {
-        let count = self.count.max(1);
-        let more = if (number as u64) < self.blocks % count {
-            1
-        } else {
-            0
-        };
-        (self.blocks / count).saturating_add(more)
+    // Returns where the records of the volume with this number lie.
+    fn layout(&self, number: u64) -> Layout {
+        Layout {
+            blocks: self.deal.blocks_in(number),
+            block_bytes: self.block_bytes,
+            description_bytes: self.description_bytes,
+        }
     }
 
-    // Returns the number of bytes of a record.
-    fn record_bytes(&self) -> u64 {
-        self.block_bytes.saturating_add(RECORD_HEAD_BYTES)
-    }
-
-    // Returns the offset in bytes of the record with this number in a volume. A number that is too large becomes 2^64 -
-    // 1.
-    fn record_at(&self, number: u64) -> u64 {
-        number
-            .saturating_mul(self.record_bytes())
-            .saturating_add(self.description_bytes)
-            .saturating_add(HEAD_BYTES as u64)
-    }
-
-    /// Begins the next volume, with room for its blocks, at `path`.
+    /// Begins the next volume, with room for its records, at `path`.
     ///
     /// # Errors
     ///
     /// Fails for a reason of [`Part::begin`], or if memory cannot be allocated.
     pub fn begin(&mut self, rt: &R, alloc: Global, path: &str) -> Result<()> {
-        let size = self
-            .record_at(self.records_of(self.parts.len()))
-            .saturating_add(self.description_bytes)
-            .saturating_add(HEAD_BYTES as u64);
-        let part = free_path(rt, alloc, "", path, "part", &[])?;
+        let size = self.layout(self.parts.len() as u64).size();
+        let part = free_path(rt, alloc, "", path, "part", None)?;
         let part = Part::begin(rt, alloc, path, part, size, VOLUME_MODE)?;
-        match self.parts.push(part) {
+        match self.parts.push(Some(part)) {
             Ok(()) => Ok(()),
             Err(failed) => {
-                failed.value.remove(rt);
+                if let Some(part) = &failed.value {
+                    part.remove(rt);
+                }
                 Err(Failure::from(failed))
             }
         }
+    }
+
+    /// Leaves out the next volume: nothing of it is written.
+    ///
+    /// # Errors
+    ///
+    /// Fails if memory cannot be allocated.
+    pub fn leave_out(&mut self) -> Result<()> {
+        Ok(self.parts.push(None)?)
     }
 
     /// Gives all volumes their final names. If `force` is set, old volumes with these names are replaced. All volumes
@@ -145,7 +124,7 @@ impl<R: Files> Volumes<R> {
         self.sync(rt, alloc)?;
         self.check(rt, alloc, force)?;
         let outcome = self.rename(rt, alloc);
-        if let Some(part) = self.parts.first() {
+        if let Some(part) = self.parts.iter().flatten().next() {
             sync_folder(rt, part.path.as_str());
         }
         outcome
@@ -153,7 +132,7 @@ impl<R: Files> Volumes<R> {
 
     // Syncs all volumes.
     fn sync(&mut self, rt: &R, alloc: Global) -> Result<()> {
-        for part in &mut self.parts {
+        for part in self.parts.iter_mut().flatten() {
             part.sync(rt, alloc)?;
         }
         Ok(())
@@ -161,7 +140,7 @@ impl<R: Files> Volumes<R> {
 
     // Checks that each volume can get its final name. Something may have changed since the volumes were begun.
     fn check(&self, rt: &R, alloc: Global, force: bool) -> Result<()> {
-        for part in &self.parts {
+        for part in self.parts.iter().flatten() {
             check_output(rt, alloc, part.path.as_str(), force)?;
         }
         Ok(())
@@ -171,7 +150,7 @@ impl<R: Files> Volumes<R> {
     // the last one.
     fn rename(&self, rt: &R, alloc: Global) -> Result<()> {
         let mut outcome = Ok(());
-        for (number, part) in self.parts.iter().enumerate() {
+        for (number, part) in self.parts.iter().flatten().enumerate() {
             if let Err(failure) = part.rename(rt, alloc) {
                 if number == 0 {
                     return Err(failure);
@@ -184,7 +163,7 @@ impl<R: Files> Volumes<R> {
 
     /// Removes the files of all volumes that do not have their final names.
     pub fn remove(&self, rt: &R) {
-        for part in &self.parts {
+        for part in self.parts.iter().flatten() {
             part.remove(rt);
         }
     }
@@ -209,18 +188,16 @@ impl<'a, R: Files> VolumeSink<'a, R> {
         let CodingError::Write(index, _) = error else {
             return "";
         };
-        let slot = index.saturating_sub(self.volumes.first);
-        match self
-            .volumes
-            .parts
-            .get(slot % self.volumes.parts.len().max(1))
-        {
-            Some(part) => part.path.as_str(),
-            None => "",
+        let Some((volume, _)) = self.volumes.deal.record_of(*index as u64) else {
+            return "";
+        };
+        match self.volumes.parts.get(volume as usize) {
+            Some(Some(part)) => part.path.as_str(),
+            _ => "",
         }
     }
 
-    /// Writes the description and the heads of all volumes.
+    /// Writes the line of text, the description and the heads of all records of all volumes.
     ///
     /// # Errors
     ///
@@ -230,72 +207,104 @@ impl<'a, R: Files> VolumeSink<'a, R> {
         if description.len() as u64 != self.volumes.description_bytes {
             return Err(Failure::of("the description has another length than expected"));
         }
-        let digest = digest_of(description);
+        let set = digest_of(description);
+        let line = first_line(self.alloc)?;
+        let copy = copy_of(self.alloc, description, &set)?;
         for number in 0..self.volumes.parts.len() {
-            let record_count = self.volumes.records_of(number);
-            let head = Head {
-                description_bytes: description.len() as u64,
-                record_count,
-                digest,
-            };
-            let head = write_head(self.alloc, &head)?;
-            let end = self.volumes.record_at(record_count);
-            if let Some(part) = self.volumes.parts.get_mut(number) {
-                let written = write_copies(self.rt, part, description, head.as_slice(), end);
-                at_path(self.alloc, part.path.as_str(), written)?;
+            let layout = self.volumes.layout(number as u64);
+            self.write(number, 0, line.as_slice())?;
+            for copy_number in 0..layout.copies() {
+                self.write(number, layout.copy_at(copy_number), copy.as_slice())?;
             }
+            self.write_heads(number, layout, &set)?;
+        }
+        Ok(())
+    }
+
+    // Writes bytes into the volume with this number, from byte `offset` on.
+    fn write(&mut self, number: usize, offset: u64, bytes: &[u8]) -> Result<()> {
+        match self.volumes.parts.get_mut(number) {
+            Some(Some(part)) => {
+                let written = part.write_at(self.rt, offset, bytes);
+                at_path(self.alloc, part.path.as_str(), written)
+            }
+            _ => Ok(()),
+        }
+    }
+
+    // Writes the heads of the records of all blocks of a volume.
+    fn write_heads(&mut self, number: usize, layout: Layout, set: &[u8; 32]) -> Result<()> {
+        for record in 0..layout.blocks {
+            let index = self.volumes.deal.block_of(number as u64, record);
+            let head = RecordHead {
+                kind: BLOCK,
+                index: index.min(u64::from(u32::MAX)) as u32,
+                body_bytes: layout.block_bytes,
+                set: *set,
+            };
+            let head = write_record_head(self.alloc, &head)?;
+            self.write(number, layout.record_at(record), head.as_slice())?;
         }
         Ok(())
     }
 }
 
-// Writes both copies of the description and the head of a volume. `end` is the offset in bytes of the second copy.
-fn write_copies<R: Files>(
-    rt: &R,
-    part: &mut Part<R>,
-    description: &[u8],
-    head: &[u8],
-    end: u64,
-) -> io::Result<()> {
-    part.write_at(rt, HEAD_BYTES as u64, description)?;
-    part.write_at(rt, end, description)?;
-    part.write_at(rt, end.wrapping_add(description.len() as u64), head)?;
-    part.write_at(rt, 0, head)
+// Returns the records of all parts of a description, one after another.
+fn copy_of(alloc: Global, description: &[u8], set: &[u8; 32]) -> Result<Vec<u8>, AllocError> {
+    let total = description.len() as u64;
+    let mut copy = Vec::new(alloc);
+    for index in 0..u32::MAX {
+        let start = u64::from(index).saturating_mul(PART_BYTES) as usize;
+        let length = part_bytes(index, total) as usize;
+        if length == 0 {
+            break;
+        }
+        let bytes = description.get(start..).unwrap_or(&[]);
+        let bytes = bytes.get(..length).unwrap_or(&[]);
+        put_part(alloc, &mut copy, index, bytes, total, set)?;
+    }
+    Ok(copy)
+}
+
+// Appends the record of a part. `total` is the number of bytes of the description.
+fn put_part(
+    alloc: Global,
+    copy: &mut Vec<u8>,
+    index: u32,
+    bytes: &[u8],
+    total: u64,
+    set: &[u8; 32],
+) -> Result<(), AllocError> {
+    let mut rest = Vec::from_slice(alloc, &total.to_le_bytes())?;
+    rest.extend_from_slice(bytes)?;
+    let head = RecordHead {
+        kind: PART,
+        index,
+        body_bytes: 32 + rest.len() as u64,
+        set: *set,
+    };
+    copy.extend_from_slice(write_record_head(alloc, &head)?.as_slice())?;
+    copy.extend_from_slice(&digest_of(rest.as_slice()))?;
+    copy.extend_from_slice(rest.as_slice())
 }
 
 impl<'a, R: Files> BlockSink for VolumeSink<'a, R> {
     ghost written = { λ _. nothing };
 
     fn put(&mut self, index: usize, start: usize, piece: &[u8]) -> io::Result<()> {
-        let first = self.volumes.first;
-        let count = self.volumes.parts.len();
-        if index < first || count == 0 {
+        let Some((volume, record)) = self.volumes.deal.record_of(index as u64) else {
             return Ok(());
-        }
-        let slot = index - first;
-        let record = self.volumes.record_at((slot / count) as u64);
-        let Some(part) = self.volumes.parts.get_mut(slot % count) else {
-            return Err(io::Error::from(ErrorKind::NotFound));
         };
-        write_piece(self.rt, part, record, index, start, piece)
+        let offset = self
+            .volumes
+            .layout(volume)
+            .record_at(record)
+            .saturating_add(RECORD_HEAD_BYTES as u64)
+            .saturating_add(start as u64);
+        match self.volumes.parts.get_mut(volume as usize) {
+            Some(Some(part)) => part.write_at(self.rt, offset, piece),
+            Some(None) => Ok(()),
+            None => Err(io::Error::from(ErrorKind::NotFound)),
+        }
     }
-}
-
-// Writes a piece of the block with the index `index` into its record at the offset `record`. The first piece of a block
-// also writes the head of the record.
-fn write_piece<R: Files>(
-    rt: &R,
-    part: &mut Part<R>,
-    record: u64,
-    index: usize,
-    start: usize,
-    piece: &[u8],
-) -> io::Result<()> {
-    if start == 0 {
-        part.write_at(rt, record, &(index as u64).to_le_bytes())?;
-    }
-    let offset = record
-        .wrapping_add(RECORD_HEAD_BYTES)
-        .wrapping_add(start as u64);
-    part.write_at(rt, offset, piece)
 }

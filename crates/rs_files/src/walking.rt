@@ -1,31 +1,36 @@
-//! Finds the files of a set.
-use crate::failure::{Failure, Result};
+//! Finds the files, symbolic links and empty folders of a set.
+use crate::counted::Counted;
+use crate::failure::{Failure, Result, warn};
 use crate::identity::{Identity, identities, identity_of, is_one_of};
-use crate::names::{folder_to_open, last_of, parent_of, path_in, text_of, trimmed};
+use crate::names::{folder_to_open, last_of, order_of, parent_of, path_in, text_of, trimmed};
 use crate::output::at_path;
 use rs_volumes::checking::is_name;
-use rs_volumes::description::FileEntry;
-use std::alloc::{AllocError, Global};
+use rs_volumes::description::{Entry, Kind};
+use std::alloc::Global;
 use std::fs;
+use std::fs::Metadata;
+use std::io::ErrorKind;
 use std::os::unix::fs::{MetadataExt, PermissionsExt};
 use std::rt::Files;
 
-/// The files of a set, and their folder.
+/// The entries of a set, and their folder.
 #[derive(Drop)]
 pub struct Found {
-    /// The folder to which the names of the files are relative.
+    /// The folder to which the names of the entries are relative.
     pub folder: String,
-    /// The files, in order of their names.
-    pub files: Vec<FileEntry>,
-    /// For each file, whether its path is a symbolic link to it. Only a path that is named may be one.
+    /// The entries, in order of their names.
+    pub entries: Vec<Entry>,
+    /// For each entry, whether it is a file whose path is a symbolic link to it. Only a path that is named may be one.
     pub linked: Vec<bool>,
+    /// Whether names, or targets of symbolic links, that are not UTF-8 were left out.
+    pub has_left_out: bool,
 }
 
-// A file of the set.
+// An entry of the set.
 #[derive(Drop)]
-struct FoundFile {
-    entry: FileEntry,
-    // Whether its path is a symbolic link to it.
+struct FoundEntry {
+    entry: Entry,
+    // Whether it is a file whose path is a symbolic link to it.
     is_linked: bool,
 }
 
@@ -57,97 +62,61 @@ fn folder_of(path: &str) -> &str {
     }
 }
 
-/// Finds all regular files at the paths and below them, in order of their names.
+/// Finds all regular files, symbolic links and empty folders at the paths and below them, in order of their names. A
+/// path that is a symbolic link is followed.
 ///
-/// The files at `outputs` are old volumes, which new volumes replace. Below a path, they are left out.
+/// The files at `outputs` are old volumes, which new volumes replace. Below a path, they are left out. Names, and
+/// targets of symbolic links, that are not UTF-8 are left out as well, because this program cannot use them. For each
+/// folder with such names, and for each such link, the function prints a message.
 ///
 /// # Errors
 ///
 /// Fails if there is no path. Then, for each path in turn, fails if the path is not in the folder of the first path, if
-/// the path is an old volume, if a file or folder cannot be read, or if the name of a file is not allowed.
-/// At the end, fails if no file was found, or if a file is given twice. Every step fails if memory cannot be allocated.
-pub fn find<R: Files + Alloc + Clone + Drop>(
+/// the path is an old volume, if a file or folder cannot be read, or if a name is not allowed. At the end, fails if
+/// nothing was found, or if an entry is given twice. Every step fails if memory cannot be allocated.
+pub fn find<R: Files + Eprint + Alloc + Clone + Drop>(
     rt: &R,
     alloc: Global,
     paths: &[String],
     outputs: &[String],
 ) -> Result<Found> {
-    let written = identities(rt, alloc, outputs)?;
     let Some(first) = paths.first() else {
         return Err(Failure::of("no file is given"));
     };
     let folder = folder_of(trimmed(first.as_str()));
-    let found = files_in(rt, alloc, folder, paths, written.as_slice())?;
-    if found.is_empty() {
-        return Err(Failure::at(alloc, first.as_str(), "there is no regular file to protect"));
+    let mut walk = FolderWalk {
+        rt,
+        alloc,
+        written: identities(rt, alloc, outputs)?,
+        waiting: Vec::new(alloc),
+        found: Vec::new(alloc),
+        has_left_out: false,
+    };
+    for path in paths {
+        walk.add_path(folder, trimmed(path.as_str()))?;
     }
-    let folder = String::from_str(alloc, folder_to_open(folder))?;
-    Ok(found_in(alloc, folder, found)?)
-}
-
-// Returns the files of a set and their folder.
-fn found_in(alloc: Global, folder: String, found: Vec<FoundFile>) -> Result<Found, AllocError> {
-    let mut files = Vec::new(alloc);
+    let FolderWalk {
+        mut found,
+        has_left_out,
+        ..
+    } = walk;
+    if found.is_empty() {
+        return Err(Failure::at(alloc, first.as_str(), "there is nothing to protect"));
+    }
+    found.sort_by(|one, other| order_of(one.entry.name.as_slice(), other.entry.name.as_slice()))?;
+    check_apart(alloc, found.as_slice())?;
+    let mut entries = Vec::new(alloc);
     let mut linked = Vec::new(alloc);
-    for file in found {
-        files.push(file.entry)?;
-        linked.push(file.is_linked)?;
+    for FoundEntry { entry, is_linked } in found {
+        entries.push(entry)?;
+        linked.push(is_linked)?;
     }
     Ok(Found {
-        folder,
-        files,
+        folder: String::from_str(alloc, folder_to_open(folder))?,
+        entries,
         linked,
+        has_left_out,
     })
-}
-
-// Returns all regular files at the paths and below them, in order of their names. The paths must be in `folder`.
-fn files_in<R: Files + Alloc + Clone + Drop>(
-    rt: &R,
-    alloc: Global,
-    folder: &str,
-    paths: &[String],
-    written: &[Identity],
-) -> Result<Vec<FoundFile>> {
-    let mut files = Vec::new(alloc);
-    for path in paths {
-        add_path(
-            rt,
-            alloc,
-            folder,
-            trimmed(path.as_str()),
-            written,
-            &mut files,
-        )?;
-    }
-    sort_files(&mut files)?;
-    check_once(alloc, files.as_slice())?;
-    Ok(files)
-}
-
-// Appends all regular files at a path and below that path. The path must be in `folder`, and not an old volume.
-fn add_path<R: Files + Alloc + Clone + Drop>(
-    rt: &R,
-    alloc: Global,
-    folder: &str,
-    path: &str,
-    written: &[Identity],
-    files: &mut Vec<FoundFile>,
-) -> Result<()> {
-    if !is_same_folder(rt, folder_of(path), folder) {
-        return Err(Failure::at(
-            alloc,
-            path,
-            "the files must be in one folder: give that folder, or the files in it",
-        ));
-    }
-    if is_one_of(rt, path, written) {
-        return Err(Failure::at(
-            alloc,
-            path,
-            "this is a volume that is written: name another place with -o, or another file",
-        ));
-    }
-    walk(rt, alloc, path, name_in_set(path), written, files)
 }
 
 // Returns whether two paths lead to the same folder. If the first one leads to no folder, this is reported later.
@@ -161,104 +130,173 @@ fn is_same_folder<R: Files>(rt: &R, one: &str, other: &str) -> bool {
     }
 }
 
-// Sorts files by their names.
-fn sort_files(files: &mut Vec<FoundFile>) -> Result<(), AllocError> {
-    files.sort_by(|one, other| one.entry.name.as_slice().cmp(other.entry.name.as_slice()))
-}
-
-// Checks that no two files of a sorted list have the same name.
-fn check_once(alloc: Global, files: &[FoundFile]) -> Result<()> {
+// Checks that no two entries of a sorted list have the same name, and no entry lies below another one.
+fn check_apart(alloc: Global, found: &[FoundEntry]) -> Result<()> {
     let mut previous: &[u8] = b"";
-    for file in files {
-        let name = file.entry.name.as_slice();
-        if name == previous {
-            return Err(Failure::at(alloc, text_of(name), "this file is given twice"));
+    for FoundEntry { entry, .. } in found {
+        let name = entry.name.as_slice();
+        let is_below = match name.strip_prefix(previous) {
+            Some(rest) => !previous.is_empty() && (rest.is_empty() || rest.starts_with(b"/")),
+            None => false,
+        };
+        if is_below {
+            let name = text_of(previous).unwrap_or("");
+            return Err(Failure::at(alloc, name, "this file is given twice"));
         }
         previous = name;
     }
     Ok(())
 }
 
-// Appends all regular files at a path and below that path.
-fn walk<R: Files + Alloc + Clone + Drop>(
-    rt: &R,
+// A walk over files and folders.
+#[derive(Drop)]
+struct FolderWalk<'a, R: Files + Eprint + Alloc + Clone + Drop> {
+    rt: &'a R,
     alloc: Global,
-    path: &str,
-    name: &str,
-    written: &[Identity],
-    files: &mut Vec<FoundFile>,
-) -> Result<()> {
-    let mut waiting = Vec::new(alloc);
-    waiting.push(Waiting {
-        path: String::from_str(alloc, path)?,
-        name: String::from_str(alloc, name)?,
-        is_named: true,
-    })?;
-    for _ in 0..u64::MAX {
-        match waiting.pop() {
-            None => return Ok(()),
-            Some(next) => visit(rt, alloc, &next, written, &mut waiting, files)?,
-        }
-    }
-    Ok(())
+    // The old volumes, which are left out.
+    written: Vec<Identity>,
+    // The files and folders that must still be visited.
+    waiting: Vec<Waiting>,
+    // The entries that were found.
+    found: Vec<FoundEntry>,
+    // Whether something was left out because it is not UTF-8.
+    has_left_out: bool,
 }
 
-// Visits a path: appends a regular file to `files`, or the entries of a folder to `waiting`.
-fn visit<R: Files + Alloc + Clone + Drop>(
-    rt: &R,
-    alloc: Global,
-    next: &Waiting,
-    written: &[Identity],
-    waiting: &mut Vec<Waiting>,
-    files: &mut Vec<FoundFile>,
-) -> Result<()> {
-    let path = next.path.as_str();
-    let found = at_path(alloc, path, fs::symlink_metadata(rt, path))?;
-    // A link that is not named was put there after its folder was read. It is left out as well.
-    let is_linked = next.is_named && found.is_symlink();
-    let metadata = if is_linked {
-        at_path(alloc, path, fs::metadata(rt, path))?
-    } else {
-        found
-    };
-    if metadata.is_dir() {
-        return list(rt, alloc, next, waiting);
-    }
-    if !metadata.is_file() || is_one_of(rt, path, written) {
-        return Ok(());
-    }
-    if !is_name(next.name.as_str().as_bytes()) {
-        return Err(Failure::at(alloc, path, "a file with this name cannot be part of a set"));
-    }
-    let entry = FileEntry {
-        size: metadata.len(),
-        modified: u64::from_le_bytes(metadata.mtime().to_le_bytes()),
-        mode: metadata.permissions().mode() & 0o7777,
-        name: Vec::from_slice(alloc, next.name.as_str().as_bytes())?,
-    };
-    files.push(FoundFile { entry, is_linked })?;
-    Ok(())
-}
-
-// Appends the entries of a folder to `waiting`, except for symbolic links.
-fn list<R: Files + Alloc + Clone + Drop>(
-    rt: &R,
-    alloc: Global,
-    folder: &Waiting,
-    waiting: &mut Vec<Waiting>,
-) -> Result<()> {
-    let path = folder_to_open(folder.path.as_str());
-    for entry in at_path(alloc, path, fs::read_dir(rt, path))? {
-        let entry = at_path(alloc, path, entry)?;
-        if at_path(alloc, path, entry.file_type())?.is_symlink() {
-            continue;
+impl<'a, R: Files + Eprint + Alloc + Clone + Drop> FolderWalk<'a, R> {
+    // Adds all entries at a path and below it. The path must be in `folder`, and not an old volume.
+    fn add_path(&mut self, folder: &str, path: &str) -> Result<()> {
+        if !is_same_folder(self.rt, folder_of(path), folder) {
+            let reason = "the files must be in one folder: give that folder, or the files in it";
+            return Err(Failure::at(self.alloc, path, reason));
         }
-        let name = entry.file_name();
-        waiting.push(Waiting {
-            path: path_in(alloc, folder.path.as_str(), name)?,
-            name: path_in(alloc, folder.name.as_str(), name)?,
+        if is_one_of(self.rt, path, self.written.as_slice()) {
+            let reason =
+                "this is a volume that is written: name another place with -o, or another file";
+            return Err(Failure::at(self.alloc, path, reason));
+        }
+        self.waiting.push(Waiting {
+            path: String::from_str(self.alloc, path)?,
+            name: String::from_str(self.alloc, name_in_set(path))?,
+            is_named: true,
+        })?;
+        for _ in 0..u64::MAX {
+            match self.waiting.pop() {
+                None => break,
+                Some(next) => self.visit(&next)?,
+            }
+        }
+        Ok(())
+    }
+
+    // Visits a path: adds a file or a symbolic link, or lists a folder. Other things, as pipes, are left out.
+    fn visit(&mut self, next: &Waiting) -> Result<()> {
+        let path = next.path.as_str();
+        let found = at_path(self.alloc, path, fs::symlink_metadata(self.rt, path))?;
+        let is_linked = next.is_named && found.is_symlink();
+        let metadata = if is_linked {
+            at_path(self.alloc, path, fs::metadata(self.rt, path))?
+        } else {
+            found
+        };
+        if metadata.is_dir() {
+            self.list(next, &metadata)
+        } else if metadata.is_symlink() {
+            self.add_link(next, &metadata)
+        } else if metadata.is_file() && !is_one_of(self.rt, path, self.written.as_slice()) {
+            let entry = self.entry(next, Kind::File, &metadata)?;
+            self.add(path, entry, is_linked)
+        } else {
+            Ok(())
+        }
+    }
+
+    // Returns an entry with this metadata, which has no target and no digest yet.
+    fn entry(&self, next: &Waiting, kind: Kind, metadata: &Metadata) -> Result<Entry> {
+        let nanoseconds = u32::try_from(metadata.mtime_nsec()).unwrap_or(0);
+        Ok(Entry {
+            kind,
+            mode: metadata.permissions().mode() & 0o7777,
+            size: if kind == Kind::File {
+                metadata.len()
+            } else {
+                0
+            },
+            seconds: u64::from_le_bytes(metadata.mtime().to_le_bytes()),
+            nanoseconds: nanoseconds.min(999_999_999),
+            name: Vec::from_slice(self.alloc, next.name.as_str().as_bytes())?,
+            target: Vec::new(self.alloc),
+            digest: [0; 32],
+        })
+    }
+
+    // Adds an entry. Fails if its name is not allowed.
+    fn add(&mut self, path: &str, entry: Entry, is_linked: bool) -> Result<()> {
+        if !is_name(entry.name.as_slice()) {
+            let reason = "a file with this name cannot be part of a set";
+            return Err(Failure::at(self.alloc, path, reason));
+        }
+        self.found.push(FoundEntry { entry, is_linked })?;
+        Ok(())
+    }
+
+    // Adds a symbolic link. A link whose target is not UTF-8 is left out.
+    fn add_link(&mut self, next: &Waiting, metadata: &Metadata) -> Result<()> {
+        let path = next.path.as_str();
+        let target = match fs::read_link(self.rt, path) {
+            Err(error) if error.kind() == ErrorKind::InvalidFilename => {
+                self.has_left_out = true;
+                warn(
+                    self.rt,
+                    path,
+                    "the target of this symbolic link is not UTF-8: it is left out",
+                );
+                return Ok(());
+            }
+            outcome => at_path(self.alloc, path, outcome)?.into_string(),
+        };
+        let mut entry = self.entry(next, Kind::Link, metadata)?;
+        entry.target = Vec::from_slice(self.alloc, target.as_bytes())?;
+        self.add(path, entry, false)
+    }
+
+    // Appends what is in a folder to `waiting`. Adds the folder itself if nothing is in it, unless it is the folder of
+    // the set.
+    fn list(&mut self, folder: &Waiting, metadata: &Metadata) -> Result<()> {
+        let path = folder_to_open(folder.path.as_str());
+        let (mut count, mut left_out) = (0u64, 0u64);
+        for entry in at_path(self.alloc, path, fs::read_dir(self.rt, path))? {
+            match entry {
+                Ok(entry) => {
+                    count = count.saturating_add(1);
+                    self.wait_for(folder, entry.file_name())?;
+                }
+                Err(error) if error.kind() == ErrorKind::InvalidFilename => {
+                    left_out = left_out.saturating_add(1);
+                }
+                Err(error) => return Err(Failure::at(self.alloc, path, error)),
+            }
+        }
+        if left_out > 0 {
+            self.has_left_out = true;
+            let names = Counted(left_out, "name");
+            let reason = format_args!("{names} in this folder left out, because this is not UTF-8");
+            warn(self.rt, path, reason);
+        }
+        if count > 0 || folder.name.as_str().is_empty() {
+            return Ok(());
+        }
+        let entry = self.entry(folder, Kind::Folder, metadata)?;
+        self.add(path, entry, false)
+    }
+
+    // Appends a name in a folder to `waiting`.
+    fn wait_for(&mut self, folder: &Waiting, name: &str) -> Result<()> {
+        self.waiting.push(Waiting {
+            path: path_in(self.alloc, folder.path.as_str(), name)?,
+            name: path_in(self.alloc, folder.name.as_str(), name)?,
             is_named: false,
         })?;
+        Ok(())
     }
-    Ok(())
 }

@@ -1,0 +1,149 @@
+//! Puts descriptions together from their parts.
+use crate::failure::{Failure, Result};
+use crate::layout::{PART_BYTES, PART_OPENING_BYTES, part_bytes};
+use rs_volumes::description::Description;
+use rs_volumes::digest::digest_of;
+use rs_volumes::read_description;
+use std::alloc::{AllocError, Global};
+use std::collections::BTreeMap;
+
+/// The largest description that is written or read, in bytes.
+pub const LARGEST_DESCRIPTION: u64 = 1 << 30;
+
+/// About how many bytes a part takes in memory beside its own bytes.
+const PART_MEMORY: u64 = 200;
+
+/// The description of the set of a command.
+#[derive(Drop)]
+pub struct Set {
+    /// The description.
+    pub description: Description,
+    /// The SHA-256 of the description, which identifies the set.
+    pub digest: [u8; 32],
+    /// The number of bytes of the description.
+    pub description_bytes: u64,
+}
+
+/// A part of a description.
+#[derive(Clone, Copy)]
+pub struct Part<'a> {
+    /// The number of bytes of the description.
+    pub total: u64,
+    /// The bytes of the description that the part holds.
+    pub bytes: &'a [u8],
+}
+
+/// Reads the part with this index from the body of its record. Returns `None` if the part does not have its own digest
+/// or has a wrong length.
+pub fn read_part(index: u32, body: &[u8]) -> Option<Part<'_>> {
+    let (digest, rest) = body.split_at_checked(32)?;
+    if digest_of(rest).as_slice() != digest {
+        return None;
+    }
+    let (total, bytes) = rest.split_first_chunk::<8>()?;
+    let total = u64::from_le_bytes(*total);
+    let length = bytes.len() as u64;
+    if length == 0 || total > LARGEST_DESCRIPTION || length != part_bytes(index, total) {
+        return None;
+    }
+    Some(Part { total, bytes })
+}
+
+/// The number of bytes of the body of the largest part.
+pub const LARGEST_PART: u64 = PART_BYTES + PART_OPENING_BYTES as u64;
+
+// The parts of one description that were found, by their indexes.
+#[derive(Drop)]
+struct Parts {
+    total: u64,
+    found: BTreeMap<u32, Vec<u8>>,
+}
+
+impl Parts {
+    // Returns the number of parts of the description.
+    fn count(&self) -> u64 {
+        self.total.div_ceil(PART_BYTES)
+    }
+
+    // Returns the bytes of all parts in turn, and drops the parts.
+    fn joined(&mut self, alloc: Global) -> Result<Vec<u8>, AllocError> {
+        let mut bytes = Vec::new(alloc);
+        for index in 0..u32::MAX {
+            match self.found.remove(&index) {
+                Some(part) => bytes.extend_from_slice(part.as_slice())?,
+                None => break,
+            }
+        }
+        Ok(bytes)
+    }
+}
+
+/// Parts of the descriptions of several sets. Together they take at most about 1 GiB. Further parts are left out.
+#[derive(Drop)]
+pub struct Assembly {
+    alloc: Global,
+    sets: BTreeMap<[u8; 32], Parts>,
+    // The number of bytes that the parts take.
+    held: u64,
+}
+
+impl Assembly {
+    /// Returns an assembly without parts.
+    pub fn new(alloc: Global) -> Assembly {
+        Assembly {
+            alloc,
+            sets: BTreeMap::new(alloc),
+            held: 0,
+        }
+    }
+
+    /// Adds a part of the description with the digest `set`. Returns the set if its description is whole now.
+    ///
+    /// # Errors
+    ///
+    /// Fails if memory cannot be allocated, or if the description is whole and breaks a rule.
+    pub fn add(&mut self, set: &[u8; 32], index: u32, part: Part<'_>) -> Result<Option<Set>> {
+        let room = PART_MEMORY.saturating_add(part.bytes.len() as u64);
+        if self.held.saturating_add(room) > LARGEST_DESCRIPTION + (LARGEST_DESCRIPTION >> 4) {
+            return Ok(None);
+        }
+        let mut parts = match self.sets.remove(set) {
+            Some(parts) => parts,
+            None => Parts {
+                total: part.total,
+                found: BTreeMap::new(self.alloc),
+            },
+        };
+        if parts.total == part.total && !parts.found.contains_key(&index) {
+            let bytes = Vec::from_slice(self.alloc, part.bytes)?;
+            parts.found.insert(index, bytes)?;
+            self.held = self.held.saturating_add(room);
+        }
+        if (parts.found.len() as u64) < parts.count() {
+            self.sets.insert(*set, parts)?;
+            return Ok(None);
+        }
+        let freed = parts
+            .count()
+            .saturating_mul(PART_MEMORY)
+            .saturating_add(parts.total);
+        self.held = self.held.saturating_sub(freed);
+        self.complete(set, &mut parts)
+    }
+
+    // Reads a description from all its parts. Returns `None` if it does not have its digest.
+    fn complete(&self, set: &[u8; 32], parts: &mut Parts) -> Result<Option<Set>> {
+        let bytes = parts.joined(self.alloc)?;
+        if digest_of(bytes.as_slice()) != *set {
+            return Ok(None);
+        }
+        match read_description(self.alloc, bytes.as_slice()) {
+            Ok(description) => Ok(Some(Set {
+                description,
+                digest: *set,
+                description_bytes: parts.total,
+            })),
+            Err(fault) => Err(Failure::of(format_args!("its description is wrong: {fault}"))),
+        }
+    }
+}

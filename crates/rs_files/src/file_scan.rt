@@ -1,0 +1,289 @@
+//! Looks for the blocks of a set in its files, and finds the states of its entries.
+use crate::failure::Result;
+use crate::hashing::{CHUNK, add_bytes, add_zeros, hash_at};
+use crate::identity::open_regular;
+use crate::names::{Name, text_of};
+use crate::runs::places_in;
+use crate::scanning::{Scanner, State};
+use crate::source::{Opened, Origin};
+use rs_volumes::description::{Description, Entry, Kind};
+use rs_volumes::digest::is_digest;
+use rs_volumes::placement::Place;
+use sha2::{Digest, Sha256};
+use std::alloc::Global;
+use std::io::{ErrorKind, Seek, SeekFrom};
+use std::rt::{Clock, Files};
+use std::{fs, io};
+
+/// Looks for the blocks of a set in its files, and returns the state of each entry. `paths` are the paths of the
+/// entries, and `places` are the places of the blocks in them.
+///
+/// # Errors
+///
+/// Fails if memory cannot be allocated.
+pub fn scan_entries<'a, R: Files + Clock + Eprint>(
+    rt: &'a R,
+    alloc: Global,
+    description: &'a Description,
+    paths: &'a [String],
+    places: &[Place],
+    scanner: &'a mut Scanner,
+) -> Result<Vec<State>> {
+    let mut scan = EntryScan {
+        rt,
+        description,
+        paths,
+        states: Vec::new(alloc),
+        suspects: vec![in alloc; false; paths.len()]?,
+        opened: None,
+        buffer: vec![in alloc; 0u8; CHUNK]?,
+        scanner,
+    };
+    scan.look_at_all(alloc)?;
+    for block in 0..description.original_count as usize {
+        scan.scan_block(block, places_in(places, block));
+    }
+    scan.close();
+    scan.check_suspects();
+    let EntryScan { states, .. } = scan;
+    Ok(states)
+}
+
+// Looks what has the name of an entry, and reads no file. A file with its length may be whole. Fails if the entry
+// counts as missing although something has its name.
+fn look<R: Files>(rt: &R, alloc: Global, entry: &Entry, path: &str) -> io::Result<State> {
+    let found = match entry.kind {
+        Kind::File => fs::metadata(rt, path)?,
+        Kind::Link | Kind::Folder => fs::symlink_metadata(rt, path)?,
+    };
+    match entry.kind {
+        Kind::Folder => Ok(state_if(found.is_dir())),
+        Kind::File if found.is_dir() => Err(in_its_place("a folder is in the place of this file")),
+        Kind::File if !found.is_file() => Err(in_its_place("this is no regular file")),
+        Kind::File => Ok(state_if(found.len() == entry.size)),
+        Kind::Link if found.is_dir() => {
+            Err(in_its_place("a folder is in the place of this symbolic link"))
+        }
+        Kind::Link if found.is_symlink() => {
+            let target = rt.read_link(alloc, path)?.into_string();
+            Ok(state_if(target.as_bytes() == entry.target.as_slice()))
+        }
+        Kind::Link => Ok(State::Damaged),
+    }
+}
+
+// Returns the error for something that has the name of an entry.
+fn in_its_place(reason: &'static str) -> io::Error {
+    io::Error::new(ErrorKind::InvalidInput, reason)
+}
+
+// Returns that an entry is whole or damaged.
+fn state_if(is_whole: bool) -> State {
+    if is_whole {
+        State::Whole
+    } else {
+        State::Damaged
+    }
+}
+
+// A scan of the entries of a set.
+#[derive(Drop)]
+struct EntryScan<'a, R: Files + Clock + Eprint> {
+    rt: &'a R,
+    description: &'a Description,
+    // The path of each entry, and the state that is known.
+    paths: &'a [String],
+    states: Vec<State>,
+    // Whether each file has bytes in a block with other files that is wrong or was not read.
+    suspects: Vec<bool>,
+    // The file that was read last.
+    opened: Option<Opened<R::File>>,
+    // The memory into which files are read.
+    buffer: Vec<u8>,
+    scanner: &'a mut Scanner,
+}
+
+impl<'a, R: Files + Clock + Eprint> EntryScan<'a, R> {
+    // Looks what has the names of the entries, and reads no file.
+    fn look_at_all(&mut self, alloc: Global) -> Result<()> {
+        let entries = self.description.entries.as_slice();
+        for (index, entry) in entries.iter().enumerate() {
+            let state = self.look_at(alloc, index, entry);
+            self.states.push(state)?;
+        }
+        Ok(())
+    }
+
+    // Looks what has the name of an entry.
+    fn look_at(&mut self, alloc: Global, index: usize, entry: &Entry) -> State {
+        if text_of(entry.name.as_slice()).is_none() {
+            return self.unnamed(entry);
+        }
+        let path = self.path(index);
+        let outcome = look(self.rt, alloc, entry, path);
+        self.known(path, outcome)
+    }
+
+    // Returns a state that was found. If it was not found, the entry is missing, and the function prints why, unless
+    // nothing has its name.
+    fn known(&mut self, path: &str, outcome: io::Result<State>) -> State {
+        match outcome {
+            Ok(state) => state,
+            Err(error) => {
+                if error.kind() != ErrorKind::NotFound {
+                    self.scanner.tell(self.rt, path, error);
+                }
+                State::Missing
+            }
+        }
+    }
+
+    // Returns that an entry is missing, because its name is not UTF-8, and prints this.
+    fn unnamed(&mut self, entry: &Entry) -> State {
+        let name = Name(entry.name.as_slice());
+        self.scanner.progress.end(self.rt);
+        let _ = eprintln!(self.rt;
+            "rs_files: {name}: this name is not UTF-8: this program cannot restore it"
+        );
+        State::Missing
+    }
+
+    // Returns the path of an entry.
+    fn path(&self, index: usize) -> &'a str {
+        match self.paths.get(index) {
+            Some(path) => path.as_str(),
+            None => "",
+        }
+    }
+
+    // Returns the state of an entry.
+    fn state(&self, index: usize) -> State {
+        self.states.get(index).copied().unwrap_or(State::Missing)
+    }
+
+    // Sets the state of an entry.
+    fn set_state(&mut self, index: usize, state: State) {
+        if let Some(own) = self.states.get_mut(index) {
+            *own = state;
+        }
+    }
+
+    // Compares a block that lies in files with its digest. Records where it was found, or that its files are not whole.
+    fn scan_block(&mut self, block: usize, places: &[Place]) {
+        let size = self.description.block_bytes;
+        if places
+            .iter()
+            .any(|place| self.state(place.file) == State::Missing)
+        {
+            self.scanner.progress.skip(size);
+            return self.doubt(places);
+        }
+        let own = self.hash_block(places, size);
+        self.scanner.progress.advance(self.rt, size);
+        match own {
+            Some(own) if is_digest(self.description.digests.as_slice(), block, &own) => {
+                self.scanner.note(block, Origin::Files)
+            }
+            _ => self.doubt(places),
+        }
+    }
+
+    // Records that the files of a block may be damaged. If only one file has bytes in the block, it is damaged.
+    fn doubt(&mut self, places: &[Place]) {
+        if let [place] = places {
+            if self.state(place.file) == State::Whole {
+                self.set_state(place.file, State::Damaged);
+            }
+        }
+        for place in places {
+            if let Some(suspect) = self.suspects.get_mut(place.file) {
+                *suspect = true;
+            }
+        }
+    }
+
+    // Returns the SHA-256 of a block: of the bytes of files at its places, and zeros elsewhere. Returns `None` if bytes
+    // of a file cannot be read.
+    fn hash_block(&mut self, places: &[Place], size: u64) -> Option<[u8; 32]> {
+        let mut hasher = Sha256::new();
+        let mut next = 0;
+        for place in places {
+            add_zeros(&mut hasher, place.at.saturating_sub(next));
+            if let Err(error) = self.add_place(&mut hasher, place) {
+                if self.state(place.file) == State::Whole {
+                    self.set_state(place.file, State::Damaged);
+                }
+                self.scanner.note_unread(error);
+                return None;
+            }
+            next = place.at.saturating_add(place.bytes);
+        }
+        add_zeros(&mut hasher, size.saturating_sub(next));
+        Some(hasher.finalize())
+    }
+
+    // Adds the bytes of a place to a hasher.
+    fn add_place(&mut self, hasher: &mut Sha256, place: &Place) -> io::Result<()> {
+        self.open(place.file)?;
+        match &mut self.opened {
+            Some(opened) => {
+                opened.file.seek(SeekFrom::Start(place.offset))?;
+                add_bytes(hasher, &mut opened.file, place.bytes, &mut self.buffer)
+            }
+            // The file cannot be opened, which was said before.
+            None => Err(io::Error::from(ErrorKind::UnexpectedEof)),
+        }
+    }
+
+    // Opens a file, unless it was read last. A file that cannot be opened is missing, and the function prints why.
+    fn open(&mut self, holder: usize) -> io::Result<()> {
+        if let Some(opened) = &self.opened {
+            if opened.holder == holder {
+                return Ok(());
+            }
+        }
+        self.close();
+        let path = self.path(holder);
+        match open_regular(self.rt, path, true) {
+            Ok(file) => self.opened = Some(Opened { holder, file }),
+            Err(error) => {
+                let state = self.known(path, Err(error));
+                self.set_state(holder, state);
+            }
+        }
+        Ok(())
+    }
+
+    // Closes the file that was read last, and prints how many of its blocks cannot be read.
+    fn close(&mut self) {
+        if let Some(opened) = self.opened.take() {
+            let path = self.path(opened.holder);
+            self.scanner.tell_unread(self.rt, path);
+        }
+    }
+
+    // Reads each file again that may be whole although a block with its bytes is wrong, and compares it with its
+    // digest.
+    fn check_suspects(&mut self) {
+        let entries = self.description.entries.as_slice();
+        for (index, entry) in entries.iter().enumerate() {
+            let is_suspect = self.suspects.get(index).copied().unwrap_or(false);
+            if is_suspect && self.state(index) == State::Whole {
+                let state = self.compare(index, entry);
+                self.set_state(index, state);
+            }
+        }
+    }
+
+    // Compares a file with its digest. Returns that it is damaged if it cannot be read.
+    fn compare(&mut self, index: usize, entry: &Entry) -> State {
+        let own = match open_regular(self.rt, self.path(index), true) {
+            Ok(mut file) => hash_at(&mut file, 0, entry.size, &mut self.buffer),
+            Err(error) => Err(error),
+        };
+        match own {
+            Ok(own) => state_if(own == entry.digest),
+            Err(_) => State::Damaged,
+        }
+    }
+}

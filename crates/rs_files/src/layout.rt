@@ -1,0 +1,178 @@
+//! Where the records of a volume of version 2 lie, as this program writes it. No reader needs this to find a record,
+//! but `verify` knows from it how many records a whole volume has.
+use rs_volumes::record::RECORD_HEAD_BYTES;
+use std::alloc::{AllocError, Global};
+
+/// The number of bytes of the line of text with which a volume begins.
+pub const LINE_BYTES: usize = 128;
+
+/// The text of this line, without the blanks and the line end after it.
+const LINE: &[u8] =
+    b"Reed-Solomon volume of rs_files, format 2. FORMAT.md of rs_files describes it.";
+
+/// How many bytes of the description a part holds, except for the last part.
+pub const PART_BYTES: u64 = 4096;
+
+/// The number of bytes in the body of a part before the bytes of the description: 32 for a digest, and 8 for the number
+/// of bytes of the description.
+pub const PART_OPENING_BYTES: usize = 40;
+
+/// Returns the line of text with which a volume begins.
+///
+/// # Errors
+///
+/// [`AllocError`] if memory cannot be allocated.
+pub fn first_line(alloc: Global) -> Result<Vec<u8>, AllocError> {
+    let mut line = Vec::from_slice(alloc, LINE)?;
+    line.resize(LINE_BYTES - 1, b' ')?;
+    line.push(b'\n')?;
+    Ok(line)
+}
+
+/// Returns whether a file that begins with these bytes begins as a volume of version 2 does.
+pub fn begins_volume(bytes: &[u8]) -> bool {
+    bytes.starts_with(LINE)
+}
+
+/// Returns the number of bytes of the description that the part with this index holds. `total` is the number of bytes
+/// of the description. There is no part if this number is 0.
+pub fn part_bytes(index: u32, total: u64) -> u64 {
+    let start = u64::from(index) * PART_BYTES;
+    total.saturating_sub(start).min(PART_BYTES)
+}
+
+/// How blocks are dealt to volumes. The blocks from the index `first` on are dealt to the volumes in turn.
+#[derive(Clone, Copy)]
+pub struct Deal {
+    /// The index of the first block.
+    pub first: u64,
+    /// The number of blocks.
+    pub blocks: u64,
+    /// The number of volumes.
+    pub volumes: u64,
+}
+
+impl Deal {
+    /// Returns how the blocks of a set are dealt. One volume gets the recovery blocks. Several volumes get all blocks.
+    pub fn of(original_count: u32, recovery_count: u32, volumes: u32) -> Deal {
+        let (originals, recovery) = (u64::from(original_count), u64::from(recovery_count));
+        let (first, blocks) = if volumes <= 1 {
+            (originals, recovery)
+        } else {
+            (0, originals + recovery)
+        };
+        Deal {
+            first,
+            blocks,
+            volumes: u64::from(volumes).max(1),
+        }
+    }
+
+    /// Returns the number of blocks of the volume with this number.
+    pub fn blocks_in(&self, volume: u64) -> u64 {
+        let volumes = self.volumes.max(1);
+        let more = u64::from(volume < self.blocks % volumes);
+        (self.blocks / volumes).saturating_add(more)
+    }
+
+    /// Returns the number of the volume of a block, and the number of the record there. Returns `None` if no volume has
+    /// this block.
+    pub fn record_of(&self, index: u64) -> Option<(u64, u64)> {
+        let slot = index.checked_sub(self.first)?;
+        if slot >= self.blocks {
+            return None;
+        }
+        let volumes = self.volumes.max(1);
+        Some((slot % volumes, slot / volumes))
+    }
+
+    /// Returns the index of the block in a record of a volume.
+    pub fn block_of(&self, volume: u64, record: u64) -> u64 {
+        record
+            .saturating_mul(self.volumes)
+            .saturating_add(volume)
+            .saturating_add(self.first)
+    }
+}
+
+/// The places of the records of one volume.
+#[derive(Clone, Copy)]
+pub struct Layout {
+    /// The number of records of blocks.
+    pub blocks: u64,
+    /// The number of bytes of a block.
+    pub block_bytes: u64,
+    /// The number of bytes of the description.
+    pub description_bytes: u64,
+}
+
+impl Layout {
+    // Returns the number of bytes of the record of a block.
+    fn record_bytes(&self) -> u64 {
+        self.block_bytes.saturating_add(RECORD_HEAD_BYTES as u64)
+    }
+
+    /// Returns the number of parts of the description.
+    pub fn parts(&self) -> u64 {
+        self.description_bytes.div_ceil(PART_BYTES)
+    }
+
+    /// Returns the number of bytes of all parts of the description.
+    pub fn copy_bytes(&self) -> u64 {
+        let opening = RECORD_HEAD_BYTES as u64 + PART_OPENING_BYTES as u64;
+        self.parts()
+            .saturating_mul(opening)
+            .saturating_add(self.description_bytes)
+    }
+
+    /// Returns how many copies of the description the volume has. It has more if it has many blocks and the copies take
+    /// at most 1 % of the bytes of the blocks. It has at least 5, or 3 if the description has more than 1 MiB.
+    pub fn copies(&self) -> u64 {
+        let least = if self.description_bytes <= 1 << 20 {
+            5
+        } else {
+            3
+        };
+        let many = 3 + u64::from(self.blocks.max(1).ilog2());
+        let hundred = self.copy_bytes().max(1).saturating_mul(100);
+        let fit = self.blocks.saturating_mul(self.record_bytes()) / hundred;
+        many.min(fit).max(least)
+    }
+
+    // Returns the number of records of blocks before the copy with this number. The copies are spread evenly, the first
+    // one before all records, and the last one after them.
+    fn blocks_before(&self, copy: u64) -> u64 {
+        copy.saturating_mul(self.blocks) / self.copies().saturating_sub(1).max(1)
+    }
+
+    // Returns the number of copies before the record of a block.
+    fn copies_before(&self, block: u64) -> u64 {
+        let gaps = self.copies().saturating_sub(1);
+        block
+            .saturating_add(1)
+            .saturating_mul(gaps)
+            .div_ceil(self.blocks.max(1))
+    }
+
+    // Returns the offset in bytes of what follows these numbers of copies and of records of blocks.
+    fn offset_after(&self, copies: u64, blocks: u64) -> u64 {
+        (LINE_BYTES as u64)
+            .saturating_add(copies.saturating_mul(self.copy_bytes()))
+            .saturating_add(blocks.saturating_mul(self.record_bytes()))
+    }
+
+    /// Returns the offset in bytes of the copy of the description with this number.
+    pub fn copy_at(&self, copy: u64) -> u64 {
+        self.offset_after(copy, self.blocks_before(copy))
+    }
+
+    /// Returns the offset in bytes of the record of the block with this number in the volume.
+    pub fn record_at(&self, block: u64) -> u64 {
+        self.offset_after(self.copies_before(block), block)
+    }
+
+    /// Returns the number of bytes of the volume.
+    pub fn size(&self) -> u64 {
+        self.offset_after(self.copies(), self.blocks)
+    }
+}

@@ -1,0 +1,279 @@
+//! Walks the records of a volume of version 2.
+use crate::source::read_at;
+use rs_volumes::record::{MAGIC, RECORD_HEAD_BYTES, RecordHead, read_record_head};
+use std::alloc::{AllocError, Global};
+use std::io;
+use std::io::{ErrorKind, Read, Seek, SeekFrom};
+
+/// How many bytes are searched at a time.
+const WINDOW: usize = 1 << 18;
+
+/// How many bytes are skipped at most if they cannot be read: the size of a sector.
+const SECTOR: u64 = 4096;
+
+/// A record of a volume.
+#[derive(Clone, Copy)]
+pub struct Record {
+    /// The head of the record.
+    pub head: RecordHead,
+    /// The offset in bytes of the body of the record.
+    pub at: u64,
+}
+
+impl Record {
+    /// Returns the offset in bytes after the body.
+    pub fn end(&self) -> u64 {
+        self.at.saturating_add(self.head.body_bytes)
+    }
+}
+
+/// A walk over the records of a file, in order of their offsets. It takes linear time, whatever the file holds.
+#[derive(Drop)]
+pub struct Walk<F: Drop> {
+    /// The file.
+    pub file: F,
+    /// The number of bytes of the file.
+    pub size: u64,
+    /// The number of bytes between the records that were found.
+    pub gap: u64,
+    /// The first error of the system.
+    pub error: Option<io::Error>,
+    // The offset from which the next record is searched.
+    position: u64,
+    // The head at this offset, if it is known.
+    ahead: Option<RecordHead>,
+    // Bytes of the file that were read, and their offset.
+    window: Vec<u8>,
+    window_at: u64,
+    // The offset after the last body that may be hashed, and the number of bytes of bodies that overlap others and may
+    // still be hashed.
+    reached: u64,
+    effort: u64,
+}
+
+// Returns the valid head at the front of bytes.
+fn head_of(bytes: &[u8]) -> Option<RecordHead> {
+    match bytes.first_chunk::<RECORD_HEAD_BYTES>() {
+        Some(bytes) => read_record_head(bytes).ok(),
+        None => None,
+    }
+}
+
+// Returns the first valid head in bytes, with its index.
+fn find_head(bytes: &[u8]) -> Option<(usize, RecordHead)> {
+    for (index, byte) in bytes.iter().enumerate() {
+        if *byte == MAGIC[0] {
+            if let Some(head) = head_of(bytes.get(index..).unwrap_or(&[])) {
+                return Some((index, head));
+            }
+        }
+    }
+    None
+}
+
+/// Returns whether a record ends at the end of bytes.
+pub fn ends_record(bytes: &[u8]) -> bool {
+    for (index, byte) in bytes.iter().enumerate() {
+        let rest = bytes.get(index..).unwrap_or(&[]);
+        if *byte == MAGIC[0] {
+            if let Some(head) = head_of(rest) {
+                let body = rest.len().saturating_sub(RECORD_HEAD_BYTES);
+                if head.body_bytes == body as u64 {
+                    return true;
+                }
+            }
+        }
+    }
+    false
+}
+
+// Reads bytes until the buffer is full, the file ends, or a read fails. Returns the number of bytes, and the error.
+fn read_some<F: Read>(file: &mut F, buffer: &mut [u8]) -> (usize, Option<io::Error>) {
+    let mut filled = 0usize;
+    for _ in 0..u64::MAX {
+        let left = buffer.get_mut(filled..).unwrap_or(&mut []);
+        if left.is_empty() {
+            break;
+        }
+        match file.read(left) {
+            Ok(0) => break,
+            Ok(count) => filled = filled.saturating_add(count),
+            Err(error) if error.kind() == ErrorKind::Interrupted => {}
+            Err(error) => return (filled, Some(error)),
+        }
+    }
+    (filled, None)
+}
+
+impl<F: Read + Seek + Drop> Walk<F> {
+    /// Begins a walk at the first byte of a file of `size` bytes.
+    ///
+    /// # Errors
+    ///
+    /// [`AllocError`] if memory cannot be allocated.
+    pub fn new(alloc: Global, file: F, size: u64) -> Result<Walk<F>, AllocError> {
+        let mut window = Vec::new(alloc);
+        window.reserve(WINDOW)?;
+        Ok(Walk {
+            file,
+            size,
+            gap: 0,
+            error: None,
+            position: 0,
+            ahead: None,
+            window,
+            window_at: 0,
+            reached: 0,
+            effort: size.saturating_mul(2),
+        })
+    }
+
+    /// Returns the next record, or `None` if there is no more.
+    ///
+    /// The record after it is expected at its end, if the file ends there or a valid head is there. Otherwise it is
+    /// searched in its body.
+    pub fn next(&mut self) -> Option<Record> {
+        let known = self.ahead.take();
+        let head = match known {
+            Some(head) => head,
+            None => self.search()?,
+        };
+        let record = Record {
+            head,
+            at: self.position.saturating_add(RECORD_HEAD_BYTES as u64),
+        };
+        self.position = record.at;
+        self.step_to(record.end());
+        Some(record)
+    }
+
+    /// Goes on after a record whose body is right, so that its body is not searched.
+    pub fn pass(&mut self, record: &Record) {
+        if self.position < record.end() {
+            self.position = record.end();
+            self.ahead = self.head_at(self.position);
+        }
+    }
+
+    /// Returns whether the body of a record may be hashed: all its bytes are there, and bodies that overlap others have
+    /// at most twice as many bytes as the file.
+    pub fn may_hash(&mut self, record: &Record) -> bool {
+        if record.end() > self.size {
+            return false;
+        }
+        if record.at < self.reached {
+            if record.head.body_bytes > self.effort {
+                return false;
+            }
+            self.effort -= record.head.body_bytes;
+        }
+        self.reached = self.reached.max(record.end());
+        true
+    }
+
+    // Goes to the end of a record, if the file ends there or a valid head is there.
+    fn step_to(&mut self, end: u64) {
+        if end == self.size {
+            self.position = end;
+        } else if let Some(head) = self.head_at(end) {
+            self.position = end;
+            self.ahead = Some(head);
+        }
+    }
+
+    // Returns the valid head at an offset.
+    fn head_at(&mut self, offset: u64) -> Option<RecordHead> {
+        if self.size.saturating_sub(offset) < RECORD_HEAD_BYTES as u64 {
+            return None;
+        }
+        let held = self.held(offset);
+        if held.len() >= RECORD_HEAD_BYTES {
+            return head_of(held);
+        }
+        let mut bytes = [0u8; RECORD_HEAD_BYTES];
+        match read_at(&mut self.file, offset, &mut bytes) {
+            Ok(()) => head_of(&bytes),
+            Err(error) => {
+                self.note(error);
+                None
+            }
+        }
+    }
+
+    // Returns the bytes of the file from an offset on that were read before.
+    fn held(&self, offset: u64) -> &[u8] {
+        match offset.checked_sub(self.window_at) {
+            Some(index) if index < self.window.len() as u64 => {
+                self.window.as_slice().get(index as usize..).unwrap_or(&[])
+            }
+            _ => &[],
+        }
+    }
+
+    // Looks for the next valid head, and goes there.
+    fn search(&mut self) -> Option<RecordHead> {
+        for _ in 0..u64::MAX {
+            if self.position >= self.size {
+                return None;
+            }
+            self.load();
+            let found = find_head(self.held(self.position));
+            let step = match found {
+                Some((index, _)) => index as u64,
+                None => self.bytes_without_head(),
+            };
+            self.position = self.position.saturating_add(step);
+            self.gap = self.gap.saturating_add(step);
+            if let Some((_, head)) = found {
+                return Some(head);
+            }
+        }
+        None
+    }
+
+    // Returns how many bytes from the present offset on can be skipped, if no valid head is in those that were read.
+    fn bytes_without_head(&self) -> u64 {
+        let left = self.size - self.position.min(self.size);
+        let held = (self.held(self.position).len() as u64).min(left);
+        let overlap = RECORD_HEAD_BYTES as u64 - 1;
+        if held == left {
+            left
+        } else if held > overlap {
+            held - overlap
+        } else if held > 0 {
+            held
+        } else {
+            (SECTOR - self.position % SECTOR).min(left)
+        }
+    }
+
+    // Reads bytes from the present offset on, unless enough of them were read before.
+    fn load(&mut self) {
+        let left = self.size.saturating_sub(self.position);
+        let held = self.held(self.position).len() as u64;
+        if held == left || held >= RECORD_HEAD_BYTES as u64 {
+            return;
+        }
+        let count = left.min(WINDOW as u64) as usize;
+        self.window.clear();
+        self.window_at = self.position;
+        if self.window.resize(count, 0).is_err() {
+            return;
+        }
+        let (filled, error) = match self.file.seek(SeekFrom::Start(self.position)) {
+            Ok(_) => read_some(&mut self.file, &mut self.window),
+            Err(error) => (0, Some(error)),
+        };
+        self.window.truncate(filled);
+        if let Some(error) = error {
+            self.note(error);
+        }
+    }
+
+    // Keeps the first error of the system. The end of the file is none.
+    fn note(&mut self, error: io::Error) {
+        if self.error.is_none() && error.kind() != ErrorKind::UnexpectedEof {
+            self.error = Some(error);
+        }
+    }
+}

@@ -1,0 +1,573 @@
+//! Looks for lost files and blocks in other files: in files that were renamed or moved, and at any byte of a file.
+use crate::counted::Counted;
+use crate::failure::Result;
+use crate::hashing::{CHUNK, hash_at};
+use crate::identity::{Identity, identity_of, open_regular};
+use crate::names::{Name, Shown, folder_to_open, path_in};
+use crate::progress::Progress;
+use crate::rolling::{RollingSum, Sums};
+use crate::runs::places_in;
+use crate::scanning::{Scan, State};
+use crate::settings::Request;
+use crate::source::{FileBlocks, Holders, Origin, read_at};
+use rs_volumes::description::Kind;
+use rs_volumes::digest::is_digest;
+use rs_volumes::pieces::BlockSource;
+use sha2::{Digest, Sha256};
+use std::alloc::{AllocError, Global};
+use std::io::{Read, Seek};
+use std::rt::Runtime;
+use std::{fs, io};
+
+/// After how many blocks of a file that have the sum of a lost block, but not its digest, the file is left.
+const TRIES: u32 = 1000;
+
+/// What was found elsewhere.
+#[derive(Drop)]
+pub struct Elsewhere {
+    /// The files that were renamed or moved: for each, its index among the entries.
+    pub files: Vec<usize>,
+    /// The number of lost blocks that were found at another place.
+    pub blocks: usize,
+}
+
+impl Elsewhere {
+    /// Prints which files were renamed or moved, and how many lost blocks were found elsewhere.
+    ///
+    /// # Errors
+    ///
+    /// Fails if a message cannot be printed.
+    pub fn tell<R: Print>(&self, rt: &R, scan: &Scan) -> io::Result<()> {
+        let entries = scan.description().entries.as_slice();
+        for index in &self.files {
+            if let (Some(entry), Some(path)) = (entries.get(*index), scan.paths.get(*index)) {
+                let (name, path) = (Name(entry.name.as_slice()), Shown(path.as_str()));
+                println!(rt; "moved: {name} is at {path}")?;
+            }
+        }
+        if self.blocks > 0 {
+            let blocks = Counted(self.blocks as u64, "lost block");
+            println!(rt; "{blocks} found in other files or at other places")?;
+        }
+        Ok(())
+    }
+}
+
+// A file in which lost blocks may be.
+#[derive(Drop)]
+struct Candidate {
+    path: String,
+    size: u64,
+    // Its SHA-256, if it was computed and the file could be read.
+    digest: Option<[u8; 32]>,
+}
+
+// A search for the lost blocks of a set.
+#[derive(Drop)]
+struct Search<'a, R: Runtime> {
+    rt: &'a R,
+    alloc: Global,
+    scan: &'a mut Scan,
+    buffer: Vec<u8>,
+    // The files below the folders that are searched, in order of their sizes.
+    candidates: Vec<Candidate>,
+    found: Elsewhere,
+}
+
+/// Looks for the lost blocks of a set below `folder`, and below the folders after `--search`, and records in `scan` where
+/// they were found.
+///
+/// In this order, the function looks for files that have the length and the digest of a file that is not whole, for blocks
+/// with the digest of a lost block, and for lost blocks at any byte of the files that are not whole files of the set. A
+/// block is believed only if it has its digest.
+///
+/// # Errors
+///
+/// Fails if memory cannot be allocated. A file or folder that cannot be read is left out.
+pub fn find_elsewhere<R: Runtime>(
+    rt: &R,
+    alloc: Global,
+    request: &Request,
+    folder: &str,
+    scan: &mut Scan,
+) -> Result<Elsewhere> {
+    let mut search = Search {
+        rt,
+        alloc,
+        scan,
+        buffer: vec![in alloc; 0u8; CHUNK]?,
+        candidates: Vec::new(alloc),
+        found: Elsewhere {
+            files: Vec::new(alloc),
+            blocks: 0,
+        },
+    };
+    let before = search.lost()?.len();
+    if before > 0 {
+        search.collect(folder, request)?;
+        if search.find_files()? {
+            search.check_blocks()?;
+        }
+        search.find_equal_blocks()?;
+        search.find_anywhere()?;
+    }
+    let after = search.lost()?.len();
+    let Search { mut found, .. } = search;
+    found.blocks = before.saturating_sub(after);
+    Ok(found)
+}
+
+impl<'a, R: Runtime> Search<'a, R> {
+    // Returns the original blocks that were not found.
+    fn lost(&self) -> Result<Vec<usize>, AllocError> {
+        let k = self.scan.description().original_count as usize;
+        let mut lost = Vec::new(self.alloc);
+        for (block, origin) in self.scan.origins.iter().enumerate() {
+            if block < k && origin.is_none() {
+                lost.push(block)?;
+            }
+        }
+        Ok(lost)
+    }
+
+    // Returns the state of an entry.
+    fn state(&self, index: usize) -> State {
+        self.scan
+            .states
+            .get(index)
+            .copied()
+            .unwrap_or(State::Missing)
+    }
+
+    // Returns the identities of the whole files of the set, of the volumes, and of the folder into which files are restored,
+    // in order. No lost block is looked for there.
+    fn known(&self, to: &Option<String>) -> Result<Vec<Identity>, AllocError> {
+        let mut known = Vec::new(self.alloc);
+        if let Some(to) = to {
+            if let Some(own) = identity_of(self.rt, to.as_str()) {
+                known.push(own)?;
+            }
+        }
+        for (index, path) in self.scan.paths.iter().enumerate() {
+            let is_volume = index >= self.scan.states.len();
+            if is_volume || self.state(index) == State::Whole {
+                if let Ok(metadata) = fs::metadata(self.rt, path.as_str()) {
+                    known.push(Identity::of(&metadata))?;
+                }
+            }
+        }
+        known.sort()?;
+        Ok(known)
+    }
+
+    // Collects the regular files below a folder and below the folders after `--search`, in order of their sizes.
+    fn collect(&mut self, folder: &str, request: &Request) -> Result<()> {
+        let known = self.known(&request.to)?;
+        let mut waiting = Vec::new(self.alloc);
+        waiting.push(String::from_str(self.alloc, folder)?)?;
+        for folder in &request.search {
+            waiting.push(folder.clone()?)?;
+        }
+        for _ in 0..u64::MAX {
+            match waiting.pop() {
+                None => break,
+                Some(folder) => self.list(folder.as_str(), known.as_slice(), &mut waiting)?,
+            }
+        }
+        self.candidates
+            .sort_by(|one, other| one.size.cmp(&other.size))?;
+        Ok(())
+    }
+
+    // Adds the regular files of a folder to the candidates, and its folders to `waiting`. Symbolic links are left out.
+    fn list(
+        &mut self,
+        folder: &str,
+        known: &[Identity],
+        waiting: &mut Vec<String>,
+    ) -> Result<(), AllocError> {
+        let Ok(entries) = fs::read_dir(self.rt, folder_to_open(folder)) else {
+            return Ok(());
+        };
+        for entry in entries {
+            let Ok(entry) = entry else {
+                continue;
+            };
+            let path = path_in(self.alloc, folder, entry.file_name())?;
+            let Ok(metadata) = fs::symlink_metadata(self.rt, path.as_str()) else {
+                continue;
+            };
+            if known.binary_search(&Identity::of(&metadata)).is_ok() {
+                continue;
+            }
+            if metadata.is_dir() {
+                waiting.push(path)?;
+            } else if metadata.is_file() {
+                self.candidates.push(Candidate {
+                    path,
+                    size: metadata.len(),
+                    digest: None,
+                })?;
+            }
+        }
+        Ok(())
+    }
+
+    // Looks for each file that is not whole among the whole files of the set, and among the candidates with its length. A
+    // file with its digest takes its place as the source of its blocks. Returns whether one was found.
+    fn find_files(&mut self) -> Result<bool> {
+        let whole = self.whole_files()?;
+        let mut has_found = false;
+        for index in 0..self.scan.states.len() {
+            let Some(entry) = self.scan.description().entries.get(index) else {
+                break;
+            };
+            let (size, digest) = (entry.size, entry.digest);
+            let is_sought = entry.kind == Kind::File && size > 0 && digest != [0; 32];
+            if !is_sought || self.state(index) == State::Whole {
+                continue;
+            }
+            let copy = whole.binary_search_by(|(own, _)| own.cmp(&digest));
+            let path = match copy {
+                Ok(at) => self.path_of_copy(whole.get(at).copied())?,
+                Err(_) => self.file_with(index, size, &digest)?,
+            };
+            if let (Some(path), Some(own)) = (path, self.scan.paths.get_mut(index)) {
+                *own = path;
+                has_found = true;
+            }
+        }
+        Ok(has_found)
+    }
+
+    // Returns the whole files of the set with their digests, in order of these.
+    fn whole_files(&self) -> Result<Vec<([u8; 32], usize)>, AllocError> {
+        let mut whole = Vec::new(self.alloc);
+        for (index, entry) in self.scan.description().entries.iter().enumerate() {
+            if entry.kind == Kind::File && self.state(index) == State::Whole {
+                whole.push((entry.digest, index))?;
+            }
+        }
+        whole.sort()?;
+        Ok(whole)
+    }
+
+    // Returns the path of a whole file of the set.
+    fn path_of_copy(&self, copy: Option<([u8; 32], usize)>) -> Result<Option<String>, AllocError> {
+        let Some((_, index)) = copy else {
+            return Ok(None);
+        };
+        match self.scan.paths.get(index) {
+            Some(path) => Ok(Some(path.clone()?)),
+            None => Ok(None),
+        }
+    }
+
+    // Returns the path of a candidate with the length and the digest of an entry, which was renamed or moved.
+    fn file_with(
+        &mut self,
+        index: usize,
+        size: u64,
+        digest: &[u8; 32],
+    ) -> Result<Option<String>, AllocError> {
+        let from = self
+            .candidates
+            .partition_point(|candidate| candidate.size < size);
+        let to = self
+            .candidates
+            .partition_point(|candidate| candidate.size <= size);
+        for candidate in self.candidates.iter_mut().take(to).skip(from) {
+            if candidate.digest.is_none() {
+                if let Ok(mut file) = open_regular(self.rt, candidate.path.as_str(), false) {
+                    candidate.digest = hash_at(&mut file, 0, size, &mut self.buffer).ok();
+                }
+            }
+            if candidate.digest == Some(*digest) {
+                self.found.files.push(index)?;
+                return Ok(Some(candidate.path.clone()?));
+            }
+        }
+        Ok(None)
+    }
+
+    // Compares the lost blocks with their digests again, now that files were found elsewhere.
+    fn check_blocks(&mut self) -> Result<()> {
+        let k = self.scan.description().original_count as usize;
+        let in_files = vec![in self.alloc; Some(Origin::Files); k]?;
+        for block in self.lost()? {
+            if self.has_digest(block, in_files.as_slice()) {
+                self.note(block, Origin::Files);
+            }
+        }
+        Ok(())
+    }
+
+    // Returns whether a block has its digest at its origin.
+    fn has_digest(&self, block: usize, origins: &[Option<Origin>]) -> bool {
+        let holders = Holders {
+            paths: self.scan.paths.as_slice(),
+            follows: &[],
+            places: self.scan.places.as_slice(),
+            origins,
+        };
+        let size = self.scan.description().block_bytes;
+        let progress = Progress::new(self.rt, false, 0);
+        let mut source = FileBlocks::new(self.rt, self.alloc, holders, progress);
+        let mut hasher = Sha256::new();
+        let mut start = 0u64;
+        for _ in 0..u64::MAX {
+            let end = start.saturating_add(CHUNK as u64).min(size);
+            if end <= start {
+                break;
+            }
+            match source.piece(block, start as usize, end as usize) {
+                Ok(piece) => hasher.update(piece.as_slice()),
+                Err(_) => return false,
+            }
+            start = end;
+        }
+        let own = hasher.finalize();
+        is_digest(self.scan.description().digests.as_slice(), block, &own)
+    }
+
+    // Records where a block was found.
+    fn note(&mut self, block: usize, origin: Origin) {
+        if let Some(own) = self.scan.origins.get_mut(block) {
+            if own.is_none() {
+                *own = Some(origin);
+            }
+        }
+    }
+
+    // Returns the digest of a block.
+    fn digest(&self, block: usize) -> &[u8] {
+        let start = block.saturating_mul(32);
+        let digests = self.scan.description().digests.as_slice();
+        digests.get(start..start.saturating_add(32)).unwrap_or(&[])
+    }
+
+    // Returns the place of a block that was found, if all its bytes lie one after another in one file or volume.
+    fn single_place(&self, block: usize) -> Option<Origin> {
+        match self.scan.origins.get(block).copied()?? {
+            Origin::Files => match places_in(self.scan.places.as_slice(), block) {
+                [place] if place.bytes == self.scan.description().block_bytes => {
+                    Some(Origin::Volume {
+                        holder: place.file,
+                        offset: place.offset,
+                    })
+                }
+                _ => None,
+            },
+            origin => Some(origin),
+        }
+    }
+
+    // Looks for each lost block among the blocks that were found: a block with its digest has its bytes.
+    fn find_equal_blocks(&mut self) -> Result<()> {
+        let lost = self.lost()?;
+        if lost.is_empty() {
+            return Ok(());
+        }
+        let mut found = Vec::new(self.alloc);
+        for block in 0..self.scan.origins.len() {
+            if let Some(origin) = self.single_place(block) {
+                found.push((block, origin))?;
+            }
+        }
+        found.sort_by(|one, other| self.digest(one.0).cmp(self.digest(other.0)))?;
+        for block in lost {
+            let digest = self.digest(block);
+            let at = found.partition_point(|(other, _)| self.digest(*other) < digest);
+            match found.get(at).copied() {
+                Some((other, origin)) if self.digest(other) == digest => self.note(block, origin),
+                _ => {}
+            }
+        }
+        Ok(())
+    }
+
+    // Looks for the blocks that are still lost at any byte of the candidates.
+    fn find_anywhere(&mut self) -> Result<()> {
+        let lost = self.lost()?;
+        let bytes = self.scan.description().sums.as_slice();
+        let mut sums = Sums::of(self.alloc, bytes, lost.as_slice())?;
+        if lost.is_empty() || bytes.is_empty() {
+            return Ok(());
+        }
+        for index in 0..self.candidates.len() {
+            self.find_in(index, &mut sums)?;
+        }
+        Ok(())
+    }
+
+    // Looks for blocks in a candidate. If one is found, its path is added to those of the scan.
+    fn find_in(&mut self, index: usize, sums: &mut Sums) -> Result<()> {
+        let Some(candidate) = self.candidates.get(index) else {
+            return Ok(());
+        };
+        let (size, holder) = (candidate.size, self.scan.paths.len());
+        let Ok(file) = open_regular(self.rt, candidate.path.as_str(), false) else {
+            return Ok(());
+        };
+        let block_bytes = self.scan.description().block_bytes;
+        let mut windows = Windows::new(self.alloc, file, size, block_bytes)?;
+        let mut tries = TRIES;
+        let mut has_found = false;
+        for _ in 0..u64::MAX {
+            if tries == 0 || !windows.find(sums) {
+                break;
+            }
+            let blocks = self.blocks_in(&mut windows, sums)?;
+            for block in &blocks {
+                let offset = windows.at;
+                self.note(*block, Origin::Volume { holder, offset });
+            }
+            if blocks.is_empty() {
+                tries -= 1;
+                windows.pass(1);
+            } else {
+                has_found = true;
+                sums.take(self.alloc, blocks.as_slice())?;
+                windows.pass(block_bytes);
+            }
+        }
+        if has_found {
+            if let Some(candidate) = self.candidates.get(index) {
+                self.scan.paths.push(candidate.path.clone()?)?;
+            }
+        }
+        Ok(())
+    }
+
+    // Returns the lost blocks that are in the window: those with its digest.
+    fn blocks_in<F: Read + Seek + Drop>(
+        &mut self,
+        windows: &mut Windows<F>,
+        sums: &Sums,
+    ) -> Result<Vec<usize>, AllocError> {
+        let mut blocks = Vec::new(self.alloc);
+        let size = self.scan.description().block_bytes;
+        let Ok(own) = hash_at(&mut windows.file, windows.at, size, &mut self.buffer) else {
+            return Ok(blocks);
+        };
+        for (_, block) in sums.blocks_of(&windows.sum) {
+            if is_digest(self.scan.description().digests.as_slice(), *block, &own) {
+                blocks.push(*block)?;
+            }
+        }
+        Ok(blocks)
+    }
+}
+
+// The windows of a file that have as many bytes as a block, one at each byte.
+#[derive(Drop)]
+struct Windows<F: Drop> {
+    file: F,
+    // The number of bytes of the file, and of a window.
+    size: u64,
+    length: u64,
+    // The first byte of the window, and its sum. `None` if the sum must be computed.
+    at: u64,
+    sum: RollingSum,
+    is_summed: bool,
+    // The bytes that leave the window, and those that enter it.
+    leaving: Vec<u8>,
+    entering: Vec<u8>,
+}
+
+impl<F: Read + Seek + Drop> Windows<F> {
+    // Begins with the first window.
+    fn new(alloc: Global, file: F, size: u64, length: u64) -> Result<Windows<F>, AllocError> {
+        Ok(Windows {
+            file,
+            size,
+            length,
+            at: 0,
+            sum: RollingSum::new(length),
+            is_summed: false,
+            leaving: vec![in alloc; 0u8; CHUNK]?,
+            entering: vec![in alloc; 0u8; CHUNK]?,
+        })
+    }
+
+    // Moves the window by some bytes. By one byte its sum moves with it, and otherwise it is computed anew.
+    fn pass(&mut self, bytes: u64) {
+        if bytes != 1 || self.slide_one().is_err() {
+            self.at = self.at.saturating_add(bytes);
+            self.is_summed = false;
+        }
+    }
+
+    // Moves the window by one byte.
+    fn slide_one(&mut self) -> io::Result<()> {
+        let (mut first, mut next) = ([0u8; 1], [0u8; 1]);
+        read_at(&mut self.file, self.at, &mut first)?;
+        read_at(
+            &mut self.file,
+            self.at.saturating_add(self.length),
+            &mut next,
+        )?;
+        self.sum.slide(first[0], next[0]);
+        self.at = self.at.saturating_add(1);
+        Ok(())
+    }
+
+    // Computes the sum of the window.
+    fn add_up(&mut self) -> io::Result<()> {
+        self.sum = RollingSum::new(self.length);
+        let mut start = 0u64;
+        for _ in 0..u64::MAX {
+            let buffer = &mut self.leaving;
+            let left = self.length.saturating_sub(start);
+            let count = left.min(buffer.len() as u64) as usize;
+            if count == 0 {
+                break;
+            }
+            let bytes = &mut buffer[..count];
+            read_at(&mut self.file, self.at.saturating_add(start), bytes)?;
+            self.sum.add(bytes);
+            start = start.saturating_add(count as u64);
+        }
+        self.is_summed = true;
+        Ok(())
+    }
+
+    // Moves the window until its sum is one of the sums. Returns false at the end of the file, or if the file cannot be
+    // read.
+    fn find(&mut self, sums: &Sums) -> bool {
+        let last = match self.size.checked_sub(self.length) {
+            Some(last) if self.length > 0 && self.at <= last => last,
+            _ => return false,
+        };
+        if !self.is_summed && self.add_up().is_err() {
+            return false;
+        }
+        for _ in 0..u64::MAX {
+            if sums.has(&self.sum) {
+                return true;
+            }
+            let left = last.saturating_sub(self.at);
+            if left == 0 || self.roll(sums, left).is_err() {
+                return false;
+            }
+        }
+        false
+    }
+
+    // Moves the window by at most `left` bytes, until its sum is one of the sums.
+    fn roll(&mut self, sums: &Sums, left: u64) -> io::Result<()> {
+        let count = self.leaving.len().min(self.entering.len());
+        let count = left.min(count as u64) as usize;
+        let leaving = &mut self.leaving[..count];
+        let entering = &mut self.entering[..count];
+        read_at(&mut self.file, self.at, leaving)?;
+        read_at(
+            &mut self.file,
+            self.at.saturating_add(self.length),
+            entering,
+        )?;
+        let moved = sums.roll(&mut self.sum, leaving, entering);
+        self.at = self.at.saturating_add(moved as u64);
+        Ok(())
+    }
+}

@@ -1,0 +1,303 @@
+//! Looks for the blocks of a set in its volumes, and finds what is damaged there.
+use crate::assembly::Set;
+use crate::failure::Result;
+use crate::first::{Records, block_in, record_at};
+use crate::layout::{Deal, LINE_BYTES, Layout, first_line};
+use crate::records::{Record, Walk};
+use crate::runs::{is_padded, places_in};
+use crate::scanning::Scanner;
+use crate::source::{Origin, read_at};
+use crate::volume::{Form, open_sized, part_in};
+use rs_volumes::digest::is_digest;
+use rs_volumes::placement::Place;
+use rs_volumes::record::{BLOCK, PART};
+use sha2::{Digest, Sha256};
+use std::alloc::Global;
+use std::io;
+use std::io::{Read, Seek, SeekFrom};
+use std::rt::{Clock, Files};
+
+/// What is damaged in a volume.
+#[derive(Clone, Copy)]
+pub struct Damage {
+    /// The number of records of blocks that are damaged, missing, or cannot be read.
+    pub blocks: u64,
+    /// The number of parts of its description, in all copies, that are damaged or missing.
+    pub parts: u64,
+    /// Whether something else is wrong: the line of text at its beginning, or bytes that belong to no record. In a volume
+    /// of version 1: a head, a copy of the description, or the length.
+    pub has_more: bool,
+    /// The number of the volume among those of its set. `None` if it is not known, and in version 1.
+    pub number: Option<u64>,
+}
+
+impl Damage {
+    /// Returns whether nothing is damaged.
+    pub fn is_none(&self) -> bool {
+        self.blocks == 0 && self.parts == 0 && !self.has_more
+    }
+}
+
+/// A scan of the volumes of a set.
+#[derive(Drop)]
+pub struct VolumeScan<'a, R: Files + Clock + Eprint> {
+    /// The runtime.
+    pub rt: &'a R,
+    /// The allocator.
+    pub alloc: Global,
+    /// The set.
+    pub set: &'a Set,
+    /// Where the original blocks lie in the files.
+    pub places: &'a [Place],
+    /// The state of the scan.
+    pub scanner: &'a mut Scanner,
+}
+
+// What was found in a volume of version 2.
+#[derive(Drop)]
+struct Found {
+    // The volume, by its index in the list of paths.
+    holder: usize,
+    // The number of the volume, if it has a record of a block: the blocks are dealt to the volumes in turn.
+    number: Option<u64>,
+    // For each block of the set, whether the volume has it.
+    blocks: Vec<bool>,
+    // The number of parts that are right.
+    parts: u64,
+    // The numbers of records of blocks and of parts whose bodies are not right.
+    wrong_blocks: u64,
+    wrong_parts: u64,
+    // Whether there are records of other sets.
+    has_others: bool,
+    // Memory for the body of a part.
+    body: Vec<u8>,
+}
+
+impl<'a, R: Files + Clock + Eprint> VolumeScan<'a, R> {
+    /// Looks for blocks in a volume, and returns what is damaged there. `holder` is the index of the volume in the list of
+    /// paths.
+    ///
+    /// # Errors
+    ///
+    /// Fails if the volume cannot be opened, or if memory cannot be allocated.
+    pub fn scan(&mut self, path: &str, form: Form, holder: usize) -> Result<Damage> {
+        let (mut file, size) = open_sized(self.rt, self.alloc, path)?;
+        match form {
+            Form::First(_, records) => Ok(self.scan_first(&mut file, size, &records, holder)),
+            Form::Second => self.scan_second(Walk::new(self.alloc, file, size)?, holder),
+        }
+    }
+
+    // Looks for blocks in a volume of version 1.
+    //
+    // If the volume is damaged, records are also read in its last bytes. Damage is not counted there, because these bytes
+    // are the second copy of the description and the head. This copy is as long as the first one, which ends at the first
+    // record.
+    fn scan_first<F: Read + Seek>(
+        &mut self,
+        file: &mut F,
+        size: u64,
+        records: &Records,
+        holder: usize,
+    ) -> Damage {
+        let mut damage = Damage {
+            blocks: 0,
+            parts: 0,
+            has_more: !records.is_whole,
+            number: None,
+        };
+        let block_bytes = self.set.description.block_bytes;
+        let digests = self.set.description.digests.as_slice();
+        for number in 0..records.count {
+            let at = record_at(records, block_bytes, number);
+            let end = record_at(records, block_bytes, number.saturating_add(1));
+            let offset = end.saturating_sub(block_bytes);
+            match block_in(file, at, block_bytes, digests, &mut self.scanner.buffer) {
+                Ok(Some(index)) => self.scanner.note(index, Origin::Volume { holder, offset }),
+                Ok(None) if end > size.saturating_sub(records.at) => {}
+                Ok(None) => damage.blocks = damage.blocks.saturating_add(1),
+                Err(error) => {
+                    damage.blocks = damage.blocks.saturating_add(1);
+                    self.scanner.note_unread(error);
+                }
+            }
+            self.scanner.progress.advance(self.rt, block_bytes);
+        }
+        damage
+    }
+
+    // Looks for blocks in a volume of version 2.
+    fn scan_second<F: Read + Seek + Drop>(
+        &mut self,
+        mut walk: Walk<F>,
+        holder: usize,
+    ) -> Result<Damage> {
+        let mut found = Found {
+            holder,
+            number: None,
+            blocks: vec![in self.alloc; false; self.scanner.origins.len()]?,
+            parts: 0,
+            wrong_blocks: 0,
+            wrong_parts: 0,
+            has_others: false,
+            body: Vec::new(self.alloc),
+        };
+        let mut done = 0;
+        for _ in 0..u64::MAX {
+            let Some(record) = walk.next() else {
+                break;
+            };
+            self.scan_record(&mut walk, &record, &mut found);
+            let end = record.end().min(walk.size);
+            self.scanner
+                .progress
+                .advance(self.rt, end.saturating_sub(done));
+            done = end.max(done);
+        }
+        if let Some(error) = walk.error.take() {
+            self.scanner.note_error(error);
+        }
+        let has_line = self.has_line(&mut walk)?;
+        let mut damage = self.damage_of(&found);
+        damage.has_more = found.has_others || !has_line || walk.gap != LINE_BYTES as u64;
+        Ok(damage)
+    }
+
+    // Returns whether a volume begins with its line of text.
+    fn has_line<F: Read + Seek + Drop>(&self, walk: &mut Walk<F>) -> Result<bool> {
+        let mut front = [0u8; LINE_BYTES];
+        let line = first_line(self.alloc)?;
+        Ok(read_at(&mut walk.file, 0, &mut front).is_ok() && front.as_slice() == line.as_slice())
+    }
+
+    // Looks what is in a record.
+    fn scan_record<F: Read + Seek + Drop>(
+        &mut self,
+        walk: &mut Walk<F>,
+        record: &Record,
+        found: &mut Found,
+    ) {
+        if record.head.set != self.set.digest {
+            found.has_others = true;
+        } else if record.head.kind == BLOCK {
+            self.scan_block(walk, record, found);
+        } else if record.head.kind == PART {
+            match part_in(walk, record, &mut found.body) {
+                Some(part) if part.total == self.set.description_bytes => {
+                    found.parts = found.parts.saturating_add(1);
+                }
+                _ => found.wrong_parts = found.wrong_parts.saturating_add(1),
+            }
+        }
+    }
+
+    // Compares the block in a record with its digest.
+    fn scan_block<F: Read + Seek + Drop>(
+        &mut self,
+        walk: &mut Walk<F>,
+        record: &Record,
+        found: &mut Found,
+    ) {
+        let index = record.head.index as usize;
+        if found.number.is_none() {
+            if let Some((volume, _)) = self.deal().record_of(u64::from(record.head.index)) {
+                found.number = Some(volume);
+            }
+        }
+        let own = if self.can_be_block(record) && walk.may_hash(record) {
+            self.hash_block(&mut walk.file, record)
+        } else {
+            Ok(None)
+        };
+        match own {
+            Ok(Some(own)) if is_digest(self.set.description.digests.as_slice(), index, &own) => {
+                walk.pass(record);
+                let (holder, offset) = (found.holder, record.at);
+                self.scanner.note(index, Origin::Volume { holder, offset });
+                if let Some(here) = found.blocks.get_mut(index) {
+                    *here = true;
+                }
+                return;
+            }
+            Ok(_) => {}
+            Err(error) => self.scanner.note_unread(error),
+        }
+        found.wrong_blocks = found.wrong_blocks.saturating_add(1);
+    }
+
+    // Returns how the blocks of the set are dealt to the volumes.
+    fn deal(&self) -> Deal {
+        let description = &self.set.description;
+        Deal::of(
+            description.original_count,
+            description.recovery_count,
+            description.volumes,
+        )
+    }
+
+    // Returns whether a record has the length and the index of a block.
+    fn can_be_block(&self, record: &Record) -> bool {
+        record.head.body_bytes == self.set.description.block_bytes
+            && (record.head.index as usize) < self.scanner.origins.len()
+    }
+
+    // Returns the SHA-256 of the block in a record. Returns `None` if a byte of the block that is in no file is not zero.
+    fn hash_block<F: Read + Seek>(
+        &mut self,
+        file: &mut F,
+        record: &Record,
+    ) -> io::Result<Option<[u8; 32]>> {
+        let mut hasher = Sha256::new();
+        let index = record.head.index;
+        let is_original = index < self.set.description.original_count;
+        let places = places_in(self.places, index as usize);
+        let buffer = &mut self.scanner.buffer;
+        let mut start = 0u64;
+        file.seek(SeekFrom::Start(record.at))?;
+        for _ in 0..u64::MAX {
+            let left = record.head.body_bytes.saturating_sub(start);
+            let part = left.min(buffer.len() as u64) as usize;
+            if part == 0 {
+                break;
+            }
+            let bytes = &mut buffer[..part];
+            file.read_exact(bytes)?;
+            if is_original && !is_padded(places, start, bytes) {
+                return Ok(None);
+            }
+            hasher.update(bytes);
+            start = start.saturating_add(part as u64);
+        }
+        Ok(Some(hasher.finalize()))
+    }
+
+    // Returns how many records are damaged or missing, compared with a whole volume that this program writes.
+    fn damage_of(&self, found: &Found) -> Damage {
+        let deal = self.deal();
+        // A volume without a record of a block is the last one, which has the fewest.
+        let number = found.number.unwrap_or(deal.volumes.saturating_sub(1));
+        let layout = Layout {
+            blocks: deal.blocks_in(number),
+            block_bytes: self.set.description.block_bytes,
+            description_bytes: self.set.description_bytes,
+        };
+        let mut blocks = 0u64;
+        for (index, here) in found.blocks.iter().enumerate() {
+            let record = deal.record_of(index as u64);
+            let is_expected = matches!(record, Some((volume, _)) if volume == number);
+            if is_expected && !*here {
+                blocks = blocks.saturating_add(1);
+            }
+        }
+        let parts = layout.copies().saturating_mul(layout.parts());
+        Damage {
+            blocks: blocks.max(found.wrong_blocks),
+            parts: parts.saturating_sub(found.parts).max(found.wrong_parts),
+            has_more: false,
+            number: match deal.volumes {
+                1 => Some(0),
+                _ => found.number,
+            },
+        }
+    }
+}
