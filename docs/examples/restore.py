@@ -1,16 +1,95 @@
 #!/usr/bin/env python3
-"""Restores files from their volumes (docs/FORMAT.md). If blocks are lost, it needs the package reed_solomon_simd (docs/C.md).
+"""Restores files from volumes of rs_files, of version 1 and 2 of the format (docs/FORMAT.md). It needs Python 3 and
+nothing else. It is slow, and holds the files and the volumes in memory.
 
-Usage: restore.py FOLDER VOLUME..
+Usage: restore.py NEW PLACE..
 
-Takes blocks from the files in FOLDER and from the volumes. Writes each file into FOLDER as NAME.restored, without its time and its
-permission bits. If this name is in use, the file is NAME.restored2 and so on. A NAME of more than 120 bytes is cut. If a folder of the
-path of a file is a symbolic link, the file is not written."""
+Each PLACE is a volume, or a folder that holds files of the set: their whole blocks are used. All files of the set are
+written into the folder NEW. NEW must not exist yet. So no file is replaced, and nothing is written through a symbolic
+link of somebody else."""
+import os
 import struct
 import sys
+from collections import namedtuple
 from hashlib import sha256
-from os.path import isfile, lexists, realpath
-from pathlib import Path
+from itertools import product
+
+# ---- The code: products of words, and lost blocks
+
+BASIS = (0x0001, 0xACCA, 0x3C0E, 0x163E, 0xC582, 0xED2E, 0x914C, 0x4012,
+         0x6C98, 0x10D8, 0x6A72, 0xB900, 0xFDB8, 0xFB34, 0xFF38, 0x991E)
+
+
+def powers_of_the_generator():
+    """Returns the powers of the generator with the exponents from 0 to 65534."""
+    polynomials = [0]
+    for number in BASIS:
+        polynomials += [before ^ number for before in polynomials]
+    word_of = {polynomial: word for word, polynomial in enumerate(polynomials)}
+    powers, power = [], 1
+    for _ in range(65535):
+        powers.append(word_of[power])
+        power = power << 1 ^ (0x1002D if power & 0x8000 else 0)
+    return powers
+
+
+POWERS = powers_of_the_generator()
+LOG = [0] * 65536
+for exponent, value in enumerate(POWERS):
+    LOG[value] = exponent
+
+
+def products(log, bit):
+    """Returns the products of the words 0, 2^bit, .., 255 * 2^bit with the word of this logarithm: their low bytes, and
+    their high bytes."""
+    words = [0]
+    for i in range(bit, bit + 8):
+        one = POWERS[(LOG[1 << i] + log) % 65535]
+        words += [word ^ one for word in words]
+    packed = struct.pack("<256H", *words)
+    return packed[::2], packed[1::2]
+
+
+def halves(block):
+    """Returns the low bytes and the high bytes of the words of a block."""
+    chunks = [block[at:at + 64] for at in range(0, len(block), 64)]
+    return b"".join(c[:len(c) // 2] for c in chunks), b"".join(c[len(c) // 2:] for c in chunks)
+
+
+def power_of(count):
+    """Returns a count rounded up to a power of two."""
+    return 1 << (count - 1).bit_length()
+
+
+def decode(k, r, found, missing):
+    """Returns the missing blocks, by their indexes. `found` has at least k blocks."""
+    is_low = (power_of(k), -k) < (power_of(r), -r)
+    m = power_of(k if is_low else r)
+    point = {i: i + (m - k if i >= k else 0) if is_low else i + (m if i < k else -k) for i in range(k + r)}
+    given = {point[i]: halves(found[i]) for i in sorted(found)[:k]}
+    # The logarithm of the product of x + y over all known points y other than x. At the high rate, it follows from the
+    # other points, because the product over all points y other than x is 1. LOG[0] is 0.
+    near, sign = ({*given, *range(k, m)}, 1) if is_low else ({*range(m + k)} - {*given}, -1)
+    locator = {x: sign * sum(LOG[x ^ y] for y in near) for x in {*given, *(point[i] for i in missing)}}
+    restored, count = {}, len(next(iter(given.values()))[0])
+    for i in missing:
+        low = high = 0
+        for x, both in given.items():
+            log = locator[point[i]] - locator[x] - LOG[point[i] ^ x]
+            for half, bit in zip(both, (0, 8)):
+                low_products, high_products = products(log, bit)
+                low ^= int.from_bytes(half.translate(low_products), "little")
+                high ^= int.from_bytes(half.translate(high_products), "little")
+        low, high = low.to_bytes(count, "little"), high.to_bytes(count, "little")
+        restored[i] = b"".join(low[at:at + 32] + high[at:at + 32] for at in range(0, count, 32))
+    return restored
+
+
+# ---- Descriptions
+
+FILE, LINK, FOLDER = 1, 2, 3
+Entry = namedtuple("Entry", "kind mode nanoseconds size seconds name target digest")
+Description = namedtuple("Description", "version b k r entries digests")
 
 
 def check(holds, fault):
@@ -19,97 +98,319 @@ def check(holds, fault):
         raise ValueError(fault)
 
 
-def read_description(text):
-    """Returns b, k, r, the files (name, length) and the digests of all blocks, if the description keeps all rules."""
+class Bytes:
+    """Bytes that are read from the front to the end."""
+
+    def __init__(self, text):
+        self.text, self.at = text, 0
+
+    def take(self, form):
+        """Returns the next number, or the next numbers or bytes."""
+        try:
+            values = struct.unpack_from("<" + form, self.text, self.at)
+        except struct.error:
+            raise ValueError("the description ends too early") from None
+        self.at += struct.calcsize("<" + form)
+        return values if len(values) > 1 else values[0]
+
+
+def read_first(text):
+    """Returns the description of version 1 at the front of bytes, and its length, if it keeps all rules."""
+    reader, entries = Bytes(text), []
+    code, digest, b, k, r, count = reader.take("IIQIII")
+    for _ in range(count):
+        size, seconds, mode, length = reader.take("QqIH")
+        name = reader.take(f"{length}s")
+        check(name.decode(errors="ignore").encode() == name, "a name is not UTF-8")
+        entries.append(Entry(FILE, mode & 0o7777, 0, size, seconds, name, b"", None))
+    names = [entry.name for entry in entries]
+    check(names == sorted({*names}), "the names are not in order")
+    return checked(Description(1, b, k, r, entries, reader.take(f"{32 * (k + r)}s")), code, digest), reader.at
+
+
+def read_second(text):
+    """Returns the description of version 2 in these bytes, if it keeps all rules."""
+    reader, entries = Bytes(text), []
+    code, digest, b, k, r, count, volumes, field_bytes = reader.take("IIQIIIII")
+    fields = Bytes(reader.take(f"{field_bytes}s"))
+    while fields.at < field_bytes:
+        kind, length = fields.take("II")
+        check(kind < 1 << 31, "a newer program may read this description")
+        fields.take(f"{length}s")
+    for _ in range(count):
+        kind, mode, nanoseconds, size, seconds, length = reader.take("HHIQqH")
+        name = reader.take(f"{length}s")
+        target = reader.take(f"{reader.take('H')}s")
+        entries.append(Entry(kind, mode, nanoseconds, size, seconds, name, target, reader.take("32s")))
+    description = checked(Description(2, b, k, r, entries, reader.take(f"{32 * (k + r)}s")), code, digest)
+    reader.take(f"{8 * k}s")
+    check(reader.at == len(text), "bytes follow the description")
+    check(volumes > 0, "the number of volumes is 0")
+    check(b <= max(4096, -(-end_of(description) // 4096) * 4096), "the blocks are larger than the data")
+    for entry in entries:
+        check_entry(entry)
+    names = [entry.name for entry in entries]
+    check(names == sorted({*names}, key=lambda name: name.replace(b"/", b"\0")), "the names are not in order")
+    check(not any(b.startswith(a + b"/") for a, b in zip(names, names[1:])), "a name is the folder of another name")
+    return description
+
+
+def check_entry(entry):
+    """Checks the rules of version 2 for one entry."""
+    check(FILE <= entry.kind <= FOLDER, "an entry has an unknown kind")
+    check(entry.mode < 4096 and entry.nanoseconds < 10 ** 9, "the permission bits or the time are too large")
+    check(entry.kind == FILE or entry.size == 0 and entry.digest == bytes(32), "a link or a folder has bytes")
+    check((entry.kind == LINK) == (entry.target != b""), "a link has no target, or another entry has one")
+    check(b"\0" not in entry.target, "the target of a link is not allowed")
+
+
+def checked(description, code, digest):
+    """Returns a description, if it keeps the rules that both versions have."""
+    b, k, r = description.b, description.k, description.r
+    check(code == 1 and digest == 1, "the code or the digest is not known")
+    check(b % 2 == 0 and 2 <= b <= 1 << 40, "the block size is zero, odd or too large")
+    is_supported = k > 0 < r and min(power_of(k), power_of(r)) + max(k, r) <= 65536
+    check(k == r == 0 or is_supported, "the numbers of blocks are not supported")
+    for entry in description.entries:
+        check(entry.size < 1 << 62, "a file is too long")
+        check(b"\0" not in entry.name and not {b"", b".", b".."} & {*entry.name.split(b"/")}, "a name is not allowed")
+    end = end_of(description)
+    check(end < 1 << 62 and -(-end // b) == k, "the number of blocks does not fit the files")
+    return description
+
+
+def places_of(description):
+    """Returns the place of the first byte of each entry in the data."""
+    unit, end, places = 64 if description.version == 2 else description.b, 0, []
+    for entry in description.entries:
+        places.append(-(-end // unit) * unit if entry.size else end)
+        end = places[-1] + entry.size
+    return places
+
+
+def end_of(description):
+    """Returns the end of the last file in the data."""
+    return max((place + entry.size for place, entry in zip(places_of(description), description.entries)), default=0)
+
+
+# ---- Volumes of version 2
+
+MAGIC, BLOCK, PART, PART_BYTES = bytes.fromhex("89525356320D0A1A"), 1, 2, 4096
+
+
+def head_at(volume, at):
+    """Returns the kind, index, number of bytes and set of the record at a place, or None if no valid head is there."""
+    head = volume[at:at + 64]
+    is_valid = len(head) == 64 and head[:8] == MAGIC and sha256(head[:56]).digest()[:8] == head[56:]
+    return struct.unpack_from("<IIQ32s", head, 8) if is_valid else None
+
+
+def records(volume):
+    """Yields the kind, index, set and body of each record of a volume. A body can be cut or damaged."""
+    at = volume.find(MAGIC)
+    while at >= 0:
+        head = head_at(volume, at)
+        end = at + 64 + head[2] if head else 0
+        if head:
+            yield head[0], head[1], head[3], volume[at + 64:end]
+        if end == len(volume):
+            return
+        at = end if head and head_at(volume, end) else volume.find(MAGIC, at + (64 if head else 1))
+
+
+def second_description(volumes):
+    """Returns the first description of version 2 that is whole, and its set, or None. Parts of all copies are put
+    together."""
+    found = {}
+    for kind, index, name, body in (record for volume in volumes for record in records(volume)):
+        size = int.from_bytes(body[32:40], "little")
+        length = min(PART_BYTES, size - PART_BYTES * index)
+        if kind == PART and len(body) == 40 + length > 40 and sha256(body[32:]).digest() == body[:32]:
+            parts = found.setdefault((name, size), {})
+            parts[index] = body[40:]
+            if len(parts) * PART_BYTES >= size:
+                text = b"".join(parts[i] for i in sorted(parts))
+                if sha256(text).digest() == name:
+                    return read_second(text), name
+    return None
+
+
+# ---- Volumes of version 1
+
+def copies(volume, size):
+    """Yields the head and the description at the front of a volume of version 1, those at its end, and mixtures: where
+    they differ in a few places, each place is taken from either of them."""
+    front, back = volume[:64 + size], volume[-64:] + volume[-64 - size:-64]
+    yield front
+    yield back
+    runs = []
+    for i in (i for i in range(64 + size) if front[i] != back[i]):
+        if not runs or i > runs[-1][1] + 16:
+            runs.append([i, i])
+        runs[-1][1] = i
+    for choice in product((front, back), repeat=len(runs) if len(runs) <= 12 else 0):
+        text = bytearray(front)
+        for (start, end), side in zip(runs, choice):
+            text[start:end + 1] = side[start:end + 1]
+        yield bytes(text)
+
+
+def first_records(volume, b, size):
+    """Returns the index and the block of all records that fit into a volume of version 1."""
+    starts = range(64 + size, len(volume) - 7 - b, 8 + b)
+    return [(int.from_bytes(volume[at:at + 4], "little"), volume[at + 8:at + 8 + b]) for at in starts]
+
+
+def first_description(volume):
+    """Returns the description of a volume of version 1 and its length, or None. It has the digest in its head. If no
+    digest is right, it is believed if both copies of it are equal."""
+    sizes, believed = [int.from_bytes(volume[at:at + 8], "little") for at in (16, len(volume) - 48)], b""
     try:
-        code, digest, b, k, r, count = struct.unpack_from("<IIQIII", text)
-        check(code == 1, "it uses a code that this program does not know")
-        check(digest == 1, "it uses a digest that this program does not know")
-        at, files = 28, []
-        for _ in range(count):
-            size, _time, _mode, length = struct.unpack_from("<QqIH", text, at)
-            files.append((struct.unpack_from(f"{length}s", text, at + 22)[0], size))
-            at += 22 + length
-        struct.unpack_from(f"{32 * (k + r)}x", text, at)
-    except struct.error:
-        raise ValueError("it ends too early") from None
-    check(len(text) <= at + 32 * (k + r), "bytes follow its description")
-    check(b % 2 == 0 and 2 <= b <= 1 << 40, "its block size is zero, odd or too large")
-    powers = [1 << (blocks - 1).bit_length() for blocks in (k, r)]
-    check(k == r == 0 or min(k, r) > 0 and min(powers) + max(k, r) <= 65536, "its numbers of blocks are not supported")
-    for (name, size), (before, _) in zip(files, [(b"", 0), *files]):
-        check(size < 1 << 62, "a file is too long")
-        is_text = name.decode(errors="ignore").encode() == name and b"\0" not in name
-        check(is_text and not {b"", b".", b".."} & {*name.split(b"/")}, "the name of a file is not allowed")
-        check(before < name, "the names of its files are not in order")
-    check(sum(-(-size // b) for _, size in files) == k, "the number of its blocks does not fit its files")
-    return b, k, r, files, [text[i:i + 32] for i in range(at, len(text), 32)]
+        sizes.append(read_first(volume[64:])[1])
+    except ValueError:
+        pass
+    for size in dict.fromkeys(size for size in sizes if size <= len(volume) - 128):
+        for text in copies(volume, size):
+            if sha256(text[64:]).digest() == text[32:64]:
+                description, length = read_first(text[64:])
+                check(length == size, "bytes follow the description")
+                return description, size
+        front, back = volume[64:64 + size], volume[-64 - size:-64]
+        believed = front if front == back else believed
+    try:
+        description, length = read_first(believed)
+    except ValueError:
+        return None
+    return (description, length) if length == len(believed) else None
 
 
-def read_copy(volume, at_end):
-    """Returns the description at the beginning or at the end of a volume, and the number of records that fit into the volume."""
-    check(len(volume) >= 64, "it is too short")
-    magic, version, zero, length, _records, digest = struct.unpack("<8sIIQQ32s", volume[-64:] if at_end else volume[:64])
-    check(magic == b"\x89RSV\r\n\x1a\n", "it does not begin as a volume does")
-    check(version == 1, "its version is not 1: a newer program may read it")
-    check(zero == 0, "a number that must be zero is not")
-    check(length <= len(volume) - 64, "its description is too long")
-    text = volume[len(volume) - 64 - length:-64] if at_end else volume[64:64 + length]
-    check(sha256(text).digest() == digest, "its description does not have its digest")
-    return text, (len(volume) - 64 - length) // (8 + read_description(text)[0])
+# ---- Sets
+
+def has_digest(description, index, block):
+    """Says whether a block is the block with this index."""
+    is_there = index < description.k + description.r and len(block) == description.b
+    return is_there and sha256(block).digest() == description.digests[32 * index:32 * index + 32]
 
 
-def read_volume(path):
-    """Returns the bytes of a volume, its description and its number of records."""
-    volume, faults = Path(path).read_bytes(), []
-    for at_end in (False, True):
+def set_of(volumes):
+    """Returns the first description that is whole, and its set, which is None for version 1."""
+    for count, volume in enumerate(volumes, 1):
+        first = first_description(volume)
+        found = (first[0], None) if first else second_description(volumes[:count])
+        if found:
+            return found
+    raise ValueError("there is no whole description")
+
+
+def blocks_of(description, name, volumes):
+    """Yields the index and the bytes of what can be blocks in volumes."""
+    for volume in volumes:
+        first = first_description(volume) if name is None else None
+        if first and first[0] == description:
+            yield from first_records(volume, description.b, first[1])
+        if name is not None:
+            yield from ((index, body) for kind, index, of, body in records(volume) if (kind, of) == (BLOCK, name))
+
+
+def blocks_of_folder(description, folder):
+    """Yields the index and the bytes of what can be original blocks, from the files in a folder. Missing bytes are
+    zeros."""
+    data, b = bytearray(description.b * description.k), description.b
+    for entry, place in zip(description.entries, places_of(description)):
+        path = os.path.join(folder, entry.name)
+        if entry.kind == FILE and os.path.isfile(path):
+            with open(path, "rb") as file:
+                found = file.read(entry.size)
+            data[place:place + len(found)] = found
+    yield from ((i, bytes(data[i * b:i * b + b])) for i in range(description.k))
+
+
+def gaps_of(description):
+    """Returns for each original block the ranges of its bytes that are in no file, and so are zero in version 2."""
+    gaps, end, b = {i: [] for i in range(description.k)}, 0, description.b
+    places = [*zip(places_of(description), (entry.size for entry in description.entries)), (b * description.k, 0)]
+    for place, size in places if description.version == 2 else ():
+        for i in range(end // b, -(-place // b)):
+            gaps[i].append((max(0, end - i * b), min(b, place - i * b)))
+        end = place + size
+    return gaps
+
+
+def data_of(description, candidates):
+    """Returns the data of a set, from what can be its blocks, and the indexes of restored blocks that are not right."""
+    k, found, gaps = description.k, {}, gaps_of(description)
+
+    def is_right(index, block):
+        has_zeros = not any(any(block[start:end]) for start, end in gaps.get(index, ()))
+        return has_zeros and has_digest(description, index, block)
+
+    for index, block in candidates:
+        if index not in found and is_right(index, block):
+            found[index] = block
+    missing = [i for i in range(k) if i not in found]
+    left = len(found) + len(missing) - k
+    check(len(found) >= k, f"{len(missing)} blocks are lost, and {left} recovery blocks are left")
+    found.update(decode(k, description.r, found, missing) if missing else {})
+    return b"".join(found[i] for i in range(k)), {i for i in missing if not is_right(i, found[i])}
+
+
+def write_entry(new, entry, contents):
+    """Writes a file, a symbolic link or an empty folder. Its time and its permission bits may be refused."""
+    path = os.path.join(new, entry.name)
+    os.makedirs(path if entry.kind == FOLDER else os.path.dirname(path), exist_ok=True)
+    if entry.kind == LINK:
+        os.symlink(entry.target, path)
+    if entry.kind == FILE:
+        with open(path, "xb") as file:
+            file.write(contents)
+        if entry.digest not in (None, sha256(contents).digest()):
+            print(f"restore.py: {os.fsdecode(path)}: its blocks are right, but its digest is not", file=sys.stderr)
+    try:
+        if entry.kind != LINK:
+            os.chmod(path, entry.mode & 0o777)
+        time = entry.seconds * 10 ** 9 + entry.nanoseconds
+        os.utime(path, ns=(time, time), follow_symlinks=False)
+    except (OSError, OverflowError, NotImplementedError) as fault:
+        print(f"restore.py: {os.fsdecode(path)}: {fault}", file=sys.stderr)
+
+
+def restore(new, places):
+    """Writes all entries of a set into the folder NEW, also if some of them cannot be written. Returns the faults."""
+    # The first folder has no files: blocks of zeros are known without any file.
+    volumes, folders, faults = [], [os.devnull], []
+    for place in places:
+        if os.path.isdir(place):
+            folders.append(place)
+            continue
+        with open(place, "rb") as file:
+            volumes.append(file.read())
+    description, name = set_of(volumes)
+    sources = [blocks_of(description, name, volumes)]
+    sources += [blocks_of_folder(description, os.fsencode(folder)) for folder in folders]
+    data, bad = data_of(description, (candidate for source in sources for candidate in source))
+    os.mkdir(new)
+    # Links come last, so no file is written through one of them.
+    entries = sorted(zip(description.entries, places_of(description)), key=lambda pair: pair[0].kind == LINK)
+    for entry, place in entries:
         try:
-            return volume, *read_copy(volume, at_end)
-        except ValueError as fault:
-            faults.append(fault)
-    raise ValueError(f"{path}: this is no volume that can be read: {faults[0]}")
-
-
-def write_file(folder, name, data):
-    """Writes a file under the first of its names that is not in use."""
-    path = Path(realpath(folder), name)
-    check(realpath(path.parent) == str(path.parent), f"{path}: a folder of its path is a symbolic link")
-    path.parent.mkdir(parents=True, exist_ok=True)
-    front = path.name.encode()[:120].decode(errors="ignore")
-    paths = (path.with_name(f"{front}.restored{i if i > 1 else ''}") for i in range(1, sys.maxsize))
-    next(path for path in paths if not lexists(path)).write_bytes(data)
-
-
-def restore(folder, *paths):
-    """Writes all files of the set of the volumes at `paths`. If a file cannot be written, writes the others."""
-    volumes, blocks, faults = [read_volume(path) for path in paths], [], []
-    b, k, r, files, digests = read_description(volumes[0][1])
-    for name, size in files:
-        path = Path(folder, name.decode())
-        data = path.read_bytes()[:size] if isfile(path) else b""
-        blocks += enumerate((data[at:at + b].ljust(b, b"\0") for at in range(0, size, b)), len(blocks))
-    for path, (volume, text, records) in zip(paths, volumes):
-        check(text == volumes[0][1], f"{path}: this volume belongs to another set")
-        for at in range(64 + len(text), 64 + len(text) + records * (8 + b), 8 + b):
-            blocks.append((int.from_bytes(volume[at:at + 4], "little"), volume[at + 8:at + 8 + b]))
-    found = {i: block for i, block in blocks if i < len(digests) and sha256(block).digest() == digests[i]}
-    if any(i not in found for i in range(k)):
-        from reed_solomon_simd import decode
-        found |= decode(k, r, {i: found[i] for i in found if i < k}, {i - k: found[i] for i in found if i >= k})
-    check(all(sha256(found[i]).digest() == digests[i] for i in range(k)), "a restored block does not have its digest")
-    blocks = iter([found[i] for i in range(k)])
-    for name, size in files:
-        data = b"".join(next(blocks) for _ in range(0, size, b))[:size]
-        try:
-            write_file(folder, name.decode(), data)
+            blocks = range(place // description.b, -(-(place + entry.size) // description.b) if entry.size else 0)
+            check(not bad & {*blocks}, f"{os.fsdecode(entry.name)}: a block is damaged after decoding")
+            write_entry(os.fsencode(new), entry, data[place:place + entry.size])
         except (OSError, ValueError) as fault:
             faults.append(str(fault))
-    check(not faults, "\nrestore.py: ".join(faults))
+    return faults
 
 
-if len(sys.argv) < 3:
-    sys.exit(__doc__)
-try:
-    restore(*sys.argv[1:])
-except (OSError, ValueError) as error:
-    sys.exit(f"restore.py: {error}")
+def main():
+    """Runs the command line."""
+    if len(sys.argv) < 3:
+        sys.exit(__doc__)
+    try:
+        faults = restore(sys.argv[1], sys.argv[2:])
+    except (OSError, ValueError, MemoryError) as error:
+        faults = [str(error) or "there is not enough memory"]
+    sys.exit("\n".join(f"restore.py: {fault}" for fault in faults) or 0)
+
+
+if __name__ == "__main__":
+    main()
