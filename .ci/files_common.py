@@ -36,6 +36,12 @@ def printed(*words, status=0, env=None, before=None, cwd=None, seconds=300):
     return done.stdout.decode(errors="replace"), done.stderr.decode(errors="replace")
 
 
+def ended(*words, env=None):
+    """Runs the program, and returns its status and what it printed."""
+    done = subprocess.run([PROGRAM, *words], stdout=subprocess.PIPE, stderr=subprocess.STDOUT, timeout=300, env=env)
+    return done.returncode, done.stdout.decode(errors="replace")
+
+
 def run(*words, **options):
     """Does the same as `printed`, and returns both texts as one."""
     return "".join(printed(*words, **options))
@@ -81,6 +87,37 @@ class Folder:
 
     def __call__(self, *parts):
         return os.path.join(self.path, *parts)
+
+
+def spans(volume):
+    """Returns the kind, index, start and end of each record of a volume that is whole."""
+    found, at = [], 128
+    while at < len(volume):
+        kind, index = (int.from_bytes(volume[at + i:at + i + 4], "little") for i in (8, 12))
+        end = at + 64 + int.from_bytes(volume[at + 16:at + 24], "little")
+        found.append((kind, index, at, end))
+        at = end
+    return found
+
+
+def left_of(volume, is_whole):
+    """Returns how many recovery blocks are left if only the records of `volume` for which `is_whole(start, end)` is true are left. None
+    means that a part of the description is lost in all copies."""
+    parts = {index for kind, index, _, _ in spans(volume) if kind == 2}
+    whole = [(kind, index) for kind, index, start, end in spans(volume) if is_whole(start, end)]
+    if {index for kind, index in whole if kind == 2} != parts:
+        return None
+    return sum(kind == 1 for kind, _ in whole)
+
+
+def bodies(volume):
+    """Returns the place of the first byte of each block in a whole volume."""
+    return [start + 64 for kind, _, start, _ in spans(volume) if kind == 1]
+
+
+def flipped(volume, bit):
+    """Returns a volume of which one bit is changed."""
+    return volume[:bit // 8] + bytes([volume[bit // 8] ^ 1 << bit % 8]) + volume[bit // 8 + 1:]
 
 
 def info(volume):

@@ -10,7 +10,7 @@ import sys
 import tempfile
 import time
 
-from files_common import PROGRAM, RANDOM, Folder, as_nobody, preloaded, printed, read, run, skipped, tree, write, wrong
+from files_common import PROGRAM, RANDOM, Folder, ended, as_nobody, bodies, preloaded, printed, read, run, skipped, tree, write, wrong
 
 
 def reads():
@@ -25,14 +25,13 @@ def reads():
         create = ("create", at("set"), "-o", at("set.rsv"), "--block", str(block), "-r", "10", "-q")
         run(*create)
         volume = read(at("set.rsv"))
-        start = 64 + int.from_bytes(volume[16:24], "little")
         for most in (1, 7, 1000):
             run(*create, "--force", env=preloaded("change_reads", READ_NAME="/set/a", READ_MOST=most))
             if read(at("set.rsv")) != volume:
                 wrong("short reads of a file give another volume")
             run("verify", at("set.rsv"), status=0, env=preloaded("change_reads", READ_NAME="set.rsv", READ_MOST=most))
         os.remove(at("set", "b"))
-        run("repair", at("set.rsv"), "-q", status=1, env=preloaded("change_reads", READ_NAME="set.rsv", READ_MOST=3))
+        run("repair", at("set.rsv"), "-q", env=preloaded("change_reads", READ_NAME="set.rsv", READ_MOST=3))
         if tree(at("set")) != before:
             wrong("short reads of a volume restore another file")
         # blocks 3, 4 and 5 of a cannot be read
@@ -40,13 +39,13 @@ def reads():
         found = json.loads(printed("verify", at("set.rsv"), "--json", status=1, env=unreadable)[0])
         if found["lost_blocks"] != 3 or [file["state"] for file in found["files"]] != ["damaged", "whole"]:
             wrong(f"verify of a file that cannot be read everywhere: {found}")
-        run("repair", at("set.rsv"), "--to", at("new"), "-q", status=1, env=unreadable)
+        run("repair", at("set.rsv"), "--to", at("new"), "-q", env=unreadable)
         if tree(at("new")) != {"set/a": before["a"]}:
             wrong("a file that cannot be read everywhere is not restored")
-        text = run(*create, "--force", status=4, env=unreadable)
-        if f"rs_files: {at('set', 'a')}: block 3 cannot be read: Input/output error (os error 5)\n" not in text or read(at("set.rsv")) != volume or tree(at("set")) != before:
+        text = run(*create[:3], at("other.rsv"), *create[4:], status=4, env=unreadable)
+        if f"rs_files: {at('set', 'a')}: Input/output error (os error 5)\n" not in text or read(at("set.rsv")) != volume or tree(at("set")) != before:
             wrong(f"create from a file that cannot be read everywhere: {text}")
-        unreadable = preloaded("change_reads", READ_NAME="set.rsv", READ_FROM=start + 520 + 8, READ_TO=start + 520 + 9)
+        unreadable = preloaded("change_reads", READ_NAME="set.rsv", READ_FROM=bodies(volume)[1], READ_TO=bodies(volume)[1] + 1)
         found = json.loads(printed("verify", at("set.rsv"), "--json", status=1, env=unreadable)[0])
         if found["whole_recovery_blocks"] != 9 or found["lost_blocks"] != 0:
             wrong(f"verify of a volume that cannot be read everywhere: {found}")
@@ -61,17 +60,28 @@ def lost_later():
         for name, data in files.items():
             write(at("set", name), data)
         run("create", at("set"), "--block", str(block), "-r", "10", "-q")
-        run("split", at("set"), "-n", "2", "-o", at("v"), "--block", str(block), "-q")
         os.remove(at("set", "b"))
         write(at("set", "b"), files["b"][:7 * block] + bytes(block) + files["b"][8 * block:])
         before = tree(at())
-        # The first pass reads all bytes of a file. Of a volume it reads both heads and descriptions, and of each record the index and the block.
-        copies = 2 * (64 + int.from_bytes(read(at("set.rsv"))[16:24], "little"))
-        for name, last, number, words in (("/set/a", 20 * block + 5 * block, 5, ("repair", at("set.rsv"))), ("/set/b", 20 * block, 20, ("repair", at("set.rsv"))),
-                                          ("/set.rsv", copies + 10 * (block + 4), 40, ("repair", at("set.rsv")))):
-            text = run(*words, status=4, env=preloaded("change_reads", READ_NAME=name, READ_LAST=last))
-            if f"rs_files: {at()}{name}: block {number} cannot be read: Input/output error (os error 5)\n" not in text or tree(at()) != before:
-                wrong(f"{words[0]} without a block that was found in {name}: {text}")
+        repair = ("repair", at("set.rsv"), "--to", at("new"))
+
+        def limited(name, last):
+            """Repairs while no more than so many bytes of a file can be read. Returns what is printed if this fails, and otherwise None."""
+            status, text = ended(*repair, env=preloaded("change_reads", READ_NAME=name, READ_LAST=last))
+            shutil.rmtree(at("new"), ignore_errors=True)
+            if tree(at()) != before:
+                wrong("repair without a block that was found changed a file")
+            return text if status != 0 else None
+
+        # The first pass reads all bytes of a file. The last bytes of the volume that are read are those of its first block.
+        low, high = 0, 1 << 20
+        while high - low > 1:
+            middle = (low + high) // 2
+            low, high = (low, middle) if limited("/set.rsv", middle) is None else (middle, high)
+        for name, last, number in (("/set/a", 20 * block + 5 * block, 5), ("/set/b", 20 * block, 20), ("/set.rsv", low, 40)):
+            text = limited(name, last)
+            if text is None or f"rs_files: {at()}{name}: block {number} cannot be read: Input/output error (os error 5)\n" not in text:
+                wrong(f"repair without a block that was found in {name}: {text}")
 
 
 def pieces():
@@ -88,10 +98,10 @@ def pieces():
         run("split", at("set"), "-n", "3", "-o", at("w"), "-q", "--block", "1000", *small)
         if read(at("set.rsv")) != volume or tree(at("v")) != tree(at("w")):
             wrong("volumes that are coded in small pieces")
-        run("join", at("w", "volume0001.rsv"), at("w", "volume0003.rsv"), "--to", at("new"), "-q", *small, status=1)
+        run("join", at("w", "volume0001.rsv"), at("w", "volume0003.rsv"), "--to", at("new"), "-q", *small)
         os.remove(at("set", "b"))
         write(at("set", "a"), before["a"][:2000] + bytes(2000) + before["a"][4000:])
-        run("repair", at("set.rsv"), "--to", at("other"), "-q", *small, status=1)
+        run("repair", at("set.rsv"), "--to", at("other"), "-q", *small)
         if tree(at("new", "set")) != before or tree(at("other", "set")) != before:
             wrong("files that are restored in small pieces")
 
@@ -102,16 +112,13 @@ def unwritten():
         write(at("d", "a"), RANDOM.randbytes(10 * 512))
         made = ("--block", "512")
         run("create", at("d"), "-q", *made, "-r", "4")
-        start = 64 + int.from_bytes(read(at("d.rsv"))[16:24], "little")
+        run("split", at("d"), "-n", "2", "-o", at("v"), "-q", *made)
+        places = {"x.rsv": bodies(read(at("d.rsv")))[2], "volume0002.rsv": bodies(read(at("v", "volume0002.rsv")))[2]}
         for words, name, number in ((("create", at("d"), "-o", at("x.rsv"), "-r", "4"), "x.rsv", 12), (("split", at("d"), "-n", "2", "-o", at()), "volume0002.rsv", 5)):
             # The third record of a volume
-            failing = preloaded("fail_calls", FAIL_WRITE=f"/{name}.part", FAIL_FROM=start + 2 * 520)
+            failing = preloaded("fail_calls", FAIL_WRITE=f"/{name}.part", FAIL_FROM=places[name])
             if failing is None:
                 return
-            if words[0] == "split":
-                run("split", at("d"), "-n", "2", "-o", at("v"), "-q", *made)
-                length = int.from_bytes(read(at("v", "volume0001.rsv"))[16:24], "little")
-                failing = preloaded("fail_calls", FAIL_WRITE=f"/{name}.part", FAIL_FROM=64 + length + 2 * 520)
             text = run(*words, *made, status=4, env=failing)
             if f"rs_files: {at(name)}: block {number} cannot be written: No space left on device (os error 28)\n" not in text or os.path.exists(at(name)):
                 wrong(f"{words[0]} without room for a block: {text}")
@@ -134,10 +141,9 @@ def changes():
         write(at("a"), data[:-600])
         changing = preloaded("change_reads", READ_NAME="/a", READ_AFTER=len(data))
         text = run("repair", at("a.rsv"), status=4, env=changing)
-        # The first 600 bytes are read right, and the second block is the first one that is not.
-        if "rs_files: block 1 does not have its digest: a file changed while it was read\n" not in text or read(at("a")) != data[:-600] or os.path.exists(at("a.damaged")):
+        if " does not have its digest: a file changed while it was read\n" not in text or read(at("a")) != data[:-600] or os.path.exists(at("a.damaged")):
             wrong(f"repair of a file that changes: {text}")
-        run("repair", at("a.rsv"), "-q", status=1)
+        run("repair", at("a.rsv"), "-q")
         if read(at("a")) != data:
             wrong("repair after a file changed")
 
@@ -171,7 +177,7 @@ def memory_refused():
         for words in (("create", at("a"), "-q", "--block", "256", "-r", "4", "--force"), ("verify", at("a.rsv")), ("repair", at("a.rsv"), "-q", "--force")):
             put(data if words[0] == "create" else damaged)
             count = requests(words)[2]
-            expected = 0 if words[0] == "create" else 1
+            expected = 1 if words[0] == "verify" else 0
             for number in sorted({*range(1, 4), *range(4, count + 1, max(1, count // 40)), count}):
                 put(data if words[0] == "create" else damaged)
                 status, text, _ = requests(words, number)
@@ -181,7 +187,7 @@ def memory_refused():
                 kept = files.get("a.damaged", files["a"])
                 if read(at("a.rsv")) != volume or kept != (data if words[0] == "create" else damaged):
                     wrong(f"{words[0]} with request {number} for memory refused loses a file")
-                if status == 1 and words[0] == "repair" and files["a"] != data:
+                if status == 0 and words[0] == "repair" and files["a"] != data:
                     wrong("repair with a request for memory refused restores another file")
                 if any(".part" in name for name in files):
                     wrong(f"{words[0]} with request {number} for memory refused leaves {sorted(files)}")
@@ -236,7 +242,7 @@ def killed():
             now = [read(at(name)) for name in ("a", "a.damaged") if os.path.exists(at(name))]
             if bytes(damaged) not in now or any(file not in (data, bytes(damaged)) for file in now):
                 wrong("a kill during repair lost a file")
-            run("repair", at("a.rsv"), "-q", status=0 if read(at("a")) == data else 1)
+            run("repair", at("a.rsv"), "-q")
             if read(at("a")) != data:
                 wrong("repair after a kill")
             only(at(), "a.rsv")
@@ -263,13 +269,13 @@ def killed_spread():
         only(at("v"), *volumes)
         left = [at("v", name) for name in sorted(volumes)[1:]]
         join = ("join", *left, "--to", at("new"), "-q")
-        took = timed(*join, status=1)
+        took = timed(*join)
         for _ in range(10):
             only(at(), "set", "v")
             kill(took, *join)
             if tree(at("v")) != volumes or any(data != files[os.path.basename(name)] for name, data in tree(at("new")).items() if ".part" not in name):
                 wrong("a kill of join left a file that is not whole, or changed a volume")
-            run(*join, "--force", status=1)
+            run(*join, "--force")
             if {name: data for name, data in tree(at("new", "set")).items() if ".part" not in name} != files:
                 wrong("join after a kill does not give the same files")
 
@@ -288,9 +294,9 @@ def read_only():
             os.remove(at("d", name))
         write(at("d", "b"), data["b"][:-1] + b"?")
         as_nobody(at("d"))
-        run("repair", at("d.rsv"), "-q", status=1, before=nobody)
+        run("repair", at("d.rsv"), "-q", before=nobody)
         os.remove(at("v", "volume0002.rsv"))
-        run("join", at("v", "volume0001.rsv"), at("v", "volume0003.rsv"), "--to", at("j"), "-q", status=1, before=nobody)
+        run("join", at("v", "volume0001.rsv"), at("v", "volume0003.rsv"), "--to", at("j"), "-q", before=nobody)
         for folder in (at("d"), at("j", "d")):
             found = {name: (read(os.path.join(folder, name)), os.stat(os.path.join(folder, name)).st_mode & 0o777) for name in data}
             if found != {"a": (data["a"], 0o444), "b": (data["b"], 0o400), "c": (data["c"], 0o644)}:
@@ -304,7 +310,7 @@ def unreadable():
         run("create", at("d"), "-q", "--block", "512", "-r", "20")
         write(at("copy.rsv"), bytes(1000))
         found = json.loads(run("verify", at("d.rsv"), at("copy.rsv"), "--json", status=1).splitlines()[0])
-        if found["volumes"] != [{"name": at("d.rsv"), "state": "whole"}, {"name": at("copy.rsv"), "state": "unreadable"}]:
+        if [(volume["name"], volume["state"]) for volume in found["volumes"]] != [(at("d.rsv"), "whole"), (at("copy.rsv"), "unreadable")]:
             wrong(f"a volume that cannot be read: {found}")
         os.chmod(at("d", "a"), 0)
         if at("d", "a") + ": Permission denied" not in run("verify", at("d.rsv"), status=1, before=as_nobody(at())):
@@ -360,7 +366,7 @@ def syncs():
         run("split", at("a"), "-o", at("v"), "-n", "3", "-q", env=logged)
         run("join", at("v", "volume0001.rsv"), at("v", "volume0002.rsv"), "--to", at("j"), "-q", env=logged)
         write(at("a"), data[:-1] + b"?")
-        run("repair", at("a.rsv"), "-q", status=1, env=logged)
+        run("repair", at("a.rsv"), "-q", env=logged)
         steps = [line.split("\t") for line in read(log).decode().splitlines()]
         renamed = [number for number, step in enumerate(steps) if step[0] == "rename"]
         if len(renamed) != 6:
@@ -394,14 +400,14 @@ def memory():
             out.write(RANDOM.randbytes(1_000_000))
         digest = hashlib.file_digest(open(at("a"), "rb"), "sha256").digest()
         limit = 100 << 20
-        for words, status in ((("create", at("a"), "-q", "--memory", "64M"), 0), (("repair", at("a.rsv"), "-q", "--memory", "64M"), 1)):
-            if status == 1:
+        for words in (("create", at("a"), "-q", "--memory", "64M"), ("repair", at("a.rsv"), "-q", "--memory", "64M")):
+            if words[0] == "repair":
                 with open(at("a"), "r+b") as out:
                     out.seek(123_500_000)
                     out.write(bytes(5000))
             ended, used, seconds = measured(words)
             print(f"files: {words[0]} of {size >> 30} GiB: {seconds:.0f} s of processor time, {used // 1024} MiB", flush=True)
-            if ended != status:
+            if ended != 0:
                 wrong(f"{words} ended with {ended}")
             if used * 1024 > limit:
                 wrong(f"{words[0]} used {used} KiB")
@@ -439,7 +445,7 @@ def full():
             if tree(at("disk")) != before:
                 wrong("repair on a full disk changed a file, or left one")
             os.remove(at("disk", "filler"))
-            run("repair", at("b.rsv"), "--folder", at("disk"), "-q", status=1)
+            run("repair", at("b.rsv"), "--folder", at("disk"), "-q")
             if read(at("disk", "b")) != data:
                 wrong("repair after a disk was full")
             # A file for which there is no room does not stop the next one.
@@ -467,7 +473,7 @@ def limited():
         os.remove(at("a"))
         if at("a") + ": File too large" not in run("repair", at("a.rsv"), status=4, before=limit) or os.listdir(at()) != ["a.rsv"]:
             wrong("repair of a file that is too long")
-        run("repair", at("a.rsv"), "-q", status=1)
+        run("repair", at("a.rsv"), "-q")
         if read(at("a")) != data:
             wrong("repair after a file was too long")
         # The other files are restored.

@@ -5,7 +5,7 @@ import os
 import re
 import stat
 
-from files_common import RANDOM, Folder, as_nobody, preloaded, printed, read, run, skipped, sparse, tree, write, wrong
+from files_common import RANDOM, Folder, bodies, as_nobody, info, preloaded, printed, read, run, skipped, sparse, tree, write, wrong
 
 
 def parts_in(folder):
@@ -83,7 +83,7 @@ def long_names():
         damaged = {name: b"?" + before[name][1:] for name in names[5:]}
         for name, data in damaged.items():
             write(at("d", name), data)
-        if "restored 9 files, and kept 4 damaged files" not in run("repair", volume, status=1):
+        if "restored 9 files, and kept 4 damaged files" not in run("repair", volume):
             wrong("files with long names")
         after = tree(at("d"))
         kept = {name: after.pop(name) for name in list(after) if name.endswith(".damaged")}
@@ -93,13 +93,13 @@ def long_names():
             write(at("d", name), kept[name])
         for name in names[-2:]:
             write(at("d", name), b"?")
-        run("repair", volume, "-q", status=1)
+        run("repair", volume, "-q")
         if {name: data for name, data in tree(at("d")).items() if ".damaged" not in name} != before or sum(name.endswith(".damaged2") for name in tree(at("d"))) != 2:
             wrong("files with long names are not restored a second time")
         run("split", at("d"), "-n", "3", "-o", at("v"), "-q", "--block", "512")
         for name in before:
             os.remove(at("d", name))
-        run("join", *[at("v", name) for name in sorted(os.listdir(at("v")))[1:]], "--to", at("j"), "-q", status=1)
+        run("join", *[at("v", name) for name in sorted(os.listdir(at("v")))[1:]], "--to", at("j"), "-q")
         if {name: data for name, data in tree(at("j", "d")).items() if "damaged" not in name} != before or parts_in(at()):
             wrong("join of files with long names")
 
@@ -126,7 +126,7 @@ def long_paths():
         if f"rs_files: {over}: File name too long (os error 36)\n" != printed("create", over, status=4)[1]:
             wrong("no message for a name that is too long")
         os.chmod(path[:-1], 0)
-        if f"rs_files: {path[:-1]}: block 0 cannot be read: Permission denied (os error 13)\n" != printed("create", path[:-1], "-o", at("x.rsv"), status=4, before=as_nobody(at()))[1]:
+        if f"rs_files: {path[:-1]}: Permission denied (os error 13)\n" != printed("create", path[:-1], "-o", at("x.rsv"), status=4, before=as_nobody(at()))[1]:
             wrong("no message for a file with a long path that must not be read")
 
 
@@ -177,7 +177,7 @@ def blocked():
             os.rmdir(at(folder, "b", "inner"))
             os.rmdir(at(folder, "b"))
             os.remove(at(folder, "file"))
-        run("repair", at("d.rsv"), "-q", status=1)
+        run("repair", at("d.rsv"), "-q")
         if tree(at("d")) != before:
             wrong("repair after nothing is in its way")
 
@@ -232,7 +232,7 @@ def links():
         # The folder itself may be a link, and a link in the place of a file is replaced, and not the file to which it leads.
         os.symlink("real", at("goal"))
         os.mkdir(at("real"))
-        run("repair", at("d.rsv"), "--to", at("goal"), "-q", status=1)
+        run("repair", at("d.rsv"), "--to", at("goal"), "-q")
         if tree(at("real", "d")) != {name: data for name, data in before.items() if name != "a"}:
             wrong("repair into a folder that is named by a link")
         os.remove(at("d", "sub"))
@@ -240,7 +240,7 @@ def links():
         write(at("victim"), b"of somebody else")
         os.remove(at("d", "a"))
         os.symlink(at("victim"), at("d", "a"))
-        run("repair", at("d.rsv"), "-q", status=1)
+        run("repair", at("d.rsv"), "-q")
         if read(at("victim")) != b"of somebody else" or {name: read(at("d", name)) for name in before} != before or os.path.islink(at("d", "a")):
             wrong("repair of a file in whose place a link is")
         if outside["b"] != before["sub/b"]:
@@ -266,8 +266,8 @@ def modes():
         def open_to_all():
             os.umask(0)
 
-        run("repair", at("d.rsv"), "-q", status=1, env=logged, before=open_to_all)
-        run("join", at("v", "volume0001.rsv"), "--to", at("j"), "-q", status=1, env=logged, before=open_to_all)
+        run("repair", at("d.rsv"), "-q", env=logged, before=open_to_all)
+        run("join", at("v", "volume0001.rsv"), "--to", at("j"), "-q", env=logged, before=open_to_all)
         steps = [line.split("\t") for line in read(log).decode().splitlines()]
         changed = [step for step in steps if step[0] == "mode"]
         if len(changed) != 2 * len(wanted) or any(int(step[2], 8) & 0o177 for step in changed):
@@ -288,11 +288,12 @@ def unread():
         if unreadable is None:
             return
         error = f"rs_files: {at('d', 'a')}: 3 blocks cannot be read: Input/output error (os error 5)\n"
-        for words in (("verify", at("d.rsv")), ("verify", at("d.rsv"), "-q"), ("verify", at("d.rsv"), "--json"), ("repair", at("d.rsv"), "--to", at("new"), "--force")):
-            if printed(*words, status=1, env=unreadable)[1] != error:
-                wrong(f"{words} of a file that cannot be read everywhere: {printed(*words, status=1, env=unreadable)[1]}")
-        start = 64 + int.from_bytes(read(at("d.rsv"))[16:24], "little")
-        unreadable = preloaded("change_reads", READ_NAME="d.rsv", READ_FROM=start + 520 + 8, READ_TO=start + 520 + 9)
+        for words, status in ((("verify", at("d.rsv")), 1), (("verify", at("d.rsv"), "-q"), 1), (("verify", at("d.rsv"), "--json"), 1),
+                              (("repair", at("d.rsv"), "--to", at("new"), "--force"), 0)):
+            if printed(*words, status=status, env=unreadable)[1] != error:
+                wrong(f"{words} of a file that cannot be read everywhere: {printed(*words, status=status, env=unreadable)[1]}")
+        place = bodies(read(at("d.rsv")))[1]
+        unreadable = preloaded("change_reads", READ_NAME="d.rsv", READ_FROM=place, READ_TO=place + 1)
         error = f"rs_files: {at('d.rsv')}: 1 block cannot be read: Input/output error (os error 5)\n"
         for command, status in (("verify", 1), ("repair", 0)):
             if printed(command, at("d.rsv"), status=status, env=unreadable)[1] != error:
@@ -320,15 +321,21 @@ def spread_volumes():
             wrong("verify of whole volumes, with -q or --json")
         # The last volume has the blocks 3, 7, 11 and 15, of which the blocks from 14 on are recovery blocks.
         words = "3 of 14 original blocks and 1 of 5 recovery blocks are not in these volumes: join can restore the files\n"
+        # Lost blocks are also searched in other files of the folder, so these volumes are put elsewhere.
+        os.mkdir(at("far"))
+        os.rename(volumes[3], at("far", "4"))
         if printed("verify", *volumes[:3], status=1) != (words, ""):
             wrong(f"verify of three volumes: {printed('verify', *volumes[:3], status=1)}")
+        os.rename(volumes[2], at("far", "3"))
         out, error = printed("verify", *volumes[:2], status=3)
+        os.rename(at("far", "3"), volumes[2])
+        os.rename(at("far", "4"), volumes[3])
         if out or "cannot be restored without" not in error:
             wrong(f"verify of two volumes: {out} {error}")
         whole = read(volumes[1])
         write(volumes[1], whole[:-1] + bytes([whole[-1] ^ 1]))
         out = printed("verify", *volumes, status=1)[0]
-        if "volume0002.rsv: the volume is damaged at its end" not in out or "join" not in out or "missing" in out:
+        if "volume0002.rsv: the volume has 1 damaged or missing part of its description\n" not in out or "join" not in out or "missing:" in out:
             wrong(f"verify of a damaged volume: {out}")
         write(volumes[1], whole)
         os.remove(at("set", "b"))
@@ -349,20 +356,23 @@ def damaged_blocks():
         volumes = split_set(at, 3)
         before, whole = tree(at("set")), read(volumes[1])
         # The files have 14 blocks, so there are 7 recovery blocks. The second volume has the blocks 1, 4, 7, 10, 13, 16 and 19.
-        start = 64 + int.from_bytes(whole[16:24], "little")
-        kept = "all files and recovery blocks are whole, but a volume is damaged or cannot be read: make the volumes again, with create --force or split --force\n"
-        lost = "all files are whole, but 1 of 7 recovery blocks cannot be used: make the volumes again, with create --force or split --force\n"
-        for places, number, words in (((8,), "1 damaged block", kept), ((0,), "1 damaged block", kept), ((519, 528, 1039), "2 damaged blocks", kept),
-                                      ((5 * 520 + 8,), "1 damaged block", lost), ((4 * 520 + 9, 6 * 520 + 9), "2 damaged blocks", lost)):
+        blocks = bodies(whole)
+        kept = "all files and recovery blocks are whole, but a volume is damaged or cannot be read: repair writes damaged volumes anew\n"
+        lost = "all files are whole, but 1 of 7 recovery blocks cannot be used: repair writes damaged volumes anew\n"
+        for places, number, words in ((blocks[:1], "1 damaged or missing block", kept), ([blocks[0] + 511, *blocks[1:2]], "2 damaged or missing blocks", kept),
+                                      (blocks[5:6], "1 damaged or missing block", lost), ((blocks[4] + 1, blocks[6] + 1), "2 damaged or missing blocks", lost)):
             damaged = bytearray(whole)
             for place in places:
-                damaged[start + place] ^= 1
-            write(volumes[1], bytes(damaged))
+                damaged[place] ^= 1
             wanted = f"{volumes[1]}: the volume has {number}\n{words}"
-            for command, status in (("verify", 1), ("repair", 0)):
+            for command, status, more in (("repair", 0, f"written anew: {volumes[1]}\n"), ("verify", 1, "")):
+                write(volumes[1], bytes(damaged))
                 found = printed(command, *volumes, "--folder", at(), status=status)
-                if found != (wanted, ""):
+                if found != (wanted + more, ""):
                     wrong(f"{command} of volumes with wrong bytes at {places}: {found}")
+                if command == "repair" and read(volumes[1]) != whole:
+                    wrong("repair writes another volume")
+            os.remove(volumes[1] + ".damaged")
             if printed("verify", *volumes, "--folder", at(), "-q", status=1) != ("", ""):
                 wrong("verify -q of a volume with damaged blocks")
             found = json.loads(run("verify", *volumes, "--folder", at(), "--json", status=1))
@@ -372,18 +382,14 @@ def damaged_blocks():
         # A whole copy of the volume has all its blocks, and no file is there.
         write(at("copy.rsv"), whole)
         found = printed("verify", *volumes, at("copy.rsv"), status=1)
-        if found[0].splitlines()[0] != f"{volumes[1]}: the volume has 2 damaged blocks" or "but all blocks are in these volumes" not in found[0]:
+        if found[0].splitlines()[0] != f"{volumes[1]}: the volume has 2 damaged or missing blocks" or "but all blocks are in these volumes" not in found[0]:
             wrong(f"verify of a damaged volume beside a copy that is whole: {found}")
-        # A number of records that is too large in one head does not make a block damaged.
-        write(volumes[1], whole[:25] + b"\1" + whole[26:])
-        found = printed("verify", *volumes, "--folder", at(), status=1)[0]
-        if found != f"{volumes[1]}: the volume is damaged at its beginning, its second head was used\n{kept}":
-            wrong(f"verify of a volume with a wrong number of records: {found}")
-        unreadable = preloaded("change_reads", READ_NAME="volume0001.rsv", READ_FROM=start + 520 + 8, READ_TO=start + 520 + 9)
+        place = bodies(read(volumes[0]))[1]
+        unreadable = preloaded("change_reads", READ_NAME="volume0001.rsv", READ_FROM=place, READ_TO=place + 1)
         if unreadable is not None:
             write(volumes[1], whole)
             found = printed("verify", *volumes, "--folder", at(), status=1, env=unreadable)
-            if found != (f"{volumes[0]}: the volume has 1 damaged block\n{kept}", f"rs_files: {volumes[0]}: 1 block cannot be read: Input/output error (os error 5)\n"):
+            if found != (f"{volumes[0]}: the volume has 1 damaged or missing block\n{kept}", f"rs_files: {volumes[0]}: 1 block cannot be read: Input/output error (os error 5)\n"):
                 wrong(f"verify of a volume of which a block cannot be read: {found}")
         if tree(at("set")) != before:
             wrong("verify or repair changed a file")
@@ -400,7 +406,7 @@ def no_files():
         os.remove(at("d", "b"))
         os.mkfifo(at("d", "b"))
         error = f"rs_files: {at('d', 'a')}: a folder is in the place of this file\nrs_files: {at('d', 'b')}: this is no regular file\n"
-        out = "missing: d/a\nmissing: d/b\n4 lost blocks, and 6 of 6 recovery blocks left: the files can be repaired\n"
+        out = "missing: d/a\nmissing: d/b\n3 lost blocks, and 5 of 5 recovery blocks left: the files can be repaired\n"
         if printed("verify", at("d.rsv"), status=1) != (out, error) or printed("verify", at("d.rsv"), "-q", status=1) != ("", error):
             wrong(f"verify of a folder and a pipe in the place of files: {printed('verify', at('d.rsv'), status=1)}")
         found, said = printed("verify", at("d.rsv"), "--json", status=1)
@@ -432,12 +438,14 @@ def progress_to_end():
 
         check(100, at("set.rsv"))
         check(100, *volumes)
-        # The files have 400 blocks, and each volume has 400 records. So 800 of 1200 blocks are read before the end of the first volume.
-        start = 64 + int.from_bytes(read(volumes[0])[16:24], "little")
-        unreadable = preloaded("change_reads", READ_NAME="volume0001.rsv", READ_FROM=start + 8, READ_TO=start + 9)
+        # The files and the first volume are read before the end of the first volume, and the second volume after it.
+        sizes = [os.path.getsize(volume) for volume in volumes]
+        before = 100 * (400 * 512 + sizes[0]) // (400 * 512 + sum(sizes))
+        place = bodies(read(volumes[0]))[0]
+        unreadable = preloaded("change_reads", READ_NAME="volume0001.rsv", READ_FROM=place, READ_TO=place + 1)
         if unreadable is not None:
             text = check(100, *volumes, "--folder", at(), status=1, env=unreadable)
-            if percents(text.split("volume0001.rsv: 1 block cannot be read")[0])[-1] != 66:
+            if percents(text.split("volume0001.rsv: 1 block cannot be read")[0])[-1] != before:
                 wrong(f"progress of verify before the end of the first volume: {percents(text.split('rs_files')[0])}")
         for name in "bc":
             os.remove(at("set", name))
@@ -467,9 +475,10 @@ def too_large():
         for number in range(65536):
             with open(at("set", str(number)), "wb") as out:
                 out.write(b"1")
-        for words in ((), ("--block", "4096")):
-            if "at most 65535 files that are not empty" not in printed("create", at("set"), "-o", at("x.rsv"), *words, status=4)[1]:
-                wrong(f"create of 65536 files with {words}")
+        # Many small files share blocks.
+        run("create", at("set"), "-o", at("x.rsv"), "-q")
+        if info(at("x.rsv"))["original_blocks"] != 1024:
+            wrong("create of 65536 files of 1 byte")
 
 
 TESTS = (output_in_use, long_names, long_paths, blocked, inputs_kept, links, modes, unread, spread_volumes, damaged_blocks, no_files, progress_to_end, too_large)

@@ -3,6 +3,7 @@ puts another file in the place of one that it reads or writes. Tests of times, s
 import json
 import os
 import resource
+import shutil
 
 from files_common import RANDOM, Folder, info, preloaded, printed, read, run, tree, write, wrong
 
@@ -32,7 +33,7 @@ def closed_streams():
             run("split", at("a"), "-n", "2", "-o", at("v"), "--force", "--progress", "always", before=close)
             run("verify", at("v", "volume0001.rsv"), at("v", "volume0002.rsv"), "--folder", at(), "-q")
             write(at("a"), changed(data, 1_000_000))
-            run("repair", at("a.rsv"), "--progress", "always", status=1, before=close)
+            run("repair", at("a.rsv"), "--progress", "always", before=close)
             if read(at("a")) != data:
                 wrong(f"repair without the streams {closed} restores another file")
         failing = preloaded("fail_calls", FAIL_OPEN="/dev/null")
@@ -60,7 +61,7 @@ def old_volumes():
         new = tree(at("v"))
         if at("v", "volume0002.rsv") + ": Input/output error" not in text or new.keys() != old.keys() or new["volume0002.rsv"] != old["volume0002.rsv"]:
             wrong(f"split --force without the new name of volume 2: {text}{sorted(new)}")
-        run("join", at("v", "volume0001.rsv"), at("v", "volume0003.rsv"), "--to", at("new"), "-q", status=1)
+        run("join", at("v", "volume0001.rsv"), at("v", "volume0003.rsv"), "--to", at("new"), "-q")
         if tree(at("new", "set")) != tree(at("set")):
             wrong("the volumes that got their names do not restore the files")
 
@@ -114,7 +115,7 @@ def failed_repair():
             after = {"a": before["a"], "b": data["b"], "b.damaged": before["b"], "gone": data["gone"]}
             if tree(at("d")) != after or "restored 2 files, and kept 1 damaged file as NAME.damaged" not in text:
                 wrong(f"repair without the final name of one file, {more}: {text}{sorted(tree(at('d')))}")
-            run("repair", at("d.rsv"), "-q", status=1)
+            run("repair", at("d.rsv"), "-q")
             if {name: read(at("d", name)) for name in data} != data or read(at("d", "a.damaged")) != before["a"]:
                 wrong("repair after a file did not get its name")
             os.remove(at("d", "a.damaged"))
@@ -135,7 +136,7 @@ def folders_without_sync():
         if printed("split", at("d"), "-n", "2", "-o", at("v"), "-q", env=failing) != ("", warning.format(at("v"))):
             wrong("split into a folder that cannot be synced")
         write(at("d", "a"), changed(data, 5))
-        error = printed("repair", at("a.rsv"), "--folder", at("d"), "-q", status=1, env=failing)[1]
+        error = printed("repair", at("a.rsv"), "--folder", at("d"), "-q", env=failing)[1]
         if error != warning.format(at("d")) or read(at("d", "a")) != data or read(at("d", "a.damaged")) != changed(data, 5):
             wrong(f"repair in a folder that cannot be synced: {error}")
         error = printed("join", at("v", "volume0001.rsv"), at("v", "volume0002.rsv"), "--to", at("new"), "-q", env=failing)[1]
@@ -156,8 +157,8 @@ def times():
         write(at("d", "a"), changed(data["a"], 600))
         for name in ("b", "empty"):
             os.remove(at("d", name))
-        run("repair", at("d.rsv"), "--to", at("other"), "-q", status=1)
-        run("repair", at("d.rsv"), "-q", status=1)
+        run("repair", at("d.rsv"), "--to", at("other"), "-q")
+        run("repair", at("d.rsv"), "-q")
         run("join", at("v", "volume0001.rsv"), at("v", "volume0002.rsv"), "--to", at("new"), "-q", status=(0, 1))
         for folder in (at("d"), at("other", "d"), at("new", "d")):
             found = {name: os.stat(os.path.join(folder, name)).st_mtime for name in data}
@@ -176,26 +177,26 @@ def sizes_shown():
         os.remove(at("d", "c"))
         files = json.loads(printed("verify", at("d.rsv"), "--json", status=1)[0])["files"]
         states = {"d/a": "damaged", "d/b": "whole", "d/c": "missing", "d/e": "whole"}
-        if files != [{"name": name, "size": size, "state": states[name]} for name, size in sizes.items()]:
+        if files != [{"name": name, "kind": "file", "size": size, "state": states[name]} for name, size in sizes.items()]:
             wrong(f"verify --json shows the files {files}")
-        if info(at("d.rsv"))["files"] != [{"name": name, "size": size} for name, size in sizes.items()]:
+        if info(at("d.rsv"))["files"] != [{"name": name, "kind": "file", "size": size} for name, size in sizes.items()]:
             wrong(f"info --json shows the files {info(at('d.rsv'))['files']}")
-        if printed("info", at("d.rsv"))[0].splitlines()[1:] != [f"{size:>14}  {name}" for name, size in sizes.items()]:
+        if printed("info", at("d.rsv"))[0].splitlines()[2:] != [f"{size:>14}  {name}" for name, size in sizes.items()]:
             wrong("info shows other sizes or names")
 
 
 def progress_of_restores():
     """`split`, `repair` and `join` show progress if the user asks for it, and show none if the user does not. `repair` and `join` first look
-    for blocks, and then restore them: each step has its own progress."""
+    for blocks, and then restore them, and `split` compares old volumes first: each step has its own progress."""
     with Folder() as at:
         data = RANDOM.randbytes(3_000_000)
         write(at("a"), data)
         run("create", at("a"), "-q")
         write(at("a"), changed(data, 5))
         run("split", at("a"), "-n", "2", "-o", at("v"), "-q")
-        for words, status, steps in ((("split", at("a"), "-n", "2", "-o", at("v"), "--force"), 0, 1),
-                                     (("join", at("v", "volume0002.rsv"), "--to", at("new"), "--force"), 1, 2),
-                                     (("repair", at("a.rsv"), "--to", at("other"), "--force"), 1, 2)):
+        for words, status, steps in ((("split", at("a"), "-n", "2", "-o", at("v"), "--force"), 0, 2),
+                                     (("join", at("v", "volume0002.rsv"), "--to", at("new"), "--force"), 0, 2),
+                                     (("repair", at("a.rsv"), "--to", at("other"), "--force"), 0, 2)):
             for more, shown in (((), False), (("--progress", "never"), False), (("--progress", "always"), True), (("--progress", "always", "-q"), True)):
                 error = printed(*words, *more, status=status)[1]
                 if error.count("\r100%, ") != (steps if shown else 0) or not shown and error:
@@ -243,7 +244,7 @@ def shown_names():
         seen(f"missing: d/{shown}\n", "verify", volume, status=1)
         whole = read(volume)
         write(volume, whole[:-1])
-        seen(at("d\\u{1b}.rsv") + ": the volume is damaged at its end", "verify", volume, status=1)
+        seen(at("d\\u{1b}.rsv") + ": the volume has 1 damaged or missing part of its description\n", "verify", volume, status=1)
         write(volume, whole)
         if json.loads(printed("verify", volume, "--json", status=1)[0])["files"][0]["name"] != "d/" + name or info(volume)["files"][0]["name"] != "d/" + name:
             wrong("a name in JSON is another one")
@@ -377,7 +378,7 @@ def replaced_files():
                 if env is None:
                     return
                 text = run(*words, status=4, env=env, seconds=60)
-                if at("d", "a") + f": block 0 cannot be read: {reason}\n" not in text or os.path.exists(at("new.rsv")) or os.path.exists(at("v")) and os.listdir(at("v")):
+                if at("d", "a") + f": {reason}\n" not in text or os.path.exists(at("new.rsv")) or os.path.exists(at("v")) and os.listdir(at("v")):
                     wrong(f"{words[0]} of a file that is replaced, {settings}: {text}")
                 os.remove(at("d", "a"))
         # A symbolic link that is named is followed.
@@ -397,7 +398,7 @@ def own_parts():
         run("create", at("d"), "-q", "--block", "512", "-r", "100%")
         run("split", at("d"), "-n", "2", "-o", at("v"), "-q")
         run("join", at("v", "volume0001.rsv"), at("v", "volume0002.rsv"), "--to", at("new"), "-q")
-        run("repair", at("d.rsv"), "--folder", at("none"), "--to", at("other"), "-q", status=1)
+        run("repair", at("d.rsv"), "--folder", at("none"), "--to", at("other"), "-q")
         if tree(at("new", "d")) != files or tree(at("other", "d")) != files:
             wrong(f"files with names of parts, in an empty folder: {sorted(tree(at('new')))}")
         for name in names:
@@ -405,7 +406,7 @@ def own_parts():
         os.rmdir(at("d", "b.part"))
         damaged = changed(files["e"], 5)
         write(at("d", "e"), damaged)
-        run("repair", at("d.rsv"), "-q", status=1)
+        run("repair", at("d.rsv"), "-q")
         if tree(at("d")) != {**files, "e.damaged2": damaged}:
             wrong(f"files with names of parts, in their own folder: {sorted(tree(at('d')))}")
 
@@ -428,10 +429,10 @@ def attributes_refused():
             to, other, damaged = at(f"j{number}"), at(f"r{number}"), changed(data, 5)
             write(at("d", "a"), damaged)
             for words, folder, status in ((("join", at("v", "volume0001.rsv"), at("v", "volume0002.rsv"), "--to", to), os.path.join(to, "d"), 0),
-                                          (("repair", at("d.rsv"), "--to", other), os.path.join(other, "d"), 1), (("repair", at("d.rsv")), at("d"), 1)):
+                                          (("repair", at("d.rsv"), "--to", other), os.path.join(other, "d"), 0), (("repair", at("d.rsv")), at("d"), 0)):
                 path = os.path.join(folder, "a")
                 out, error = printed(*words, status=status, env=failing)
-                if error != warnings.replace("{}", path) or not out.startswith("restored 1 file"):
+                if error != warnings.replace("{}", path) or "restored 1 file" not in out:
                     wrong(f"{words[0]} with {settings}: {out} {error}")
                 found = os.stat(path)
                 if read(path) != data or found.st_mode & 0o777 != (0o600 if "FAIL_MODE" in settings else 0o640) or (found.st_mtime == 7) == ("FAIL_TIME" in settings):
@@ -439,6 +440,8 @@ def attributes_refused():
             if tree(at("d")) != {"a": data, "a.damaged": damaged}:
                 wrong(f"repair with {settings}: {sorted(tree(at('d')))}")
             os.remove(at("d", "a.damaged"))
+            shutil.rmtree(to)
+            shutil.rmtree(other)
 
 
 def odd_volumes():

@@ -1,0 +1,272 @@
+"""Tests of files and blocks that `rs_files` finds at other places: in files that were renamed or moved, and at any byte of a file. What
+it has to find comes from the bytes of the files, and from the rules of docs/FORMAT.md about the places of files. The last tests are those of
+volumes of version 1."""
+import json
+import os
+import shutil
+
+from files_common import RANDOM, Folder, printed, read, run, tree, write, wrong
+from files_update import changes_in, damaged, rot
+from files_writer import TEXT, Item, Made, laid_out
+
+SIZES = {"a": 5000, "b": 4096, "c": 700, "deep/d": 3000, "deep/er/e": 2000, "f": 1}
+
+
+class Protected:
+    """Files in the folder `set` with the volume `set.rsv`. Blocks have 256 bytes, so one block can have bytes of several files."""
+
+    def __init__(self, at, files=None, block=256, recovery=4):
+        self.at, self.block, self.recovery = at, block, recovery
+        self.files = files or {name: RANDOM.randbytes(size) for name, size in SIZES.items()}
+        for name, data in self.files.items():
+            write(at("set", name), data)
+        run("create", at("set"), "-o", at("set.rsv"), "--block", str(block), "-r", str(recovery), "-q")
+        self.names = sorted(self.files, key=lambda name: name.replace("/", "\0"))
+        data, self.starts = laid_out([Item(name.encode(), self.files[name]) for name in self.names], 64)
+        self.data = data + bytes(-len(data) % block)
+
+    def has_bytes(self, start, seen):
+        """Returns whether all files with bytes in a block have their bytes of this block in `seen`."""
+        for name, begin in zip(self.names, self.starts):
+            first, last = max(start, begin), min(start + self.block, begin + len(self.files[name]))
+            if first < last and seen.get(name, b"")[first - begin:last - begin] != self.data[first:last]:
+                return False
+        return True
+
+    def lost(self, moved, others):
+        """Returns how many blocks are not in the files under their names, and how many of these are neither in files that moved nor in one
+        piece in the bytes of `others`."""
+        seen = {name: read(self.at("set", name)) for name in self.names if os.path.isfile(self.at("set", name))}
+        later = {**seen, **{name: read(path) for name, path in moved.items()}}
+        before = [at for at in range(0, len(self.data), self.block) if not self.has_bytes(at, seen)]
+        after = [at for at in before if not self.has_bytes(at, later) and not any(self.data[at:at + self.block] in other for other in others)]
+        return len(before), len(after)
+
+    def others(self, *folders):
+        """Returns the bytes of the files below folders, without those of whole files of the set."""
+        found = {os.path.join(folder, name): data for folder in folders for name, data in tree(folder).items()}
+        for name, data in self.files.items():
+            if found.get(self.at("set", name)) == data:
+                del found[self.at("set", name)]
+        return list(found.values())
+
+    def check(self, what, moved, *folders):
+        """Checks what `verify` says: which files moved to which paths, and how many blocks were found. Then repairs the files. `folders` are
+        those that are searched in addition."""
+        words = [word for folder in folders for word in ("--search", folder)]
+        before, after = self.lost(moved, self.others(self.at("set"), *folders))
+        if before <= self.recovery or after > self.recovery:
+            wrong(f"{what}: this test has {before} lost blocks, and {after} after the search")
+        found = json.loads(run("verify", self.at("set.rsv"), *words, "--json", status=1))
+        if found["lost_blocks"] != after or found["whole_recovery_blocks"] != self.recovery:
+            wrong(f"{what}: verify finds {found['lost_blocks']} lost blocks instead of {after} of {before}")
+        out = run("verify", self.at("set.rsv"), *words, status=1)
+        lines = {line for line in out.splitlines() if line.startswith("moved: ")}
+        blocks = f"{before - after} lost block{'' if before - after == 1 else 's'} found in other files or at other places\n"
+        if lines != {f"moved: set/{name} is at {path}" for name, path in moved.items()} or blocks not in out:
+            wrong(f"{what}: verify does not say what moved, or {blocks!r}: {out!r}")
+        self.repair(what, *words)
+
+    def repair(self, what, *words):
+        """Repairs the files, and checks their bytes. No bytes that were in a folder before may be gone."""
+        before = tree(self.at())
+        run("repair", self.at("set.rsv"), *words, "-q")
+        if any(not os.path.isfile(self.at("set", name)) or read(self.at("set", name)) != data for name, data in self.files.items()):
+            wrong(f"{what}: repair does not restore the bytes of the files")
+        after = tree(self.at())
+        if not {*before.values()} <= {*after.values()} or after["set.rsv"] != before["set.rsv"]:
+            wrong(f"{what}: repair removed the bytes of a file")
+        run("verify", self.at("set.rsv"), "-q")
+
+
+def moved_files():
+    """Files that were renamed or moved into another folder of the set, and folders that were renamed, are found and restored."""
+    with Folder() as above:
+        for what, moves in (("renamed file", {"a": "z"}), ("renamed folder", {"deep": "other"}), ("folder in a folder", {"deep/er": "er"}),
+                            ("file in another folder", {"b": "deep/b"}), ("new folder", {"a": "new/a", "b": "new/er/c"}),
+                            ("all files", {name: "new/" + name for name in ("a", "b", "c", "deep", "f")})):
+            at = Folder(above.path)
+            made = Protected(at)
+            for old, new in moves.items():
+                os.makedirs(os.path.dirname(at("set", new)), exist_ok=True)
+                os.rename(at("set", old), at("set", new))
+            places = {name: new + name[len(old):] for name in SIZES for old, new in moves.items() if name == old or name.startswith(old + "/")}
+            made.check(what, {name: at("set", place) for name, place in places.items()})
+
+
+def renamed_set():
+    """The folder of the set was renamed: all its files are found in the new folder, and in the old place after a repair."""
+    with Folder() as at:
+        made = Protected(at)
+        os.rename(at("set"), at("photos"))
+        out = run("verify", at("set.rsv"), status=1)
+        if any(f"moved: set/{name} is at {at('photos', name)}\n" not in out for name in SIZES):
+            wrong(f"the folder of a set was renamed: {out!r}")
+        made.repair("renamed set")
+
+
+def exchanged_files():
+    """A file moved, and another file of the set took its old name. Also two files that exchanged their names."""
+    with Folder() as above:
+        for what, moves in (("old name in use", (("a", "z"), ("b", "a"))), ("exchanged names", (("a", "t"), ("b", "a"), ("t", "b"))),
+                            ("names in a circle", (("a", "t"), ("b", "a"), ("deep/d", "b"), ("t", "deep/d")))):
+            at = Folder(above.path)
+            made, place = Protected(at), {name: name for name in SIZES}
+            for old, new in moves:
+                os.rename(at("set", old), at("set", new))
+                place = {name: new if now == old else now for name, now in place.items()}
+            made.check(what, {name: at("set", now) for name, now in place.items() if name != now})
+
+
+def shifted_blocks():
+    """Blocks are found at any byte: after bytes were inserted or removed, in files that were joined, and inside a larger file."""
+    def change(name, edit):
+        return lambda at: write(at("set", name), edit(read(at("set", name))))
+
+    def joined(at):
+        write(at("set", "joined"), read(at("set", "a")) + read(at("set", "b")))
+        os.remove(at("set", "a"))
+        os.remove(at("set", "b"))
+
+    def inside(at):
+        write(at("set", "archive"), RANDOM.randbytes(100001) + read(at("set", "a")) + RANDOM.randbytes(300))
+        os.remove(at("set", "a"))
+
+    def both(at):
+        joined(at)
+        change("deep/d", lambda data: b"x" + data)(at)
+
+    with Folder() as above:
+        for what, edit in (("byte inserted at the front", change("a", lambda data: b"x" + data)),
+                           ("first byte removed", change("a", lambda data: data[1:])),
+                           ("bytes inserted in the middle", change("b", lambda data: data[:1000] + RANDOM.randbytes(77) + data[1000:])),
+                           ("halves exchanged", change("a", lambda data: data[2500:] + data[:2500])),
+                           ("joined files", joined), ("inside a larger file", inside), ("joined files and a byte inserted", both)):
+            at = Folder(above.path)
+            made = Protected(at, recovery=8)
+            edit(at)
+            made.check(what, {})
+
+
+def shifted_far():
+    """Many lost blocks are found although many other bytes come before them in their file."""
+    with Folder() as at:
+        made = Protected(at, {"large": RANDOM.randbytes(2000 * 256), "z": RANDOM.randbytes(500)})
+        write(at("set", "archive"), RANDOM.randbytes(3_000_000) + made.files["large"])
+        os.remove(at("set", "large"))
+        made.check("blocks behind 3 MB of other bytes", {})
+
+
+def searched_folders():
+    """Files and blocks are found in the folders after --search, and not without them. These folders do not change."""
+    with Folder() as at:
+        made = Protected(at, recovery=8)
+        write(at("set", "b"), b"b" + RANDOM.randbytes(4095))
+        write(at("backup", "old", "one"), made.files["a"])
+        write(at("more", "two"), b"front" + made.files["b"])
+        os.remove(at("set", "a"))
+        os.rename(at("set.rsv"), at("volumes.rsv"))
+        os.mkdir(at("apart"))
+        os.rename(at("set"), at("apart", "set"))
+        before = tree(at())
+        words = ("verify", at("volumes.rsv"), "--folder", at("apart"))
+        run(*words, status=3)
+        run(*words, "--search", at("backup"), status=3)
+        out = run(*words, "--search", at("backup"), "--search", at("more"), status=1)
+        if f"moved: set/a is at {at('backup', 'old', 'one')}\n" not in out:
+            wrong(f"--search does not find a file: {out!r}")
+        run("repair", at("volumes.rsv"), "--folder", at("apart"), status=3)
+        if tree(at()) != before:
+            wrong("verify, or repair without enough blocks, changed a file")
+        run("repair", at("volumes.rsv"), "--folder", at("apart"), "--search", at("backup"), "--search", at("more"), "-q")
+        after = tree(at())
+        if any(after.get(name) != data for name, data in before.items() if not name.startswith("apart")):
+            wrong("repair changed a folder that was only searched, or the volume")
+        if any(after["apart/set/" + name] != data for name, data in made.files.items()):
+            wrong("repair with --search does not restore the bytes of the files")
+
+
+def equal_blocks():
+    """A block that is lost is taken from another block with its bytes: a file and its copy, of which one is damaged in more blocks than
+    there are recovery blocks. The copy begins at any place in its first block."""
+    for between in (0, 256, 64, 500):
+        with Folder() as at:
+            data = RANDOM.randbytes(4096)
+            made = Protected(at, {"a": data, "b": RANDOM.randbytes(between), "copy": data, "d": RANDOM.randbytes(999)}, recovery=2)
+            write(at("set", "copy"), bytes(byte ^ 1 for byte in data))
+            made.repair(f"a damaged copy after {between} bytes")
+
+
+def wrong_digests():
+    """Bytes that have both sums of a lost block and not its digest are not believed: neither for a repair, nor beside the right bytes."""
+    def with_same_sums(block):
+        """Returns a block with the same two sums: 1 is added to a byte, 2 are taken from the next, and 1 is added to the one after it."""
+        for i in range(len(block) - 2):
+            if block[i] < 255 and block[i + 1] > 1 and block[i + 2] < 255:
+                return block[:i] + bytes([block[i] + 1, block[i + 1] - 2, block[i + 2] + 1]) + block[i + 3:]
+        return wrong("no block with the same sums")
+
+    with Folder() as at:
+        made = Protected(at)
+        blocks = [made.files["a"][start:start + 256] for start in range(0, 4864, 256)]
+        write(at("set", "z"), b"".join(with_same_sums(block) for block in blocks))
+        os.remove(at("set", "a"))
+        before = tree(at())
+        out = run("verify", at("set.rsv"), status=3)
+        found = json.loads(run("verify", at("set.rsv"), "--json", status=3))
+        if found["lost_blocks"] != 20 or "found in other" in out:
+            wrong(f"bytes with the sums of a block are believed: {out!r}")
+        run("repair", at("set.rsv"), status=3)
+        if tree(at()) != before:
+            wrong("repair wrote bytes that have the sums of a block")
+        write(at("set", "z"), read(at("set", "z")) + made.files["a"])
+        made.check("the right bytes behind bytes with the same sums", {})
+
+
+def first_version_moved():
+    """A volume of version 1 has neither digests of files nor sums: nothing is found elsewhere, and `verify` says what is missing."""
+    with Folder() as at:
+        items = [Item(b"set/a", RANDOM.randbytes(1000)), Item(b"set/b", RANDOM.randbytes(300))]
+        made = Made(items, 256, 2, version=1)
+        for item in items:
+            write(at(item.name.decode()), item.data)
+        write(at("set.rsv"), made.volume())
+        run("verify", at("set.rsv"))
+        os.rename(at("set", "a"), at("set", "z"))
+        before = tree(at())
+        out = run("verify", at("set.rsv"), status=3)
+        if "moved: " in out or "found in other" in out or "missing: set/a\n" not in out or "4 lost blocks, and 2 recovery blocks left" not in out:
+            wrong(f"verify of a renamed file with a volume of version 1: {out!r}")
+        run("repair", at("set.rsv"), status=3)
+        if tree(at()) != before:
+            wrong("repair with a volume of version 1 changed something")
+        shutil.move(at("set", "z"), at("set", "a"))
+        run("verify", at("set.rsv"))
+
+
+def first_version_updated():
+    """`update` reads a volume of version 1, finds edited and rotten files with it, and makes a volume of version 2. `repair` leaves a damaged
+    volume of version 1 as it is, does not say that it writes it again, and ends with 1."""
+    with Folder() as at:
+        items = [Item(b"set/a", RANDOM.randbytes(1000)), Item(b"set/b", RANDOM.randbytes(300))]
+        for item in items:
+            write(at(item.name.decode()), item.data)
+            os.utime(at(item.name.decode()), ns=(item.seconds * 10 ** 9 + 123456789,) * 2)
+        volume = Made(items, 256, 2, version=1).volume()
+        for place in (70, len(volume) // 2, len(volume) - 60):
+            write(at("set.rsv"), damaged(volume, place, 3))
+            before = tree(at())
+            out = run("verify", at("set.rsv"), status=1) + run("repair", at("set.rsv"), status=1)
+            if tree(at()) != before or "anew" in out:
+                wrong(f"verify and repair of a damaged volume of version 1 say {out!r}")
+        write(at("set.rsv"), volume)
+        rot(at("set", "a"))
+        if "rotten: set/a\n" not in printed("update", at("set.rsv"), status=3)[1] or read(at("set.rsv")) != volume:
+            wrong("update with a volume of version 1 does not find a rotten file")
+        write(at("set", "a"), b"other")
+        if changes_in(run("update", at("set.rsv"))) != ["edited: set/a"] or read(at("set.rsv"))[:len(TEXT)] != TEXT:
+            wrong("update does not make a volume of version 2 from one of version 1")
+        run("verify", at("set.rsv"))
+
+
+TESTS = (moved_files, renamed_set, exchanged_files, shifted_blocks, shifted_far, searched_folders, equal_blocks, wrong_digests, first_version_moved, first_version_updated)
