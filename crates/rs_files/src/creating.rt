@@ -138,8 +138,8 @@ impl<'a, R: Files + Clock + Eprint> Making<'a, R> {
         })
     }
 
-    // Returns the number of bytes of the description with all digests and sums. Fails if it is larger than 1 GiB: no reader
-    // reads such a description.
+    // Returns the number of bytes of the description with all digests and sums. Fails if it is larger than 1 GiB: no
+    // reader reads such a description.
     fn description_bytes(&self) -> Result<u64> {
         let originals = u64::from(self.description.original_count);
         let recovery = u64::from(self.description.recovery_count);
@@ -188,7 +188,8 @@ impl<'a, R: Files + Clock + Eprint> Making<'a, R> {
         }
     }
 
-    // Returns the SHA-256 of the file with this index, and 32 zeros for another entry. A file without bytes is not opened.
+    // Returns the SHA-256 of the file with this index, and 32 zeros for another entry. A file without bytes is not
+    // opened.
     fn hash_file(
         &self,
         index: usize,
@@ -315,13 +316,14 @@ pub struct Made {
     pub entries: Kinds,
     /// The block size and the numbers of blocks.
     pub cut: Cut,
-    /// The exit status. It is `STATUS_FAILED` if names that are not UTF-8 were left out, unless the request allows this.
+    /// The exit status. It is `STATUS_FAILED` if names that are not UTF-8 were left out, unless the request allows
+    /// this.
     pub status: u8,
 }
 
 /// Makes the recovery blocks of files, and writes volumes at the paths `outputs`. One volume gets the recovery blocks.
-/// Several volumes get all blocks, which are dealt to them in turn. Returns `None`, and writes nothing, if old volumes must
-/// not be replaced, for a reason of [`may_replace`].
+/// Several volumes get all blocks, which are dealt to them in turn. Returns `None`, and writes nothing, if old volumes
+/// must not be replaced, for a reason of [`may_replace`].
 ///
 /// # Errors
 ///

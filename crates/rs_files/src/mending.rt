@@ -9,8 +9,8 @@ use crate::verifying::{folder_of, report};
 use std::alloc::Global;
 use std::rt::{Clock, Files, Runtime};
 
-/// Runs `repair`: restores the damaged and missing files of a set, and writes damaged volumes anew. Returns the exit status. It is `STATUS_FAILED` if a
-/// file could not be restored.
+/// Runs `repair`: restores the damaged and missing files of a set, and writes damaged volumes anew. Returns the exit
+/// status. It is `STATUS_FAILED` if a file could not be restored.
 ///
 /// # Errors
 ///

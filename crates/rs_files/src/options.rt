@@ -31,8 +31,8 @@ const COMMANDS: [(&str, &str, &str); 7] = [
     ("info", "VOLUME", "Show what a volume describes"),
 ];
 
-/// An option: the commands that have it; its name; its letter or none; the name of its value, or none if it takes no value;
-/// and its help text.
+/// An option: the commands that have it; its name; its letter or none; the name of its value, or none if it takes no
+/// value; and its help text.
 type Choice = (
     &'static str,
     &'static str,

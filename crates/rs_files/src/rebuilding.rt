@@ -36,8 +36,8 @@ fn damaged_paths(alloc: Global, found: &Scan) -> Result<Vec<Option<&str>>, Alloc
     Ok(paths)
 }
 
-/// Writes the damaged volumes of a scan anew, and keeps each damaged one as `NAME.damaged`. Nothing is written if an original
-/// block was not found, or if the volumes have version 1. Returns whether all volumes are whole now.
+/// Writes the damaged volumes of a scan anew, and keeps each damaged one as `NAME.damaged`. Nothing is written if an
+/// original block was not found, or if the volumes have version 1. Returns whether all volumes are whole now.
 ///
 /// # Errors
 ///

@@ -142,14 +142,14 @@ fn blocks_of(description: &Description) -> usize {
 /// Opens the volumes of a request, and looks for all blocks of their set in the volumes and, if `folder` is given, in
 /// the files of the set below that folder.
 ///
-/// For each volume that cannot be read, the function prints a message. A block that cannot be read is not an error: it is
-/// not found. For each file and each volume with such blocks, the function prints a message. It also prints a message for
-/// each entry in whose place something else is.
+/// For each volume that cannot be read, the function prints a message. A block that cannot be read is not an error: it
+/// is not found. For each file and each volume with such blocks, the function prints a message. It also prints a
+/// message for each entry in whose place something else is.
 ///
 /// # Errors
 ///
-/// Fails for a reason of [`open_volumes`], if the block size is 0, if a volume cannot be opened again, or if memory cannot
-/// be allocated.
+/// Fails for a reason of [`open_volumes`], if the block size is 0, if a volume cannot be opened again, or if memory
+/// cannot be allocated.
 pub fn scan_request<R: Files + Clock + Eprint>(
     rt: &R,
     alloc: Global,
@@ -217,7 +217,8 @@ pub fn scan_paths<R: Files + Clock + Eprint>(
     })
 }
 
-// Returns the number of bytes that a scan reads at most: the original blocks, if the files are searched, and the volumes.
+// Returns the number of bytes that a scan reads at most: the original blocks, if the files are searched, and the
+// volumes.
 fn bytes_to_read<R: Files>(
     rt: &R,
     alloc: Global,
@@ -291,8 +292,8 @@ impl Scan {
         self.unreadable.is_empty() && self.volumes.iter().all(|volume| volume.damage.is_none())
     }
 
-    /// Returns whether nothing of the set was found in the folder, and the volumes are those of `split`. A volume of version
-    /// 1 does not say this: then volumes with original blocks are those of `split`.
+    /// Returns whether nothing of the set was found in the folder, and the volumes are those of `split`. A volume of
+    /// version 1 does not say this: then volumes with original blocks are those of `split`.
     pub fn is_spread(&self) -> bool {
         let description = self.description();
         let are_many = match description.version {

@@ -74,12 +74,12 @@ struct Search<'a, R: Runtime> {
     found: Elsewhere,
 }
 
-/// Looks for the lost blocks of a set below `folder`, and below the folders after `--search`, and records in `scan` where
-/// they were found.
+/// Looks for the lost blocks of a set below `folder`, and below the folders after `--search`, and records in `scan`
+/// where they were found.
 ///
-/// In this order, the function looks for files that have the length and the digest of a file that is not whole, for blocks
-/// with the digest of a lost block, and for lost blocks at any byte of the files that are not whole files of the set. A
-/// block is believed only if it has its digest.
+/// In this order, the function looks for files that have the length and the digest of a file that is not whole, for
+/// blocks with the digest of a lost block, and for lost blocks at any byte of the files that are not whole files of the
+/// set. A block is believed only if it has its digest.
 ///
 /// # Errors
 ///
@@ -139,8 +139,8 @@ impl<'a, R: Runtime> Search<'a, R> {
             .unwrap_or(State::Missing)
     }
 
-    // Returns the identities of the whole files of the set, of the volumes, and of the folder into which files are restored,
-    // in order. No lost block is looked for there.
+    // Returns the identities of the whole files of the set, of the volumes, and of the folder into which files are
+    // restored, in order. No lost block is looked for there.
     fn known(&self, to: &Option<String>) -> Result<Vec<Identity>, AllocError> {
         let mut known = Vec::new(self.alloc);
         if let Some(to) = to {
@@ -213,8 +213,8 @@ impl<'a, R: Runtime> Search<'a, R> {
         Ok(())
     }
 
-    // Looks for each file that is not whole among the whole files of the set, and among the candidates with its length. A
-    // file with its digest takes its place as the source of its blocks. Returns whether one was found.
+    // Looks for each file that is not whole among the whole files of the set, and among the candidates with its length.
+    // A file with its digest takes its place as the source of its blocks. Returns whether one was found.
     fn find_files(&mut self) -> Result<bool> {
         let whole = self.whole_files()?;
         let mut has_found = false;

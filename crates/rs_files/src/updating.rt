@@ -1,5 +1,5 @@
-//! `update`: makes a volume anew after files were changed. Also compares files with an old volume before a new one takes its
-//! place, so that no file is protected whose bytes changed by themselves.
+//! `update`: makes a volume anew after files were changed. Also compares files with an old volume before a new one
+//! takes its place, so that no file is protected whose bytes changed by themselves.
 use crate::creating::make_volume;
 use crate::failure::{Failure, Result, warn};
 use crate::identity::exists;
@@ -116,8 +116,8 @@ fn existing<R: Files>(rt: &R, alloc: Global, paths: &[String]) -> Result<Vec<Str
 }
 
 /// Compares the files of a request with the old volumes at `outputs`, which new volumes replace, and prints what has
-/// changed. Returns whether the new volumes may be made: each file whose bytes have changed while its length and its time
-/// have not is accepted by the request.
+/// changed. Returns whether the new volumes may be made: each file whose bytes have changed while its length and its
+/// time have not is accepted by the request.
 ///
 /// If no old volume can be read, nothing is compared, and the function prints why.
 ///
@@ -192,8 +192,8 @@ fn share_of(set: &Description) -> Recovery {
 }
 
 /// Runs `update`: makes the volume of a set anew, with the files as they are now. Returns the exit status. It is
-/// `STATUS_LOST` if the bytes of a file changed while its length and its time did not, and the file is not accepted: then
-/// the old volume stays.
+/// `STATUS_LOST` if the bytes of a file changed while its length and its time did not, and the file is not accepted:
+/// then the old volume stays.
 ///
 /// # Errors
 ///

@@ -24,8 +24,8 @@ pub struct Damage {
     pub blocks: u64,
     /// The number of parts of its description, in all copies, that are damaged or missing.
     pub parts: u64,
-    /// Whether something else is wrong: the line of text at its beginning, or bytes that belong to no record. In a volume
-    /// of version 1: a head, a copy of the description, or the length.
+    /// Whether something else is wrong: the line of text at its beginning, or bytes that belong to no record. In a
+    /// volume of version 1: a head, a copy of the description, or the length.
     pub has_more: bool,
     /// The number of the volume among those of its set. `None` if it is not known, and in version 1.
     pub number: Option<u64>,
@@ -74,8 +74,8 @@ struct Found {
 }
 
 impl<'a, R: Files + Clock + Eprint> VolumeScan<'a, R> {
-    /// Looks for blocks in a volume, and returns what is damaged there. `holder` is the index of the volume in the list of
-    /// paths.
+    /// Looks for blocks in a volume, and returns what is damaged there. `holder` is the index of the volume in the list
+    /// of paths.
     ///
     /// # Errors
     ///
@@ -90,9 +90,9 @@ impl<'a, R: Files + Clock + Eprint> VolumeScan<'a, R> {
 
     // Looks for blocks in a volume of version 1.
     //
-    // If the volume is damaged, records are also read in its last bytes. Damage is not counted there, because these bytes
-    // are the second copy of the description and the head. This copy is as long as the first one, which ends at the first
-    // record.
+    // If the volume is damaged, records are also read in its last bytes. Damage is not counted there, because these
+    // bytes are the second copy of the description and the head. This copy is as long as the first one, which ends at
+    // the first record.
     fn scan_first<F: Read + Seek>(
         &mut self,
         file: &mut F,
@@ -241,7 +241,8 @@ impl<'a, R: Files + Clock + Eprint> VolumeScan<'a, R> {
             && (record.head.index as usize) < self.scanner.origins.len()
     }
 
-    // Returns the SHA-256 of the block in a record. Returns `None` if a byte of the block that is in no file is not zero.
+    // Returns the SHA-256 of the block in a record. Returns `None` if a byte of the block that is in no file is not
+    // zero.
     fn hash_block<F: Read + Seek>(
         &mut self,
         file: &mut F,
