@@ -57,6 +57,7 @@ impl Elsewhere {
 #[derive(Drop)]
 struct Candidate {
     path: String,
+    identity: Identity,
     size: u64,
     // Its SHA-256, if it was computed and the file could be read.
     digest: Option<[u8; 32]>,
@@ -78,8 +79,8 @@ struct Search<'a, R: Runtime> {
 /// where they were found.
 ///
 /// In this order, the function looks for files that have the length and the digest of a file that is not whole, for
-/// blocks with the digest of a lost block, and for lost blocks at any byte of the files that are not whole files of the
-/// set. A block is believed only if it has its digest.
+/// blocks with the digest of a lost block, and, if more blocks are lost than recovery blocks are left, for lost blocks at
+/// any byte of the files that are not whole files of the set. A block is believed only if it has its digest.
 ///
 /// # Errors
 ///
@@ -197,7 +198,8 @@ impl<'a, R: Runtime> Search<'a, R> {
             let Ok(metadata) = fs::symlink_metadata(self.rt, path.as_str()) else {
                 continue;
             };
-            if known.binary_search(&Identity::of(&metadata)).is_ok() {
+            let identity = Identity::of(&metadata);
+            if known.binary_search(&identity).is_ok() {
                 continue;
             }
             if metadata.is_dir() {
@@ -205,6 +207,7 @@ impl<'a, R: Runtime> Search<'a, R> {
             } else if metadata.is_file() {
                 self.candidates.push(Candidate {
                     path,
+                    identity,
                     size: metadata.len(),
                     digest: None,
                 })?;
@@ -270,6 +273,11 @@ impl<'a, R: Runtime> Search<'a, R> {
         size: u64,
         digest: &[u8; 32],
     ) -> Result<Option<String>, AllocError> {
+        // The file with the name of the entry is known to have other bytes.
+        let own = match self.scan.paths.get(index) {
+            Some(path) => identity_of(self.rt, path.as_str()),
+            None => None,
+        };
         let from = self
             .candidates
             .partition_point(|candidate| candidate.size < size);
@@ -277,6 +285,9 @@ impl<'a, R: Runtime> Search<'a, R> {
             .candidates
             .partition_point(|candidate| candidate.size <= size);
         for candidate in self.candidates.iter_mut().take(to).skip(from) {
+            if own == Some(candidate.identity) {
+                continue;
+            }
             if candidate.digest.is_none() {
                 if let Ok(mut file) = open_regular(self.rt, candidate.path.as_str(), false) {
                     candidate.digest = hash_at(&mut file, 0, size, &mut self.buffer).ok();
@@ -386,12 +397,16 @@ impl<'a, R: Runtime> Search<'a, R> {
         Ok(())
     }
 
-    // Looks for the blocks that are still lost at any byte of the candidates.
+    // Looks for the blocks that are still lost at any byte of the candidates, unless enough recovery blocks are left.
     fn find_anywhere(&mut self) -> Result<()> {
+        let counts = self.scan.counts();
+        if counts.lost <= counts.recovery {
+            return Ok(());
+        }
         let lost = self.lost()?;
         let bytes = self.scan.description().sums.as_slice();
         let mut sums = Sums::of(self.alloc, bytes, lost.as_slice())?;
-        if lost.is_empty() || bytes.is_empty() {
+        if bytes.is_empty() {
             return Ok(());
         }
         for index in 0..self.candidates.len() {
