@@ -485,7 +485,8 @@ def first_repaired():
             found = json.loads(run("verify", at("set", "v.rsv"), "--json", status=1))
             if (found["lost_blocks"], found["whole_recovery_blocks"]) != (5, 6 - lost):
                 wrong(f"verify with version 1: {found}")
-            run("repair", at("set", "v.rsv"), "-q")
+            # A damaged volume of version 1 is not written again.
+            run("repair", at("set", "v.rsv"), "-q", status=0 if other == volume else 1)
             after = snapshot(at("set"))
             if {name: after.get(name) for name in expected(made.items)} != expected(made.items):
                 wrong(f"repair with version 1 restores other files: {sorted(after)}")

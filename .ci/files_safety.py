@@ -462,7 +462,7 @@ def odd_volumes():
             for words in (("verify", odd), ("repair", odd), ("join", odd, "--to", at("new"))):
                 if printed(*words, status=4, seconds=60)[1] != error + "rs_files: no volume can be read\n":
                     wrong(f"{words} with a volume that is no regular file")
-            for words, status in ((("verify", odd, at("a.rsv"), "--folder", at(), "--json"), 1), (("repair", at("a.rsv"), odd), 0),
+            for words, status in ((("verify", odd, at("a.rsv"), "--folder", at(), "--json"), 1), (("repair", at("a.rsv"), odd), 1),
                                   (("join", at("v", "volume0001.rsv"), odd, at("v", "volume0002.rsv"), "--to", at("new"), "--force"), 0)):
                 out, said = printed(*words, status=status, seconds=60)
                 if said != error or words[0] == "verify" and json.loads(out)["volumes"][1] != {"name": odd, "state": "unreadable"}:
