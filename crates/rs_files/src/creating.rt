@@ -1,18 +1,18 @@
 //! `create`: makes a volume with the recovery blocks of files.
 use crate::assembly::LARGEST_DESCRIPTION;
+use crate::comparing::may_replace;
 use crate::counted::{Counted, Kinds};
 use crate::failure::{Failure, Result};
 use crate::folder::{Cut, cut_data, piece_bytes, shape_of};
 use crate::hashing::{CHUNK, add_bytes};
 use crate::identity::open_regular;
-use crate::names::{Shown, front_of_volume, path_in, text_of};
+use crate::names::{Shown, front_of_volume, paths_of};
 use crate::output::at_path;
 use crate::progress::Progress;
 use crate::settings::{
     NO_OUTPUT, Recovery, Request, STATUS_FAILED, STATUS_LOST, STATUS_WHOLE, VERSION,
 };
 use crate::source::{FileBlocks, Holders, Origin, SummedBlocks, failure_of};
-use crate::updating::may_replace;
 use crate::volume_sink::{VolumeSink, Volumes, check_output};
 use crate::walking::{Found, find};
 use reed_solomon_simd::engine::tables::Tables;
@@ -38,22 +38,6 @@ fn output_of(alloc: Global, request: &Request) -> Result<String> {
         Some(front) => Ok(format!(in alloc; "{front}.rsv")?),
         None => Err(Failure::of(NO_OUTPUT)),
     }
-}
-
-/// Returns the path of each entry of a set below `folder`. The path of an entry whose name is not UTF-8 is empty.
-///
-/// # Errors
-///
-/// [`AllocError`] if memory cannot be allocated.
-pub fn paths_of(alloc: Global, folder: &str, entries: &[Entry]) -> Result<Vec<String>, AllocError> {
-    let mut paths = Vec::new(alloc);
-    for entry in entries {
-        paths.push(match text_of(entry.name.as_slice()) {
-            Some(name) => path_in(alloc, folder, name)?,
-            None => String::new(alloc),
-        })?;
-    }
-    Ok(paths)
 }
 
 // Returns the name and the version of this program as a field of a description.

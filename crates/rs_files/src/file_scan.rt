@@ -4,7 +4,7 @@ use crate::hashing::{CHUNK, add_bytes, add_zeros, hash_at};
 use crate::identity::open_regular;
 use crate::names::{Name, text_of};
 use crate::runs::places_in;
-use crate::scanning::{Scanner, State};
+use crate::scanner::{Scanner, State};
 use crate::source::{Opened, Origin};
 use rs_volumes::description::{Description, Entry, Kind};
 use rs_volumes::digest::is_digest;

@@ -1,5 +1,6 @@
 //! Names of files, and the paths that are made from names.
 use rs_volumes::checking::is_before;
+use rs_volumes::description::Entry;
 use std::alloc::{AllocError, Global};
 use std::cmp::Ordering;
 use std::fmt;
@@ -134,4 +135,20 @@ pub fn front_of_volume(paths: &[String]) -> Option<&str> {
 /// Returns the folder to open: `.` if `folder` is empty, and `folder` otherwise.
 pub fn folder_to_open(folder: &str) -> &str {
     if folder.is_empty() { "." } else { folder }
+}
+
+/// Returns the path of each entry of a set below `folder`. The path of an entry whose name is not UTF-8 is empty.
+///
+/// # Errors
+///
+/// [`AllocError`] if memory cannot be allocated.
+pub fn paths_of(alloc: Global, folder: &str, entries: &[Entry]) -> Result<Vec<String>, AllocError> {
+    let mut paths = Vec::new(alloc);
+    for entry in entries {
+        paths.push(match text_of(entry.name.as_slice()) {
+            Some(name) => path_in(alloc, folder, name)?,
+            None => String::new(alloc),
+        })?;
+    }
+    Ok(paths)
 }

@@ -7,7 +7,8 @@ use crate::output::{Part, free_path};
 use crate::placing::{
     Goal, Target, check_target, complete, make_folder, make_link, make_room, settle,
 };
-use crate::scanning::{Scan, State};
+use crate::scanner::State;
+use crate::scanning::Scan;
 use rs_volumes::description::{Entry, Kind};
 use std::alloc::Global;
 use std::io;

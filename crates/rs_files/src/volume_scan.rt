@@ -5,7 +5,7 @@ use crate::first::{Records, block_in, record_at};
 use crate::layout::{Deal, LINE_BYTES, Layout, first_line};
 use crate::records::{Record, Walk};
 use crate::runs::{is_padded, places_in};
-use crate::scanning::Scanner;
+use crate::scanner::Scanner;
 use crate::source::{Origin, read_at};
 use crate::volume::{Form, open_sized, part_in};
 use rs_volumes::digest::is_digest;

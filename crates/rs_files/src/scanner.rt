@@ -1,0 +1,107 @@
+//! What a scan of the files and volumes of a set has found so far.
+use crate::counted::Counted;
+use crate::failure::warn;
+use crate::hashing::CHUNK;
+use crate::progress::Progress;
+use crate::source::Origin;
+use rs_volumes::description::Description;
+use std::alloc::{AllocError, Global};
+use std::io;
+use std::io::ErrorKind;
+
+/// The state of an entry of a set.
+#[derive(Clone, Copy, PartialEq, Eq)]
+pub enum State {
+    /// The file has its length and its bytes, the link has its target, or the folder exists.
+    Whole,
+    /// Something has this name, but it is not whole.
+    Damaged,
+    /// Nothing has this name, something else that cannot be replaced has it, or the file cannot be opened.
+    Missing,
+}
+
+// Returns the number of original blocks and recovery blocks of a description.
+fn blocks_of(description: &Description) -> usize {
+    (u64::from(description.original_count) + u64::from(description.recovery_count)) as usize
+}
+
+/// The state of a scan, without the entries and the volumes.
+#[derive(Drop)]
+pub struct Scanner {
+    /// Where each block was found.
+    pub origins: Vec<Option<Origin>>,
+    /// The memory into which files are read.
+    pub buffer: Vec<u8>,
+    /// The progress of the scan.
+    pub progress: Progress,
+    // The number of blocks of the present file or volume that cannot be read, and the first error.
+    unread: u64,
+    error: Option<io::Error>,
+}
+
+impl Scanner {
+    /// Begins a scan. No block has been found yet.
+    ///
+    /// # Errors
+    ///
+    /// [`AllocError`] if memory cannot be allocated.
+    pub fn new(
+        alloc: Global,
+        description: &Description,
+        progress: Progress,
+    ) -> Result<Scanner, AllocError> {
+        Ok(Scanner {
+            origins: vec![in alloc; None; blocks_of(description)]?,
+            buffer: vec![in alloc; 0u8; CHUNK]?,
+            progress,
+            unread: 0,
+            error: None,
+        })
+    }
+
+    /// Records where a block was found. If the block was found before, the first place is kept.
+    pub fn note(&mut self, index: usize, origin: Origin) {
+        if let Some(place) = self.origins.get_mut(index) {
+            if place.is_none() {
+                *place = Some(origin);
+            }
+        }
+    }
+
+    /// Notes that a block cannot be read. If the file ends before the block does, this is no error of the system.
+    pub fn note_unread(&mut self, error: io::Error) {
+        if error.kind() == ErrorKind::UnexpectedEof {
+            return;
+        }
+        self.unread = self.unread.saturating_add(1);
+        if self.error.is_none() {
+            self.error = Some(error);
+        }
+    }
+
+    /// Notes that other bytes of a volume cannot be read.
+    pub fn note_error(&mut self, error: io::Error) {
+        if self.error.is_none() {
+            self.error = Some(error);
+        }
+    }
+
+    /// Prints how many blocks of a file or a volume cannot be read, and the first error.
+    pub fn tell_unread<R: Eprint>(&mut self, rt: &R, path: &str) {
+        let blocks = Counted(self.unread, "block");
+        match self.error.take() {
+            Some(error) if self.unread > 0 => {
+                self.tell(rt, path, format_args!("{blocks} cannot be read: {error}"));
+            }
+            Some(error) => self.tell(rt, path, format_args!("a part cannot be read: {error}")),
+            None => {}
+        }
+        self.unread = 0;
+    }
+
+    /// Prints what is wrong at a path, on a line of its own.
+    pub fn tell<R: Eprint, D: std::fmt::Display + Drop>(&self, rt: &R, path: &str, reason: D) {
+        self.progress.end(rt);
+        warn(rt, path, reason);
+    }
+}
