@@ -5,7 +5,8 @@
    - syncs of a file whose name ends in FAIL_SYNC, as on a disk that fails,
    - writes into a file whose name ends in FAIL_WRITE, from the byte FAIL_FROM of the file on, as on a disk that is full,
    - all changes of permission bits, if FAIL_MODE is set, and of times, if FAIL_TIME is set, as on a file system where they cannot be set,
-   - syncs of folders, if FAIL_FOLDERS is set, as on a file system that cannot sync a folder. */
+   - syncs of folders, if FAIL_FOLDERS is set, as on a file system that cannot sync a folder.
+   It writes the path of each file that is removed into the file UNLINK_LOG, if this is set. */
 #define _GNU_SOURCE
 #include <dlfcn.h>
 #include <errno.h>
@@ -48,6 +49,17 @@ int rename(const char *from, const char *to)
         return -1;
     }
     return next(from, to);
+}
+
+int unlink(const char *path)
+{
+    int (*next)(const char *) = (int (*)(const char *))dlsym(RTLD_NEXT, "unlink");
+    FILE *log = getenv("UNLINK_LOG") ? fopen(getenv("UNLINK_LOG"), "a") : NULL;
+    if (log) {
+        fprintf(log, "%s\n", path);
+        fclose(log);
+    }
+    return next(path);
 }
 
 int link(const char *from, const char *to)

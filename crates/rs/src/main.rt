@@ -3,9 +3,9 @@
 //! recovery shard `rI=HEX`, where I is the index of the shard.
 #![tactic(auto)]
 
-use rs_command::program::run;
-use rs_command::stream::Stream;
-use rs_command::words::read_words;
+use rs_cli::arguments::read_words;
+use rs_cli::program::run;
+use rs_cli::stream::Stream;
 use std::process::ExitCode;
 
 fn main(rt: HostRuntime) -> ExitCode {

@@ -1,10 +1,10 @@
 //! The engine, over tables in memory of the caller.
 ghost use Rattle.std.specs.Prelude.{MatchOption};
-ghost use Rattle.rs_calls.specs.Tables.{AreStamped, AreTables};
+ghost use Rattle.rs_ffi.specs.Tables.{AreStamped, AreTables};
 
 use crate::lanes::BuildEngine;
-use rs_calls::made_tables::MadeTables;
-use rs_calls::tables::RsTables;
+use rs_ffi::made_tables::MadeTables;
+use rs_ffi::tables::RsTables;
 
 /// The engine of this build, over tables that a program in C lends.
 pub type TableEngine<'t> = BuildEngine<MadeTables<'t>>;

@@ -2,15 +2,15 @@
 //! contract states. The tables are larger than a stack, and only an optimised build copies them without room on the
 //! stack. So `rt test` runs these tests, and two of them fail in `rt try`.
 ghost use Rattle.std.specs.Prelude.{◌≡◌, length, IfOk};
-ghost use Rattle.rs_calls.specs.Tables.{AreStamped, AreTables};
+ghost use Rattle.rs_ffi.specs.Tables.{AreStamped, AreTables};
 
 use crate::{
     rs_decode, rs_decode_shards, rs_encode, rs_encode_shards, rs_fault_text, rs_supports,
     rs_tables_make,
 };
-use rs_calls::fault::RsFault;
-use rs_calls::layouts::RsShard;
-use rs_calls::tables::RsTables;
+use rs_ffi::fault::RsFault;
+use rs_ffi::layouts::RsShard;
+use rs_ffi::tables::RsTables;
 use std::alloc::{AllocError, Global};
 use std::process::Abort;
 use std::test::Fail;

@@ -1,6 +1,6 @@
 //! Tests that run command lines through `run` with writers in memory, with every engine.
-use rs_command::program::run;
-use rs_command::stream::Stream;
+use rs_cli::program::run;
+use rs_cli::stream::Stream;
 use std::alloc::{AllocError, Global};
 use std::io;
 use std::io::{ErrorKind, Write};

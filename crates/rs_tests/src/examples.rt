@@ -10,7 +10,7 @@ use reed_solomon_simd::{
     ShardIndex, decode, decode_into, encode, encode_into, encode_slice, reconstruct,
     reconstruct_into, update_into, verify,
 };
-use rs_callers::walking::restored_copies;
+use rs_examples::walking::restored_copies;
 use std::alloc::Global;
 use std::process::Abort;
 use std::str::FromStr;

@@ -1,6 +1,6 @@
 //! Tests of the three levels of use, as the documents quote them. They show that the calls can allocate memory, which
 //! no contract states.
-use rs_callers::levels;
+use rs_examples::levels;
 
 #[test]
 fn what_was_lost_comes_back(rt: HostRuntime) {

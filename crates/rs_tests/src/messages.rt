@@ -7,7 +7,7 @@ use reed_solomon_simd::engine::tables::Tables;
 use reed_solomon_simd::{
     Error, ShardIndex, complete, encode, join, reconstruct, shard_bytes, split,
 };
-use rs_callers::message_round_trip::{reconstruction_of_a_message, round_trip_of_a_message};
+use rs_examples::message_round_trip::{reconstruction_of_a_message, round_trip_of_a_message};
 use std::alloc::{AllocError, Global};
 use std::collections::BTreeMap;
 use std::process::Abort;

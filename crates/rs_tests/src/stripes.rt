@@ -2,7 +2,7 @@
 use reed_solomon_simd::decode_slice;
 use reed_solomon_simd::engine::tables::Tables;
 use reed_solomon_simd::engine::{DefaultEngine, EngineKind};
-use rs_callers::stripes::{STRIPE_BYTES, encode_file};
+use rs_examples::stripes::{STRIPE_BYTES, encode_file};
 use std::alloc::{AllocError, Global};
 use std::process::Abort;
 

@@ -4,7 +4,7 @@ ghost use Rattle.std.specs.Prelude.{◌≡◌, ◌<◌, ◌%◌};
 use super::shards::drawn;
 use reed_solomon_simd::engine::DefaultEngine;
 use reed_solomon_simd::engine::tables::Tables;
-use rs_callers::blocks::Blocks;
+use rs_examples::blocks::Blocks;
 use rs_volumes::checking::{UNIT, data_end, fits};
 use rs_volumes::coding_error::CodingError;
 use rs_volumes::creating::{Shape, create};

@@ -1,6 +1,0 @@
-use Rattle.std.proofs.Common.{◌≡◌, [], map}
-use Rattle.std.specs.Prelude.{replicate}
-use Rattle.rs_callers.proofs.blocks.Blocks.empty.Given as goal
-
-abbrev pub invariant-loop : goal.invariant-loop
-invariant-loop l = map (λ block. block.items) l.blocks.items ≡ replicate l.counter []
