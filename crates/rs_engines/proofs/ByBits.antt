@@ -10,8 +10,8 @@ use lib.Lanes.{zip2, sel_l, top}
 use Rattle.std.proofs.lemmas.Simd.{tops_compared, length-zip2, length-replicate, get_or-sel_l, get_or-zip2}
 use Rattle.std.proofs.lemmas.Simd.{get_or-replicate}
 use Rattle.rs_field.specs.words.Products.{byte_at}
-use Rattle.rs_field.proofs.of_words.Linear.{IsAdditive, xor_times_pow, xor_swap, lowest_xor, agree_below}
-use Rattle.rs_field.proofs.of_words.Packed.{power_of}
+use Rattle.rs_field.proofs.words_lemmas.Linear.{IsAdditive, xor_times_pow, xor_swap, lowest_xor, agree_below}
+use Rattle.rs_field.proofs.words_lemmas.Packed.{power_of}
 use Rattle.rs_engines.specs.Additive.{HasAdditiveBytes}
 
 -- If the bytes of a number are the values of an additive map at the values of a nibble, they are additive.

@@ -7,7 +7,7 @@ use Rattle.std.proofs.lemmas.Simd.{length-replicate, swz_l, SwzOk, SwzOk-from_be
 use Rattle.std.proofs.lemmas.Simd.{Each1-weaker, below_from_Fits, length-zip2, get_or-swz_l_below, get_or-zip2}
 use Rattle.std.proofs.lemmas.Simd.{get_or-replicate}
 use Rattle.rs_field.specs.words.Products.{byte_at}
-use Rattle.rs_field.proofs.of_rows.Symbols.{byte_of}
+use Rattle.rs_field.proofs.rows_lemmas.Symbols.{byte_of}
 
 -- The indexes into the table, which are computed from the bytes of a vector and one number.
 module _ (n b : ℕ) (v : List ℕ) (blocks : n ≡ b * 16) (long : length v ≡ n) (f : ℕ → ℕ → ℕ) (m : ℕ)

@@ -6,7 +6,7 @@ ghost use Rattle.rs_engines.specs.Factors.{log_of};
 
 use crate::byte_vector::ByteVector;
 use crate::factors::{Factor, General, Small, Zero};
-use crate::words::Words;
+use crate::word_lanes::Words;
 use rs_field::engine::tables::Multiply128lutT;
 use rs_field::engine::{GF_MODULUS, GfElement};
 

@@ -18,7 +18,6 @@ pub struct BitVector {
     lanes: u8x16,
 }
 
-// Returns the byte of a number that begins at bit `shift`.
 #[inline(always)]
 fn byte_from(t: u128, shift: u32) -> u8
     requires { shift < 128 }

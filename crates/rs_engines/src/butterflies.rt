@@ -6,7 +6,7 @@ ghost use Rattle.rs_engines.specs.Lanes.{lane};
 
 use crate::byte_vector::ByteVector;
 use crate::factors::{Factor, ThreeFactors};
-use crate::words::{Words, add};
+use crate::word_lanes::{Words, add};
 
 /// The butterflies of one direction of a transform. The direction decides the order of the two sums of a butterfly, and
 /// the order of two layers.

@@ -55,7 +55,6 @@ pub trait ByteVector: Copy + Drop {
     ghost width: { (LANES ≡ 16) ⊎ (LANES ≡ 32) };
 }
 
-// Returns the N bytes of a chunk from index `at` on.
 #[inline(always)]
 pub(crate) fn vector_at<const N: usize>(c: &[u8; 64], at: usize) -> Simd<u8, N>
     requires { at + N ≤ 64 }
@@ -74,7 +73,6 @@ pub(crate) fn put_vector<const N: usize>(v: Simd<u8, N>, c: &mut [u8; 64], at: u
     v.copy_to_slice(&mut c[at..at + N]);
 }
 
-// Returns the 16 bytes of a number, the lowest byte first.
 #[inline(always)]
 fn table(t: u128) -> u8x16
     ensures { (i : ℕ) → i < 16 → slice_index result i ≡ byte_at t i }
@@ -82,7 +80,6 @@ fn table(t: u128) -> u8x16
     u64x2::from_array([(t & 0xFFFF_FFFF_FFFF_FFFF) as u64, (t >> 64) as u64]).to_le_bytes()
 }
 
-// Returns the 16 bytes of a number twice, one after the other, the lowest byte first.
 #[inline(always)]
 fn table_twice(t: u128) -> u8x32
     ensures { (i : ℕ) → i < 32 → slice_index result i ≡ byte_at t (i % 16) }

@@ -41,7 +41,6 @@ impl<'t> NoSimd<'t> {
     }
 }
 
-// Returns the product of the word that has these two bytes.
 #[inline(always)]
 fn nibble_product(lists: &[[GfElement; 16]; 4], low: u8, high: u8) -> GfElement
     ensures { (f : ℕ) → IsNibbles f lists.now → result ≡ product (low + 256 * high) f }

@@ -89,7 +89,6 @@ impl<V: ByteVector, T: ShuffleTables> ByShuffles<V, T> {
     }
 }
 
-// Returns the three factors of two layers of butterflies that have the logarithms `logs`.
 #[inline(always)]
 fn three_factors<'t>(
     p02: &'t Multiply128lutT,

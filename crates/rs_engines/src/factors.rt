@@ -10,7 +10,7 @@ ghost use Rattle.rs_field.specs.words.Products.{IsNibbleBytes};
 ghost use Rattle.rs_engines.specs.Lanes.{lane};
 
 use crate::byte_vector::ByteVector;
-use crate::words::{Words, add, times, times_small};
+use crate::word_lanes::{Words, add, times, times_small};
 use rs_field::engine::GfElement;
 use rs_field::engine::tables::Multiply128lutT;
 

@@ -14,4 +14,4 @@ pub mod factors;
 mod shuffle_chunks;
 pub mod shuffle_rows;
 pub mod shuffle_tables;
-mod words;
+mod word_lanes;

@@ -11,7 +11,7 @@ ghost use Rattle.rs_field.specs.rows.TwoLayers.{at_four_symbols};
 use crate::butterflies::Butterflies;
 use crate::byte_vector::ByteVector;
 use crate::factors::{Factor, ThreeFactors};
-use crate::words::{put_words, times, words_at};
+use crate::word_lanes::{put_words, times, words_at};
 use rs_field::engine::tables::Multiply128lutT;
 
 // Multiplies as many symbols of a chunk as a vector has lanes, from symbol `at` on.

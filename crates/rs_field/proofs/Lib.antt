@@ -1,4 +1,4 @@
-pub mod of_words
-pub mod of_code
-pub mod of_rows
+pub mod words_lemmas
+pub mod code_lemmas
+pub mod rows_lemmas
 pub mod Walking

@@ -75,7 +75,7 @@ fn butterflies_of_quarters<K: Kernel>(
 /// backward transform of each part followed by these layers. Each part has `part_rows` rows.
 ///
 /// This function is inlined, so that transforms of more than four rows are compiled for their direction.
-#[tactic(auto, using(crate::proofs::of_rows::Parts::block_quarters))]
+#[tactic(auto, using(crate::proofs::rows_lemmas::Parts::block_quarters))]
 #[inline(always)]
 pub(crate) fn layers<K: Kernel>(
     direction: Direction,

@@ -82,7 +82,6 @@ fn put_long_tail(chunk: &mut [u8; 64], tail: &[u8], half: usize)
     put_32(chunk, 0, first);
 }
 
-// Returns 32 bytes as a vector.
 #[inline(always)]
 fn load_32(bytes: &[u8]) -> u8x32
     requires { length bytes.now ≡ 32 }

@@ -39,7 +39,6 @@ impl<'a> UsedRows<'a> {
     }
 }
 
-// Returns whether any row is marked.
 fn any_marked(marks: &[bool]) -> bool
     ensures none { result ≡ false → (i : ℕ) → is_marked marks.now i ≡ false }
     ensures some { result ≡ true → (i : ℕ) × (is_marked marks.now i ≡ true) }

@@ -33,7 +33,6 @@ fn sub_mod(x: GfElement, y: GfElement) -> GfElement
     branchless_add_mod(x, !y)
 }
 
-// Returns the sum and the difference modulo 65535.
 #[inline(always)]
 fn pair_sum(steps: &mut Steps, x: GfElement, y: GfElement) -> (GfElement, GfElement)
     ensures sum { result.0 % 65535 ≡ (x + y) % 65535 }

@@ -37,7 +37,6 @@ fn next_logarithm(logs: &[GfElement], z: usize, skew: Skew<'_>) -> GfElement
     }
 }
 
-// Returns the difference of two logarithms modulo 65535.
 fn difference(x: GfElement, y: GfElement) -> GfElement
     requires { y ≤ 65535 }
     ensures { result ≡ (x + (65535 - y)) % 65535 }

@@ -7,7 +7,6 @@ use super::table_types::{Mul16, Multiply128lutT};
 use super::{GF_ORDER, GfElement};
 use std::alloc::{AllocError, Global};
 
-// Returns the number of 16 bytes that has these halves.
 #[inline(always)]
 fn joined(low: u64, high: u64) -> u128
     ensures { result ≡ low + 2 ^ 64 * high }
@@ -64,7 +63,6 @@ fn high_bytes(words: &[GfElement; 16]) -> u128
     )
 }
 
-// Returns the bytes of the products with one factor.
 #[inline(always)]
 fn bytes_of(lists: &[[GfElement; 16]; 4]) -> Multiply128lutT
     ensures { (f : ℕ) → IsNibbles f lists.now → IsNibbleBytes f result }

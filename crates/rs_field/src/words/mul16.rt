@@ -53,7 +53,6 @@ fn nibble_list(place: GfElement, log_m: GfElement, t: &ExpLog) -> [GfElement; 16
     )
 }
 
-// Returns the products with the generator to the power `log_m`: one list for each nibble of a word.
 #[inline(always)]
 fn nibbles_of(log_m: GfElement, t: &ExpLog) -> [[GfElement; 16]; 4]
     requires { IsExpLog t.now.exp.items t.now.log.items }

@@ -13,7 +13,6 @@ const GENERATOR_PRODUCTS: [GfElement; GF_BITS] = [
     0x5499, 0xB887, 0x4F3F, 0xFDC5,
 ];
 
-// Returns the product of a word and the generator.
 fn times_generator(z: GfElement) -> GfElement
     ensures { result ≡ product z generator }
 {
@@ -28,7 +27,6 @@ fn times_generator(z: GfElement) -> GfElement
     out
 }
 
-// Returns the products of the generator with the words 0 to 255.
 fn low_products() -> [GfElement; 256]
     ensures { (i : ℕ) → i < 256 → slice_index result i ≡ product i generator }
 {
@@ -39,7 +37,6 @@ fn low_products() -> [GfElement; 256]
     products
 }
 
-// Returns the products of the generator with 256 times the words 0 to 255.
 fn high_products() -> [GfElement; 256]
     ensures { (i : ℕ) → i < 256 → slice_index result i ≡ product (256 * i) generator }
 {

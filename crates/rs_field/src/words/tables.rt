@@ -189,7 +189,6 @@ fn push_logs(table: &mut Vec<GfElement>, log: Log<'_>, points: usize) -> Result<
     Ok(())
 }
 
-// Returns the logarithm of a word, and 0 for the word 0.
 fn log_at(log: Log<'_>, z: usize) -> GfElement
     requires log { IsLog log.now }
     requires word { z < 65536 }

@@ -6,7 +6,6 @@ ghost use Rattle.rs_field.specs.words.StepBounds.{CountsPairs};
 use super::{GfElement, Steps};
 use std::simd::prelude::*;
 
-// Returns the larger of the two lanes, lane by lane.
 #[inline(always)]
 fn larger(x: u16x16, y: u16x16) -> u16x16
     ensures { (i : ℕ) → i < 16 → slice_index result i ≡ max (slice_index x i) (slice_index y i) }
@@ -14,7 +13,6 @@ fn larger(x: u16x16, y: u16x16) -> u16x16
     x.simd_max(y)
 }
 
-// Returns the difference lane by lane, and 0 in each lane where y is larger.
 #[inline(always)]
 fn excess(x: u16x16, y: u16x16) -> u16x16
     ensures { (i : ℕ) → i < 16 → slice_index result i ≡ slice_index x i - slice_index y i }
@@ -94,7 +92,6 @@ fn layer_8(v: u16x16) -> u16x16
     )
 }
 
-// Returns the transform of the 16 lanes.
 #[inline(always)]
 fn walsh_16(v: u16x16) -> u16x16
     ensures { IsWalsh 16 (λ y. slice_index v y) (λ w. slice_index result w) }
@@ -123,7 +120,6 @@ fn vector_sums(x0: u16x16, x1: u16x16, x2: u16x16, x3: u16x16) -> (u16x16, u16x1
     )
 }
 
-// Returns 16 entries as a vector.
 #[inline(always)]
 fn lanes_of(entries: &[GfElement]) -> u16x16
     requires { length entries.now ≡ 16 }

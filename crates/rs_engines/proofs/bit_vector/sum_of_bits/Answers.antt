@@ -1,6 +1,6 @@
 use Rattle.std.proofs.Common.{◌≡◌, ℕ, ◌*◌, ◌/◌, ◌%◌, ◌^◌, ◌<◌, get_or, ap₂, bit_xor, ◌∙◌, arith}
 use Rattle.rs_field.specs.words.Products.{byte_at}
-use Rattle.rs_field.proofs.of_rows.Symbols.{byte_of}
+use Rattle.rs_field.proofs.rows_lemmas.Symbols.{byte_of}
 use Rattle.rs_engines.proofs.ByBits.{by_bits, byte_by_bits}
 use Rattle.rs_engines.proofs.bit_vector.sum_of_bits.Goals.{After-sum}
 use Rattle.rs_engines.proofs.bit_vector.sum_of_bits.Goals as goal

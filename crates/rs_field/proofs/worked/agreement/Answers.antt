@@ -16,11 +16,11 @@ use Rattle.rs_field.specs.code.CodeLaws.{changed_shards}
 use Rattle.rs_field.specs.code.Given.{Shards, nothing, with_entry, count_below}
 use Rattle.rs_field.specs.code.Decoder.{IsAgreeing, IsConsistent, missing_of, Restored, DecodeAnswers}
 use Rattle.rs_field.specs.worked.Codes.{low_bytes, state_of_two, state_of_surplus, MixtureExample}
-use Rattle.rs_field.proofs.of_words.Linear.{passes_below}
-use Rattle.rs_field.proofs.of_code.Agreement.{one_message}
-use Rattle.rs_field.proofs.of_code.Changes.{changes_noticed}
-use Rattle.rs_field.proofs.of_code.Given.{entered_cases, nothing_among, entered_among}
-use Rattle.rs_field.proofs.of_code.Decided.{shards_from, recovery_from, recovery_from_high}
+use Rattle.rs_field.proofs.words_lemmas.Linear.{passes_below}
+use Rattle.rs_field.proofs.code_lemmas.Agreement.{one_message}
+use Rattle.rs_field.proofs.code_lemmas.Changes.{changes_noticed}
+use Rattle.rs_field.proofs.code_lemmas.Given.{entered_cases, nothing_among, entered_among}
+use Rattle.rs_field.proofs.code_lemmas.Decided.{shards_from, recovery_from, recovery_from_high}
 use Rattle.rs_field.proofs.worked.agreement.Goals as goal
 
 -- A message of two originals.

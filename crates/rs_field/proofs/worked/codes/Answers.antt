@@ -10,8 +10,8 @@ use Rattle.rs_field.specs.code.Frame.{frame_of, low_frame, high_frame}
 use Rattle.rs_field.specs.code.CodeLaws.{xor_bytes, xor_shards}
 use Rattle.rs_field.specs.worked.Codes.{LowExamples, HighExamples, ShortLineExample, CubicExample, TailExample}
 use Rattle.rs_field.specs.worked.Codes.{ChunkAndTailExample}
-use Rattle.rs_field.proofs.of_words.Linear.{passes_below}
-use Rattle.rs_field.proofs.of_code.Decided.{codes_from, recovery_from, recovery_from_high}
+use Rattle.rs_field.proofs.words_lemmas.Linear.{passes_below}
+use Rattle.rs_field.proofs.code_lemmas.Decided.{codes_from, recovery_from, recovery_from_high}
 use Rattle.rs_field.proofs.worked.codes.Goals as goal
 
 -- The examples of the low rate pass the tests.

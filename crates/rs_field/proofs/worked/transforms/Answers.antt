@@ -4,7 +4,7 @@ use Rattle.rs_field.specs.words.Field.{product, combine, bits, from_bits, cantor
 use Rattle.rs_field.specs.words.Subspace.{product_below, subspace, basis}
 use Rattle.rs_field.specs.words.Transform.{sum_below, forward}
 use Rattle.rs_field.specs.worked.Numbers.{pair}
-use Rattle.rs_field.proofs.of_words.Subspace.{product_below-same, subspace_shift}
+use Rattle.rs_field.proofs.words_lemmas.Subspace.{product_below-same, subspace_shift}
 use Rattle.rs_field.proofs.worked.transforms.Goals as goal
 
 -- The basis polynomial q at x, from shifts of the point x.

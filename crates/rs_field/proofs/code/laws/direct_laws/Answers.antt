@@ -1,5 +1,5 @@
-use Rattle.rs_field.proofs.of_code.AnyShards.{one_codeword}
-use Rattle.rs_field.proofs.of_code.BaseShards.{summed_directly, consistent_by_base}
+use Rattle.rs_field.proofs.code_lemmas.AnyShards.{one_codeword}
+use Rattle.rs_field.proofs.code_lemmas.BaseShards.{summed_directly, consistent_by_base}
 use Rattle.rs_field.proofs.code.laws.direct_laws.Goals as goal
 
 pub returns : goal.returns

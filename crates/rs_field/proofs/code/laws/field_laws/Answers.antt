@@ -1,10 +1,10 @@
 use Rattle.std.proofs.Common.{◌≡◌, refl}
 use Rattle.std.specs.Int.Bits.{xor_comm, xor_assoc, xor_self, xor_zero_r, xor_lt}
 use Rattle.rs_field.specs.words.Field.{bits, combine, cantor_basis, generator}
-use Rattle.rs_field.proofs.of_words.Product.{product_lt, product_comm as turned, product_assoc as grouped}
-use Rattle.rs_field.proofs.of_words.Product.{product_one as by_one, product_xor_right, bits-product, bits_injective}
-use Rattle.rs_field.proofs.of_words.Inverse.{inverse as inverse_of, inverse_lt, product_inverse}
-use Rattle.rs_field.proofs.of_words.Power.{log_lt, power-log, power_injective, power_pos, power_lt, power_turn}
+use Rattle.rs_field.proofs.words_lemmas.Product.{product_lt, product_comm as turned, product_assoc as grouped}
+use Rattle.rs_field.proofs.words_lemmas.Product.{product_one as by_one, product_xor_right, bits-product, bits_injective}
+use Rattle.rs_field.proofs.words_lemmas.Inverse.{inverse as inverse_of, inverse_lt, product_inverse}
+use Rattle.rs_field.proofs.words_lemmas.Power.{log_lt, power-log, power_injective, power_pos, power_lt, power_turn}
 use Rattle.rs_field.proofs.code.laws.field_laws.Goals as goal
 
 generator-bits : bits generator ≡ 2

@@ -1,7 +1,7 @@
-use Rattle.rs_field.proofs.of_code.RoundTrip.{restores_lost, restores_encoded}
-use Rattle.rs_field.proofs.of_code.OneRoundTrip.{restores_left, codes_in_one_call, encodes_in_one_call}
-use Rattle.rs_field.proofs.of_code.OneRoundTrip.{restores_in_one_call}
-use Rattle.rs_field.proofs.of_code.OnlyMessage.{restores_only}
+use Rattle.rs_field.proofs.code_lemmas.RoundTrip.{restores_lost, restores_encoded}
+use Rattle.rs_field.proofs.code_lemmas.OneRoundTrip.{restores_left, codes_in_one_call, encodes_in_one_call}
+use Rattle.rs_field.proofs.code_lemmas.OneRoundTrip.{restores_in_one_call}
+use Rattle.rs_field.proofs.code_lemmas.OnlyMessage.{restores_only}
 use Rattle.rs_field.proofs.code.laws.round_trip_laws.Goals as goal
 
 pub returns : goal.returns

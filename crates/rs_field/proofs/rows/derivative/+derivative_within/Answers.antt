@@ -1,8 +1,8 @@
 -- The derivative steps of both halves, with the sums between them, are the derivative step of the whole.
 use Rattle.std.proofs.Common.{◌/◌, arith}
-use Rattle.rs_field.proofs.of_words.Halves.{few_halves, half_power, no_steps, steps_half, two_halves}
-use Rattle.rs_field.proofs.of_rows.Recursion.{fits_kept}
-use Rattle.rs_field.proofs.of_rows.DerivativeStep.{derivative_one, derivative_rows}
+use Rattle.rs_field.proofs.words_lemmas.Halves.{few_halves, half_power, no_steps, steps_half, two_halves}
+use Rattle.rs_field.proofs.rows_lemmas.Recursion.{fits_kept}
+use Rattle.rs_field.proofs.rows_lemmas.DerivativeStep.{derivative_one, derivative_rows}
 use Rattle.rs_field.proofs.rows.derivative.+derivative_within.Goals as goal
 
 pub derivative_within-requires : goal.derivative_within-requires

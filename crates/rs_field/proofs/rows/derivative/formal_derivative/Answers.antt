@@ -1,5 +1,5 @@
 -- The rows from row 0 on are all rows.
-use Rattle.rs_field.proofs.of_rows.DerivativeStep.{derivative_all}
+use Rattle.rs_field.proofs.rows_lemmas.DerivativeStep.{derivative_all}
 use Rattle.rs_field.proofs.rows.derivative.formal_derivative.Goals as goal
 
 pub returns-clause-derivative : goal.returns-clause-derivative

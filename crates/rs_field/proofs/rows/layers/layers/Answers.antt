@@ -1,6 +1,6 @@
 use Rattle.std.proofs.Common.{◌*◌, ◌∙◌, refl, sym, ap, arith}
-use Rattle.rs_field.proofs.of_rows.BlockChunks.{block_long, one_layer_made, two_layers_made}
-use Rattle.rs_field.proofs.of_rows.Parts.{block_halves, block_quarters, steps_of_halved, steps_of_more}
+use Rattle.rs_field.proofs.rows_lemmas.BlockChunks.{block_long, one_layer_made, two_layers_made}
+use Rattle.rs_field.proofs.rows_lemmas.Parts.{block_halves, block_quarters, steps_of_halved, steps_of_more}
 use Rattle.rs_field.proofs.rows.layers.layers.Goals as goal
 
 pub butterflies_of_halves-requires : goal.butterflies_of_halves-requires

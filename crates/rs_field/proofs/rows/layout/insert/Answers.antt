@@ -1,5 +1,5 @@
 use Rattle.std.proofs.Common.{rules}
-use Rattle.rs_field.proofs.of_rows.LayoutLemmas.{laid_out-is, get-rest}
+use Rattle.rs_field.proofs.rows_lemmas.LayoutLemmas.{laid_out-is, get-rest}
 use Rattle.rs_field.proofs.rows.layout.insert.Goals as goal
 
 pub returns-then-half-gt0 : goal.returns-then-half-gt0

@@ -2,8 +2,8 @@ use Rattle.std.proofs.Common.{◌≡◌, ℕ, ◌+◌, ◌-◌, ◌*◌, ◌/◌
 use Rattle.std.proofs.Common.{nat_eq, List}
 use Rattle.std.proofs.lemmas.Bool.{true≢false}
 use Rattle.rs_field.specs.rows.Rows.{Chunks}
-use Rattle.rs_field.proofs.of_rows.ZeroColumns.{IsRow, AreZero, zero_columns, zero-from, zero-part, zero-first}
-use Rattle.rs_field.proofs.of_rows.ZeroColumns.{zero-second}
+use Rattle.rs_field.proofs.rows_lemmas.ZeroColumns.{IsRow, AreZero, zero_columns, zero-from, zero-part, zero-first}
+use Rattle.rs_field.proofs.rows_lemmas.ZeroColumns.{zero-second}
 use Rattle.rs_field.proofs.rows.layout.is_zero_row.Goals as goal
 use Rattle.rs_field.proofs.rows.layout.is_zero_row.Goals.{After-as_flattened-bytes}
 

@@ -1,4 +1,4 @@
-use Rattle.rs_field.proofs.of_rows.LayoutLemmas.{column-laid_out}
+use Rattle.rs_field.proofs.rows_lemmas.LayoutLemmas.{column-laid_out}
 use Rattle.rs_field.proofs.rows.layout.layout_laws.Goals as goal
 
 pub returns : goal.returns

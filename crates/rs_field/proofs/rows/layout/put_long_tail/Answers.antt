@@ -1,6 +1,6 @@
 use Rattle.std.proofs.Common.{◌≡◌, ℕ, ◌∙◌, ◌+◌, ◌-◌, ◌*◌, ◌<◌, arith, ap, sym, inr, get_or, length-take-le}
 use Rattle.std.proofs.lemmas.List.{get_or-take}
-use Rattle.rs_field.proofs.of_rows.LayoutLemmas.{get-rest}
+use Rattle.rs_field.proofs.rows_lemmas.LayoutLemmas.{get-rest}
 use Rattle.rs_field.proofs.rows.layout.put_long_tail.Goals as goal
 
 pub slice_bounds-load_32-end : goal.slice_bounds-load_32-end

@@ -3,7 +3,7 @@ use Rattle.std.proofs.Common.{sym, get_or-set_same}
 use lib.ListN.{set}
 use Rattle.std.specs.Simd.{first_chunks}
 use Rattle.std.proofs.lemmas.List.{get_or_append_left, get_or-take}
-use Rattle.rs_field.proofs.of_rows.LayoutLemmas.{byte_of_chunk}
+use Rattle.rs_field.proofs.rows_lemmas.LayoutLemmas.{byte_of_chunk}
 use Rattle.rs_field.proofs.rows.layout.put_whole.Goals as goal
 
 -- Byte b of chunk k of the first bytes of a shard is byte 64 k + b of the shard.

@@ -1,5 +1,5 @@
 use Rattle.std.proofs.Common.{ap, ◌∙◌, take}
-use Rattle.rs_field.proofs.of_rows.LayoutLemmas.{take-flat}
+use Rattle.rs_field.proofs.rows_lemmas.LayoutLemmas.{take-flat}
 use Rattle.rs_field.proofs.rows.layout.shard_of.Goals as goal
 
 pub returns : goal.returns

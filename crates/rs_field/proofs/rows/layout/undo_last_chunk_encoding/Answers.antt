@@ -1,7 +1,7 @@
 use Rattle.std.proofs.Common.{rules, ◌≡◌, ◌+◌, ◌∙◌, arith, ap, ◌/◌, ◌%◌, get_or, drop}
 use Rattle.std.proofs.lemmas.List.{get_or-take, get_or-drop}
 use Rattle.rs_field.specs.rows.Rows.{chunk}
-use Rattle.rs_field.proofs.of_rows.LayoutLemmas.{in_order-is}
+use Rattle.rs_field.proofs.rows_lemmas.LayoutLemmas.{in_order-is}
 use Rattle.rs_field.proofs.rows.layout.undo_last_chunk_encoding.Goals as goal
 
 pub returns-then-half-gt0 : goal.returns-then-half-gt0

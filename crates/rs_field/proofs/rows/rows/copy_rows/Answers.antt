@@ -1,6 +1,6 @@
 use Rattle.std.proofs.Common.{◌≡◌, ◌+◌, ◌-◌, ◌*◌, [], arith}
 use Rattle.rs_field.specs.rows.View.{cell}
-use Rattle.rs_field.proofs.of_rows.RowOffsets.{row_within, rows_end}
+use Rattle.rs_field.proofs.rows_lemmas.RowOffsets.{row_within, rows_end}
 use Rattle.rs_field.proofs.rows.rows.copy_rows.Goals as goal
 
 pub copy_within-requires-clause-in_bounds : goal.copy_within-requires-clause-in_bounds

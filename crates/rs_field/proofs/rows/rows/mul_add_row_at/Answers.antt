@@ -1,6 +1,6 @@
 use Rattle.std.proofs.Common.{rules}
 use Rattle.rs_field.specs.rows.View.{cell}
-use Rattle.rs_field.proofs.of_rows.RowOffsets.{row_ends}
+use Rattle.rs_field.proofs.rows_lemmas.RowOffsets.{row_ends}
 use Rattle.rs_field.proofs.rows.rows.mul_add_row_at.Goals as goal
 
 pub mul_add_runs-requires-clause-apart : goal.mul_add_runs-requires-clause-apart

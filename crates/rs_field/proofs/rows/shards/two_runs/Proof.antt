@@ -11,9 +11,9 @@ use Rattle.rs_field.proofs.Walking.{within, tuple_type, shape}
 use denote.Slice.{mut_slice_Tells}
 use base.Fml.{GName}
 use denote.Triple.Walked.{Goes-spent_slice}
-use Rattle.rs_field.proofs.of_rows.Runs.{run_of, two_lent, lends_two}
+use Rattle.rs_field.proofs.rows_lemmas.Runs.{run_of, two_lent, lends_two}
 use Rattle.rs_field.specs.rows.Rows.{Chunks}
-use Rattle.rs_field.proofs.of_rows.LentChunks.{E, Slice}
+use Rattle.rs_field.proofs.rows_lemmas.LentChunks.{E, Slice}
 use Rattle.rs_field.specs.contracts.rows.shards.two_runs as f
 use Rattle.rs_field.proofs.rows.shards.two_runs.Statement.{statement}
 use Rattle.rs_field.proofs.rows.shards.two_runs.Code as code

@@ -1,5 +1,5 @@
 use Rattle.std.proofs.Common.{rules}
-use Rattle.rs_field.proofs.of_words.Packed.{sum_of_bytes}
+use Rattle.rs_field.proofs.words_lemmas.Packed.{sum_of_bytes}
 use Rattle.rs_field.proofs.rows.sums.xor_chunk.Goals as goal
 
 pub returns-clause-symbols : goal.returns-clause-symbols

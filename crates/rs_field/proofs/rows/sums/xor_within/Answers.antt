@@ -1,6 +1,6 @@
 use Rattle.std.proofs.Common.{rules, ◌≡◌, ◌+◌, ◌*◌, arith}
 use Rattle.rs_field.specs.rows.View.{cell}
-use Rattle.rs_field.proofs.of_rows.RowOffsets.{row_within, rows_end}
+use Rattle.rs_field.proofs.rows_lemmas.RowOffsets.{row_within, rows_end}
 use Rattle.rs_field.proofs.rows.sums.xor_within.Goals as goal
 
 pub xor_runs-requires-clause-apart : goal.xor_runs-requires-clause-apart

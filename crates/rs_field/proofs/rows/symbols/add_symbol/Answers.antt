@@ -2,7 +2,7 @@ use Rattle.std.proofs.Common.{◌≡◌, ◌+◌, ◌*◌, ◌/◌, ◌%◌, ◌
 use Rattle.std.proofs.lemmas.List.{places}
 use Rattle.std.proofs.lemmas.Nat.{and_mask}
 use Rattle.rs_field.specs.rows.Rows.{symbol}
-use Rattle.rs_field.proofs.of_words.Packed.{sum_of_bytes}
+use Rattle.rs_field.proofs.words_lemmas.Packed.{sum_of_bytes}
 use Rattle.rs_field.proofs.rows.symbols.add_symbol.Goals as goal
 
 pub returns-clause-sum : goal.returns-clause-sum

@@ -3,13 +3,15 @@ use Rattle.std.proofs.Common.{rules, ◌≡◌, ℕ, ◌+◌, ◌*◌, ◌/◌, 
 use Rattle.rs_field.specs.rows.View.{word}
 use Rattle.rs_field.specs.rows.MarkedRows.{is_used, HasMarks}
 use Rattle.rs_field.specs.rows.Directions.{AreTransformed}
-use Rattle.rs_field.proofs.of_words.Counting.{counts_none, counts_rows}
-use Rattle.rs_field.proofs.of_rows.Recursion.{fits_kept}
-use Rattle.rs_field.proofs.of_rows.Directions.{layers_of_few}
-use Rattle.rs_field.proofs.of_rows.Parts.{block_power, part_begins, part_found, part_within, parts_number, parts_whole}
-use Rattle.rs_field.proofs.of_rows.PartLoops.{parts_begun, parts_next, forward_whole, backward_whole, none_used}
-use Rattle.rs_field.proofs.of_rows.PartLoops.{one_used, counts_next, counts_of_layers, counts_of_parts, counts_of_whole}
-use Rattle.rs_field.proofs.of_rows.PartLoops.{zeros_of_part, part_before}
+use Rattle.rs_field.proofs.words_lemmas.Counting.{counts_none, counts_rows}
+use Rattle.rs_field.proofs.rows_lemmas.Recursion.{fits_kept}
+use Rattle.rs_field.proofs.rows_lemmas.Directions.{layers_of_few}
+use Rattle.rs_field.proofs.rows_lemmas.Parts.{block_power, part_begins, part_found, part_within, parts_number}
+use Rattle.rs_field.proofs.rows_lemmas.Parts.{parts_whole}
+use Rattle.rs_field.proofs.rows_lemmas.PartLoops.{parts_begun, parts_next, forward_whole, backward_whole, none_used}
+use Rattle.rs_field.proofs.rows_lemmas.PartLoops.{one_used, counts_next, counts_of_layers, counts_of_parts}
+use Rattle.rs_field.proofs.rows_lemmas.PartLoops.{counts_of_whole}
+use Rattle.rs_field.proofs.rows_lemmas.PartLoops.{zeros_of_part, part_before}
 use Rattle.rs_field.proofs.rows.transform.+transform.Goals as goal
 
 pub transform-returns-then-are_none-clause-values : goal.transform-returns-then-are_none-clause-values

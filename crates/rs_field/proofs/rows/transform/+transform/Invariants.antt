@@ -1,7 +1,7 @@
 use Rattle.std.proofs.Common.{◌+◌, ◌*◌}
 use Rattle.rs_field.specs.words.StepBounds.{CountsUpTo, transform_steps}
 use Rattle.rs_field.specs.rows.MarkedRows.{is_used}
-use Rattle.rs_field.proofs.of_rows.PartLoops.{PartsDone}
+use Rattle.rs_field.proofs.rows_lemmas.PartLoops.{PartsDone}
 use Rattle.rs_field.proofs.rows.transform.+transform.Given as goal
 
 abbrev pub decreases-transform : goal.decreases-transform

@@ -1,4 +1,4 @@
-use Rattle.rs_field.proofs.of_words.Injective.{transforms_are_inverse}
+use Rattle.rs_field.proofs.words_lemmas.Injective.{transforms_are_inverse}
 use Rattle.rs_field.proofs.rows.transform.transform_laws.Goals as goal
 
 pub returns : goal.returns

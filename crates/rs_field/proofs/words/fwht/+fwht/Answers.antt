@@ -1,8 +1,10 @@
 -- The transforms of the quarters, and two layers after them, make the whole transform.
 use Rattle.std.proofs.Common.{◌≡◌, ℕ, ◌+◌, ◌/◌, ◌<◌, length, get_or, ◌∙◌, arith}
 use Rattle.std.proofs.lemmas.Nat.{pow_pos}
-use Rattle.rs_field.proofs.of_words.Halving.{AreQuarters, in_quarters, walsh-joined, walsh-at, walsh-one, walsh-none}
-use Rattle.rs_field.proofs.of_words.Halving.{walsh-pair, walsh-counts, walsh-quarter-counts, exact-counts, small_steps}
+use Rattle.rs_field.proofs.words_lemmas.Halving.{AreQuarters, in_quarters, walsh-joined, walsh-at, walsh-one}
+use Rattle.rs_field.proofs.words_lemmas.Halving.{walsh-none}
+use Rattle.rs_field.proofs.words_lemmas.Halving.{walsh-pair, walsh-counts, walsh-quarter-counts, exact-counts}
+use Rattle.rs_field.proofs.words_lemmas.Halving.{small_steps}
 use Rattle.rs_field.proofs.words.fwht.+fwht.Goals as goal
 use Rattle.rs_field.proofs.words.fwht.+fwht.Goals.{After-split_at_mut-x2, else-n-gt2-via-then-n-gt2+else-truncated-gt0}
 use Rattle.rs_field.proofs.words.fwht.+fwht.Goals.{else-n-gt2-via-else-n-gt2}

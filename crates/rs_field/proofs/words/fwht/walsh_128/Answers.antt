@@ -1,6 +1,6 @@
 -- One layer after the transforms of both halves makes the transform of the whole.
 use Rattle.std.proofs.Common.{◌≡◌, ◌∙◌, length, refl, arith}
-use Rattle.rs_field.proofs.of_words.Halving.{walsh-two}
+use Rattle.rs_field.proofs.words_lemmas.Halving.{walsh-two}
 use Rattle.rs_field.proofs.words.fwht.walsh_128.Goals as goal
 
 pub returns-clause-values : goal.returns-clause-values

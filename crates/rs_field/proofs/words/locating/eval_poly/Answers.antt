@@ -1,5 +1,5 @@
 use Rattle.std.proofs.Common.{length, arith}
-use Rattle.rs_field.proofs.of_words.Convolution.{counts-below}
+use Rattle.rs_field.proofs.words_lemmas.Convolution.{counts-below}
 use Rattle.rs_field.proofs.words.locating.eval_poly.Goals as goal
 
 pub locate_marked-requires-clause-power : goal.locate_marked-requires-clause-power

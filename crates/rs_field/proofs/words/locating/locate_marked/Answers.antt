@@ -2,8 +2,8 @@ use Rattle.std.proofs.Common.{◌≡◌, ◌∙◌, ℕ, ◌*◌, ◌/◌, ◌^�
 use Rattle.rs_field.specs.words.StepBounds.{CountsProducts, WalshCounts}
 use Rattle.rs_field.specs.words.Locator.{IsLocatorBelow}
 use Rattle.rs_field.specs.words.Walsh.{IsWalsh, log_or_zero}
-use Rattle.rs_field.proofs.of_words.Halving.{walsh-at}
-use Rattle.rs_field.proofs.of_words.Convolution.{few_bits, locator-made, locator-counts}
+use Rattle.rs_field.proofs.words_lemmas.Halving.{walsh-at}
+use Rattle.rs_field.proofs.words_lemmas.Convolution.{few_bits, locator-made, locator-counts}
 use Rattle.rs_field.proofs.words.locating.locate_marked.Goals as goal
 
 pub returns-clause-values : goal.returns-clause-values

@@ -1,6 +1,6 @@
 use Rattle.std.proofs.Common.{ℕ, ◌+◌, ◌-◌, ◌/◌, ◌%◌, sym, ap, ap₂, ◌∙◌, arith}
 use Rattle.rs_field.specs.words.Field.{log}
-use Rattle.rs_field.proofs.of_words.Logarithms.{even_log, log_one, odd_log}
+use Rattle.rs_field.proofs.words_lemmas.Logarithms.{even_log, log_one, odd_log}
 use Rattle.rs_field.proofs.words.logarithms.next_logarithm.Goals as goal
 
 pub returns-then-z-eq1 : goal.returns-then-z-eq1

@@ -1,5 +1,5 @@
 use Rattle.std.proofs.Common.{◌∙◌}
-use Rattle.rs_field.proofs.of_words.Sums.{high_of_four}
+use Rattle.rs_field.proofs.words_lemmas.Sums.{high_of_four}
 use Rattle.rs_field.proofs.words.mul128.high_bytes.Goals as goal
 
 pub returns : goal.returns

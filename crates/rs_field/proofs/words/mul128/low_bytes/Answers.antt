@@ -1,5 +1,5 @@
 use Rattle.std.proofs.Common.{◌∙◌}
-use Rattle.rs_field.proofs.of_words.Sums.{low_of_four}
+use Rattle.rs_field.proofs.words_lemmas.Sums.{low_of_four}
 use Rattle.rs_field.proofs.words.mul128.low_bytes.Goals as goal
 
 pub returns : goal.returns

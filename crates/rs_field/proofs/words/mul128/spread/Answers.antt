@@ -1,6 +1,6 @@
 use Rattle.std.proofs.Common.{◌*◌, ap, arith}
 use Rattle.std.specs.Int.Bits.{xor_lt}
-use Rattle.rs_field.proofs.of_words.Packed.{spread_bytes}
+use Rattle.rs_field.proofs.words_lemmas.Packed.{spread_bytes}
 use Rattle.rs_field.proofs.words.mul128.spread.Goals as goal
 
 pub returns : goal.returns

@@ -1,4 +1,4 @@
-use Rattle.rs_field.proofs.of_words.Sums.{sixteen, nibble_additive}
+use Rattle.rs_field.proofs.words_lemmas.Sums.{sixteen, nibble_additive}
 use Rattle.rs_field.proofs.words.mul16.nibble_sums.Goals as goal
 
 pub returns : goal.returns

@@ -1,7 +1,7 @@
 use Rattle.std.proofs.Common.{sym, ◌∙◌, arith}
 use Rattle.std.proofs.lemmas.List.{length-set}
-use Rattle.rs_field.proofs.of_words.Power.{power_zero}
-use Rattle.rs_field.proofs.of_words.Tables.{exp_more, log_more, log_zero_more, power_next, filled_tables}
+use Rattle.rs_field.proofs.words_lemmas.Power.{power_zero}
+use Rattle.rs_field.proofs.words_lemmas.Tables.{exp_more, log_more, log_zero_more, power_next, filled_tables}
 use Rattle.rs_field.proofs.words.powers.exp_log_table.Goals as goal
 
 pub loop-n-init : goal.loop-n-init

@@ -2,7 +2,7 @@ use Rattle.std.proofs.Common.{◌≡◌, ◌*◌, ◌/◌, ◌%◌, ◌^◌, get
 use Rattle.std.specs.Int.Bits.{xor_comm, xor_shifted}
 use Rattle.std.proofs.lemmas.Nat.{and_mask}
 use Rattle.rs_field.specs.words.Field.{product, generator}
-use Rattle.rs_field.proofs.of_words.Product.{product_xor_left}
+use Rattle.rs_field.proofs.words_lemmas.Product.{product_xor_left}
 use Rattle.rs_field.proofs.words.powers.product_by_bytes.Goals as goal
 
 pub returns : goal.returns

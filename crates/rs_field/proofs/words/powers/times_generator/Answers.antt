@@ -1,6 +1,7 @@
 use Rattle.std.proofs.Common.{◌≡◌, ◌+◌, ◌%◌, bit_xor, ℕ, ◌/◌, drop, ap, ◌∙◌, arith}
 use Rattle.rs_field.specs.words.Field.{combine}
-use Rattle.rs_field.proofs.of_words.Tables.{take_entry, leave_entry, all_entries, generator_products, generator_columns}
+use Rattle.rs_field.proofs.words_lemmas.Tables.{take_entry, leave_entry, all_entries, generator_products}
+use Rattle.rs_field.proofs.words_lemmas.Tables.{generator_columns}
 use Rattle.rs_field.proofs.words.powers.times_generator.Goals as goal
 use Rattle.rs_field.proofs.words.powers.times_generator.Goals.{then-rest-eq1, else-rest-eq1}
 

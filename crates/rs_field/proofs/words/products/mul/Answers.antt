@@ -1,8 +1,8 @@
 use Rattle.std.proofs.Common.{◌≡◌, ◌+◌, ◌%◌, ℕ, ◌<◌, get_or, List, sym, ap, ◌∙◌, arith}
 use Rattle.rs_field.specs.words.Field.{product, power, log}
 use Rattle.rs_field.specs.words.Tables.{IsExpLog}
-use Rattle.rs_field.proofs.of_words.Product.{zero_product}
-use Rattle.rs_field.proofs.of_words.Power.{power-mod, product-log}
+use Rattle.rs_field.proofs.words_lemmas.Product.{zero_product}
+use Rattle.rs_field.proofs.words_lemmas.Power.{power-mod, product-log}
 use Rattle.rs_field.proofs.words.products.mul.Goals as goal
 
 pub returns-then-x-eq0 : goal.returns-then-x-eq0

@@ -1,5 +1,5 @@
 use Rattle.std.proofs.Common.{arith}
-use Rattle.rs_field.proofs.of_words.LogWalsh.{log_or_zero-zero, log_or_zero-some}
+use Rattle.rs_field.proofs.words_lemmas.LogWalsh.{log_or_zero-zero, log_or_zero-some}
 use Rattle.rs_field.proofs.words.tables.log_at.Goals as goal
 
 pub returns-then-z-eq0 : goal.returns-then-z-eq0

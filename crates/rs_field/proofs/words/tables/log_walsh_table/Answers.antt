@@ -1,6 +1,6 @@
 use Rattle.std.proofs.Common.{◌≡◌, ℕ, ◌+◌, ◌*◌, ◌/◌, ◌%◌, ◌^◌, ◌≤◌, length, get_or, vec_len, subst, arith}
 use Rattle.rs_field.specs.words.Walsh.{IsWalsh, log_or_zero}
-use Rattle.rs_field.proofs.of_words.LogWalsh.{first-more}
+use Rattle.rs_field.proofs.words_lemmas.LogWalsh.{first-more}
 use Rattle.rs_field.proofs.words.tables.log_walsh_table.Goals as goal
 
 pub loop-places-preserved : goal.loop-places-preserved

@@ -1,4 +1,4 @@
-use Rattle.rs_field.proofs.of_words.LogWalsh.{AreFirst}
+use Rattle.rs_field.proofs.words_lemmas.LogWalsh.{AreFirst}
 use Rattle.rs_field.proofs.words.tables.log_walsh_table.Given as goal
 
 abbrev pub invariant-loop-places : goal.invariant-loop-places

@@ -2,7 +2,7 @@ use Rattle.std.proofs.Common.{◌≡◌, ℕ, ◌+◌, ◌*◌, ◌/◌, ◌%◌
 use Rattle.std.proofs.Common.{◌∙◌, arith}
 use Rattle.std.proofs.lemmas.List.{get_or-take, get_or_append_left, get_or-append-add, get_or-drop, length-append}
 use Rattle.rs_field.specs.words.Walsh.{log_or_zero}
-use Rattle.rs_field.proofs.of_words.Halving.{walsh-at, walsh-near}
+use Rattle.rs_field.proofs.words_lemmas.Halving.{walsh-at, walsh-near}
 use Rattle.rs_field.proofs.words.tables.push_log_walsh.Goals as goal
 
 -- An entry of the last part is at its place in the list that was written.

@@ -5,8 +5,8 @@ use Rattle.std.proofs.lemmas.Bool.{cases_eq, cases_lt}
 use Rattle.std.proofs.lemmas.Nat.{pow_pos, shl-shr}
 use Rattle.rs_field.specs.words.Subspace.{subspace}
 use Rattle.rs_field.specs.words.Tables.{IsExpLog, log_or_mark}
-use Rattle.rs_field.proofs.of_words.Halves.{mark_zero, mark_word}
-use Rattle.rs_field.proofs.of_words.Subspace.{subspace_shift}
+use Rattle.rs_field.proofs.words_lemmas.Halves.{mark_zero, mark_word}
+use Rattle.rs_field.proofs.words_lemmas.Subspace.{subspace_shift}
 use Rattle.rs_field.proofs.words.tables.skew_table.Goals as goal
 
 any_default : (xs : List ℕ) (i d e : ℕ) → i < length xs → get_or xs i d ≡ get_or xs i e

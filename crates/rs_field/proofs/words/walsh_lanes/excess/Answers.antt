@@ -2,7 +2,7 @@ use Rattle.std.proofs.Common.{ℕ, ◌+◌, ◌-◌, ◌%◌, cond, List, map, �
 use Rattle.std.proofs.Math.Dec.{ltb}
 use Rattle.std.proofs.lemmas.Simd.{get_or-zip2}
 use lib.Lanes.{zip2, sel_l, top}
-use Rattle.rs_field.proofs.of_words.WalshLanes.{larger_lane, length-larger, lane_below}
+use Rattle.rs_field.proofs.words_lemmas.WalshLanes.{larger_lane, length-larger, lane_below}
 use Rattle.rs_field.proofs.words.walsh_lanes.excess.Goals as goal
 
 pub returns : goal.returns

@@ -1,4 +1,4 @@
-use Rattle.rs_field.proofs.of_words.WalshLanes.{larger_lane}
+use Rattle.rs_field.proofs.words_lemmas.WalshLanes.{larger_lane}
 use Rattle.rs_field.proofs.words.walsh_lanes.larger.Goals as goal
 
 pub returns : goal.returns

@@ -1,6 +1,6 @@
 use Rattle.std.proofs.Common.{refl}
-use Rattle.rs_field.proofs.of_words.Linear.{passes_below}
-use Rattle.rs_field.proofs.of_words.WalshLanes.{layer_of}
+use Rattle.rs_field.proofs.words_lemmas.Linear.{passes_below}
+use Rattle.rs_field.proofs.words_lemmas.WalshLanes.{layer_of}
 use Rattle.rs_field.proofs.words.walsh_lanes.layer_1.Goals as goal
 
 pub returns : goal.returns

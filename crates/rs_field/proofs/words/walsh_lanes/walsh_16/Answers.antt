@@ -1,4 +1,4 @@
-use Rattle.rs_field.proofs.of_words.WalshLanes.{four_layers}
+use Rattle.rs_field.proofs.words_lemmas.WalshLanes.{four_layers}
 use Rattle.rs_field.proofs.words.walsh_lanes.walsh_16.Goals as goal
 
 pub returns : goal.returns

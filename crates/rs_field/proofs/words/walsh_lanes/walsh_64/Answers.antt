@@ -1,6 +1,6 @@
 -- Two layers after the transforms of four vectors make the transform of the whole.
 use Rattle.std.proofs.Common.{◌∙◌, refl, arith}
-use Rattle.rs_field.proofs.of_words.Halving.{cut_in_quarters, walsh-joined, walsh-same, walsh-at}
+use Rattle.rs_field.proofs.words_lemmas.Halving.{cut_in_quarters, walsh-joined, walsh-same, walsh-at}
 use Rattle.rs_field.proofs.words.walsh_lanes.walsh_64.Goals as goal
 
 pub returns-clause-values : goal.returns-clause-values

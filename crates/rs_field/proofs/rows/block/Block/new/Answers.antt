@@ -1,5 +1,5 @@
 use Rattle.std.proofs.Common.{rules}
-use Rattle.rs_field.proofs.of_code.NextPower.{power_is_own}
+use Rattle.rs_field.proofs.code_lemmas.NextPower.{power_is_own}
 use Rattle.rs_field.proofs.rows.block.Block.new.Goals as goal
 
 pub invariant_of-result : goal.invariant_of-result

@@ -1,6 +1,6 @@
 use Rattle.std.proofs.Common.{arith}
-use Rattle.rs_field.proofs.of_code.NextPower.{power_is_own}
-use Rattle.rs_field.proofs.of_rows.Parts.{part_aligned, part_found, part_within}
+use Rattle.rs_field.proofs.code_lemmas.NextPower.{power_is_own}
+use Rattle.rs_field.proofs.rows_lemmas.Parts.{part_aligned, part_found, part_within}
 use Rattle.rs_field.proofs.rows.block.Block.part.Goals as goal
 
 pub invariant_of-result : goal.invariant_of-result

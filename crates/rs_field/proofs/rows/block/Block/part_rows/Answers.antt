@@ -1,5 +1,5 @@
 use Rattle.std.proofs.Common.{◌∙◌, sym}
-use Rattle.rs_field.proofs.of_rows.Parts.{part_of_halved, part_of_more}
+use Rattle.rs_field.proofs.rows_lemmas.Parts.{part_of_halved, part_of_more}
 use Rattle.rs_field.proofs.rows.block.Block.part_rows.Goals as goal
 
 pub returns-then-is_halved : goal.returns-then-is_halved

@@ -2,9 +2,9 @@ use Rattle.std.proofs.Common.{◌≡◌, ℕ, ◌+◌, ◌-◌, ◌%◌, ◌^◌
 use Rattle.std.proofs.Common.{arith}
 use Rattle.std.proofs.lemmas.List.{get_or_append_left, get_or-append-add, get_or-drop, get_or-take, get_or-replicate}
 use Rattle.rs_field.specs.words.Locator.{log_sum}
-use Rattle.rs_field.proofs.of_words.LocatorLemmas.{log_sum-same}
-use Rattle.rs_field.proofs.of_words.LocatorProduct.{none_marked_past}
-use Rattle.rs_field.proofs.of_words.Convolution.{few_bits}
+use Rattle.rs_field.proofs.words_lemmas.LocatorLemmas.{log_sum-same}
+use Rattle.rs_field.proofs.words_lemmas.LocatorProduct.{none_marked_past}
+use Rattle.rs_field.proofs.words_lemmas.Convolution.{few_bits}
 use Rattle.rs_field.proofs.rows.engine.Engine.locate.Goals as goal
 
 -- A list whose first entries were replaced has the old entries after them.

@@ -1,9 +1,9 @@
 use Rattle.std.proofs.Common.{rules, ◌≡◌, ℕ, ◌+◌, ◌-◌, ◌<◌, ap, ap₂, sym, ◌∙◌, arith, bit_xor}
 use Rattle.rs_field.specs.words.Field.{product, power}
 use Rattle.rs_field.specs.words.Tables.{times_factor}
-use Rattle.rs_field.proofs.of_words.Power.{power-add, power_turn}
-use Rattle.rs_field.proofs.of_words.Product.{product_xor_left, product_one}
-use Rattle.rs_field.proofs.of_words.Total.{product-assoc}
+use Rattle.rs_field.proofs.words_lemmas.Power.{power-add, power_turn}
+use Rattle.rs_field.proofs.words_lemmas.Product.{product_xor_left, product_one}
+use Rattle.rs_field.proofs.words_lemmas.Total.{product-assoc}
 use Rattle.rs_field.proofs.rows.engine.Engine.mul_add.Goals as goal
 
 -- Dividing by a factor, adding a word and multiplying by the factor adds the word times the factor.

@@ -1,5 +1,5 @@
 use Rattle.std.proofs.Common.{length}
-use Rattle.rs_field.proofs.of_words.Convolution.{counts-below}
+use Rattle.rs_field.proofs.words_lemmas.Convolution.{counts-below}
 use Rattle.rs_field.proofs.rows.kernel_engine.AnyEngine.locate.Goals as goal
 
 pub returns-clause-counts : goal.returns-clause-counts

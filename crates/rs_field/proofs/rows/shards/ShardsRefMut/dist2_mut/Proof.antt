@@ -8,8 +8,8 @@ use Rattle.rs_field.proofs.Walking.{mut_Tells, plain, named_lft, Room, nothing, 
 use Rattle.rs_field.proofs.Walking.{walk_of, ends_at, Goes-dropped, Goes-spent_ref, ℕ}
 use Rattle.rs_field.specs.rows.Rows.{Chunks}
 use Rattle.rs_field.specs.rows.View.{row_at}
-use Rattle.rs_field.proofs.of_rows.LentChunks.{E, pair}
-use Rattle.rs_field.proofs.of_rows.Lenders.{opens_self, closes_self, calls_all, calls_two, had, lends_runs}
+use Rattle.rs_field.proofs.rows_lemmas.LentChunks.{E, pair}
+use Rattle.rs_field.proofs.rows_lemmas.Lenders.{opens_self, closes_self, calls_all, calls_two, had, lends_runs}
 use Rattle.rs_field.proofs.rows.shards.ShardsRefMut.all.Met.{met as met₁}
 use Rattle.rs_field.proofs.rows.shards.two_runs.Met.{met as met₂}
 use Rattle.rs_field.specs.rows.Lending.{LendsTwoRuns}

@@ -7,9 +7,9 @@ use Rattle.rs_field.proofs.Walking.{no, uint_vals, uint_Tells, RattleType, owns,
 use Rattle.rs_field.proofs.Walking.{named_lft, Room, nothing, heard, framed, Stays, stay_dropped, walk_of, ends_at}
 use Rattle.rs_field.proofs.Walking.{Goes-dropped, Goes-spent_ref, agg, from, hop, look_in_at}
 use Rattle.rs_field.specs.rows.Rows.{Chunks}
-use Rattle.rs_field.proofs.of_rows.LentChunks.{E, taken}
-use Rattle.rs_field.proofs.of_rows.Lenders.{opens_self, closes_self, calls_all, calls_two, had, parts, fours_made}
-use Rattle.rs_field.proofs.of_rows.Lenders.{four_val}
+use Rattle.rs_field.proofs.rows_lemmas.LentChunks.{E, taken}
+use Rattle.rs_field.proofs.rows_lemmas.Lenders.{opens_self, closes_self, calls_all, calls_two, had, parts, fours_made}
+use Rattle.rs_field.proofs.rows_lemmas.Lenders.{four_val}
 use types.ByLocal.{get_in}
 use Rattle.std.proofs.Common.{lit<}
 use Rattle.rs_field.specs.rows.View.{row_at}
@@ -21,7 +21,7 @@ use Rattle.rs_field.specs.contracts.rows.shards.ShardsRefMut.{the_row}
 use Rattle.rs_field.specs.contracts.rows.shards.ShardsRefMut.dist4_mut as f
 use Rattle.rs_field.proofs.rows.shards.ShardsRefMut.dist4_mut.Statement.{statement}
 use Rattle.rs_field.proofs.rows.shards.ShardsRefMut.dist4_mut.Code as code
-use Rattle.rs_field.proofs.of_rows.FourRuns.{two-rows, lends_four}
+use Rattle.rs_field.proofs.rows_lemmas.FourRuns.{two-rows, lends_four}
 
 abbrev stayed : Stays f.ended.signature.params f.ended.kept
 stayed = (stay_dropped _ no, (stay_dropped _ yes, (stay_dropped _ yes, tt)))

@@ -8,10 +8,10 @@ use Rattle.rs_field.proofs.Walking.{env, usize, yes, no, uint_vals, uint_Tells, 
 use Rattle.rs_field.proofs.Walking.{plain, named_lft, Array, slice_val, mut_slice_vals, nothing, heard, framed, says}
 use Rattle.rs_field.proofs.Walking.{Stays, stay_dropped, walk_of, ends_at, Goes-dropped, Goes-spent_ref}
 use denote.Follow.{follows, follows_then}
-use Rattle.rs_field.proofs.of_rows.Runs.{run_of, run_lent, lends_run}
-use Rattle.rs_field.proofs.of_rows.Lenders.{calls_all}
+use Rattle.rs_field.proofs.rows_lemmas.Runs.{run_of, run_lent, lends_run}
+use Rattle.rs_field.proofs.rows_lemmas.Lenders.{calls_all}
 use Rattle.rs_field.specs.rows.Rows.{Chunks}
-use Rattle.rs_field.proofs.of_rows.LentChunks.{E, Bare}
+use Rattle.rs_field.proofs.rows_lemmas.LentChunks.{E, Bare}
 use Rattle.rs_field.specs.rows.Lending.{with_chunks, with_run}
 use Rattle.rs_field.specs.contracts.rows.shards.ShardsRefMut.{the_row}
 use Rattle.rs_field.specs.contracts.rows.shards.ShardsRefMut.run as f

@@ -12,8 +12,8 @@ use base.Fml.{GName, Fml}
 use Rattle.std.proofs.Common.{lit<}
 use denote.Struct.Tuple.{tuple_laws}
 use Rattle.rs_field.specs.rows.Rows.{Chunks}
-use Rattle.rs_field.proofs.of_rows.LentChunks.{E, Bare, pair, taken}
-use Rattle.rs_field.proofs.of_rows.Lenders.{opens_self, closes_self, calls_all, calls_two, had, lends_runs}
+use Rattle.rs_field.proofs.rows_lemmas.LentChunks.{E, Bare, pair, taken}
+use Rattle.rs_field.proofs.rows_lemmas.Lenders.{opens_self, closes_self, calls_all, calls_two, had, lends_runs}
 use Rattle.rs_field.proofs.rows.shards.ShardsRefMut.all.Met.{met as met₁}
 use Rattle.rs_field.proofs.rows.shards.two_runs.Met.{met as met₂}
 use Rattle.rs_field.specs.rows.View.{HasRows, IsListOf}

@@ -1,7 +1,7 @@
 use Rattle.std.proofs.Common.{◌+◌, ◌*◌, arith}
 use Rattle.std.proofs.Math.Nat.{mul-le-mul_right}
 use Rattle.rs_field.specs.rows.View.{cell}
-use Rattle.rs_field.proofs.of_rows.RowOffsets.{row_ends}
+use Rattle.rs_field.proofs.rows_lemmas.RowOffsets.{row_ends}
 use Rattle.rs_field.proofs.rows.shards.ShardsRefMut.zero.Goals as goal
 
 pub returns-clause-zeros : goal.returns-clause-zeros

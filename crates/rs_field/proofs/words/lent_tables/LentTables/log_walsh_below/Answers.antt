@@ -1,6 +1,6 @@
 use Rattle.std.proofs.Common.{◌≡◌, ℕ, ◌^◌, arith}
-use Rattle.rs_field.proofs.of_words.Convolution.{few_bits}
-use Rattle.rs_field.proofs.of_words.LogWalsh.{part-below}
+use Rattle.rs_field.proofs.words_lemmas.Convolution.{few_bits}
+use Rattle.rs_field.proofs.words_lemmas.LogWalsh.{part-below}
 use Rattle.rs_field.proofs.words.lent_tables.LentTables.log_walsh_below.Goals as goal
 
 pub returns : goal.returns
