@@ -16,16 +16,16 @@ use Rattle.rs_field.specs.rows.MarkedRows.{is_marked}
 use Rattle.rs_field.specs.words.DirectSum.{direct_factor, direct_sum}
 use Rattle.rs_field.specs.words.Field.{product, power}
 use Rattle.rs_field.specs.words.Transform.{sum_below}
-use Rattle.rs_field.proofs.of_code.Entries.{count_most}
-use Rattle.rs_field.proofs.of_code.Frame.{HasDistinctRows}
-use Rattle.rs_field.proofs.of_code.GivenRows.{index_or_outside, entry_in-at, entry_in-other}
-use Rattle.rs_field.proofs.of_code.PieceStates.{is_some-map}
-use Rattle.rs_field.proofs.of_code.RateFrames.{distinct_rows}
-use Rattle.rs_field.proofs.of_code.RestoredBelow.{count-pieces}
-use Rattle.rs_field.proofs.of_words.Combination.{sum_below-same}
+use Rattle.rs_field.proofs.code_lemmas.Entries.{count_most}
+use Rattle.rs_field.proofs.code_lemmas.Frame.{HasDistinctRows}
+use Rattle.rs_field.proofs.code_lemmas.GivenRows.{index_or_outside, entry_in-at, entry_in-other}
+use Rattle.rs_field.proofs.code_lemmas.PieceStates.{is_some-map}
+use Rattle.rs_field.proofs.code_lemmas.RateFrames.{distinct_rows}
+use Rattle.rs_field.proofs.code_lemmas.RestoredBelow.{count-pieces}
+use Rattle.rs_field.proofs.words_lemmas.Combination.{sum_below-same}
 use Rattle.rs_rate.specs.declared.passes.sums.SumBase.{SumBase}
 use Rattle.rs_rate.specs.passes.Sums.{AreMarksOf, ListsMarked}
-use Rattle.rs_rate.proofs.of_rows.StateLemmas.{valid-supported}
+use Rattle.rs_rate.proofs.rows_lemmas.StateLemmas.{valid-supported}
 use Rattle.reed_solomon_simd.specs.Base.{row_of, marked_part, marked_state, MarkBase, CanSum, base_sum}
 use Rattle.reed_solomon_simd.specs.declared.shard_index.ShardIndex.{ShardIndex}
 

@@ -11,10 +11,10 @@ use Rattle.rs_field.specs.code.Counts.{default_rate}
 use Rattle.rs_field.specs.code.Decoder.{DecoderState, IsDecoder, originals_given, recovery_given}
 use Rattle.rs_field.specs.code.Frame.{row_count, original_row, recovery_row, frame_at}
 use Rattle.rs_field.specs.rows.MarkedRows.{is_marked}
-use Rattle.rs_field.proofs.of_code.Frame.{HasDistinctRows}
-use Rattle.rs_field.proofs.of_code.GivenRows.{shard_in_row-own, shard_in_row-coded, shard_in_row-other}
+use Rattle.rs_field.proofs.code_lemmas.Frame.{HasDistinctRows}
+use Rattle.rs_field.proofs.code_lemmas.GivenRows.{shard_in_row-own, shard_in_row-coded, shard_in_row-other}
 use Rattle.rs_rate.specs.rows.Marks.{how_many}
-use Rattle.rs_rate.proofs.of_rows.HowMany.{how_many-suc, how_many-same, count_below-many, many_in_frame}
+use Rattle.rs_rate.proofs.rows_lemmas.HowMany.{how_many-suc, how_many-same, count_below-many, many_in_frame}
 use Rattle.reed_solomon_simd.specs.Base.{marked_state}
 use Rattle.rs_field.specs.code.DirectLaws.{shard_in_row}
 use Rattle.reed_solomon_simd.proofs.BaseLemmas.{decoder_frame, in_row-marked}

@@ -18,13 +18,14 @@ use Rattle.rs_field.specs.code.Given.{Shards, AreWithin}
 use Rattle.rs_field.specs.code.Pieces.{IsStrip}
 use Rattle.rs_field.specs.code.PieceStates.{pieces_of, state_of_pieces}
 use Rattle.rs_field.specs.rows.MarkedRows.{is_marked}
-use Rattle.rs_field.proofs.of_code.Agreement.{one_message}
-use Rattle.rs_field.proofs.of_code.DirectColumn.{direct_original, direct_recovery}
-use Rattle.rs_field.proofs.of_code.GivenRows.{AreGiven, given_within, given-either, given-below, shard_in_row-own}
-use Rattle.rs_field.proofs.of_code.GivenRows.{shard_in_row-coded}
-use Rattle.rs_field.proofs.of_code.BaseShards.{AreSums, all_located, base_given, agrees_with_part, consistent_by_sums}
-use Rattle.rs_field.proofs.of_code.Columns.{shard_from_columns, shard_in}
-use Rattle.rs_rate.proofs.of_rows.StateLemmas.{valid-supported}
+use Rattle.rs_field.proofs.code_lemmas.Agreement.{one_message}
+use Rattle.rs_field.proofs.code_lemmas.DirectColumn.{direct_original, direct_recovery}
+use Rattle.rs_field.proofs.code_lemmas.GivenRows.{AreGiven, given_within, given-either, given-below, shard_in_row-own}
+use Rattle.rs_field.proofs.code_lemmas.GivenRows.{shard_in_row-coded}
+use Rattle.rs_field.proofs.code_lemmas.BaseShards.{AreSums, all_located, base_given, agrees_with_part}
+use Rattle.rs_field.proofs.code_lemmas.BaseShards.{consistent_by_sums}
+use Rattle.rs_field.proofs.code_lemmas.Columns.{shard_from_columns, shard_in}
+use Rattle.rs_rate.proofs.rows_lemmas.StateLemmas.{valid-supported}
 use Rattle.reed_solomon_simd.specs.declared.shard_index.ShardIndex.{ShardIndex}
 use Rattle.reed_solomon_simd.specs.declared.shard_index.ShardIndex.TheVariants.{Original, Recovery}
 use Rattle.reed_solomon_simd.specs.Base.{row_of, marked_part, marked_state, MarkBase, base_sum, IsBaseSum, AgreesInRow}

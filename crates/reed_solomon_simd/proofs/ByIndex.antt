@@ -9,9 +9,9 @@ use Rattle.rs_field.specs.code.Decoder.{DecoderState, missing_of, Restored}
 use Rattle.rs_field.specs.code.Given.{Shards, nothing, items_below, items_from, Lists}
 use Rattle.rs_field.specs.code.OneCall.{Items}
 use Rattle.rs_field.specs.code.PieceStates.{HoldRestored, shards_listed}
-use Rattle.rs_field.proofs.of_code.Listed.{items_from-some, items_from-none, items_from-past}
-use Rattle.rs_field.proofs.of_code.ListedMaps.{lists-same}
-use Rattle.rs_field.proofs.of_code.RestoredBelow.{missing-past}
+use Rattle.rs_field.proofs.code_lemmas.Listed.{items_from-some, items_from-none, items_from-past}
+use Rattle.rs_field.proofs.code_lemmas.ListedMaps.{lists-same}
+use Rattle.rs_field.proofs.code_lemmas.RestoredBelow.{missing-past}
 use Rattle.reed_solomon_simd.proofs.Collecting.{with_entries, with_entries-lists}
 
 -- The originals restored below an index are in the map, and the other restored originals are still in the list.

@@ -11,8 +11,8 @@ use Rattle.rs_field.specs.code.Decoder.{DecoderState, fresh_decoder, enough_give
 use Rattle.rs_field.specs.code.OneCall.{collected_map, shards_in}
 use Rattle.rs_field.specs.code.Counts.{Rate, low_rate, high_rate, default_rate, next_power, supports}
 use Rattle.rs_field.specs.code.Configuration.{Configuration, validation_outcome}
-use Rattle.rs_field.proofs.of_code.Entries.{count-nothing}
-use Rattle.rs_rate.proofs.of_rows.StateLemmas.{valid-supported}
+use Rattle.rs_field.proofs.code_lemmas.Entries.{count-nothing}
+use Rattle.rs_rate.proofs.rows_lemmas.StateLemmas.{valid-supported}
 
 pub some_originals : (rate : Rate) (k r : ℕ) → supports rate k r ≡ true → 0 < k
 unfolding supports

@@ -15,8 +15,8 @@ use Rattle.rs_field.specs.code.OneCall.{default_of, with_shards, OneEncodeAnswer
 use Rattle.rs_field.specs.code.Outcome.{answer_of}
 use Rattle.rs_field.specs.code.Frame.{encoder_rows}
 use Rattle.rs_rate.specs.objects.Giving.{IsEncoding}
-use Rattle.rs_rate.proofs.of_objects.Giving.{adds-ok, adds-err, outcome-err}
-use Rattle.rs_rate.proofs.of_objects.OneCall.{encoding-refused}
+use Rattle.rs_rate.proofs.objects_lemmas.Giving.{adds-ok, adds-err, outcome-err}
+use Rattle.rs_rate.proofs.objects_lemmas.OneCall.{encoding-refused}
 use Rattle.reed_solomon_simd.proofs.ObjectRoundTrip.{takes-all}
 use Rattle.reed_solomon_simd.proofs.Gathering.{has-made, encoded-all}
 use Rattle.reed_solomon_simd.proofs.SetUp.{started-parts}

@@ -11,7 +11,7 @@ use Rattle.std.specs.declared.vec.Vec.{Vec}
 use Rattle.rs_field.specs.code.Column.{Shard}
 use Rattle.rs_field.specs.code.Given.{Shards, nothing, with_entry, items_at, items_from, Lists}
 use Rattle.rs_field.specs.code.OneCall.{Items, shards_in}
-use Rattle.rs_field.proofs.of_code.Listed.{items_from-zero, items_from-suc}
+use Rattle.rs_field.proofs.code_lemmas.Listed.{items_from-zero, items_from-suc}
 
 -- The map after the items were entered, one after another.
 abbrev pub with_entries : Shards → Items → Shards

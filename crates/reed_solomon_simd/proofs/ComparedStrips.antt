@@ -14,15 +14,15 @@ use Rattle.rs_field.specs.code.Given.{Shards, Agrees, AreAmong, nothing, items_a
 use Rattle.rs_field.specs.code.OneCall.{Items}
 use Rattle.rs_field.specs.code.Pieces.{pieces, IsStrip}
 use Rattle.rs_field.specs.code.PieceStates.{pieces_of, state_of_pieces, shards_listed}
-use Rattle.rs_field.proofs.of_code.Agreement.{one_message}
-use Rattle.rs_field.proofs.of_code.Entries.{all_some}
-use Rattle.rs_field.proofs.of_code.Given.{some_of, nothing_among}
-use Rattle.rs_field.proofs.of_code.Listed.{items_from-suc, length-listed}
-use Rattle.rs_field.proofs.of_code.ListedMaps.{listed-all, listed-changed}
-use Rattle.rs_field.proofs.of_code.PieceStates.{shard_at-pieces, shards-cut}
-use Rattle.rs_field.proofs.of_code.RestoredBelow.{count-pieces}
-use Rattle.rs_field.proofs.of_code.Unique.{recovery_unique}
-use Rattle.rs_rate.proofs.of_rows.StateLemmas.{valid-supported}
+use Rattle.rs_field.proofs.code_lemmas.Agreement.{one_message}
+use Rattle.rs_field.proofs.code_lemmas.Entries.{all_some}
+use Rattle.rs_field.proofs.code_lemmas.Given.{some_of, nothing_among}
+use Rattle.rs_field.proofs.code_lemmas.Listed.{items_from-suc, length-listed}
+use Rattle.rs_field.proofs.code_lemmas.ListedMaps.{listed-all, listed-changed}
+use Rattle.rs_field.proofs.code_lemmas.PieceStates.{shard_at-pieces, shards-cut}
+use Rattle.rs_field.proofs.code_lemmas.RestoredBelow.{count-pieces}
+use Rattle.rs_field.proofs.code_lemmas.Unique.{recovery_unique}
+use Rattle.rs_rate.proofs.rows_lemmas.StateLemmas.{valid-supported}
 use Rattle.reed_solomon_simd.proofs.ConsistentStrips.{even-strip, few-originals}
 
 -- If a map has a shard at each of n indexes, the list of these shards has each of them at its place.

@@ -12,8 +12,8 @@ use Rattle.rs_field.specs.declared.code.error.Error.{Error}
 use Rattle.rs_field.specs.code.Column.{Shard, shard_at}
 use Rattle.rs_field.specs.code.Given.{Shards, with_entry, count_below}
 use Rattle.rs_field.specs.code.OneCall.{shards_in}
-use Rattle.rs_field.proofs.of_code.Entries.{count_most}
-use Rattle.rs_field.proofs.of_code.Given.{count_below-zero, count_below-suc}
+use Rattle.rs_field.proofs.code_lemmas.Entries.{count_most}
+use Rattle.rs_field.proofs.code_lemmas.Given.{count_below-zero, count_below-suc}
 use Rattle.reed_solomon_simd.specs.Messages.{enter_outcome, whole_outcome, HasInOrder}
 use Rattle.reed_solomon_simd.proofs.Collecting.{is_eq-nat_cmp}
 

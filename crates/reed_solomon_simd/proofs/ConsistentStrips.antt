@@ -5,11 +5,11 @@ use Rattle.rs_field.specs.code.Counts.{default_rate, supports}
 use Rattle.rs_field.specs.code.Decoder.{DecoderState, IsDecoder, originals_given, recovery_given, IsConsistent}
 use Rattle.rs_field.specs.code.Pieces.{pieces, IsStrip}
 use Rattle.rs_field.specs.code.PieceStates.{state_of_pieces}
-use Rattle.rs_field.proofs.of_code.GivenRows.{AreGiven, given_within}
-use Rattle.rs_field.proofs.of_code.AnyShards.{any_consistent}
-use Rattle.rs_field.proofs.of_code.PieceStates.{AreConsistentBelow, consistent-whole, agrees-cut}
-use Rattle.rs_field.proofs.of_code.SupportedCounts.{default_fits}
-use Rattle.rs_rate.proofs.of_rows.StateLemmas.{valid-supported}
+use Rattle.rs_field.proofs.code_lemmas.GivenRows.{AreGiven, given_within}
+use Rattle.rs_field.proofs.code_lemmas.AnyShards.{any_consistent}
+use Rattle.rs_field.proofs.code_lemmas.PieceStates.{AreConsistentBelow, consistent-whole, agrees-cut}
+use Rattle.rs_field.proofs.code_lemmas.SupportedCounts.{default_fits}
+use Rattle.rs_rate.proofs.rows_lemmas.StateLemmas.{valid-supported}
 use Rattle.reed_solomon_simd.proofs.SetUp.{valid-even}
 
 -- Before the first strip, no column needs a strip.

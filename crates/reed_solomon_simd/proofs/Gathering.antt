@@ -11,10 +11,10 @@ use Rattle.rs_field.specs.code.OneCall.{OneEncodeAnswers}
 use Rattle.rs_field.specs.code.Outcome.{answer_of}
 use Rattle.rs_field.specs.code.RoundTrip.{AreCoded}
 use Rattle.rs_rate.specs.objects.Giving.{IsEncoding}
-use Rattle.rs_field.proofs.of_code.MadeShards.{has_recovery}
-use Rattle.rs_rate.proofs.of_rows.StateLemmas.{valid-supported, message-whole, encode_answers-refused}
-use Rattle.rs_rate.proofs.of_rows.StateLemmas.{encode_answers-made}
-use Rattle.rs_rate.proofs.of_objects.OneCall.{encoding-answers, encoding-opened, encoding-coded}
+use Rattle.rs_field.proofs.code_lemmas.MadeShards.{has_recovery}
+use Rattle.rs_rate.proofs.rows_lemmas.StateLemmas.{valid-supported, message-whole, encode_answers-refused}
+use Rattle.rs_rate.proofs.rows_lemmas.StateLemmas.{encode_answers-made}
+use Rattle.rs_rate.proofs.objects_lemmas.OneCall.{encoding-answers, encoding-opened, encoding-coded}
 use Rattle.reed_solomon_simd.specs.declared.lent_originals.LentOriginals.{LentOriginals}
 use Rattle.reed_solomon_simd.specs.LentState.{lent_state}
 use Rattle.reed_solomon_simd.proofs.SetUp.{valid-even}

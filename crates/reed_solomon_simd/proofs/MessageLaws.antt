@@ -14,9 +14,9 @@ use Rattle.rs_field.specs.code.Given.{Shards, with_entry, count_below, AreAmong}
 use Rattle.rs_field.specs.code.OneCall.{Items, one_by_one}
 use Rattle.rs_field.specs.code.Outcome.{result_and_then}
 use Rattle.rs_field.specs.code.RoundTrip.{AreLeft, lost_of}
-use Rattle.rs_field.proofs.of_code.Entries.{entered_all, AreFree, indexes, free-next, among-entered_all}
-use Rattle.rs_field.proofs.of_code.Entries.{some-entered_all}
-use Rattle.rs_field.proofs.of_code.Given.{count_below-zero, count_below-suc}
+use Rattle.rs_field.proofs.code_lemmas.Entries.{entered_all, AreFree, indexes, free-next, among-entered_all}
+use Rattle.rs_field.proofs.code_lemmas.Entries.{some-entered_all}
+use Rattle.rs_field.proofs.code_lemmas.Given.{count_below-zero, count_below-suc}
 use Rattle.reed_solomon_simd.specs.Messages.{enter_outcome, complete_outcome, AreInOrder, Completes}
 use Rattle.reed_solomon_simd.proofs.CompletingLemmas.{enter-free}
 

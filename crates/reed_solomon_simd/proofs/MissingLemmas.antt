@@ -1,20 +1,26 @@
 -- The names of the missing originals, in order of index, and what rooms hold after these were rebuilt.
 use Rattle.std.proofs.Common.{rules, ◌≡◌, ℕ, ◌+◌, ◌<◌, ◌≤◌, Bool, true, false, cond, List, [], ◌∷◌, ◌++◌, length}
 use Rattle.std.proofs.Common.{get_or, Option, Some, None, refl, sym, ap, ap₂, ◌∙◌, inl, inr, arith, append-nil, add-one}
-use Rattle.std.proofs.Common.{subst}
+use Rattle.std.proofs.Common.{subst, zero, suc, map, Result, Ok, Err}
+use Rattle.std.proofs.Math.Path.{fun_ext}
 use Rattle.std.specs.Prelude.{◌&&◌, not, is_some}
 use Rattle.std.proofs.lemmas.Bool.{cases_lt, le-ltb}
 use Rattle.std.proofs.lemmas.List.{length-append, get_or_append_left, map-append}
 use Rattle.std.proofs.Math.Seq.{get_or-append_seam}
+use Rattle.rs_field.specs.declared.code.error.Error.{Error}
 use Rattle.rs_field.specs.code.Column.{Shard, shard_at}
-use Rattle.rs_field.specs.code.Decoder.{DecoderState, missing_of}
-use Rattle.rs_field.specs.code.Given.{Shards, count_below, items_at, items_below}
-use Rattle.rs_field.specs.code.PieceStates.{shards_listed, HoldRestored}
-use Rattle.rs_field.proofs.of_code.Given.{count_below-zero, count_below-suc}
-use Rattle.rs_field.proofs.of_code.Listed.{items_from-zero, items_from-more}
-use Rattle.rs_rate.proofs.of_rows.AddedShards.{none_of}
+use Rattle.rs_field.specs.code.Decoder.{DecoderState, Restored, missing_of}
+use Rattle.rs_field.specs.code.Given.{Shards, Lists, count_below, items_at, items_below}
+use Rattle.rs_field.specs.code.OneCall.{Items}
+use Rattle.rs_field.specs.code.PieceStates.{pieces_of, state_of_pieces, shards_listed, HoldRestored}
+use Rattle.rs_field.proofs.code_lemmas.Given.{count_below-zero, count_below-suc}
+use Rattle.rs_field.proofs.code_lemmas.ListedMaps.{lists-same}
+use Rattle.rs_field.proofs.code_lemmas.PieceStates.{is_some-map}
+use Rattle.rs_field.proofs.code_lemmas.Listed.{items_from-zero, items_from-more}
+use Rattle.rs_rate.proofs.rows_lemmas.AddedShards.{none_of}
 use Rattle.reed_solomon_simd.specs.declared.shard_index.ShardIndex.{ShardIndex}
 use Rattle.reed_solomon_simd.specs.declared.shard_index.ShardIndex.TheVariants.{Original}
+use Rattle.reed_solomon_simd.specs.Making.{missing_below, missing_names, Makes, MakesMissing}
 use Rattle.reed_solomon_simd.specs.Reconstructed.{AreReconstructed, CanBeRebuilt, NamesMissing}
 use Rattle.reed_solomon_simd.specs.ShardNames.{shard_named}
 use Rattle.reed_solomon_simd.proofs.RebuiltStrips.{missing-there}
@@ -110,3 +116,62 @@ rebuilt-restored s wanted rooms names made = record {
   };
   held = made.named ∙ names.named made.message made.agrees.coded.0;
 }
+
+-- The names of the missing originals below n name them.
+pub names-below : (s : DecoderState) (n : ℕ) → n ≤ s.configuration.original_count
+    → NamesMissing n s (missing_below n s.originals)
+names-below s zero most = names-none s
+names-below s (suc n) most =
+    let before = names-below s n (omega (arith, most)) in
+    subst (λ (m : ℕ). NamesMissing m s (missing_below (suc n) s.originals)) (add-one n)
+    (by_test (is_some (s.originals n)) refl before)
+  where
+    by_test : (b : Bool) → is_some (s.originals n) ≡ b → NamesMissing n s (missing_below n s.originals)
+        → NamesMissing (n + 1) s (missing_below n s.originals ++ cond b [] (Original n ∷ []))
+    by_test true some before =
+        subst (NamesMissing (n + 1) s) (sym (append-nil (missing_below n s.originals)))
+        (names-received n s (missing_below n s.originals) before some)
+    by_test false not before =
+        names-missing n s (missing_below n s.originals) before (omega (arith, most)) not
+
+-- All missing originals are named.
+pub names-all : (s : DecoderState) → NamesMissing s.configuration.original_count s (missing_names s)
+names-all s = names-below s s.configuration.original_count (omega arith)
+
+-- The same originals are missing in each strip.
+names-pieces : (start end n : ℕ) (given : Shards)
+    → missing_below n (pieces_of start end given) ≡ missing_below n given
+names-pieces start end zero given = refl
+names-pieces start end (suc n) given =
+    ap₂ (λ (l : List ShardIndex) (b : Bool). l ++ cond b [] (Original n ∷ [])) (names-pieces start end n given)
+    (is_some-map start end (given n))
+
+-- What a decode restores are the missing originals.
+pub restored-named : (start end : ℕ) (s : DecoderState) (out : Shards) (items : Items)
+    → Restored (state_of_pieces start end s) out → Lists out items
+    → AreReconstructed (state_of_pieces start end s) (missing_names s) (shards_listed items)
+restored-named start end s out items restored listing =
+    let strip = state_of_pieces start end s in
+    let k : ℕ = s.configuration.original_count in
+    let here : Lists (missing_of strip restored.message) items =
+    subst (λ (g : Shards). Lists g items) (fun_ext restored.missing) listing in
+    let all : Lists (missing_of strip restored.message) (items_below k (missing_of strip restored.message)) = record {
+      count = k;
+      none_past = λ i past. missing-past strip restored.message i past;
+      in_order = refl;
+    } in
+    record {
+      message = restored.message;
+      agrees = restored.agrees;
+      only = restored.only;
+      named = ap shards_listed (lists-same here all)
+          ∙ sym ((names-all strip).named restored.message restored.agrees.coded.0)
+          ∙ ap (map (shard_named restored.message restored.agrees.coded.0)) (names-pieces start end k s.originals);
+    }
+
+-- Making the named missing originals is making the missing originals.
+pub makes-missing : (grows : Bool) (s : DecoderState) (wanted : List ShardIndex) (old new : List Shard)
+    (result : Result (Unit {0}) Error) → NamesMissing s.configuration.original_count s wanted
+    → Makes grows s wanted old new result → MakesMissing grows s old new result
+makes-missing grows s wanted old new (Ok u) names made = rebuilt-restored s wanted new names made
+makes-missing grows s wanted old new (Err e) names made = made

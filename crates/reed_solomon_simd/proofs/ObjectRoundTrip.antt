@@ -20,9 +20,9 @@ use Rattle.rs_field.specs.code.OneCall.{Items, with_shards, with_originals, with
 use Rattle.rs_field.specs.code.Outcome.{result_and_then}
 use Rattle.rs_field.specs.code.RoundTrip.{GivesBack}
 use Rattle.rs_rate.specs.objects.Giving.{Reaches}
-use Rattle.rs_rate.proofs.of_objects.Giving.{reached-err}
-use Rattle.rs_field.proofs.of_code.Left.{kept_of, kept-left, just-lost, enough-left}
-use Rattle.rs_field.proofs.of_code.OneRoundTrip.{encoded_all, all_taken, taken_gives_back}
+use Rattle.rs_rate.proofs.objects_lemmas.Giving.{reached-err}
+use Rattle.rs_field.proofs.code_lemmas.Left.{kept_of, kept-left, just-lost, enough-left}
+use Rattle.rs_field.proofs.code_lemmas.OneRoundTrip.{encoded_all, all_taken, taken_gives_back}
 
 -- If a fresh encoder took all shards and encoded them, the shards are a message and the result is its recovery shards.
 pub codes-given : (rate : Rate) (c : Configuration) (shards recovery : List Shard) (new_encoder encoder : EncoderState)

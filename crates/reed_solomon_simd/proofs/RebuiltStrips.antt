@@ -16,12 +16,12 @@ use Rattle.rs_field.specs.code.Decoder.{DecoderState, IsDecoder, IsAgreeing, eno
 use Rattle.rs_field.specs.code.Given.{Shards}
 use Rattle.rs_field.specs.code.Pieces.{pieces, IsStrip, ArePut, room_length}
 use Rattle.rs_field.specs.code.PieceStates.{state_of_pieces}
-use Rattle.rs_field.proofs.of_code.Agreement.{one_message}
-use Rattle.rs_field.proofs.of_code.Pieces.{AreStripPut, put-inside, put-fit, room-whole}
-use Rattle.rs_field.proofs.of_code.PieceStates.{shard_at-pieces, agrees-cut, recovery-cut, AreConsistentBelow}
-use Rattle.rs_field.proofs.of_code.Unique.{recovery_unique}
-use Rattle.rs_rate.proofs.of_rows.DecoderRows.{enough-least}
-use Rattle.rs_rate.proofs.of_rows.StateLemmas.{valid-supported}
+use Rattle.rs_field.proofs.code_lemmas.Agreement.{one_message}
+use Rattle.rs_field.proofs.code_lemmas.Pieces.{AreStripPut, put-inside, put-fit, room-whole}
+use Rattle.rs_field.proofs.code_lemmas.PieceStates.{shard_at-pieces, agrees-cut, recovery-cut, AreConsistentBelow}
+use Rattle.rs_field.proofs.code_lemmas.Unique.{recovery_unique}
+use Rattle.rs_rate.proofs.rows_lemmas.DecoderRows.{enough-least}
+use Rattle.rs_rate.proofs.rows_lemmas.StateLemmas.{valid-supported}
 use Rattle.reed_solomon_simd.specs.declared.shard_index.ShardIndex.{ShardIndex}
 use Rattle.reed_solomon_simd.specs.declared.shard_index.ShardIndex.TheVariants.{Original, Recovery}
 use Rattle.reed_solomon_simd.specs.Reconstructed.{AreReconstructed, CanBeRebuilt, lent_at}

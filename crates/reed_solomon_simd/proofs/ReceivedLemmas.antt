@@ -4,8 +4,8 @@ use Rattle.std.proofs.Common.{◌∙◌, arith}
 use Rattle.std.proofs.lemmas.List.{length-set, get_or-replicate, get_or_past, length-replicate}
 use Rattle.rs_field.specs.code.Column.{Shard, IsShard}
 use Rattle.rs_field.specs.code.Given.{Shards, AreWithin, nothing, with_entry, count_below}
-use Rattle.rs_field.proofs.of_code.Given.{entered_cases}
-use Rattle.rs_field.proofs.of_code.Entries.{count-nothing, count-entered, count_most}
+use Rattle.rs_field.proofs.code_lemmas.Given.{entered_cases}
+use Rattle.rs_field.proofs.code_lemmas.Entries.{count-nothing, count-entered, count_most}
 use Rattle.reed_solomon_simd.specs.Received.{given_in}
 
 -- Putting a shard in a place enters it at the index of the place.

@@ -12,14 +12,14 @@ use Rattle.rs_field.specs.code.Decoder.{DecodeAnswers}
 use Rattle.rs_field.specs.code.Given.{Shards, nothing}
 use Rattle.rs_field.specs.code.OneCall.{Items, decode_opening, LacksMemory, OneDecodeAnswers}
 use Rattle.rs_rate.specs.objects.Giving.{IsDecoding}
-use Rattle.rs_rate.proofs.of_objects.OneCall.{decoding-answers, decoding-nothing, lists-none}
+use Rattle.rs_rate.proofs.objects_lemmas.OneCall.{decoding-answers, decoding-nothing, lists-none}
 use Rattle.rs_field.specs.code.Pieces.{ArePut}
 use Rattle.rs_field.specs.code.PieceStates.{HoldRestored, shards_listed}
 use Rattle.reed_solomon_simd.specs.declared.room_error.RoomError.{RoomError}
 use Rattle.reed_solomon_simd.specs.declared.room_error.RoomError.TheVariants.{Refused}
 use Rattle.reed_solomon_simd.specs.Into.{RestoresInto, DecodesInto, rooms_fit}
 use Rattle.reed_solomon_simd.proofs.RoomFits.{fills, fits-many, fits-all}
-use Rattle.rs_field.proofs.of_code.RestoredBelow.{held-number, held-sized}
+use Rattle.rs_field.proofs.code_lemmas.RestoredBelow.{held-number, held-sized}
 
 -- If whole rooms were written, they hold what was written.
 pub put-whole : (size : ℕ) (made old new : List Shard) → ArePut 0 size made old new → length made ≡ length old

@@ -1,21 +1,19 @@
 -- A round of a decoder over a strip of each received shard.
 use Rattle.std.proofs.Common.{rules, ◌≡◌, ℕ, suc, ◌+◌, ◌-◌, ◌<◌, ◌≤◌, Bool, true, List, [], ◌∷◌, length, drop, get_or}
 use Rattle.std.proofs.Common.{Result, Ok, Err, Some, sym, ap, ◌∙◌, subst, inl, inr, arith}
-use Rattle.std.specs.Prelude.{◌⊎◌, MatchResult}
+use Rattle.std.specs.Prelude.{MatchResult}
 use Rattle.std.proofs.lemmas.List.{length-drop, get_or-map, drop_more}
 use Rattle.rs_field.specs.declared.code.error.Error.{Error}
-use Rattle.rs_field.specs.declared.code.error.Error.TheVariants.{OutOfMemory}
 use Rattle.rs_field.specs.code.Column.{Shard}
 use Rattle.rs_field.specs.code.Configuration.{Configuration, configuration}
 use Rattle.rs_field.specs.code.Counts.{default_rate}
 use Rattle.rs_field.specs.code.Decoder.{DecoderState, IsDecoder, fresh_decoder, with_original, with_recovery}
 use Rattle.rs_field.specs.code.Decoder.{enough_given, Restored, NoneAgrees, DecodeAnswers, after_decode}
-use Rattle.rs_field.specs.code.Given.{Shards, AreWithin, Lists}
-use Rattle.rs_field.specs.code.Pieces.{IsStrip, ArePut}
+use Rattle.rs_field.specs.code.Given.{Shards, AreWithin}
 use Rattle.rs_field.specs.code.PieceStates.{pieces_of, state_of_pieces, shards_listed}
 use Rattle.rs_field.specs.code.OneCall.{Items}
-use Rattle.rs_field.proofs.of_code.RestoredBelow.{IsRestoredBelow, enough-pieces, none-pieces, restored-further}
-use Rattle.rs_rate.proofs.of_rows.FirstShards.{first, original-taken, recovery-taken}
+use Rattle.rs_field.proofs.code_lemmas.RestoredBelow.{enough-pieces}
+use Rattle.rs_rate.proofs.rows_lemmas.FirstShards.{first, original-taken, recovery-taken}
 use Rattle.reed_solomon_simd.proofs.CallerLemmas.{ended}
 
 -- The pieces of a strip of shards that are within bounds.
@@ -98,31 +96,10 @@ module _ (start end : ℕ) (x : DecoderState) {state : DecoderState} (is : state
   pub round-refused : (e : Error) → DecodeAnswers state (Err e) → NoneAgrees (state_of_pieces start end x) e
   round-refused e answers = answers-here (Err e) answers
 
+  -- A round that succeeds restores the missing pieces.
+  pub round-restored : (out : Shards) → DecodeAnswers state (Ok out) → Restored (state_of_pieces start end x) out
+  round-restored out answers = answers-here (Ok out) answers
+
   -- After a round, the decoder has no shards.
   pub round-ends : after_decode state ≡ fresh_decoder (state_of_pieces start end x).configuration
   round-ends = ap after_decode is ∙ ended (state_of_pieces start end x) enough-here
-
--- ---- a strip, if only the rooms of the store were changed
-
-module _ (start end : ℕ) (x now : DecoderState) (grows : Bool) (same : now ≡ x)
-    (strip : IsStrip start end x.configuration.shard_bytes) where
-  -- If no message agrees with the pieces of a strip, no message agrees with the shards.
-  pub strip-refused : (e : Error) → NoneAgrees (state_of_pieces start end now) e ⊎ ((grows ≡ true) × (e ≡ OutOfMemory))
-      → NoneAgrees x e ⊎ (e ≡ OutOfMemory)
-  strip-refused e (inl none) =
-      inl (none-pieces x strip
-      (subst (λ (s : DecoderState). NoneAgrees (state_of_pieces start end s) e) same none))
-  strip-refused e (inr short) = inr short.1
-
-  -- A round restored the missing pieces of a strip, and they were put into the rooms.
-  abbrev pub ArePiecesPut : DecoderState → List Shard → List Shard → Type 0
-  ArePiecesPut s old new =
-      (out : Shards) × Restored (state_of_pieces start end s) out × (items : Items) × Lists out items
-      × ArePut start end (shards_listed items) old new
-
-  -- If all bytes before a strip are restored, and the strip is restored, all bytes before its end are restored.
-  pub strip-restored : (old new : List Shard) → ArePiecesPut now old new → IsRestoredBelow x grows start old
-      → IsRestoredBelow x grows end new
-  strip-restored old new made done =
-      let (out, restored, items, listing, put) = subst (λ (s : DecoderState). ArePiecesPut s old new) same made in
-      restored-further strip restored listing put done

@@ -7,7 +7,7 @@ use Rattle.rs_field.specs.code.Counts.{default_rate}
 use Rattle.rs_field.specs.code.Encoder.{EncoderState, IsEncoder, fresh_encoder, EncodeAnswers, after_encode}
 use Rattle.rs_field.specs.code.OneCall.{default_of, with_shards}
 use Rattle.rs_field.specs.code.Pieces.{pieces}
-use Rattle.rs_field.proofs.of_code.Pieces.{pieces-count, pieces-sized}
+use Rattle.rs_field.proofs.code_lemmas.Pieces.{pieces-count, pieces-sized}
 use Rattle.rs_rate.specs.objects.Giving.{Reaches}
 use Rattle.reed_solomon_simd.proofs.ObjectRoundTrip.{codes-given, gives-all, encodes, round-ends}
 

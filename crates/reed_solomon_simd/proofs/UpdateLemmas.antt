@@ -12,9 +12,9 @@ use Rattle.std.proofs.Math.Seq.{take-append_seam, drop-append_seam}
 use Rattle.rs_field.specs.words.Field.{product, power}
 use Rattle.rs_field.specs.code.Column.{Shard, IsShard, shard_at, column, chunk_words}
 use Rattle.rs_field.specs.code.Pieces.{IsStrip}
-use Rattle.rs_field.proofs.of_code.Columns.{column-at, columns-at, byte_lt, shards_from_columns}
-use Rattle.rs_field.proofs.of_code.Pieces.{column-head, column-rest, column-piece}
-use Rattle.rs_field.proofs.of_words.Packed.{sum_of_bytes}
+use Rattle.rs_field.proofs.code_lemmas.Columns.{column-at, columns-at, byte_lt, shards_from_columns}
+use Rattle.rs_field.proofs.code_lemmas.Pieces.{column-head, column-rest, column-piece}
+use Rattle.rs_field.proofs.words_lemmas.Packed.{sum_of_bytes}
 use Rattle.std.specs.Result.{result_map_both}
 use Rattle.rs_field.specs.declared.code.error.Error.{Error}
 use Rattle.rs_field.specs.declared.code.error.Error.TheVariants.{OutOfMemory}
@@ -23,7 +23,7 @@ use Rattle.rs_field.specs.code.Counts.{default_rate, supports}
 use Rattle.rs_field.specs.code.OneCall.{default_of}
 use Rattle.rs_field.specs.code.OneChange.{AreChangeFactors}
 use Rattle.rs_field.specs.code.Outcome.{result_and_then}
-use Rattle.rs_field.proofs.of_code.MadeShards.{has_recovery}
+use Rattle.rs_field.proofs.code_lemmas.MadeShards.{has_recovery}
 use Rattle.reed_solomon_simd.specs.declared.room_error.RoomError.{RoomError}
 use Rattle.reed_solomon_simd.specs.declared.room_error.RoomError.TheVariants.{Refused}
 use Rattle.reed_solomon_simd.specs.Into.{rooms_fit}

@@ -1,5 +1,5 @@
 -- The base of direct sums: received shards in marked rows, over which the words of all other shards are summed.
-use Rattle.std.specs.Prelude.{◌≡◌, ℕ, ◌+◌, ◌/◌, ◌<◌, Bool, true, false, List, length, Some, None, is_some}
+use Rattle.std.specs.Prelude.{◌≡◌, ℕ, ◌+◌, ◌/◌, ◌<◌, ◌≤◌, Bool, true, false, List, length, Some, None, is_some}
 use Rattle.std.specs.Prelude.{if◌then◌else◌}
 use Rattle.rs_field.specs.declared.code.frame.Frame.{Frame}
 use Rattle.rs_field.specs.code.Column.{Shard, IsShard, column}
@@ -45,6 +45,14 @@ pub record CanSum (s : DecoderState) (base : SumBase) (start end : ℕ) : Type 0
   pub recovery : base.counts.recovery_count ≡ s.configuration.recovery_count
   pub marked : MarkBase s base.marks.items
   pub strip : IsStrip start end s.configuration.shard_bytes
+
+-- a base of received shards, with the number of received shards that are not in it, for strips of n bytes
+pub record AreSumsReady (base : SumBase) (surplus : ℕ) (s : DecoderState) (n : ℕ) : Type 0 where
+  pub originals : base.counts.original_count ≡ s.configuration.original_count
+  pub recovery : base.counts.recovery_count ≡ s.configuration.recovery_count
+  pub marked : MarkBase s base.marks.items
+  pub surplus_is : originals_given s + recovery_given s ≡ s.configuration.original_count + surplus
+  pub few : n ≤ 2048
 
 -- the direct sum over the base for word j of the shard in a row
 abbrev pub base_sum : List Bool → DecoderState → ℕ → ℕ → ℕ

@@ -39,6 +39,8 @@ pub mod Verified
 pub mod ShardNames
 pub mod ReconstructTexts
 pub mod Reconstructed
+pub mod Making
+pub mod Rounds
 pub mod WantedMarks
 pub mod Updated
 pub mod LentState

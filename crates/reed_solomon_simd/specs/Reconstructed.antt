@@ -41,6 +41,11 @@ abbrev pub count_of : DecoderState → ShardIndex → ℕ
 count_of s (Original i) = s.configuration.original_count
 count_of s (Recovery i) = s.configuration.recovery_count
 
+-- the shard that was received with a name, if there is one
+abbrev pub given_at : DecoderState → ShardIndex → Option Shard
+given_at s (Original i) = s.originals i
+given_at s (Recovery i) = s.recovery i
+
 -- whether a shard was received
 abbrev pub is_received : DecoderState → ShardIndex → Bool
 is_received s (Original i) = is_some (s.originals i)

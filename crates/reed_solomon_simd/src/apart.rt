@@ -1,6 +1,8 @@
 //! A store of received shards, and of rooms for the missing originals in other memory.
 use crate::pieces::Pieces;
 use crate::rooms::Rooms;
+use crate::shard_index::ShardIndex;
+use crate::store::Store;
 use rs_field::error::Error;
 use rs_rate::rate::DefaultRateCounts;
 
@@ -24,12 +26,8 @@ impl<'a, 'b, P: Pieces, R: Rooms> Pieces for Apart<'a, 'b, P, R> {
         self.pieces.shard_bytes()
     }
 
-    fn original_piece(&self, index: usize, start: usize, end: usize) -> Option<&[u8]> {
-        self.pieces.original_piece(index, start, end)
-    }
-
-    fn recovery_piece(&self, index: usize, start: usize, end: usize) -> Option<&[u8]> {
-        self.pieces.recovery_piece(index, start, end)
+    fn piece(&self, shard: ShardIndex, start: usize, end: usize) -> Option<&[u8]> {
+        self.pieces.piece(shard, start, end)
     }
 }
 
@@ -50,4 +48,12 @@ impl<'a, 'b, P: Pieces, R: Rooms> Rooms for Apart<'a, 'b, P, R> {
     fn put(&mut self, index: usize, start: usize, piece: &[u8]) -> Result<(), Error> {
         self.rooms.put(index, start, piece)
     }
+}
+
+impl<'a, 'b, P: Pieces, R: Rooms> Store for Apart<'a, 'b, P, R> {
+    ghost use Rattle.std.specs.Prelude.{ℕ};
+    ghost use Rattle.std.proofs.Common.{ap};
+    ghost use Rattle.rs_field.specs.code.Decoder.{DecoderState};
+
+    ghost kept = { λ x y same. ap (λ (p : DecoderState × R.Places × ℕ). p.0) same };
 }

@@ -7,6 +7,7 @@ ghost use Rattle.rs_field.specs.code.PieceStates.{pieces_of};
 ghost use Rattle.reed_solomon_simd.specs.Received.{given_in};
 
 use crate::received_shards::ReceivedShards;
+use crate::shard_index::ShardIndex;
 use rs_rate::rate::DefaultRateCounts;
 
 /// Received shards of a message, with the counts and the size of the message.
@@ -14,7 +15,9 @@ pub trait Pieces {
     ghost use Rattle.std.specs.Prelude.{◌≡◌, ◌<◌, ◌≤◌, option_copied};
     ghost use Rattle.rs_field.specs.code.Counts.{default_rate};
     ghost use Rattle.rs_field.specs.code.Decoder.{DecoderState, IsDecoder};
-    ghost use Rattle.rs_field.specs.code.PieceStates.{pieces_of};
+    ghost use Rattle.rs_field.specs.code.PieceStates.{state_of_pieces};
+    ghost use Rattle.reed_solomon_simd.specs.Reconstructed.{count_of, given_at};
+    ghost use Rattle.reed_solomon_simd.specs.ShardNames.{index_of};
 
     /// The state of a decoder to which all received shards were added.
     ghost received: { Self → DecoderState };
@@ -30,23 +33,14 @@ pub trait Pieces {
     fn shard_bytes(&self) -> usize
         ensures { result ≡ (received self.now).configuration.shard_bytes };
 
-    /// Returns the bytes of an original from byte `start` up to, but not including, byte `end`, or `None` if it is
-    /// missing.
-    fn original_piece(&self, index: usize, start: usize, end: usize) -> Option<&[u8]>
+    /// Returns the bytes of a shard from byte `start` up to, but not including, byte `end`, or `None` if it is missing.
+    fn piece(&self, shard: ShardIndex, start: usize, end: usize) -> Option<&[u8]>
         requires set_up { IsDecoder default_rate (received self.now) }
-        requires index { index < (received self.now).configuration.original_count }
+        requires index { index_of shard < count_of (received self.now) shard }
         requires order { start ≤ end }
         requires inside { end ≤ (received self.now).configuration.shard_bytes }
-        ensures { option_copied result ≡ pieces_of start end (received self.now).originals index };
-
-    /// Returns the bytes of a recovery shard from byte `start` up to, but not including, byte `end`, or `None` if it is
-    /// missing.
-    fn recovery_piece(&self, index: usize, start: usize, end: usize) -> Option<&[u8]>
-        requires set_up { IsDecoder default_rate (received self.now) }
-        requires index { index < (received self.now).configuration.recovery_count }
-        requires order { start ≤ end }
-        requires inside { end ≤ (received self.now).configuration.shard_bytes }
-        ensures { option_copied result ≡ pieces_of start end (received self.now).recovery index };
+        ensures { option_copied result
+            ≡ given_at (state_of_pieces start end (received self.now)) shard };
 }
 
 /// Received shards that are slices of the caller's memory.
@@ -63,12 +57,15 @@ impl<'a> Pieces for ReceivedShards<'a> {
         self.shard_bytes
     }
 
-    fn original_piece(&self, index: usize, start: usize, end: usize) -> Option<&[u8]> {
-        piece_at(self.originals.shards.as_slice(), index, start, end)
-    }
-
-    fn recovery_piece(&self, index: usize, start: usize, end: usize) -> Option<&[u8]> {
-        piece_at(self.recovery.shards.as_slice(), index, start, end)
+    fn piece(&self, shard: ShardIndex, start: usize, end: usize) -> Option<&[u8]> {
+        match shard {
+            ShardIndex::Original(index) => {
+                piece_at(self.originals.shards.as_slice(), index, start, end)
+            }
+            ShardIndex::Recovery(index) => {
+                piece_at(self.recovery.shards.as_slice(), index, start, end)
+            }
+        }
     }
 }
 

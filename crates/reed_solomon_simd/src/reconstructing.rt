@@ -1,24 +1,26 @@
 //! Functions that reconstruct wanted shards in one call.
-ghost use Rattle.std.specs.Prelude.{◌≡◌, ◌⊎◌, ◌+◌, All, Ok, Err, OnOk, OnErr, length, map, MatchResult};
+ghost use Rattle.std.specs.Prelude.{◌≡◌, ◌⊎◌, ◌+◌, All, false, Ok, Err, OnOk, OnErr, IfErr, length, map, MatchResult};
 ghost use Rattle.std.specs.Result.{result_map_both};
 ghost use Rattle.rs_field.specs.code.Counts.{default_rate};
 ghost use Rattle.rs_field.specs.code.Decoder.{IsDecoder, enough_given, originals_given, recovery_given, NoneAgrees};
 ghost use Rattle.rs_field.specs.code.OneCall.{collected_shards};
+ghost use Rattle.rs_field.specs.code.Pieces.{room_length};
 ghost use Rattle.reed_solomon_simd.specs.ReceivedState.{received_state};
 ghost use Rattle.reed_solomon_simd.specs.Reconstructed.{AreReconstructed, CanBeRebuilt, OneReconstructs};
 ghost use Rattle.reed_solomon_simd.specs.Reconstructed.{ReconstructsInto, ReconstructsReceived};
 ghost use Rattle.reed_solomon_simd.specs.Rooms.{bytes_in, loans_of};
 
 use crate::Error;
+use crate::apart::Apart;
 use crate::lent_originals::empty_vectors;
 use crate::pieces::Pieces;
 use crate::received_shards::ReceivedShards;
 use crate::receiving::received_in_slices;
 use crate::reconstruct_error::ReconstructError;
 use crate::restoring::fill_rooms;
-use crate::rooms::{LentRooms, check_rooms};
+use crate::rooms::{LentRooms, Rooms, check_rooms};
 use crate::shard_index::ShardIndex;
-use crate::strip_rebuilder::rebuild_strips;
+use crate::strip_rebuilder::make_listed;
 use crate::verifying::error_without_results;
 use crate::wanted_shards::check_wanted;
 use rs_field::engine::Engine;
@@ -34,8 +36,8 @@ use std::alloc::Global;
 ///
 /// The call works strip by strip, with at most 2048 bytes of each shard at a time. If few shards are wanted, it sums
 /// received shards, each times a factor. Otherwise it decodes each strip, and if a recovery shard is wanted, it also
-/// encodes the originals of the strip. It allocates two lists of references to shards, three lists of marks, the
-/// vectors, and the factors' logarithms or work areas for a strip of each shard.
+/// encodes the originals of the strip. It allocates two lists of references to shards, two lists of marks, the vectors,
+/// and either lists of rows and of the factors' logarithms, or work areas for a strip of each shard.
 ///
 /// # Errors
 ///
@@ -65,7 +67,7 @@ use std::alloc::Global;
 /// assert_eq!(rt; made[0].as_slice(), RECOVERY[1].as_slice());
 /// assert_eq!(rt; made[1].as_slice(), ORIGINAL[2]);
 /// ```
-pub fn reconstruct<E: Engine + Copy>(
+pub fn reconstruct<E: Engine>(
     alloc: Global,
     original_count: usize,
     recovery_count: usize,
@@ -115,7 +117,7 @@ pub fn reconstruct<E: Engine + Copy>(
 /// assert_eq!(rt; first, RECOVERY[1]);
 /// assert_eq!(rt; second.as_slice(), ORIGINAL[2]);
 /// ```
-pub fn reconstruct_into<E: Engine + Copy>(
+pub fn reconstruct_into<E: Engine>(
     alloc: Global,
     original_count: usize,
     recovery_count: usize,
@@ -150,7 +152,7 @@ pub fn reconstruct_into<E: Engine + Copy>(
 /// - [`ReconstructError::Refused`] with [`Error::InconsistentShards`] if no message agrees with all received shards.
 ///
 /// The contract allows [`Error::OutOfMemory`] instead of any result. After an error the rooms hold what they held.
-pub fn reconstruct_received<E: Engine + Copy>(
+pub fn reconstruct_received<E: Engine>(
     alloc: Global,
     received: &ReceivedShards<'_>,
     wanted: &[ShardIndex],
@@ -176,7 +178,7 @@ pub fn reconstruct_received<E: Engine + Copy>(
 // Writes the wanted shards into rooms of their size, in order. As many shards as originals were received, so there is a
 // message that agrees with them all. Fails with `OutOfMemory` if the work areas cannot be allocated. The rooms then
 // hold what they held.
-fn rebuild_lent<E: Engine + Copy, P: Pieces>(
+fn rebuild_lent<E: Engine, P: Pieces>(
     alloc: Global,
     engine: E,
     received: &P,
@@ -200,12 +202,49 @@ fn rebuild_lent<E: Engine + Copy, P: Pieces>(
     ensures kept { loans_of rooms.new ≡ loans_of rooms.old }
 {
     let mut lent = LentRooms { rooms };
-    rebuild_strips(alloc, engine, received, wanted, &mut lent)
+    rebuild_apart(alloc, &engine, received, wanted, 0, &mut lent)
+}
+
+// Writes wanted shards into rooms that share no memory with the received shards, in order. Fails with `OutOfMemory`, and
+// with `InconsistentShards` if no message agrees with all received shards.
+fn rebuild_apart<E: Engine, P: Pieces, R: Rooms>(
+    alloc: Global,
+    engine: &E,
+    received: &P,
+    wanted: &[ShardIndex],
+    surplus: usize,
+    rooms: &mut R,
+) -> Result<(), Error>
+    requires set_up { IsDecoder default_rate (P.received received.now) }
+    requires enough { enough_given (P.received received.now) ≡ Ok tt }
+    requires surplus { originals_given (P.received received.now)
+        + recovery_given (P.received received.now)
+        ≡ (P.received received.now).configuration.original_count + surplus }
+    requires can { All (CanBeRebuilt (P.received received.now)) wanted.now }
+    requires number { length (R.held rooms.old) ≡ length wanted.now }
+    requires fit { All
+        (λ room. length room
+        ≡ room_length R.grows 0 (P.received received.now).configuration.shard_bytes)
+        (R.held rooms.old) }
+    ensures rebuilt { OnOk result
+        (AreReconstructed (P.received received.now) wanted.now (R.held rooms.new)) }
+    ensures refused { IfErr result
+        (λ e. NoneAgrees (P.received received.now) e ⊎ (e ≡ Error.OutOfMemory)) }
+    ensures untouched { R.grows ≡ false
+        → IfErr result (λ e. e ≡ Error.OutOfMemory → R.held rooms.new ≡ R.held rooms.old) }
+    ensures places { R.places rooms.new ≡ R.places rooms.old }
+    ensures loan { R.loan rooms.new ≡ R.loan rooms.old }
+{
+    let mut store = Apart {
+        pieces: received,
+        rooms,
+    };
+    make_listed(alloc, engine, wanted, surplus, &mut store)
 }
 
 // Returns the wanted shards as vectors, in order. `surplus` is the number of received shards beyond the number of
 // originals. Fails with `InconsistentShards` if no message agrees with all received shards, and with `OutOfMemory`.
-fn rebuild_vectors<E: Engine + Copy>(
+fn rebuild_vectors<E: Engine>(
     alloc: Global,
     engine: E,
     surplus: usize,
@@ -225,6 +264,6 @@ fn rebuild_vectors<E: Engine + Copy>(
         let error = error_without_results(alloc, engine, missing, surplus, received);
         return Err(error);
     };
-    rebuild_strips(alloc, engine, received, wanted, &mut vectors)?;
+    rebuild_apart(alloc, &engine, received, wanted, surplus, &mut vectors)?;
     Ok(vectors)
 }

@@ -17,8 +17,8 @@ use crate::lent_originals::empty_vectors;
 use crate::pieces::Pieces;
 use crate::received_shards::ReceivedShards;
 use crate::rooms::{LentRooms, Rooms, check_rooms};
-use crate::strip_decoder::decode_strips;
-use crate::strip_summer::{are_sums_used, sum_missing};
+use crate::store::Store;
+use crate::strip_decoder::make_missing;
 use crate::verifying::error_without_results;
 use rs_field::engine::Engine;
 use rs_field::error::Error;
@@ -57,9 +57,8 @@ pub fn restore_vectors<E: Engine, P: Pieces>(
     Ok(vectors)
 }
 
-// Writes the missing originals into rooms that share no memory with the received shards, in order of index: few of them
-// by direct sums, and more by decodes of strips. Fails with `OutOfMemory`, and with `InconsistentShards` if no message
-// agrees with all received shards.
+// Writes the missing originals into rooms that share no memory with the received shards, in order of index. Fails with
+// `OutOfMemory`, and with `InconsistentShards` if no message agrees with all received shards.
 fn restore_apart<E: Engine, P: Pieces, R: Rooms>(
     alloc: Global,
     engine: E,
@@ -87,14 +86,11 @@ fn restore_apart<E: Engine, P: Pieces, R: Rooms>(
     ensures places { R.places rooms.new ≡ R.places rooms.old }
     ensures loan { R.loan rooms.new ≡ R.loan rooms.old }
 {
-    if are_sums_used(received.counts(), missing, surplus) {
-        return sum_missing(alloc, &engine, missing, surplus, received, rooms);
-    }
     let mut store = Apart {
         pieces: received,
         rooms,
     };
-    decode_strips(alloc, engine, &mut store)
+    make_missing(alloc, &engine, missing, surplus, &mut store)
 }
 
 /// Writes the missing originals into rooms of their size, in order of index. As many shards as originals were received,
@@ -138,14 +134,13 @@ pub fn restore_lent<E: Engine>(
 /// - [`Error::OutOfMemory`] if the vectors cannot be allocated.
 ///
 /// After an error the rooms hold what they held.
-pub fn restore_in_place<E: Engine, S: Pieces + Rooms>(
+pub fn restore_in_place<E: Engine, S: Store>(
     alloc: Global,
     engine: E,
     missing: usize,
     surplus: usize,
     store: &mut S,
 ) -> Result<(), Error>
-    requires kept { (x y : S) → S.places x ≡ S.places y → S.received x ≡ S.received y }
     requires set_up { IsDecoder default_rate (S.received store.old) }
     requires enough { originals_given (S.received store.old) + recovery_given (S.received store.old)
         ≡ (S.received store.old).configuration.original_count + surplus }
@@ -164,7 +159,7 @@ pub fn restore_in_place<E: Engine, S: Pieces + Rooms>(
     ensures loan { S.loan store.new ≡ S.loan store.old }
 {
     if surplus == 0 {
-        return decode_strips(alloc, engine, store);
+        return make_missing(alloc, &engine, missing, 0, store);
     }
     let vectors = restore_vectors(alloc, engine, missing, surplus, &*store)?;
     let shard_bytes = store.shard_bytes();

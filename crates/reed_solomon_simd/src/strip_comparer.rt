@@ -15,6 +15,7 @@ ghost use Rattle.rs_rate.specs.objects.Giving.{Reaches};
 ghost use Rattle.rs_rate.specs.objects.ResultView.{recovery_shards};
 
 use crate::pieces::Pieces;
+use crate::shard_index::ShardIndex;
 use crate::strip_encoder::STRIP_BYTES;
 use rs_field::engine::{Engine, Steps};
 use rs_field::error::Error;
@@ -108,7 +109,7 @@ fn add_received_originals<E: Engine, P: Pieces>(
         (λ s. encoder_state default_rate encoder.new.rows ≡ s) }
 {
     for index in 0..received.counts().original_count {
-        if let Some(piece) = received.original_piece(index, start, end) {
+        if let Some(piece) = received.piece(ShardIndex::Original(index), start, end) {
             encoder.add_original_shard(piece)?;
         }
     }
@@ -132,7 +133,7 @@ fn are_encoded<P: Pieces>(
         (recovery_shards encoded.now) }
 {
     for index in 0..received.counts().recovery_count {
-        if let Some(piece) = received.recovery_piece(index, start, end) {
+        if let Some(piece) = received.piece(ShardIndex::Recovery(index), start, end) {
             if !is_encoded(encoded, index, piece) {
                 return false;
             }

@@ -1,205 +1,212 @@
 //! Reconstructing wanted shards strip by strip. Few shards are rebuilt by direct sums. Otherwise the received shards of
 //! each strip are decoded. If a recovery shard is wanted, the originals are then encoded. The wanted pieces are copied
 //! into the rooms.
-ghost use Rattle.std.specs.Prelude.{◌≡◌, ◌⊎◌, ℕ, ◌+◌, ◌-◌, ◌<◌, ◌≤◌, All, true, false, List, length, map, Ok, Some};
-ghost use Rattle.std.specs.Prelude.{OnOk, IfErr, IsTrue, option_copied};
+ghost use Rattle.std.specs.Prelude.{◌≡◌, ℕ, ◌+◌, ◌-◌, ◌<◌, ◌≤◌, All, true, List, length, map, Ok, Some};
+ghost use Rattle.std.specs.Prelude.{OnOk, IfOk, IfErr, IfSome, is_some, option_copied};
+ghost use Rattle.std.specs.Option.{option_map};
 ghost use Rattle.std.specs.List.{list_any};
 ghost use Rattle.rs_field.specs.code.Code.{AreRecovery};
 ghost use Rattle.rs_field.specs.code.Column.{Shard, shard_at};
 ghost use Rattle.rs_field.specs.code.Counts.{default_rate};
-ghost use Rattle.rs_field.specs.code.Decoder.{IsDecoder, fresh_decoder, enough_given, IsAgreeing, Restored, NoneAgrees};
+ghost use Rattle.rs_field.specs.code.Decoder.{IsDecoder, IsAgreeing, Restored, originals_given, recovery_given};
+ghost use Rattle.rs_field.specs.code.Configuration.{validation_outcome};
 ghost use Rattle.rs_field.specs.code.Encoder.{fresh_encoder};
-ghost use Rattle.rs_field.specs.code.OneCall.{with_shards};
+ghost use Rattle.rs_field.specs.code.OneCall.{default_of, with_shards};
 ghost use Rattle.rs_field.specs.code.Pieces.{IsStrip, ArePut, room_length};
 ghost use Rattle.rs_field.specs.code.PieceStates.{state_of_pieces};
-ghost use Rattle.rs_rate.specs.rows.DecoderView.{decoder_state};
 ghost use Rattle.rs_rate.specs.rows.EncoderView.{encoder_state, lent_shards};
 ghost use Rattle.rs_rate.specs.objects.Giving.{Reaches};
-ghost use Rattle.rs_rate.specs.objects.ResultView.{recovery_shards, restored_originals};
-ghost use Rattle.reed_solomon_simd.specs.Reconstructed.{AreReconstructed, CanBeRebuilt, lent_at};
+ghost use Rattle.rs_rate.specs.objects.ResultView.{restored_originals};
+ghost use Rattle.reed_solomon_simd.specs.Making.{CanMake, AreRooms, Makes};
+ghost use Rattle.reed_solomon_simd.specs.Reconstructed.{lent_at};
+ghost use Rattle.reed_solomon_simd.specs.Rounds.{IsReadyToEncode, lent_by};
 ghost use Rattle.reed_solomon_simd.specs.ShardNames.{is_recovery};
 
 use crate::pieces::Pieces;
 use crate::rooms::Rooms;
 use crate::shard_index::ShardIndex;
-use crate::strip_decoder::{STRIP_BYTES, decode_pieces};
-use crate::strip_summer::{are_sums_used, mark_base, sum_strips};
+use crate::store::Store;
+use crate::strip_rounds::{STRIP_BYTES, decode_pieces};
+use crate::strip_summer::{are_sums_used, sum_listed};
+use crate::strips::{Way, make_strips};
 use rs_field::engine::{Engine, Steps};
 use rs_field::error::Error;
-use rs_rate::rate::rounds::{encode_round, lent_originals, lent_recovery};
-use rs_rate::rate::{DefaultRateDecoder, DefaultRateEncoder, RateDecoder, RateEncoder};
-use rs_rate::{DecoderResult, EncoderResult};
+use rs_rate::DecoderResult;
+use rs_rate::rate::DefaultRateCounts;
+use rs_rate::rate::rounds::lent_originals;
+use rs_rate::rate::strips::{StripDecoder, StripEncoder};
 use std::alloc::Global;
 
-/// Writes wanted shards into rooms, in order. At least as many shards as originals were received, and none of the
-/// wanted shards was received.
+/// Writes wanted shards into the rooms of a store, in order. Few of them are made by direct sums, and more by rounds.
+/// `surplus` is the number of received shards beyond the number of originals.
 ///
 /// # Errors
 ///
 /// - [`Error::OutOfMemory`] if the marks, the logarithms or the work areas cannot be allocated.
 /// - For each strip in order: [`Error::InconsistentShards`] if no message agrees with all received shards, and then
 ///   [`Error::OutOfMemory`] if a room cannot grow. The rooms may then hold some strips.
-pub fn rebuild_strips<E: Engine + Copy, P: Pieces, R: Rooms>(
+pub fn make_listed<E: Engine, S: Store>(
     alloc: Global,
-    engine: E,
-    received: &P,
+    engine: &E,
     wanted: &[ShardIndex],
-    rooms: &mut R,
+    surplus: usize,
+    store: &mut S,
 ) -> Result<(), Error>
-    requires set_up { IsDecoder default_rate (P.received received.now) }
-    requires enough { enough_given (P.received received.now) ≡ Ok tt }
-    requires can { All (CanBeRebuilt (P.received received.now)) wanted.now }
-    requires number { length (R.held rooms.old) ≡ length wanted.now }
-    requires fit { All
-        (λ room. length room
-        ≡ room_length R.grows 0 (P.received received.now).configuration.shard_bytes)
-        (R.held rooms.old) }
-    ensures rebuilt { OnOk result
-        (AreReconstructed (P.received received.now) wanted.now (R.held rooms.new)) }
-    ensures refused { IfErr result
-        (λ e. NoneAgrees (P.received received.now) e ⊎ (e ≡ Error.OutOfMemory)) }
-    ensures untouched { R.grows ≡ false
-        → IfErr result (λ e. e ≡ Error.OutOfMemory → R.held rooms.new ≡ R.held rooms.old) }
-    ensures places { R.places rooms.new ≡ R.places rooms.old }
-    ensures loan { R.loan rooms.new ≡ R.loan rooms.old }
+    requires can { CanMake (S.received store.old) wanted.now }
+    requires surplus { originals_given (S.received store.old)
+        + recovery_given (S.received store.old)
+        ≡ (S.received store.old).configuration.original_count + surplus }
+    requires rooms { AreRooms S.grows 0 (S.received store.old).configuration.shard_bytes
+        (length wanted.now) (S.held store.old) }
+    ensures made { Makes S.grows (S.received store.old) wanted.now (S.held store.old)
+        (S.held store.new) result }
+    ensures places { S.places store.new ≡ S.places store.old }
+    ensures loan { S.loan store.new ≡ S.loan store.old }
 {
-    let (marks, surplus) = mark_base(alloc, received)?;
-    if are_sums_used(received.counts(), wanted.len(), surplus) {
-        return sum_strips(alloc, &engine, received, wanted, marks, surplus, rooms);
+    if are_sums_used(store.counts(), wanted.len(), surplus) {
+        return sum_listed(alloc, engine, wanted, surplus, store);
     }
-    rebuild_by_rounds(alloc, engine, received, wanted, rooms)
+    rebuild_by_rounds(alloc, engine, wanted, store)
 }
 
-// Writes wanted shards into rooms, in order, by a decode of each strip and an encode if a recovery shard is wanted.
-// Fails as `rebuild_strips` does.
-fn rebuild_by_rounds<E: Engine + Copy, P: Pieces, R: Rooms>(
+// Writes wanted shards into the rooms of a store, in order, by a decode of each strip and an encode if a recovery shard
+// is wanted. Fails as `make_listed` does.
+fn rebuild_by_rounds<E: Engine, S: Store>(
     alloc: Global,
-    engine: E,
-    received: &P,
+    engine: &E,
     wanted: &[ShardIndex],
-    rooms: &mut R,
+    store: &mut S,
+) -> Result<(), Error>
+    requires can { CanMake (S.received store.old) wanted.now }
+    requires rooms { AreRooms S.grows 0 (S.received store.old).configuration.shard_bytes
+        (length wanted.now) (S.held store.old) }
+    ensures made { Makes S.grows (S.received store.old) wanted.now (S.held store.old)
+        (S.held store.new) result }
+    ensures places { S.places store.new ≡ S.places store.old }
+    ensures loan { S.loan store.new ≡ S.loan store.old }
+{
+    let counts = store.counts();
+    let width = STRIP_BYTES.min(store.shard_bytes());
+    let decoder = StripDecoder::with_counts(alloc, counts, width, (), None)?;
+    let encoder = encoder_if_wanted(alloc, counts, width, wanted)?;
+    let mut way = Rebuild {
+        engine,
+        wanted,
+        decoder,
+        encoder,
+    };
+    make_strips(STRIP_BYTES, &mut way, store)
+}
+
+// Makes an encoder for strips of `width` bytes if a recovery shard is wanted. Fails with `OutOfMemory`.
+fn encoder_if_wanted(
+    alloc: Global,
+    counts: DefaultRateCounts,
+    width: usize,
+    wanted: &[ShardIndex],
+) -> Result<Option<StripEncoder>, Error>
+    requires valid { validation_outcome
+        (default_of counts.original_count counts.recovery_count width) ≡ Ok tt }
+    ensures made { IfOk result (λ o. (list_any is_recovery wanted.now ≡ is_some o)
+        × IfSome o (λ e. encoder_state default_rate e.rows
+        ≡ fresh_encoder (default_of counts.original_count counts.recovery_count width))) }
+    ensures refused { IfErr result (λ e. e ≡ Error.OutOfMemory) }
+{
+    if !wants_recovery(wanted) {
+        return Ok(None);
+    }
+    let encoder = StripEncoder::with_counts(alloc, counts, width, (), None)?;
+    Ok(Some(encoder))
+}
+
+/// Rounds of a decoder, and of an encoder if a recovery shard is wanted. They make listed shards.
+#[derive(Drop)]
+struct Rebuild<'a, E: Engine> {
+    engine: &'a E,
+    wanted: &'a [ShardIndex],
+    decoder: StripDecoder,
+    encoder: Option<StripEncoder>,
+}
+
+impl<'a, E: Engine> Way for Rebuild<'a, E> {
+    ghost use Rattle.std.specs.Prelude.{◌≡◌, IfSome, is_some};
+    ghost use Rattle.std.specs.List.{list_any};
+    ghost use Rattle.reed_solomon_simd.specs.Rounds.{IsReadyToDecode, IsReadyToEncode};
+    ghost use Rattle.reed_solomon_simd.specs.ShardNames.{is_recovery};
+
+    ghost wanted = { λ x _. x.wanted.now };
+
+    ghost ready = { λ x s n. IsReadyToDecode x.decoder.rows s n
+        × (list_any is_recovery x.wanted.now ≡ is_some x.encoder)
+        × IfSome x.encoder (λ e. IsReadyToEncode e.rows s n) };
+
+    fn strip<S: Store>(&mut self, start: usize, end: usize, store: &mut S) -> Result<(), Error> {
+        let restored_count = decode_pieces(self.engine, &mut self.decoder, &*store, start, end)?;
+        let restored = lent_originals(&self.decoder, restored_count);
+        let encoder = &mut self.encoder;
+        encode_if_made(self.engine, encoder, &*store, &restored, start, end)?;
+        put_wanted(&restored, encoder, self.wanted, start, end, store)
+    }
+}
+
+// Encodes one strip of all originals, received or restored, if there is an encoder. The recovery pieces are then in the
+// encoder. This never fails.
+fn encode_if_made<'a, E: Engine, P: Pieces>(
+    engine: &E,
+    encoder: &mut Option<StripEncoder>,
+    received: &'a P,
+    restored: &'a DecoderResult<'a>,
+    start: usize,
+    end: usize,
 ) -> Result<(), Error>
     requires set_up { IsDecoder default_rate (P.received received.now) }
-    requires enough { enough_given (P.received received.now) ≡ Ok tt }
-    requires can { All (CanBeRebuilt (P.received received.now)) wanted.now }
-    requires number { length (R.held rooms.old) ≡ length wanted.now }
-    requires fit { All
-        (λ room. length room
-        ≡ room_length R.grows 0 (P.received received.now).configuration.shard_bytes)
-        (R.held rooms.old) }
-    ensures rebuilt { OnOk result
-        (AreReconstructed (P.received received.now) wanted.now (R.held rooms.new)) }
-    ensures refused { IfErr result
-        (λ e. NoneAgrees (P.received received.now) e ⊎ (e ≡ Error.OutOfMemory)) }
-    ensures untouched { R.grows ≡ false
-        → IfErr result (λ e. e ≡ Error.OutOfMemory → R.held rooms.new ≡ R.held rooms.old) }
-    ensures places { R.places rooms.new ≡ R.places rooms.old }
-    ensures loan { R.loan rooms.new ≡ R.loan rooms.old }
+    requires ready { IfSome encoder.old
+        (λ e. IsReadyToEncode e.rows (P.received received.now) (end - start)) }
+    requires strip { IsStrip start end (P.received received.now).configuration.shard_bytes }
+    requires some { start < end }
+    requires restored { Restored (state_of_pieces start end (P.received received.now))
+        (restored_originals restored.now) }
+    ensures coded { IfSome encoder.new (λ e. (message : List Shard)
+        → IsAgreeing (state_of_pieces start end (P.received received.now)) message
+        → AreRecovery (state_of_pieces start end (P.received received.now)).configuration message
+        (lent_shards e.rows)) }
+    ensures answer { result ≡ Ok tt }
+    ensures same { is_some encoder.new ≡ is_some encoder.old }
+    ensures ready { IfSome encoder.new
+        (λ e. IsReadyToEncode e.rows (P.received received.now) (end - start)) }
 {
-    let counts = received.counts();
-    let shard_bytes = received.shard_bytes();
-    let width = STRIP_BYTES.min(shard_bytes);
-    let mut decoder = DefaultRateDecoder::with_counts(alloc, counts, width, engine, None)?;
-    let mut encoder = DefaultRateEncoder::with_counts(alloc, counts, width, engine, None)?;
-    let mut start = 0;
-    while start < shard_bytes {
-        let left = shard_bytes - start;
-        if left < width {
-            decoder.reset(counts.original_count, counts.recovery_count, left)?;
-            encoder.reset(counts.original_count, counts.recovery_count, left)?;
-        }
-        let end = start + width.min(left);
-        rebuild_strip(
-            &mut decoder,
-            &mut encoder,
-            received,
-            wanted,
-            start,
-            end,
-            rooms,
-        )?;
-        start = end;
+    if let Some(encoder) = encoder {
+        encode_message(engine, encoder, received, restored, start, end)?;
     }
     Ok(())
 }
 
-// Rebuilds one strip of the wanted shards, and writes it into the rooms.
-fn rebuild_strip<E: Engine, P: Pieces, R: Rooms>(
-    decoder: &mut DefaultRateDecoder<E>,
-    encoder: &mut DefaultRateEncoder<E>,
-    received: &P,
-    wanted: &[ShardIndex],
-    start: usize,
-    end: usize,
-    rooms: &mut R,
-) -> Result<(), Error>
-    requires set_up { IsDecoder default_rate (P.received received.now) }
-    requires fresh { decoder_state default_rate decoder.old.rows
-        ≡ fresh_decoder (state_of_pieces start end (P.received received.now)).configuration }
-    requires fresh_encoder { encoder_state default_rate encoder.old.rows
-        ≡ fresh_encoder (state_of_pieces start end (P.received received.now)).configuration }
-    requires strip { IsStrip start end (P.received received.now).configuration.shard_bytes }
-    requires enough { enough_given (P.received received.now) ≡ Ok tt }
-    requires can { All (CanBeRebuilt (P.received received.now)) wanted.now }
-    requires number { length (R.held rooms.old) ≡ length wanted.now }
-    requires fit { All
-        (λ room. length room
-        ≡ room_length R.grows start (P.received received.now).configuration.shard_bytes)
-        (R.held rooms.old) }
-    ensures put { OnOk result ((made : List Shard)
-        × AreReconstructed (state_of_pieces start end (P.received received.now)) wanted.now made
-        × ArePut start end made (R.held rooms.old) (R.held rooms.new)) }
-    ensures refused { IfErr result
-        (λ e. NoneAgrees (state_of_pieces start end (P.received received.now)) e
-        ⊎ ((R.grows ≡ true) × (e ≡ Error.OutOfMemory))) }
-    ensures fresh { decoder_state default_rate decoder.new.rows
-        ≡ decoder_state default_rate decoder.old.rows }
-    ensures fresh_encoder { encoder_state default_rate encoder.new.rows
-        ≡ encoder_state default_rate encoder.old.rows }
-    ensures places { R.places rooms.new ≡ R.places rooms.old }
-    ensures loan { R.loan rooms.new ≡ R.loan rooms.old }
-{
-    let restored_count = decode_pieces(decoder, received, start, end)?;
-    let restored = lent_originals(decoder, restored_count);
-    encode_if_wanted(encoder, received, &restored, wanted, start, end)?;
-    put_wanted(
-        &restored,
-        &lent_recovery(encoder),
-        wanted,
-        start,
-        end,
-        rooms,
-    )
-}
-
-// Encodes one strip of all originals, received or restored, if a recovery shard is wanted. The recovery pieces are then
-// in the encoder. This never fails.
-fn encode_if_wanted<'a, E: Engine, P: Pieces>(
-    encoder: &mut DefaultRateEncoder<E>,
+// Encodes one strip of all originals, received or restored. The recovery pieces are then in the encoder. This never
+// fails.
+fn encode_message<'a, E: Engine, P: Pieces>(
+    engine: &E,
+    encoder: &mut StripEncoder,
     received: &'a P,
     restored: &'a DecoderResult<'a>,
-    wanted: &[ShardIndex],
     start: usize,
     end: usize,
 ) -> Result<(), Error>
     requires set_up { IsDecoder default_rate (P.received received.now) }
-    requires fresh { encoder_state default_rate encoder.old.rows
-        ≡ fresh_encoder (state_of_pieces start end (P.received received.now)).configuration }
+    requires ready { IsReadyToEncode encoder.old.rows (P.received received.now) (end - start) }
     requires strip { IsStrip start end (P.received received.now).configuration.shard_bytes }
+    requires some { start < end }
     requires restored { Restored (state_of_pieces start end (P.received received.now))
         (restored_originals restored.now) }
-    ensures coded { IsTrue (list_any is_recovery wanted.now) → (message : List Shard)
+    ensures coded { (message : List Shard)
         → IsAgreeing (state_of_pieces start end (P.received received.now)) message
         → AreRecovery (state_of_pieces start end (P.received received.now)).configuration message
         (lent_shards encoder.new.rows) }
     ensures answer { result ≡ Ok tt }
-    ensures fresh { encoder_state default_rate encoder.new.rows
-        ≡ encoder_state default_rate encoder.old.rows }
+    ensures ready { IsReadyToEncode encoder.new.rows (P.received received.now) (end - start) }
 {
-    if wants_recovery(wanted) {
-        add_message(encoder, received, restored, start, end)?;
-        encode_round(encoder, &mut Steps::new())?;
-    }
+    encoder.narrow(end - start)?;
+    add_message(encoder, received, restored, start, end)?;
+    encoder.encode(engine, &mut Steps::new())?;
     Ok(())
 }
 
@@ -211,8 +218,8 @@ fn wants_recovery(wanted: &[ShardIndex]) -> bool
 }
 
 // Adds a strip of each original to an encoder, in order of index.
-fn add_message<'a, E: Engine, P: Pieces>(
-    encoder: &mut DefaultRateEncoder<E>,
+fn add_message<'a, P: Pieces>(
+    encoder: &mut StripEncoder,
     received: &'a P,
     restored: &'a DecoderResult<'a>,
     start: usize,
@@ -230,7 +237,7 @@ fn add_message<'a, E: Engine, P: Pieces>(
 {
     for index in 0..received.counts().original_count {
         if let Some(piece) = message_piece(received, restored, index, start, end) {
-            encoder.add_original_shard(piece)?;
+            encoder.take(piece)?;
         }
     }
     Ok(())
@@ -254,7 +261,7 @@ fn message_piece<'a, P: Pieces>(
         → IsAgreeing (state_of_pieces start end (P.received received.now)) message
         → option_copied result ≡ Some (shard_at message index) }
 {
-    match received.original_piece(index, start, end) {
+    match received.piece(ShardIndex::Original(index), start, end) {
         Some(piece) => Some(piece),
         None => restored.restored_original(index),
     }
@@ -263,7 +270,7 @@ fn message_piece<'a, P: Pieces>(
 // Writes the wanted pieces into the rooms, after the first `start` bytes.
 fn put_wanted<'a, R: Rooms>(
     restored: &'a DecoderResult<'a>,
-    encoded: &'a EncoderResult<'a>,
+    encoder: &'a Option<StripEncoder>,
     wanted: &[ShardIndex],
     start: usize,
     end: usize,
@@ -272,12 +279,12 @@ fn put_wanted<'a, R: Rooms>(
     requires order { start ≤ end }
     requires number { length (R.held rooms.old) ≡ length wanted.now }
     requires pieces { (made : List Shard)
-        × (map (lent_at (restored_originals restored.now) (recovery_shards encoded.now)) wanted.now
+        × (map (lent_at (restored_originals restored.now) (lent_by (option_map (λ e. e.rows) encoder.now))) wanted.now
         ≡ map (λ piece. Some piece) made) × All (λ piece. length piece ≡ end - start) made }
     requires fit { (size : ℕ) × (end ≤ size)
         × All (λ room. length room ≡ room_length R.grows start size) (R.held rooms.old) }
     ensures put { OnOk result ((made : List Shard)
-        × (map (lent_at (restored_originals restored.now) (recovery_shards encoded.now)) wanted.now
+        × (map (lent_at (restored_originals restored.now) (lent_by (option_map (λ e. e.rows) encoder.now))) wanted.now
         ≡ map (λ piece. Some piece) made)
         × ArePut start end made (R.held rooms.old) (R.held rooms.new)) }
     ensures refused { IfErr result (λ e. (R.grows ≡ true) × (e ≡ Error.OutOfMemory)) }
@@ -285,7 +292,7 @@ fn put_wanted<'a, R: Rooms>(
     ensures loan { R.loan rooms.new ≡ R.loan rooms.old }
 {
     for room in 0..wanted.len() {
-        if let Some(piece) = wanted_piece(restored, encoded, wanted[room]) {
+        if let Some(piece) = wanted_piece(restored, encoder, wanted[room]) {
             rooms.put(room, start, piece)?;
         }
     }
@@ -295,14 +302,17 @@ fn put_wanted<'a, R: Rooms>(
 // Returns the restored or encoded piece of a shard, or `None` if there is none.
 fn wanted_piece<'a>(
     restored: &'a DecoderResult<'a>,
-    encoded: &'a EncoderResult<'a>,
+    encoder: &'a Option<StripEncoder>,
     wanted: ShardIndex,
 ) -> Option<&'a [u8]>
-    ensures { option_copied result
-        ≡ lent_at (restored_originals restored.now) (recovery_shards encoded.now) wanted }
+    ensures { option_copied result ≡ lent_at (restored_originals restored.now)
+        (lent_by (option_map (λ e. e.rows) encoder.now)) wanted }
 {
     match wanted {
         ShardIndex::Original(index) => restored.restored_original(index),
-        ShardIndex::Recovery(index) => encoded.recovery(index),
+        ShardIndex::Recovery(index) => match encoder {
+            Some(encoder) => encoder.recovery(index),
+            None => None,
+        },
     }
 }

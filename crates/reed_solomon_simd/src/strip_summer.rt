@@ -7,7 +7,7 @@ ghost use Rattle.rs_field.specs.code.Counts.{default_rate};
 ghost use Rattle.rs_field.specs.code.Decoder.{IsDecoder, enough_given, originals_given, recovery_given};
 ghost use Rattle.rs_field.specs.code.Decoder.{IsConsistent, NoneAgrees};
 ghost use Rattle.rs_field.specs.code.Frame.{row_count};
-ghost use Rattle.rs_field.specs.code.Pieces.{ArePut, room_length};
+ghost use Rattle.rs_field.specs.code.Pieces.{ArePut};
 ghost use Rattle.rs_field.specs.code.PieceStates.{state_of_pieces, HoldRestored};
 ghost use Rattle.rs_field.specs.rows.Layout.{row_len};
 ghost use Rattle.rs_field.specs.rows.MarkedRows.{is_marked};
@@ -18,12 +18,14 @@ ghost use Rattle.reed_solomon_simd.specs.Base.{row_of, MarkBase, CanSum};
 ghost use Rattle.rs_field.specs.code.Frame.{frame_at};
 ghost use Rattle.rs_field.specs.code.DirectLaws.{shard_in_row};
 ghost use Rattle.reed_solomon_simd.specs.Base.{base_sum, IsBaseSum, AgreesInRow};
+ghost use Rattle.reed_solomon_simd.specs.Making.{CanMake, AreRooms, Makes, MakesMissing};
 ghost use Rattle.reed_solomon_simd.specs.Reconstructed.{AreReconstructed, CanBeRebuilt, NamesMissing};
 
 use crate::pieces::Pieces;
-use crate::rooms::Rooms;
 use crate::shard_index::ShardIndex;
-use crate::strip_decoder::STRIP_BYTES;
+use crate::store::Store;
+use crate::strip_rounds::STRIP_BYTES;
+use crate::strips::{Way, make_strips};
 use crate::wanted_shards::no_marks;
 use rs_field::engine::layout::row_len;
 use rs_field::engine::{Engine, Steps};
@@ -44,15 +46,12 @@ pub(crate) fn are_sums_used(counts: DefaultRateCounts, wanted: usize, surplus: u
         && are_sums_cheaper(counts.frame, counts.original_count, wanted + surplus)
 }
 
-// Marks the rows of the base: the first received shards, as many as there are originals. Also returns how many more
-// shards were received. Fails with `OutOfMemory`.
-pub(crate) fn mark_base<P: Pieces>(alloc: Global, received: &P) -> Result<(Vec<bool>, usize), Error>
+// Marks the rows of the base: the first received shards, as many as there are originals. Fails with
+// `OutOfMemory`.
+fn mark_base<P: Pieces>(alloc: Global, received: &P) -> Result<Vec<bool>, Error>
     requires set_up { IsDecoder default_rate (P.received received.now) }
     requires enough { enough_given (P.received received.now) ≡ Ok tt }
-    ensures base { IfOk result (λ made. MarkBase (P.received received.now) made.0.items) }
-    ensures surplus { IfOk result (λ made.
-        originals_given (P.received received.now) + recovery_given (P.received received.now)
-        ≡ (P.received received.now).configuration.original_count + made.1) }
+    ensures base { IfOk result (λ marks. MarkBase (P.received received.now) marks.items) }
     ensures refused { IfErr result (λ e. e ≡ Error.OutOfMemory) }
 {
     let counts = received.counts();
@@ -65,7 +64,7 @@ pub(crate) fn mark_base<P: Pieces>(alloc: Global, received: &P) -> Result<(Vec<b
             found += 1;
         }
     }
-    Ok((marks, found - counts.original_count))
+    Ok(marks)
 }
 
 // Returns a piece of the shard that was received in a row, or `None` if there is none.
@@ -79,10 +78,10 @@ fn piece_in_row<P: Pieces>(received: &P, row: usize, start: usize, end: usize) -
     let counts = received.counts();
     let frame = counts.frame;
     if let Some(index) = index_of(row, frame.originals_from, counts.original_count) {
-        return received.original_piece(index, start, end);
+        return received.piece(ShardIndex::Original(index), start, end);
     }
     if let Some(index) = index_of(row, frame.recovery_from, counts.recovery_count) {
-        return received.recovery_piece(index, start, end);
+        return received.piece(ShardIndex::Recovery(index), start, end);
     }
     None
 }
@@ -99,52 +98,35 @@ fn index_of(row: usize, from: usize, count: usize) -> Option<usize>
     }
 }
 
-/// Writes the missing originals into rooms, in order of index, by direct sums. `missing` is the number of missing
-/// originals, and `surplus` is the number of received shards beyond the number of originals.
+/// Writes the missing originals into the rooms of a store, in order of index, by direct sums. `missing` is the number of
+/// missing originals, and `surplus` is the number of received shards beyond the number of originals.
 ///
 /// # Errors
 ///
 /// - [`Error::OutOfMemory`] if the lists or the factors cannot be allocated.
 /// - For each strip in order: [`Error::InconsistentShards`] if no message agrees with all received shards, and then
 ///   [`Error::OutOfMemory`] if a room cannot grow. The rooms may then hold some strips.
-pub(crate) fn sum_missing<E: Engine, P: Pieces, R: Rooms>(
+pub(crate) fn sum_missing<E: Engine, S: Store>(
     alloc: Global,
     engine: &E,
     missing: usize,
     surplus: usize,
-    received: &P,
-    rooms: &mut R,
+    store: &mut S,
 ) -> Result<(), Error>
-    requires set_up { IsDecoder default_rate (P.received received.now) }
-    requires enough { originals_given (P.received received.now)
-        + recovery_given (P.received received.now)
-        ≡ (P.received received.now).configuration.original_count + surplus }
-    requires missing { missing + originals_given (P.received received.now)
-        ≡ (P.received received.now).configuration.original_count }
-    requires number { length (R.held rooms.old) ≡ missing }
-    requires fit { All
-        (λ room. length room
-        ≡ room_length R.grows 0 (P.received received.now).configuration.shard_bytes)
-        (R.held rooms.old) }
-    ensures restored { OnOk result (HoldRestored (P.received received.now) (R.held rooms.new)) }
-    ensures refused { IfErr result
-        (λ e. NoneAgrees (P.received received.now) e ⊎ (e ≡ Error.OutOfMemory)) }
-    ensures untouched { R.grows ≡ false
-        → IfErr result (λ e. e ≡ Error.OutOfMemory → R.held rooms.new ≡ R.held rooms.old) }
-    ensures places { R.places rooms.new ≡ R.places rooms.old }
-    ensures loan { R.loan rooms.new ≡ R.loan rooms.old }
+    requires set_up { IsDecoder default_rate (S.received store.old) }
+    requires enough { originals_given (S.received store.old) + recovery_given (S.received store.old)
+        ≡ (S.received store.old).configuration.original_count + surplus }
+    requires missing { missing + originals_given (S.received store.old)
+        ≡ (S.received store.old).configuration.original_count }
+    requires rooms { AreRooms S.grows 0 (S.received store.old).configuration.shard_bytes missing
+        (S.held store.old) }
+    ensures made { MakesMissing S.grows (S.received store.old) (S.held store.old) (S.held store.new)
+        result }
+    ensures places { S.places store.new ≡ S.places store.old }
+    ensures loan { S.loan store.new ≡ S.loan store.old }
 {
-    let wanted = missing_originals(alloc, missing, received)?;
-    let (marks, _) = mark_base(alloc, received)?;
-    sum_strips(
-        alloc,
-        engine,
-        received,
-        wanted.as_slice(),
-        marks,
-        surplus,
-        rooms,
-    )
+    let wanted = missing_originals(alloc, missing, &*store)?;
+    sum_listed(alloc, engine, wanted.as_slice(), surplus, store)
 }
 
 // Returns the names of the missing originals, in order of index. `number` is their number. Fails with `OutOfMemory`.
@@ -161,102 +143,75 @@ fn missing_originals<P: Pieces>(
 {
     let mut missing = Vec::with_capacity(alloc, number)?;
     for index in 0..received.counts().original_count {
-        if received.original_piece(index, 0, 0).is_none() {
+        if received.piece(ShardIndex::Original(index), 0, 0).is_none() {
             missing.push(ShardIndex::Original(index))?;
         }
     }
     Ok(missing)
 }
 
-/// Writes wanted shards into rooms, in order, by direct sums over the base whose rows are marked. `surplus` is the
-/// number of received shards that are not in the base.
+/// Writes wanted shards into the rooms of a store, in order, by direct sums. `surplus` is the number of
+/// received shards beyond the number of originals.
 ///
 /// # Errors
 ///
-/// - [`Error::OutOfMemory`] if the factors cannot be allocated.
+/// - [`Error::OutOfMemory`] if the marks or the factors cannot be allocated.
 /// - For each strip in order: [`Error::InconsistentShards`] if no message agrees with all received shards, and then
 ///   [`Error::OutOfMemory`] if a room cannot grow. The rooms may then hold some strips.
-pub(crate) fn sum_strips<E: Engine, P: Pieces, R: Rooms>(
+pub(crate) fn sum_listed<E: Engine, S: Store>(
     alloc: Global,
     engine: &E,
-    received: &P,
     wanted: &[ShardIndex],
-    marks: Vec<bool>,
     surplus: usize,
-    rooms: &mut R,
+    store: &mut S,
 ) -> Result<(), Error>
-    requires set_up { IsDecoder default_rate (P.received received.now) }
-    requires enough { enough_given (P.received received.now) ≡ Ok tt }
-    requires base { MarkBase (P.received received.now) marks.items }
-    requires surplus { originals_given (P.received received.now)
-        + recovery_given (P.received received.now)
-        ≡ (P.received received.now).configuration.original_count + surplus }
-    requires can { All (CanBeRebuilt (P.received received.now)) wanted.now }
-    requires number { length (R.held rooms.old) ≡ length wanted.now }
-    requires fit { All
-        (λ room. length room
-        ≡ room_length R.grows 0 (P.received received.now).configuration.shard_bytes)
-        (R.held rooms.old) }
-    ensures rebuilt { OnOk result
-        (AreReconstructed (P.received received.now) wanted.now (R.held rooms.new)) }
-    ensures refused { IfErr result
-        (λ e. NoneAgrees (P.received received.now) e ⊎ (e ≡ Error.OutOfMemory)) }
-    ensures untouched { R.grows ≡ false
-        → IfErr result (λ e. e ≡ Error.OutOfMemory → R.held rooms.new ≡ R.held rooms.old) }
-    ensures places { R.places rooms.new ≡ R.places rooms.old }
-    ensures loan { R.loan rooms.new ≡ R.loan rooms.old }
+    requires can { CanMake (S.received store.old) wanted.now }
+    requires surplus { originals_given (S.received store.old)
+        + recovery_given (S.received store.old)
+        ≡ (S.received store.old).configuration.original_count + surplus }
+    requires rooms { AreRooms S.grows 0 (S.received store.old).configuration.shard_bytes
+        (length wanted.now) (S.held store.old) }
+    ensures made { Makes S.grows (S.received store.old) wanted.now (S.held store.old)
+        (S.held store.new) result }
+    ensures places { S.places store.new ≡ S.places store.old }
+    ensures loan { S.loan store.new ≡ S.loan store.old }
 {
-    let counts = received.counts();
-    let base = SumBase::new(alloc, engine, &mut Steps::new(), counts, marks)?;
-    let shard_bytes = received.shard_bytes();
-    let width = STRIP_BYTES.min(shard_bytes);
-    let mut start = 0;
-    while start < shard_bytes {
-        let end = start + width.min(shard_bytes - start);
-        sum_strip(engine, &base, received, wanted, surplus, start, end, rooms)?;
-        start = end;
-    }
-    Ok(())
+    let marks = mark_base(alloc, &*store)?;
+    let base = SumBase::new(alloc, engine, &mut Steps::new(), store.counts(), marks)?;
+    let mut way = Sums {
+        engine,
+        base,
+        wanted,
+        surplus,
+    };
+    make_strips(STRIP_BYTES, &mut way, store)
 }
 
-// Sums one strip of the wanted shards, and writes it into the rooms.
-fn sum_strip<E: Engine, P: Pieces, R: Rooms>(
-    engine: &E,
-    base: &SumBase,
-    received: &P,
-    wanted: &[ShardIndex],
+/// Direct sums over a base of the received shards, which make listed shards.
+#[derive(Drop)]
+struct Sums<'a, E: Engine> {
+    engine: &'a E,
+    base: SumBase,
+    wanted: &'a [ShardIndex],
     surplus: usize,
-    start: usize,
-    end: usize,
-    rooms: &mut R,
-) -> Result<(), Error>
-    requires ready { CanSum (P.received received.now) base.now start end }
-    requires surplus { originals_given (P.received received.now)
-        + recovery_given (P.received received.now)
-        ≡ (P.received received.now).configuration.original_count + surplus }
-    requires few { end - start ≤ 2048 }
-    requires can { All (CanBeRebuilt (P.received received.now)) wanted.now }
-    requires number { length (R.held rooms.old) ≡ length wanted.now }
-    requires fit { All
-        (λ room. length room
-        ≡ room_length R.grows start (P.received received.now).configuration.shard_bytes)
-        (R.held rooms.old) }
-    ensures put { OnOk result ((made : List Shard)
-        × AreReconstructed (state_of_pieces start end (P.received received.now)) wanted.now made
-        × ArePut start end made (R.held rooms.old) (R.held rooms.new)) }
-    ensures refused { IfErr result
-        (λ e. NoneAgrees (state_of_pieces start end (P.received received.now)) e
-        ⊎ ((R.grows ≡ true) × (e ≡ Error.OutOfMemory))) }
-    ensures places { R.places rooms.new ≡ R.places rooms.old }
-    ensures loan { R.loan rooms.new ≡ R.loan rooms.old }
-{
-    let len = row_len(end - start);
-    let mut sum = [[0; 64]; STRIP_BYTES / 64];
-    let sum = &mut sum[..len];
-    if surplus > 0 && !agree_in_strip(engine, base, received, start, end, sum) {
-        return Err(inconsistent(received, surplus));
+}
+
+impl<'a, E: Engine> Way for Sums<'a, E> {
+    ghost use Rattle.reed_solomon_simd.specs.Base.{AreSumsReady};
+
+    ghost wanted = { λ x _. x.wanted.now };
+
+    ghost ready = { λ x s n. AreSumsReady x.base x.surplus s n };
+
+    fn strip<S: Store>(&mut self, start: usize, end: usize, store: &mut S) -> Result<(), Error> {
+        let len = row_len(end - start);
+        let mut sum = [[0; 64]; STRIP_BYTES / 64];
+        let sum = &mut sum[..len];
+        if self.surplus > 0 && !agree_in_strip(self.engine, &self.base, &*store, start, end, sum) {
+            return Err(inconsistent(&*store, self.surplus));
+        }
+        put_sums(self.engine, &self.base, self.wanted, start, end, sum, store)
     }
-    put_sums(engine, base, received, wanted, start, end, sum, rooms)
 }
 
 // Returns the error of received shards with which no message agrees. There are `surplus` more shards than originals.
@@ -272,7 +227,7 @@ fn inconsistent<P: Pieces>(received: &P, surplus: usize) -> Error
     let original_count = received.counts().original_count;
     let mut original_received_count = 0;
     for index in 0..original_count {
-        if received.original_piece(index, 0, 0).is_some() {
+        if received.piece(ShardIndex::Original(index), 0, 0).is_some() {
             original_received_count += 1;
         }
     }
@@ -340,36 +295,32 @@ fn is_equal(one: &[u8], other: &[u8]) -> bool
 }
 
 // Writes a strip of each wanted shard into its room, after the first `start` bytes.
-fn put_sums<E: Engine, P: Pieces, R: Rooms>(
+fn put_sums<E: Engine, S: Store>(
     engine: &E,
     base: &SumBase,
-    received: &P,
     wanted: &[ShardIndex],
     start: usize,
     end: usize,
     sum: &mut [[u8; 64]],
-    rooms: &mut R,
+    store: &mut S,
 ) -> Result<(), Error>
-    requires ready { CanSum (P.received received.now) base.now start end }
-    requires consistent { IsConsistent (state_of_pieces start end (P.received received.now)) }
+    requires ready { CanSum (S.received store.old) base.now start end }
+    requires consistent { IsConsistent (state_of_pieces start end (S.received store.old)) }
     requires room { length sum.old ≡ row_len (end - start) }
-    requires can { All (CanBeRebuilt (P.received received.now)) wanted.now }
-    requires number { length (R.held rooms.old) ≡ length wanted.now }
-    requires fit { All
-        (λ room. length room
-        ≡ room_length R.grows start (P.received received.now).configuration.shard_bytes)
-        (R.held rooms.old) }
+    requires can { All (CanBeRebuilt (S.received store.old)) wanted.now }
+    requires rooms { AreRooms S.grows start (S.received store.old).configuration.shard_bytes
+        (length wanted.now) (S.held store.old) }
     ensures put { OnOk result ((made : List Shard)
-        × AreReconstructed (state_of_pieces start end (P.received received.now)) wanted.now made
-        × ArePut start end made (R.held rooms.old) (R.held rooms.new)) }
-    ensures refused { IfErr result (λ e. (R.grows ≡ true) × (e ≡ Error.OutOfMemory)) }
-    ensures places { R.places rooms.new ≡ R.places rooms.old }
-    ensures loan { R.loan rooms.new ≡ R.loan rooms.old }
+        × AreReconstructed (state_of_pieces start end (S.received store.old)) wanted.now made
+        × ArePut start end made (S.held store.old) (S.held store.new)) }
+    ensures refused { IfErr result (λ e. (S.grows ≡ true) × (e ≡ Error.OutOfMemory)) }
+    ensures places { S.places store.new ≡ S.places store.old }
+    ensures loan { S.loan store.new ≡ S.loan store.old }
 {
     for room in 0..wanted.len() {
         let row = row_of(base.counts.frame, wanted[room]);
-        sum_piece(engine, base, received, row, start, end, sum);
-        rooms.put(room, start, summed_piece(sum, end - start))?;
+        sum_piece(engine, base, &*store, row, start, end, sum);
+        store.put(room, start, summed_piece(sum, end - start))?;
     }
     Ok(())
 }

@@ -5,10 +5,11 @@ ghost use Rattle.rs_field.specs.code.Decoder.{IsDecoder, originals_given, recove
 ghost use Rattle.reed_solomon_simd.specs.Verified.{OneVerifies};
 
 use crate::Error;
+use crate::apart::Apart;
 use crate::pieces::Pieces;
 use crate::receiving::received_in_slices;
-use crate::strip_checker::check_by_decoding;
 use crate::strip_comparer::check_by_encoding;
+use crate::strip_rebuilder::make_listed;
 use rs_field::engine::Engine;
 use rs_rate::rate::DefaultRateCounts;
 use std::alloc::Global;
@@ -25,8 +26,10 @@ use std::alloc::Global;
 /// were received, and at least one but at most t of the received shards are damaged, the call fails with
 /// [`Error::InconsistentShards`].
 ///
-/// The call allocates two lists of references to shards, and a work area for at most 4096 bytes of each shard. If all
-/// originals were received, it encodes them and compares. Otherwise it does the work of a decode.
+/// The call allocates two lists of references to shards. If all originals were received, it encodes them and compares,
+/// with a work area for at most 4096 bytes of each shard. Otherwise it does the work of a decode. If there are few more
+/// shards than originals, it sums shards, and allocates short lists of rows and logarithms. If there are more, it
+/// allocates a work area for at most 2048 bytes of each shard.
 ///
 /// # Errors
 ///
@@ -110,7 +113,12 @@ pub fn check_consistent<E: Engine, P: Pieces>(
     if missing == 0 {
         return check_by_encoding(alloc, engine, surplus, received);
     }
-    check_by_decoding(alloc, engine, received)
+    let mut rooms: Vec<Vec<u8>> = Vec::new(alloc);
+    let mut store = Apart {
+        pieces: received,
+        rooms: &mut rooms,
+    };
+    make_listed(alloc, &engine, &[], surplus, &mut store)
 }
 
 /// Returns the error of a call that cannot allocate its results: [`Error::InconsistentShards`] if no message agrees

@@ -1,4 +1,4 @@
-pub mod of_values
-pub mod of_rows
-pub mod of_passes
-pub mod of_objects
+pub mod values_lemmas
+pub mod rows_lemmas
+pub mod passes_lemmas
+pub mod objects_lemmas

@@ -10,4 +10,5 @@ pub mod originals_alone;
 pub mod rate_object;
 pub mod rates;
 pub mod rounds;
+pub mod strips;
 pub mod traits;

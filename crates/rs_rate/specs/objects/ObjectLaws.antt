@@ -10,7 +10,7 @@ use Rattle.rs_field.specs.code.Encoder.{IsEncoder}
 use Rattle.rs_field.specs.code.Decoder.{IsDecoder}
 use Rattle.rs_field.specs.code.Given.{AreWithin, Shards}
 use Rattle.rs_field.specs.code.Frame.{encoder_rows, decoder_rows}
-use Rattle.rs_field.proofs.of_words.UpTo.{length-up_to, all-up_to}
+use Rattle.rs_field.proofs.words_lemmas.UpTo.{length-up_to, all-up_to}
 use Rattle.rs_rate.specs.declared.rows.encoder_work.EncoderRows.{EncoderRows}
 use Rattle.rs_rate.specs.declared.rows.decoder_work.DecoderRows.{DecoderRows}
 use Rattle.rs_rate.specs.values.RowCounts.{encoder_rows_set_up, decoder_rows_set_up}

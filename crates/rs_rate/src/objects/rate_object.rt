@@ -5,14 +5,13 @@ use crate::rows::object_rows::ObjectRows;
 use crate::values::configuration::Configuration;
 use crate::values::rate_marker::RateMarker;
 use crate::values::supported_counts::SupportedCounts;
-use rs_field::engine::Engine;
 use rs_field::error::Error;
 use std::alloc::Global;
 use std::marker::PhantomData;
 
 /// An encoder or a decoder of a rate: it holds an engine, and rows that are set up for counts that the rate supports.
 #[derive(Drop)]
-pub struct RateObject<E: Engine, C: RateMarker, R: ObjectRows> {
+pub struct RateObject<E: Drop, C: RateMarker, R: ObjectRows> {
     /// The engine.
     pub(crate) engine: E,
     /// The rows.
@@ -21,7 +20,7 @@ pub struct RateObject<E: Engine, C: RateMarker, R: ObjectRows> {
     pub ghost set_up: { IsSetUp C.rate (R.configuration_of rows) },
 }
 
-impl<E: Engine, C: RateMarker, R: ObjectRows + Drop> RateObject<E, C, R> {
+impl<E: Drop, C: RateMarker, R: ObjectRows + Drop> RateObject<E, C, R> {
     ghost use Rattle.std.specs.Prelude.{◌≡◌, ◌≢◌, Err, IfOk, OnOk, OnErr};
     ghost use Rattle.rs_field.specs.code.Configuration.{configuration, start_outcome, UpToMemory, FitsWithin};
     ghost use Rattle.rs_field.specs.code.Outcome.{answer_of};

@@ -56,7 +56,7 @@ pub fn encode_round<E: Engine, C: RateMarker>(
 
 /// Lends the recovery shards that are in an encoder after a round. Before the first round, the encoder
 /// holds no recovery shards: the call then lends whatever bytes its memory holds.
-pub fn lent_recovery<E: Engine, C: RateMarker>(encoder: &Encoder<E, C>) -> EncoderResult<'_>
+pub fn lent_recovery<E: Drop, C: RateMarker>(encoder: &Encoder<E, C>) -> EncoderResult<'_>
     ensures { recovery_shards result ≡ lent_shards encoder.now.rows }
 {
     EncoderResult {
@@ -96,7 +96,7 @@ pub fn decode_round<E: Engine, C: RateMarker>(
 
 /// Lends the originals that are in a decoder after a round that restored `restored_count` originals. Before the first
 /// round, the decoder holds no restored originals.
-pub fn lent_originals<E: Engine, C: RateMarker>(
+pub fn lent_originals<E: Drop, C: RateMarker>(
     decoder: &Decoder<E, C>,
     restored_count: usize,
 ) -> DecoderResult<'_>

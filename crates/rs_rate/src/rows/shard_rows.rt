@@ -11,7 +11,7 @@ use rs_field::engine::Steps;
 use rs_field::engine::layout::{insert, row_len, shard_of, undo_last_chunk_encoding};
 
 // Writes a shard into row `index` of rows for shards of its size.
-#[tactic(auto, using(crate::proofs::of_rows::ShardRowsLemmas::row_end))]
+#[tactic(auto, using(crate::proofs::rows_lemmas::ShardRowsLemmas::row_end))]
 pub(crate) fn insert_at(chunks: &mut [[u8; 64]], shard: &[u8], index: usize)
     requires room { chunk_count (index + 1) (length shard.now) ≤ length chunks.old }
     requires even { length shard.now % 2 ≡ 0 }
@@ -26,7 +26,7 @@ pub(crate) fn insert_at(chunks: &mut [[u8; 64]], shard: &[u8], index: usize)
 }
 
 // Returns the shard in row `index`, whose tail must have been moved.
-#[tactic(auto, using(crate::proofs::of_rows::ShardRowsLemmas::row_end))]
+#[tactic(auto, using(crate::proofs::rows_lemmas::ShardRowsLemmas::row_end))]
 pub(crate) fn shard_at(chunks: &[[u8; 64]], shard_bytes: usize, index: usize) -> &[u8]
     requires { chunk_count (index + 1) shard_bytes ≤ length chunks.now }
     ensures { result.now ≡ shard_in_order chunks.now shard_bytes index }
@@ -56,7 +56,7 @@ pub(crate) fn move_tails(
 }
 
 // Moves the tail of row `index`.
-#[tactic(auto, using(crate::proofs::of_rows::ShardRowsLemmas::row_end))]
+#[tactic(auto, using(crate::proofs::rows_lemmas::ShardRowsLemmas::row_end))]
 pub(crate) fn move_tail(chunks: &mut [[u8; 64]], index: usize, shard_bytes: usize)
     requires room { chunk_count (index + 1) shard_bytes ≤ length chunks.old }
     requires even { shard_bytes % 2 ≡ 0 }

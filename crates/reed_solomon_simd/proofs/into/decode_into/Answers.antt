@@ -6,8 +6,8 @@ use Rattle.std.proofs.lemmas.List.Elements.{All-nil}
 use Rattle.rs_field.specs.code.Column.{Shard}
 use Rattle.rs_field.specs.code.OneCall.{Items}
 use Rattle.rs_rate.specs.objects.Giving.{IsDecoding}
-use Rattle.rs_rate.proofs.of_objects.Giving.{always-both}
-use Rattle.rs_rate.proofs.of_objects.OneCall.{decoding-uncounted, decoding-refused}
+use Rattle.rs_rate.proofs.objects_lemmas.Giving.{always-both}
+use Rattle.rs_rate.proofs.objects_lemmas.OneCall.{decoding-uncounted, decoding-refused}
 use Rattle.reed_solomon_simd.specs.ReceivedState.{received_state}
 use Rattle.reed_solomon_simd.specs.Rooms.{bytes_in}
 use Rattle.reed_solomon_simd.proofs.RestoringLemmas.{decodes-refused, decodes-nothing, decodes-restored}

@@ -1,7 +1,7 @@
 use Rattle.std.proofs.Common.{rules, ◌≡◌, List, Ok, Err, sym, ◌∙◌, refl}
 use Rattle.rs_field.specs.declared.code.error.Error.TheVariants.{OutOfMemory}
 use Rattle.rs_field.specs.code.Column.{Shard}
-use Rattle.rs_rate.proofs.of_objects.OneCall.{encoding-uncounted, encoding-refused}
+use Rattle.rs_rate.proofs.objects_lemmas.OneCall.{encoding-uncounted, encoding-refused}
 use Rattle.reed_solomon_simd.specs.Rooms.{shards_of, bytes_in}
 use Rattle.reed_solomon_simd.proofs.Checking.{checked-valid, checked-made, checked-encodes}
 use Rattle.reed_solomon_simd.proofs.RoomFits.{fills}

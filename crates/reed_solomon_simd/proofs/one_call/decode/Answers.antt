@@ -1,8 +1,8 @@
 use Rattle.std.proofs.Common.{rules, Ok, sym, subst}
 use Rattle.rs_field.specs.code.OneCall.{OneDecodeAnswers}
 use Rattle.reed_solomon_simd.proofs.Collecting.{shards_in-empty}
-use Rattle.rs_rate.proofs.of_objects.Giving.{no-calls, always-both}
-use Rattle.rs_rate.proofs.of_objects.OneCall.{decoding-refused, decoding-nothing}
+use Rattle.rs_rate.proofs.objects_lemmas.Giving.{no-calls, always-both}
+use Rattle.rs_rate.proofs.objects_lemmas.OneCall.{decoding-refused, decoding-nothing}
 use Rattle.reed_solomon_simd.proofs.RestoringLemmas.{decoding-few, decoding-none-agrees, decoding-restored}
 use Rattle.reed_solomon_simd.proofs.one_call.decode.Goals as goal
 

@@ -1,8 +1,8 @@
 use Rattle.std.proofs.Common.{rules, IfOk}
 use Rattle.rs_field.specs.code.RoundTrip.{AreCoded}
 use Rattle.rs_field.specs.code.OneCall.{collected_shards}
-use Rattle.rs_rate.proofs.of_objects.Giving.{no-calls, always-run}
-use Rattle.rs_rate.proofs.of_objects.OneCall.{encoding-refused}
+use Rattle.rs_rate.proofs.objects_lemmas.Giving.{no-calls, always-run}
+use Rattle.rs_rate.proofs.objects_lemmas.OneCall.{encoding-refused}
 use Rattle.reed_solomon_simd.proofs.Gathering.{gathered-is, encoded-few, encoded-all, encoded-coded}
 use Rattle.reed_solomon_simd.proofs.one_call.encode.Goals as goal
 

@@ -1,7 +1,7 @@
 use Rattle.std.proofs.Common.{ℕ}
 use Rattle.rs_field.specs.code.Column.{Shard}
 use Rattle.rs_field.specs.code.Decoder.{with_original}
-use Rattle.rs_rate.proofs.of_objects.Giving.{LeadsOn}
+use Rattle.rs_rate.proofs.objects_lemmas.Giving.{LeadsOn}
 use Rattle.reed_solomon_simd.specs.ReceivedState.{received_state}
 use Rattle.reed_solomon_simd.proofs.receiving.add_originals.Given as goal
 

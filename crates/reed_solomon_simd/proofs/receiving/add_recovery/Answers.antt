@@ -1,5 +1,5 @@
 use Rattle.std.proofs.Common.{rules, ◌≡◌, refl}
-use Rattle.rs_rate.proofs.of_objects.Giving.{leads-taken, leads-refused, leads-ended, outcome-ok, outcome-err}
+use Rattle.rs_rate.proofs.objects_lemmas.Giving.{leads-taken, leads-refused, leads-ended, outcome-ok, outcome-err}
 use Rattle.reed_solomon_simd.specs.ReceivedState.{received_state}
 use Rattle.reed_solomon_simd.proofs.receiving.add_recovery.Goals as goal
 

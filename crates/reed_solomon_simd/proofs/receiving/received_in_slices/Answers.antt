@@ -2,7 +2,7 @@ use Rattle.std.proofs.Common.{rules, ℕ, List, map, Bor}
 use Rattle.std.proofs.lemmas.Iterator.{YieldsList-from_slice, YieldsList-from_map_by}
 use Rattle.rs_field.specs.code.Column.{Shard}
 use Rattle.rs_field.specs.code.OneCall.{Items}
-use Rattle.rs_rate.proofs.of_objects.Giving.{always-both}
+use Rattle.rs_rate.proofs.objects_lemmas.Giving.{always-both}
 use Rattle.reed_solomon_simd.proofs.receiving.received_in_slices.Goals as goal
 
 -- The shards of borrowed items, with their indexes.

@@ -1,7 +1,7 @@
 use Rattle.std.proofs.Common.{rules}
 use Rattle.reed_solomon_simd.specs.ReceivedState.{received_state}
-use Rattle.rs_rate.proofs.of_objects.Giving.{no-calls, reached-ok, reached-err}
-use Rattle.rs_rate.proofs.of_objects.OneCall.{both-ok, both-err}
+use Rattle.rs_rate.proofs.objects_lemmas.Giving.{no-calls, reached-ok, reached-err}
+use Rattle.rs_rate.proofs.objects_lemmas.OneCall.{both-ok, both-err}
 use Rattle.reed_solomon_simd.proofs.ReceivingLemmas.{receiving-given}
 use Rattle.reed_solomon_simd.proofs.receiving.received_of_size.Goals as goal
 

@@ -2,9 +2,9 @@ use Rattle.std.proofs.Common.{rules, ℕ, ◌∷◌, Ok, Err}
 use Rattle.rs_field.specs.code.Column.{Shard}
 use Rattle.rs_field.specs.code.Decoder.{with_recovery}
 use Rattle.reed_solomon_simd.specs.ReceivedState.{received_state}
-use Rattle.rs_rate.proofs.of_objects.Giving.{no-calls, ended-both, first-both, outcome-ok, outcome-err, reached-ok}
-use Rattle.rs_rate.proofs.of_objects.Giving.{reached-err, adds-ok, adds-err}
-use Rattle.rs_rate.proofs.of_objects.OneCall.{decoding-none, decoding-unset, decoding-given, both-ok, both-err}
+use Rattle.rs_rate.proofs.objects_lemmas.Giving.{no-calls, ended-both, first-both, outcome-ok, outcome-err, reached-ok}
+use Rattle.rs_rate.proofs.objects_lemmas.Giving.{reached-err, adds-ok, adds-err}
+use Rattle.rs_rate.proofs.objects_lemmas.OneCall.{decoding-none, decoding-unset, decoding-given, both-ok, both-err}
 use Rattle.reed_solomon_simd.proofs.receiving.received_shards.Goals as goal
 
 pub returns-in_err-check_originals_alone : goal.returns-in_err-check_originals_alone

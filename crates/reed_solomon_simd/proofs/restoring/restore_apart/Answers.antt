@@ -1,7 +1,33 @@
-use Rattle.reed_solomon_simd.proofs.BaseLemmas.{few_surplus}
+use Rattle.std.proofs.Common.{rules, ◌≡◌, false}
+use Rattle.rs_field.specs.code.PieceStates.{HoldRestored}
+use Rattle.reed_solomon_simd.proofs.Making.{made-ok, made-refused, made-untouched}
 use Rattle.reed_solomon_simd.proofs.restoring.restore_apart.Goals as goal
 
-pub are_sums_used-requires : goal.are_sums_used-requires
-are_sums_used-requires g c = record {
-  few = few_surplus (g.P.Pieces.received c.args.received.now) _ c.requires.set_up c.requires.enough;
-}
+pub make_missing-requires-clause-rooms : goal.make_missing-requires-clause-rooms
+make_missing-requires-clause-rooms g c = record { number = c.requires.number; fit = c.requires.fit }
+
+pub returns-clause-restored : goal.returns-clause-restored
+returns-clause-restored g c =
+    let made = made-ok
+    (HoldRestored (g.P.Pieces.received c.args.received.now)
+    (g.R.Rooms.held c.make_missing.new.store.rooms.now)) (g.P.Pieces.received c.args.received.now) g.R.Rooms.grows
+    (g.R.Rooms.held c.args.rooms.now) (g.R.Rooms.held c.make_missing.new.store.rooms.now) c.make_missing.result
+    c.make_missing.ensures.made in
+    search rules
+
+pub returns-clause-refused : goal.returns-clause-refused
+returns-clause-refused g c =
+    made-refused
+    (HoldRestored (g.P.Pieces.received c.args.received.now)
+    (g.R.Rooms.held c.make_missing.new.store.rooms.now)) (g.P.Pieces.received c.args.received.now) g.R.Rooms.grows
+    (g.R.Rooms.held c.args.rooms.now) (g.R.Rooms.held c.make_missing.new.store.rooms.now) c.make_missing.result
+    c.make_missing.ensures.made
+
+pub returns-clause-untouched : goal.returns-clause-untouched
+returns-clause-untouched g c = λ fixed.
+    let kept = made-untouched
+    (HoldRestored (g.P.Pieces.received c.args.received.now)
+    (g.R.Rooms.held c.make_missing.new.store.rooms.now)) (g.P.Pieces.received c.args.received.now) g.R.Rooms.grows
+    (g.R.Rooms.held c.args.rooms.now) (g.R.Rooms.held c.make_missing.new.store.rooms.now) c.make_missing.result
+    c.make_missing.ensures.made fixed in
+    search rules

@@ -3,7 +3,8 @@ use Rattle.std.proofs.lemmas.List.{length-map}
 use Rattle.rs_field.specs.code.Column.{Shard}
 use Rattle.rs_field.specs.code.Decoder.{DecoderState}
 use Rattle.rs_field.specs.code.PieceStates.{HoldRestored}
-use Rattle.rs_field.proofs.of_code.RestoredBelow.{held-number, held-sized}
+use Rattle.rs_field.proofs.code_lemmas.RestoredBelow.{held-number, held-sized}
+use Rattle.reed_solomon_simd.proofs.Making.{made-ok, made-refused, made-kept}
 use Rattle.reed_solomon_simd.proofs.RoomFits.{vectors-sized}
 use Rattle.reed_solomon_simd.proofs.RestoringLemmas.{put-whole, was-done-if}
 use Rattle.reed_solomon_simd.proofs.restoring.restore_in_place.Goals as goal
@@ -32,3 +33,16 @@ returns-clause-restored g c =
     (λ i d h. c.requires.fit i d h ∙ sym c.shard_bytes-shard_bytes.ensures) in
     subst (λ (l : List Shard). HoldRestored (g.S.Pieces.received c.args.store.now) l)
     (sym same) c.in_ok-vectors.ensures) c.put_all.ensures.put
+
+pub returns-then-surplus-eq0-clause-restored : goal.returns-then-surplus-eq0-clause-restored
+returns-then-surplus-eq0-clause-restored g c =
+    made-ok _ _ g.S.Rooms.grows _ _ c.make_missing.result c.make_missing.ensures.made
+
+pub returns-then-surplus-eq0-clause-refused : goal.returns-then-surplus-eq0-clause-refused
+returns-then-surplus-eq0-clause-refused g c =
+    made-refused _ _ g.S.Rooms.grows _ _ c.make_missing.result c.make_missing.ensures.made
+
+pub returns-then-surplus-eq0-clause-untouched : goal.returns-then-surplus-eq0-clause-untouched
+returns-then-surplus-eq0-clause-untouched g c =
+    made-kept _ _ g.S.Rooms.grows _ _ c.make_missing.result c.make_missing.ensures.made c.requires.fixed
+    (omega (arith, c.requires.enough, c.if-surplus-eq0.true))

@@ -1,6 +1,6 @@
 use Rattle.std.proofs.Common.{rules}
 use Rattle.std.proofs.lemmas.Iterator.{YieldsList-from_slice, YieldsList-from_map_by}
-use Rattle.rs_field.proofs.of_code.OnlyMessage.{restores_only}
+use Rattle.rs_field.proofs.code_lemmas.OnlyMessage.{restores_only}
 use Rattle.reed_solomon_simd.proofs.slices.decode_slice.Goals as goal
 
 pub returns : goal.returns

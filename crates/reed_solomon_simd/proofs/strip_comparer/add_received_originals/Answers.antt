@@ -7,8 +7,8 @@ use Rattle.rs_field.specs.code.Given.{Shards, items_from}
 use Rattle.rs_field.specs.code.OneCall.{Items, with_shards}
 use Rattle.rs_field.specs.code.Outcome.{result_and_then}
 use Rattle.rs_field.specs.code.PieceStates.{pieces_of, shards_listed}
-use Rattle.rs_field.proofs.of_code.Listed.{items_from-some, items_from-none, items_from-past}
-use Rattle.rs_rate.proofs.of_objects.Giving.{outcome-ok, outcome-err, reaches-err}
+use Rattle.rs_field.proofs.code_lemmas.Listed.{items_from-some, items_from-none, items_from-past}
+use Rattle.rs_rate.proofs.objects_lemmas.Giving.{outcome-ok, outcome-err, reaches-err}
 use Rattle.rs_rate.specs.rows.EncoderView.{encoder_state}
 use Rattle.reed_solomon_simd.proofs.strip_comparer.add_received_originals.Goals.{in-Some+in_ok-add_original_shard}
 use Rattle.reed_solomon_simd.proofs.strip_comparer.add_received_originals.Goals.{in_default}
@@ -50,7 +50,7 @@ loop-index-preserved g c =
     let now : EncoderState = encoder_state default_rate c.loop-index.encoder.rows in
     let inside : c.loop-index.index < x.configuration.original_count =
     omega (arith, c.counts-index-end.ensures.originals, c.loop-index-test.true) in
-    elim c.match-original_piece.branch [
+    elim c.match-piece.branch [
       | in-Some+in_ok-add_original_shard w ↦
           c.loop-index.invariant ∙ more now i k given w.in-Some.piece.now inside (sym w.in-Some.ensures)
           ∙ ap (result_and_then (λ next. with_shards next (shards_listed (items_from (i + 1) (k - (i + 1)) given))))

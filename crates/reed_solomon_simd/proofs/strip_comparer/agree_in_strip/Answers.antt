@@ -4,7 +4,7 @@ use Rattle.rs_field.specs.code.Counts.{default_rate}
 use Rattle.rs_field.specs.code.Decoder.{DecoderState}
 use Rattle.rs_field.specs.code.Given.{AreAmong}
 use Rattle.rs_field.specs.code.PieceStates.{pieces_of, state_of_pieces}
-use Rattle.rs_rate.proofs.of_objects.Giving.{reached-ok}
+use Rattle.rs_rate.proofs.objects_lemmas.Giving.{reached-ok}
 use Rattle.rs_rate.specs.rows.EncoderView.{encoder_state, lent_shards}
 use Rattle.rs_rate.specs.objects.ObjectLaws.{is_encoder}
 use Rattle.reed_solomon_simd.proofs.ComparedStrips.{listed_pieces, listed-number, listed-sized, compared-consistent}

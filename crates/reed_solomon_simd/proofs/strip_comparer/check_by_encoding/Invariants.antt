@@ -3,7 +3,7 @@ use Rattle.rs_field.specs.code.Counts.{default_rate}
 use Rattle.rs_field.specs.code.Encoder.{fresh_encoder}
 use Rattle.rs_field.specs.code.OneCall.{default_of}
 use Rattle.rs_rate.specs.rows.EncoderView.{encoder_state}
-use Rattle.rs_field.proofs.of_code.PieceStates.{AreConsistentBelow}
+use Rattle.rs_field.proofs.code_lemmas.PieceStates.{AreConsistentBelow}
 use Rattle.reed_solomon_simd.proofs.StripLoops.{IsCut}
 use Rattle.reed_solomon_simd.proofs.strip_comparer.check_by_encoding.Given as goal
 

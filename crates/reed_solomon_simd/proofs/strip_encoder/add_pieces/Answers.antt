@@ -3,9 +3,9 @@ use Rattle.std.proofs.lemmas.List.{take_all}
 use Rattle.rs_field.specs.code.Column.{Shard}
 use Rattle.rs_field.specs.code.Counts.{default_rate}
 use Rattle.rs_field.specs.code.Encoder.{EncoderState, with_shard}
-use Rattle.rs_field.proofs.of_code.Pieces.{given-next, given-refused}
+use Rattle.rs_field.proofs.code_lemmas.Pieces.{given-next, given-refused}
 use Rattle.rs_rate.specs.rows.EncoderView.{encoder_state}
-use Rattle.rs_rate.proofs.of_objects.Giving.{outcome-ok, outcome-err, reaches-err}
+use Rattle.rs_rate.proofs.objects_lemmas.Giving.{outcome-ok, outcome-err, reaches-err}
 use Rattle.reed_solomon_simd.proofs.strip_encoder.add_pieces.Goals as goal
 
 pub returns-in_err-add_original_shard : goal.returns-in_err-add_original_shard

@@ -4,7 +4,7 @@ use Rattle.rs_field.specs.code.Code.{AreRecovery}
 use Rattle.rs_field.specs.code.Counts.{default_rate}
 use Rattle.rs_field.specs.code.OneCall.{default_of}
 use Rattle.rs_field.specs.code.Pieces.{pieces}
-use Rattle.rs_rate.proofs.of_objects.Giving.{reached-ok}
+use Rattle.rs_rate.proofs.objects_lemmas.Giving.{reached-ok}
 use Rattle.rs_rate.specs.rows.EncoderView.{encoder_state, lent_shards}
 use Rattle.rs_rate.specs.objects.ObjectLaws.{is_encoder}
 use Rattle.rs_rate.specs.objects.ResultView.{recovery_shards}

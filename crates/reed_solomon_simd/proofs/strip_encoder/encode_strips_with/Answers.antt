@@ -2,7 +2,7 @@ use Rattle.std.proofs.Common.{ap, sym, ◌∙◌, refl}
 use Rattle.rs_field.specs.code.Counts.{default_rate}
 use Rattle.rs_field.specs.code.Encoder.{fresh_encoder}
 use Rattle.rs_field.specs.code.OneCall.{default_of}
-use Rattle.rs_field.proofs.of_code.Pieces.{done-none, done-further, done-all}
+use Rattle.rs_field.proofs.code_lemmas.Pieces.{done-none, done-further, done-all}
 use Rattle.rs_rate.specs.rows.EncoderView.{encoder_state}
 use Rattle.reed_solomon_simd.proofs.StripLoops.{cut-first, strip-next, cut-last}
 use Rattle.reed_solomon_simd.proofs.strip_encoder.encode_strips_with.Goals.{then-left-width+in_ok-reset}

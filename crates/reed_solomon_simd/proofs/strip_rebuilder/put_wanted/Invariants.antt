@@ -1,6 +1,8 @@
 use Rattle.std.proofs.Common.{◌≡◌, ℕ, ◌-◌, ◌<◌, ◌≤◌, List, [], ◌++◌, length, take, drop, get_or, map, Some, All}
 use Rattle.rs_field.specs.code.Column.{Shard}
-use Rattle.rs_rate.specs.objects.ResultView.{recovery_shards, restored_originals}
+use Rattle.std.specs.Option.{option_map}
+use Rattle.rs_rate.specs.objects.ResultView.{restored_originals}
+use Rattle.reed_solomon_simd.specs.Rounds.{lent_by}
 use Rattle.reed_solomon_simd.specs.Reconstructed.{lent_at}
 use Rattle.reed_solomon_simd.proofs.strip_rebuilder.put_wanted.Given as goal
 
@@ -9,7 +11,7 @@ abbrev pub invariant-loop-room : goal.invariant-loop-room
 invariant-loop-room g l =
     record {
       made : List Shard;
-      listed : map (lent_at (restored_originals l.restored) (recovery_shards l.encoded)) l.wanted
+      listed : map (lent_at (restored_originals l.restored) (lent_by (option_map (λ e. e.rows) l.encoder))) l.wanted
           ≡ map (λ piece. Some piece) made;
       sized : All (λ piece. length piece ≡ l.end - l.start) made;
       number : length (g.R.Rooms.held l.rooms) ≡ length (g.R.Rooms.held l.initial.rooms);

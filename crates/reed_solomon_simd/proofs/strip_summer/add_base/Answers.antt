@@ -9,7 +9,7 @@ use Rattle.rs_field.specs.code.PieceStates.{state_of_pieces}
 use Rattle.rs_field.specs.rows.MarkedRows.{is_marked}
 use Rattle.rs_field.specs.words.DirectSum.{direct_factor}
 use Rattle.rs_field.specs.words.Transform.{sum_below}
-use Rattle.rs_field.proofs.of_words.Combination.{sum_below-zero, sum_below-suc}
+use Rattle.rs_field.proofs.words_lemmas.Combination.{sum_below-zero, sum_below-suc}
 use Rattle.rs_rate.specs.passes.Sums.{AreMarksOf, ListsMarked, sum_word}
 use Rattle.reed_solomon_simd.specs.Base.{marked_state}
 use Rattle.reed_solomon_simd.proofs.BaseLemmas.{sum_frame, at_counts, base_marks, base-pieces, base_term, term-of}

@@ -1,5 +1,5 @@
 use Rattle.std.proofs.Common.{rules}
-use Rattle.rs_rate.proofs.of_passes.ChangeLemmas.{distinct_rows_of}
+use Rattle.rs_rate.proofs.passes_lemmas.ChangeLemmas.{distinct_rows_of}
 use Rattle.reed_solomon_simd.proofs.strip_summer.are_sums_used.Goals as goal
 
 pub row_count-requires : goal.row_count-requires

@@ -2,9 +2,9 @@ use Rattle.std.proofs.Common.{rules, ◌≡◌, ℕ, ◌+◌, cond, sym, ap, ◌
 use Rattle.std.specs.Prelude.{is_some}
 use Rattle.rs_field.specs.code.Decoder.{DecoderState}
 use Rattle.rs_field.specs.code.Given.{count_below}
-use Rattle.rs_field.proofs.of_code.Given.{count_below-zero, count_below-suc}
-use Rattle.rs_field.proofs.of_code.Entries.{count_most}
-use Rattle.rs_field.proofs.of_code.PieceStates.{is_some-map}
+use Rattle.rs_field.proofs.code_lemmas.Given.{count_below-zero, count_below-suc}
+use Rattle.rs_field.proofs.code_lemmas.Entries.{count_most}
+use Rattle.rs_field.proofs.code_lemmas.PieceStates.{is_some-map}
 use Rattle.reed_solomon_simd.proofs.BaseLemmas.{decoder_frame}
 use Rattle.reed_solomon_simd.proofs.BaseMarks.{some-copied}
 use Rattle.reed_solomon_simd.proofs.strip_summer.inconsistent.Goals.{then-is_some, else-is_some}
@@ -26,8 +26,8 @@ loop-index-preserved g c =
     + cond c.is_some.result 1 0 =
     ap (λ m. count_below m s.originals) (add-one c.loop-index.index) ∙ count_below-suc c.loop-index.index s.originals
     ∙ ap (λ b. count_below c.loop-index.index s.originals + cond b 1 0)
-    (sym (c.is_some.ensures ∙ sym (some-copied c.original_piece.result)
-    ∙ ap is_some c.original_piece.ensures ∙ is_some-map 0 0 (s.originals c.loop-index.index))) in
+    (sym (c.is_some.ensures ∙ sym (some-copied c.piece.result)
+    ∙ ap is_some c.piece.ensures ∙ is_some-map 0 0 (s.originals c.loop-index.index))) in
     elim c.if-is_some.branch [
       | then-is_some w ↦
           let one = ap {B = ℕ} (λ b. cond b 1 0) w.if-is_some.true in

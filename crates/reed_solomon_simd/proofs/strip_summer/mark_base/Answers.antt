@@ -5,8 +5,8 @@ use Rattle.rs_field.specs.code.Decoder.{DecoderState, originals_given, recovery_
 use Rattle.rs_field.specs.code.Frame.{row_count, frame_at}
 use Rattle.rs_field.specs.rows.MarkedRows.{is_marked}
 use Rattle.rs_rate.specs.rows.Marks.{how_many}
-use Rattle.rs_rate.proofs.of_rows.HowMany.{how_many-zero, how_many-most}
-use Rattle.rs_rate.proofs.of_rows.DecoderRows.{enough-least}
+use Rattle.rs_rate.proofs.rows_lemmas.HowMany.{how_many-zero, how_many-most}
+use Rattle.rs_rate.proofs.rows_lemmas.DecoderRows.{enough-least}
 use Rattle.reed_solomon_simd.proofs.BaseLemmas.{decoder_frame, frame_same, some-pieces}
 use Rattle.reed_solomon_simd.proofs.BaseMarks.{all-found, base-count, marked-more, many-more, many-passed, unmarked}
 use Rattle.reed_solomon_simd.proofs.strip_summer.mark_base.Given.{Over}
@@ -44,9 +44,6 @@ total g c =
       rows,
     )
 
-pub overflow_sub-result : goal.overflow_sub-result
-overflow_sub-result g c = omega (arith, (total g (goal.at.overflow_sub-result g c).After-loop-row).0)
-
 pub returns-clause-base : goal.returns-clause-base
 returns-clause-base g c =
     let held = c.loop-row.invariant in
@@ -59,8 +56,3 @@ returns-clause-base g c =
           ∙ ap (λ m. how_many m (is_marked c.loop-row.marks.items)) (sym all.2) ∙ held.marked
           ∙ min-eq_right all.0 ∙ c.counts-counts.ensures.originals;
     }
-
-pub returns-clause-surplus : goal.returns-clause-surplus
-returns-clause-surplus g c =
-    let all = total g (goal.at.returns-clause-surplus g c).After-loop-row in
-    omega (arith, all.0, all.1, c.counts-counts.ensures.originals)

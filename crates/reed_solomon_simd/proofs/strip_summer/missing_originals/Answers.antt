@@ -2,7 +2,7 @@ use Rattle.std.proofs.Common.{rules, ◌≡◌, ℕ, ◌+◌, sym, ap, ◌∙◌
 use Rattle.std.specs.Prelude.{not, is_some, Option}
 use Rattle.rs_field.specs.code.Column.{Shard}
 use Rattle.rs_field.specs.code.Decoder.{DecoderState}
-use Rattle.rs_field.proofs.of_code.PieceStates.{is_some-map}
+use Rattle.rs_field.proofs.code_lemmas.PieceStates.{is_some-map}
 use Rattle.reed_solomon_simd.proofs.BaseMarks.{some-copied}
 use Rattle.reed_solomon_simd.specs.Reconstructed.{NamesMissing}
 use Rattle.reed_solomon_simd.proofs.MissingLemmas.{names-none, names-received, names-missing}
@@ -21,8 +21,8 @@ loop-index-preserved g c =
     let received : is_some ((g.P.Pieces.received c.args.received.now).originals c.loop-index.index)
     ≡ not c.is_none.result =
     sym (is_some-map 0 0 (s.originals index))
-    ∙ ap (λ (o : Option Shard). is_some o) (sym c.original_piece.ensures)
-    ∙ some-copied c.original_piece.result ∙ c.is_none.ensures in
+    ∙ ap (λ (o : Option Shard). is_some o) (sym c.piece.ensures)
+    ∙ some-copied c.piece.result ∙ c.is_none.ensures in
     elim c.if-is_none.branch [
       | then-is_none+in_ok-push w ↦
           subst (NamesMissing (index + 1) s)

@@ -2,7 +2,7 @@ use Rattle.std.proofs.Common.{◌≡◌, sym, ap, ◌∙◌, arith}
 use Rattle.rs_field.specs.code.Decoder.{DecoderState}
 use Rattle.rs_field.specs.code.Frame.{recovery_row, original_row, frame_at}
 use Rattle.rs_field.specs.code.PieceStates.{state_of_pieces}
-use Rattle.rs_field.proofs.of_code.GivenRows.{shard_in_row-own, shard_in_row-coded, shard_in_row-other}
+use Rattle.rs_field.proofs.code_lemmas.GivenRows.{shard_in_row-own, shard_in_row-coded, shard_in_row-other}
 use Rattle.rs_field.specs.code.DirectLaws.{shard_in_row}
 use Rattle.reed_solomon_simd.proofs.BaseLemmas.{decoder_frame, frame_same, outside-same}
 use Rattle.reed_solomon_simd.proofs.strip_summer.piece_in_row.Goals as goal
@@ -17,7 +17,7 @@ returns-in-Some g c =
     let there = c.in-Some.ensures in
     let at : c.args.row ≡ original_row (frame_at s.configuration) c.in-Some.index =
     there.1 ∙ ap (λ p. original_row p c.in-Some.index) same in
-    c.original_piece.ensures
+    c.piece.ensures
     ∙ sym (ap (shard_in_row t) at
     ∙ shard_in_row-own t c.in-Some.index (omega (arith, there.0, c.counts-counts.ensures.originals)))
 
@@ -31,7 +31,7 @@ returns-in-Some-index_of g c =
     let there = c.in-Some-index_of.ensures in
     let at : c.args.row ≡ recovery_row (frame_at s.configuration) c.in-Some-index_of.index =
     there.1 ∙ ap (λ p. recovery_row p c.in-Some-index_of.index) same in
-    c.recovery_piece.ensures
+    c.piece-in-Some-index_of.ensures
     ∙ sym (ap (shard_in_row t) at
     ∙ shard_in_row-coded t c.in-Some-index_of.index (decoder_frame s c.requires.set_up)
     (omega (arith, there.0, c.counts-counts.ensures.recovery)))

@@ -9,15 +9,16 @@ use Rattle.reed_solomon_simd.proofs.strip_summer.put_sums.Given as goal
 abbrev pub invariant-loop-room : goal.invariant-loop-room
 invariant-loop-room g l =
     record {
-      number : length (g.R.Rooms.held l.rooms) ≡ length (g.R.Rooms.held l.initial.rooms);
+      received : g.S.Pieces.received l.store ≡ g.S.Pieces.received l.initial.store;
+      number : length (g.S.Rooms.held l.store) ≡ length (g.S.Rooms.held l.initial.store);
       put : (message : List Shard)
-          (agrees : IsAgreeing (state_of_pieces l.start l.end (g.P.Pieces.received l.received)) message) (i : ℕ)
-          → i < l.room → get_or (g.R.Rooms.held l.rooms) i []
-          ≡ take l.start (get_or (g.R.Rooms.held l.initial.rooms) i [])
+          (agrees : IsAgreeing (state_of_pieces l.start l.end (g.S.Pieces.received l.initial.store)) message) (i : ℕ)
+          → i < l.room → get_or (g.S.Rooms.held l.store) i []
+          ≡ take l.start (get_or (g.S.Rooms.held l.initial.store) i [])
           ++ (get_or (named_shards message agrees.coded.0 l.wanted) i []
-          ++ drop l.end (get_or (g.R.Rooms.held l.initial.rooms) i []));
+          ++ drop l.end (get_or (g.S.Rooms.held l.initial.store) i []));
       others : (i : ℕ) → l.room ≤ i
-          → get_or (g.R.Rooms.held l.rooms) i [] ≡ get_or (g.R.Rooms.held l.initial.rooms) i [];
-      places : g.R.Rooms.places l.rooms ≡ g.R.Rooms.places l.initial.rooms;
-      loan : g.R.Rooms.loan l.rooms ≡ g.R.Rooms.loan l.initial.rooms;
+          → get_or (g.S.Rooms.held l.store) i [] ≡ get_or (g.S.Rooms.held l.initial.store) i [];
+      places : g.S.Rooms.places l.store ≡ g.S.Rooms.places l.initial.store;
+      loan : g.S.Rooms.loan l.store ≡ g.S.Rooms.loan l.initial.store;
     }

@@ -1,5 +1,5 @@
 use Rattle.std.proofs.Common.{rules, ◌≡◌, ◌∙◌, refl}
-use Rattle.rs_rate.proofs.of_objects.Giving.{leads-taken, leads-refused, leads-ended, outcome-ok, outcome-err}
+use Rattle.rs_rate.proofs.objects_lemmas.Giving.{leads-taken, leads-refused, leads-ended, outcome-ok, outcome-err}
 use Rattle.reed_solomon_simd.specs.LentState.{lent_state}
 use Rattle.reed_solomon_simd.proofs.lent_originals.LentOriginals.add_all.Goals as goal
 

@@ -1,6 +1,6 @@
 use Rattle.std.proofs.Common.{◌≡◌}
 use Rattle.rs_field.specs.code.Encoder.{with_shard}
-use Rattle.rs_rate.proofs.of_objects.Giving.{LeadsOn}
+use Rattle.rs_rate.proofs.objects_lemmas.Giving.{LeadsOn}
 use Rattle.reed_solomon_simd.specs.LentState.{lent_state}
 use Rattle.reed_solomon_simd.proofs.lent_originals.LentOriginals.add_all.Given as goal
 

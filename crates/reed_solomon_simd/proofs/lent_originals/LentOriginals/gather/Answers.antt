@@ -3,9 +3,9 @@ use Rattle.rs_field.specs.declared.code.error.Error.{Error}
 use Rattle.rs_field.specs.declared.code.error.Error.TheVariants.{OutOfMemory}
 use Rattle.rs_field.specs.code.Configuration.{UpToMemory}
 use Rattle.rs_field.specs.code.Encoder.{with_shard}
-use Rattle.rs_rate.proofs.of_objects.Giving.{no-calls, ended-calls, ended-run, first-then, outcome-ok, outcome-err}
-use Rattle.rs_rate.proofs.of_objects.Giving.{reached-ok, reached-err, adds-ok, adds-err}
-use Rattle.rs_rate.proofs.of_objects.OneCall.{encoding-unset, encoding-given}
+use Rattle.rs_rate.proofs.objects_lemmas.Giving.{no-calls, ended-calls, ended-run, first-then, outcome-ok, outcome-err}
+use Rattle.rs_rate.proofs.objects_lemmas.Giving.{reached-ok, reached-err, adds-ok, adds-err}
+use Rattle.rs_rate.proofs.objects_lemmas.OneCall.{encoding-unset, encoding-given}
 use Rattle.reed_solomon_simd.proofs.lent_originals.LentOriginals.gather.Goals as goal
 
 -- If an object was set up, memory that cannot be allocated afterwards gives a result that is allowed.

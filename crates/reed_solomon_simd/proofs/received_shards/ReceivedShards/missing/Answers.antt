@@ -1,5 +1,5 @@
 use Rattle.std.proofs.Common.{rules, length, arith}
-use Rattle.rs_field.proofs.of_code.Entries.{count_most}
+use Rattle.rs_field.proofs.code_lemmas.Entries.{count_most}
 use Rattle.reed_solomon_simd.specs.Received.{given_in}
 use Rattle.reed_solomon_simd.proofs.received_shards.ReceivedShards.missing.Goals as goal
 

@@ -1,5 +1,5 @@
 use Rattle.rs_field.specs.code.Encoder.{with_shard}
-use Rattle.rs_rate.proofs.of_objects.Giving.{LeadsOn}
+use Rattle.rs_rate.proofs.objects_lemmas.Giving.{LeadsOn}
 use Rattle.rs_rate.proofs.objects.giving.add_shards.Given as goal
 
 abbrev pub invariant-loop-shard : goal.invariant-loop-shard

@@ -3,8 +3,8 @@ use Rattle.std.proofs.lemmas.Bool.{cond_below, cond_above}
 use Rattle.std.proofs.lemmas.Grind.{common_steps}
 use Rattle.std.specs.List.{count_by}
 use Rattle.rs_rate.specs.objects.Giving.{AreNoted}
-use Rattle.rs_rate.proofs.of_objects.Giving.{no-calls}
-use Rattle.rs_rate.proofs.of_objects.Noting.{note_outcome-none, originals_alone-refused, originals_alone-counted}
+use Rattle.rs_rate.proofs.objects_lemmas.Giving.{no-calls}
+use Rattle.rs_rate.proofs.objects_lemmas.Noting.{note_outcome-none, originals_alone-refused, originals_alone-counted}
 use Rattle.rs_rate.proofs.objects.originals_alone.check_originals_alone.Goals as goal
 
 pub returns-in_err-given : goal.returns-in_err-given

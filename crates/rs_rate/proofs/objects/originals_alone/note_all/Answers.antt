@@ -1,7 +1,7 @@
 use Rattle.std.proofs.Common.{rules, ◌∷◌}
 use Rattle.rs_rate.specs.objects.Giving.{AreNoted}
-use Rattle.rs_rate.proofs.of_objects.Giving.{leads-taken, leads-refused, leads-ended}
-use Rattle.rs_rate.proofs.of_objects.Noting.{note_outcome-refused, note_outcome-added, note_outcome-more}
+use Rattle.rs_rate.proofs.objects_lemmas.Giving.{leads-taken, leads-refused, leads-ended}
+use Rattle.rs_rate.proofs.objects_lemmas.Noting.{note_outcome-refused, note_outcome-added, note_outcome-more}
 use Rattle.rs_rate.proofs.objects.originals_alone.note_all.Goals as goal
 
 pub loop-index-preserved : goal.loop-index-preserved

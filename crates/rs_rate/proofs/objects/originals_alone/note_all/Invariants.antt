@@ -2,7 +2,7 @@ use Rattle.std.proofs.Common.{◌≡◌, ℕ, List, length}
 use Rattle.rs_field.specs.code.Column.{Shard}
 use Rattle.rs_field.specs.code.OneCall.{note_outcome}
 use Rattle.rs_rate.specs.objects.Giving.{AreNoted}
-use Rattle.rs_rate.proofs.of_objects.Giving.{LeadsOn}
+use Rattle.rs_rate.proofs.objects_lemmas.Giving.{LeadsOn}
 use Rattle.rs_rate.proofs.objects.originals_alone.note_all.Given as goal
 
 abbrev pub invariant-loop-index : goal.invariant-loop-index

@@ -2,8 +2,8 @@ use Rattle.std.proofs.Common.{ℕ, sym, ◌∙◌, subst, arith}
 use Rattle.std.proofs.lemmas.Result.{err_from_is_err_and}
 use Rattle.rs_field.specs.code.Bounds.{DecodeCounts}
 use Rattle.rs_rate.specs.rows.DecoderView.{decoder_state, restored_by_rows}
-use Rattle.rs_rate.proofs.of_rows.DecoderRows.{enough-least, after_decode-refused, after_decode-made}
-use Rattle.rs_rate.proofs.of_rows.DecoderRows.{decode_answers-refused, decode_answers-made}
+use Rattle.rs_rate.proofs.rows_lemmas.DecoderRows.{enough-least, after_decode-refused, after_decode-made}
+use Rattle.rs_rate.proofs.rows_lemmas.DecoderRows.{decode_answers-refused, decode_answers-made}
 use Rattle.rs_rate.specs.values.RowCounts.{decoder_rows_set_up}
 use Rattle.rs_rate.proofs.objects.rounds.decode_round.Goals as goal
 

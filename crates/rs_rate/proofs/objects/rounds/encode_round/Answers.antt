@@ -1,13 +1,13 @@
 use Rattle.std.proofs.Common.{rules, sym, ◌∙◌, arith}
 use Rattle.std.proofs.lemmas.Result.{err_from_is_err_and}
-use Rattle.rs_field.proofs.of_words.UpTo.{length-up_to}
+use Rattle.rs_field.proofs.words_lemmas.UpTo.{length-up_to}
 use Rattle.rs_rate.specs.values.Configured.{rate_of}
 use Rattle.rs_rate.specs.rows.EncoderView.{encoder_state, given_originals, lent_shards}
-use Rattle.rs_rate.proofs.of_passes.EncodeCounting.{steps_alike}
-use Rattle.rs_rate.proofs.of_values.RateLemmas.{shards_alike}
+use Rattle.rs_rate.proofs.passes_lemmas.EncodeCounting.{steps_alike}
+use Rattle.rs_rate.proofs.values_lemmas.RateLemmas.{shards_alike}
 use Rattle.rs_rate.specs.rows.ShardRows.{shard_laid_out}
-use Rattle.rs_rate.proofs.of_rows.StateLemmas.{after_encode-refused, encode_answers-refused, message-whole}
-use Rattle.rs_rate.proofs.of_rows.StateLemmas.{after_encode-made, encode_answers-made, encoder_state-fresh}
+use Rattle.rs_rate.proofs.rows_lemmas.StateLemmas.{after_encode-refused, encode_answers-refused, message-whole}
+use Rattle.rs_rate.proofs.rows_lemmas.StateLemmas.{after_encode-made, encode_answers-made, encoder_state-fresh}
 use Rattle.rs_rate.proofs.objects.rounds.encode_round.Goals as goal
 
 pub returns-in_err-check_all_given-clause-answer : goal.returns-in_err-check_all_given-clause-answer

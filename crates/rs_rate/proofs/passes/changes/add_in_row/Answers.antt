@@ -1,6 +1,6 @@
 use Rattle.std.proofs.Common.{rules, length, sym, ap, ◌∙◌}
 use Rattle.rs_field.specs.code.Column.{Shard}
-use Rattle.rs_rate.proofs.of_passes.SumLemmas.{one_row, column-sum}
+use Rattle.rs_rate.proofs.passes_lemmas.SumLemmas.{one_row, column-sum}
 use Rattle.rs_rate.proofs.passes.changes.add_in_row.Goals as goal
 
 pub insert_at-requires-clause-room : goal.insert_at-requires-clause-room

@@ -4,8 +4,8 @@ use Rattle.rs_field.specs.code.Frame.{recovery_row}
 use Rattle.rs_field.specs.declared.code.frame.Frame.{Frame}
 use Rattle.rs_field.specs.words.DirectSum.{direct_factor}
 use Rattle.rs_rate.specs.passes.Decoding.{IsLocatorOf}
-use Rattle.rs_rate.proofs.of_passes.ChangeLemmas.{distinct_rows_of, made_factors}
-use Rattle.rs_field.proofs.of_code.GivenRows.{rows_apart}
+use Rattle.rs_rate.proofs.passes_lemmas.ChangeLemmas.{distinct_rows_of, made_factors}
+use Rattle.rs_field.proofs.code_lemmas.GivenRows.{rows_apart}
 use Rattle.rs_rate.proofs.passes.changes.change_factors.Goals as goal
 
 pub original_row-row-requires : goal.original_row-row-requires

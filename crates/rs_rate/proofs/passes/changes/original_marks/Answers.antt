@@ -1,7 +1,7 @@
 use Rattle.std.proofs.Common.{rules, set, arith, pow_mono}
 use Rattle.std.proofs.lemmas.Bool.{cases_eq}
 use Rattle.std.proofs.lemmas.List.{get_or-set_same, get_or-set_other}
-use Rattle.rs_rate.proofs.of_passes.ChangeLemmas.{distinct_rows_of}
+use Rattle.rs_rate.proofs.passes_lemmas.ChangeLemmas.{distinct_rows_of}
 use Rattle.rs_rate.proofs.passes.changes.original_marks.Goals as goal
 
 pub row_count-requires : goal.row_count-requires

@@ -1,5 +1,5 @@
 use Rattle.std.proofs.Common.{rules, ◌∙◌, arith, pow_mono}
-use Rattle.rs_rate.proofs.of_passes.ChangeLemmas.{distinct_rows_of}
+use Rattle.rs_rate.proofs.passes_lemmas.ChangeLemmas.{distinct_rows_of}
 use Rattle.rs_rate.proofs.passes.changes.recovery_factors.Goals as goal
 
 pub recovery_row-requires : goal.recovery_row-requires

@@ -4,13 +4,13 @@ use Rattle.std.proofs.lemmas.Bool.{cases_eq}
 use Rattle.rs_field.specs.code.Frame.{original_row}
 use Rattle.rs_rate.specs.values.Configured.{configuration_at}
 use Rattle.rs_rate.specs.passes.Decoding.{RestoresShards}
-use Rattle.rs_rate.proofs.of_passes.SumLemmas.{written-back}
+use Rattle.rs_rate.proofs.passes_lemmas.SumLemmas.{written-back}
 use Rattle.rs_rate.specs.rows.Marks.{given_marks, restored_marks, WantsMissing}
-use Rattle.rs_rate.proofs.of_passes.DecodedColumns.{FilledRows, DecodedRows}
-use Rattle.rs_rate.proofs.of_passes.DecodeAnswer.{AnswersOver, decode_answers, complete_answers, told_answer}
-use Rattle.rs_rate.proofs.of_rows.ResultLemmas.{length-restored}
-use Rattle.rs_rate.proofs.of_rows.StateLemmas.{valid-supported}
-use Rattle.rs_rate.proofs.of_rows.RowMaps.{hold_nothing, none-marked, none_told, nothing-given}
+use Rattle.rs_rate.proofs.passes_lemmas.DecodedColumns.{FilledRows, DecodedRows}
+use Rattle.rs_rate.proofs.passes_lemmas.DecodeAnswer.{AnswersOver, decode_answers, complete_answers, told_answer}
+use Rattle.rs_rate.proofs.rows_lemmas.ResultLemmas.{length-restored}
+use Rattle.rs_rate.proofs.rows_lemmas.StateLemmas.{valid-supported}
+use Rattle.rs_rate.proofs.rows_lemmas.RowMaps.{hold_nothing, none-marked, none_told, nothing-given}
 use Rattle.std.specs.Vec.{with_items}
 use Rattle.rs_rate.specs.declared.rows.decoder_work.DecoderMemory.{DecoderMemory}
 use Rattle.rs_rate.specs.declared.rows.marks.Marks.{Marks}

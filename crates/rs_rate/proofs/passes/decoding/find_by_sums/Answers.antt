@@ -8,14 +8,14 @@ use Rattle.rs_field.specs.rows.MarkedRows.{is_marked}
 use Rattle.rs_field.specs.words.Field.{log}
 use Rattle.rs_field.specs.words.StepBounds.{transform_steps, CountsUpTo, LocatorCounts}
 use Rattle.rs_field.specs.declared.words.steps.Steps.{Steps}
-use Rattle.rs_field.proofs.of_words.Counting.{counted}
-use Rattle.rs_field.proofs.of_words.Power.{log_lt}
-use Rattle.rs_field.proofs.of_words.Halves.{steps_twice}
+use Rattle.rs_field.proofs.words_lemmas.Counting.{counted}
+use Rattle.rs_field.proofs.words_lemmas.Power.{log_lt}
+use Rattle.rs_field.proofs.words_lemmas.Halves.{steps_twice}
 use Rattle.rs_rate.specs.values.Configured.{rows_to_decode}
 use Rattle.rs_rate.specs.passes.Decoding.{find_steps, sum_steps, is_outside}
 use Rattle.rs_rate.specs.rows.Marks.{given_marks, how_many}
 use Rattle.rs_rate.specs.values.SumCosts.{AreSumsCheaper}
-use Rattle.rs_rate.proofs.of_rows.HowMany.{how_many-most, how_many-rest}
+use Rattle.rs_rate.proofs.rows_lemmas.HowMany.{how_many-most, how_many-rest}
 use Rattle.rs_rate.proofs.passes.decoding.find_by_sums.Goals as goal
 
 -- A logarithm is below 65535.

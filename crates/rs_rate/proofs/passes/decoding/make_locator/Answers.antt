@@ -3,7 +3,7 @@ use Rattle.std.specs.Prelude.{slice_index}
 use Rattle.rs_field.specs.words.Locator.{IsLocatorBelow}
 use Rattle.rs_field.specs.code.Frame.{row_count}
 use Rattle.rs_rate.specs.rows.Marks.{erasure}
-use Rattle.rs_rate.proofs.of_passes.RestoredRows.{locator_same}
+use Rattle.rs_rate.proofs.passes_lemmas.RestoredRows.{locator_same}
 use Rattle.rs_rate.proofs.passes.decoding.make_locator.Goals as goal
 
 pub locate-requires-clause-power : goal.locate-requires-clause-power

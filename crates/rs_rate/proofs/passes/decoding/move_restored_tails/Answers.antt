@@ -1,9 +1,9 @@
 use Rattle.std.proofs.Common.{rules, ◌<◌, length, arith, true≢false}
 use Rattle.std.proofs.lemmas.Bool.{cases_lt}
-use Rattle.rs_field.proofs.of_words.Counting.{counts_rows, counts_none, counts_then}
-use Rattle.rs_field.proofs.of_rows.LayoutLemmas.{laid_out-same, in_order-same}
+use Rattle.rs_field.proofs.words_lemmas.Counting.{counts_rows, counts_none, counts_then}
+use Rattle.rs_field.proofs.rows_lemmas.LayoutLemmas.{laid_out-same, in_order-same}
 use Rattle.rs_rate.specs.values.Configured.{rows_to_decode}
-use Rattle.rs_rate.proofs.of_rows.ShardRowsLemmas.{chunk_count-within}
+use Rattle.rs_rate.proofs.rows_lemmas.ShardRowsLemmas.{chunk_count-within}
 use Rattle.rs_rate.proofs.passes.decoding.move_restored_tails.Goals as goal
 use Rattle.rs_rate.proofs.passes.decoding.move_restored_tails.Goals.{then-is_restored, else-is_restored}
 

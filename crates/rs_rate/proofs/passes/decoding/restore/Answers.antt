@@ -2,14 +2,14 @@ use Rattle.std.proofs.Common.{◌≡◌, ℕ, ◌+◌, rules, ap, sym, ◌∙◌
 use Rattle.std.specs.Prelude.{not}
 use Rattle.rs_field.specs.code.Column.{column}
 use Rattle.rs_field.specs.rows.Layout.{row_len}
-use Rattle.rs_field.proofs.of_code.DecodeSteps.{counts_decode}
-use Rattle.rs_field.proofs.of_words.Counting.{counts_none}
+use Rattle.rs_field.proofs.code_lemmas.DecodeSteps.{counts_decode}
+use Rattle.rs_field.proofs.words_lemmas.Counting.{counts_none}
 use Rattle.rs_rate.specs.values.Configured.{rows_to_decode}
 use Rattle.rs_rate.specs.passes.Decoding.{find_steps}
 use Rattle.rs_rate.specs.rows.Marks.{given_marks}
 use Rattle.rs_rate.specs.rows.ShardRows.{word_in}
-use Rattle.rs_rate.proofs.of_passes.RestoredRows.{found_read}
-use Rattle.rs_rate.proofs.of_rows.ShardRowsLemmas.{column-put}
+use Rattle.rs_rate.proofs.passes_lemmas.RestoredRows.{found_read}
+use Rattle.rs_rate.proofs.rows_lemmas.ShardRowsLemmas.{column-put}
 use Rattle.rs_rate.proofs.passes.decoding.restore.Goals as goal
 
 pub returns-then-agrees-clause-restored : goal.returns-then-agrees-clause-restored

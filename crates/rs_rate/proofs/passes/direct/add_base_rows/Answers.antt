@@ -2,7 +2,7 @@ use Rattle.std.proofs.Common.{rules}
 use Rattle.std.specs.Prelude.{slice_index}
 use Rattle.rs_field.specs.rows.MarkedRows.{is_marked}
 use Rattle.rs_field.specs.words.DirectSum.{direct_sum}
-use Rattle.rs_rate.proofs.of_passes.DirectRows.{none_added, one_more_added}
+use Rattle.rs_rate.proofs.passes_lemmas.DirectRows.{none_added, one_more_added}
 use Rattle.rs_rate.proofs.passes.direct.add_base_rows.Goals as goal
 
 pub loop-x-init : goal.loop-x-init

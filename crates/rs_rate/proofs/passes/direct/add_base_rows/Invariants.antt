@@ -1,6 +1,6 @@
 use Rattle.std.specs.Prelude.{slice_index}
 use Rattle.rs_field.specs.rows.MarkedRows.{is_marked}
-use Rattle.rs_rate.proofs.of_passes.DirectRows.{RowsAdded}
+use Rattle.rs_rate.proofs.passes_lemmas.DirectRows.{RowsAdded}
 use Rattle.rs_rate.proofs.passes.direct.add_base_rows.Given as goal
 
 abbrev pub invariant-loop-x : goal.invariant-loop-x

@@ -4,8 +4,9 @@ use Rattle.std.specs.Prelude.{slice_index, not, ◌&&◌, ◌↔◌}
 use Rattle.rs_field.specs.rows.MarkedRows.{is_marked}
 use Rattle.rs_field.specs.declared.rows.shards.ShardsRefMut.{ShardsRefMut}
 use Rattle.rs_field.specs.declared.words.steps.Steps.{Steps}
-use Rattle.rs_rate.proofs.of_passes.DirectRows.{RowsTested, IsEqualToSum, none_tested, one_more_tested, one_more_passed}
-use Rattle.rs_rate.proofs.of_passes.DirectRows.{one_more_equal, equal_left, counts_tested}
+use Rattle.rs_rate.proofs.passes_lemmas.DirectRows.{RowsTested, IsEqualToSum, none_tested, one_more_tested}
+use Rattle.rs_rate.proofs.passes_lemmas.DirectRows.{one_more_passed}
+use Rattle.rs_rate.proofs.passes_lemmas.DirectRows.{one_more_equal, equal_left, counts_tested}
 use Rattle.rs_rate.proofs.passes.direct.are_equal_to_sums.Goals as goal
 use Rattle.rs_rate.proofs.passes.direct.are_equal_to_sums.Goals.{
   else-given-y-via-then-given-y+then-not-base-y+else-not-is_equal_to_sum,

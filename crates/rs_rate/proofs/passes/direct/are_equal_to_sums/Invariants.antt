@@ -1,6 +1,6 @@
 use Rattle.std.specs.Prelude.{slice_index}
 use Rattle.rs_field.specs.rows.MarkedRows.{is_marked}
-use Rattle.rs_rate.proofs.of_passes.DirectRows.{RowsTested, AreEqualBelow}
+use Rattle.rs_rate.proofs.passes_lemmas.DirectRows.{RowsTested, AreEqualBelow}
 use Rattle.rs_rate.proofs.passes.direct.are_equal_to_sums.Given as goal
 
 abbrev pub invariant-loop-y : goal.invariant-loop-y

@@ -2,7 +2,7 @@ use Rattle.std.proofs.Common.{rules, ℕ, ◌≡◌, ◌+◌, ◌*◌, ◌<◌, 
 use Rattle.std.specs.Prelude.{◌↔◌}
 use Rattle.rs_field.specs.code.Frame.{row_count}
 use Rattle.rs_field.specs.words.StepBounds.{transform_steps}
-use Rattle.rs_field.proofs.of_words.Halves.{steps_twice}
+use Rattle.rs_field.proofs.words_lemmas.Halves.{steps_twice}
 use Rattle.rs_rate.proofs.passes.direct.are_sums_within_steps.Goals as goal
 
 -- Twice the steps of a transform are the rows times the exponent, so both sides can be doubled.

@@ -1,8 +1,8 @@
 use Rattle.std.proofs.lemmas.Grind.{common_steps}
 use Rattle.std.proofs.Common.{arith}
-use Rattle.rs_field.proofs.of_rows.Recursion.{fits_kept}
-use Rattle.rs_field.proofs.of_words.Roots.{same_from_xor}
-use Rattle.rs_rate.proofs.of_passes.RestoringRows.{row-read}
+use Rattle.rs_field.proofs.rows_lemmas.Recursion.{fits_kept}
+use Rattle.rs_field.proofs.words_lemmas.Roots.{same_from_xor}
+use Rattle.rs_rate.proofs.passes_lemmas.RestoringRows.{row-read}
 use Rattle.rs_rate.proofs.passes.direct.is_equal_to_sum.Goals as goal
 
 pub returns-clause-equal : goal.returns-clause-equal

@@ -4,7 +4,7 @@ use Rattle.std.proofs.lemmas.Bool.{cases_eq, cases_Bool, cases_lt, lt-ltb, ltb-t
 use Rattle.std.proofs.lemmas.List.{get_or-set_same, get_or-set_other, get_or_past, length-set}
 use Rattle.rs_field.specs.rows.MarkedRows.{is_marked}
 use Rattle.rs_rate.specs.rows.Marks.{how_many}
-use Rattle.rs_rate.proofs.of_rows.HowMany.{how_many-zero, how_many-one, how_many-none, how_many-same}
+use Rattle.rs_rate.proofs.rows_lemmas.HowMany.{how_many-zero, how_many-one, how_many-none, how_many-same}
 use Rattle.rs_rate.proofs.passes.direct.mark_base.Goals as goal
 use Rattle.rs_rate.proofs.passes.direct.mark_base.Goals.{then-given-row, else-given-row, then-base-row, else-base-row}
 

@@ -6,9 +6,9 @@ use Rattle.rs_field.specs.rows.MarkedRows.{is_marked}
 use Rattle.rs_field.specs.rows.Rows.{symbol}
 use Rattle.rs_field.specs.rows.View.{word}
 use Rattle.rs_field.specs.words.DirectSum.{direct_sum}
-use Rattle.rs_field.proofs.of_rows.RowOffsets.{outside_cell}
-use Rattle.rs_field.proofs.of_rows.Symbols.{symbol-zero}
-use Rattle.rs_field.proofs.of_words.DirectSum.{direct_sum-same}
+use Rattle.rs_field.proofs.rows_lemmas.RowOffsets.{outside_cell}
+use Rattle.rs_field.proofs.rows_lemmas.Symbols.{symbol-zero}
+use Rattle.rs_field.proofs.words_lemmas.DirectSum.{direct_sum-same}
 use Rattle.rs_rate.proofs.passes.direct.sum_if_missing.Goals as goal
 
 pub returns-then-not-given-y-clause-sums : goal.returns-then-not-given-y-clause-sums

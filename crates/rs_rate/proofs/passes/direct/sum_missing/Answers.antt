@@ -2,7 +2,7 @@ use Rattle.std.proofs.Common.{ℕ, subst, ◌∙◌}
 use Rattle.std.specs.Prelude.{slice_index}
 use Rattle.rs_field.specs.rows.MarkedRows.{is_marked}
 use Rattle.rs_rate.specs.values.Configured.{rows_to_decode}
-use Rattle.rs_rate.proofs.of_passes.DirectRows.{RowSummed, one_more_summed}
+use Rattle.rs_rate.proofs.passes_lemmas.DirectRows.{RowSummed, one_more_summed}
 use Rattle.rs_rate.proofs.passes.direct.sum_missing.Goals as goal
 
 pub loop-i-preserved : goal.loop-i-preserved

@@ -1,7 +1,7 @@
 use Rattle.std.specs.Prelude.{slice_index}
 use Rattle.rs_field.specs.rows.MarkedRows.{is_marked}
 use Rattle.rs_rate.specs.values.Configured.{rows_to_decode}
-use Rattle.rs_rate.proofs.of_passes.DirectRows.{RowsSummed}
+use Rattle.rs_rate.proofs.passes_lemmas.DirectRows.{RowsSummed}
 use Rattle.rs_rate.proofs.passes.direct.sum_missing.Given as goal
 
 abbrev pub invariant-loop-i : goal.invariant-loop-i

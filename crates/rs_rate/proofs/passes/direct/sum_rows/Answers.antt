@@ -3,7 +3,7 @@ use Rattle.std.specs.Prelude.{slice_index, ◌↔◌}
 use Rattle.rs_field.specs.rows.MarkedRows.{is_marked}
 use Rattle.rs_field.specs.rows.View.{word}
 use Rattle.rs_field.specs.words.DirectSum.{direct_sum}
-use Rattle.rs_field.proofs.of_words.DirectSum.{direct_sum-same}
+use Rattle.rs_field.proofs.words_lemmas.DirectSum.{direct_sum-same}
 use Rattle.rs_rate.specs.values.Configured.{rows_to_decode}
 use Rattle.rs_rate.specs.passes.Decoding.{is_outside}
 use Rattle.rs_rate.proofs.passes.direct.sum_rows.Goals as goal

@@ -4,8 +4,8 @@ use Rattle.rs_field.specs.rows.Layout.{row_len}
 use Rattle.rs_rate.specs.passes.Coding.{CodesWords}
 use Rattle.rs_rate.specs.values.Configured.{low_or_high}
 use Rattle.rs_rate.specs.rows.ShardRows.{word_in}
-use Rattle.rs_rate.proofs.of_passes.Coded.{rows-read}
-use Rattle.rs_rate.proofs.of_values.ConfiguredLemmas.{configuration-by}
+use Rattle.rs_rate.proofs.passes_lemmas.Coded.{rows-read}
+use Rattle.rs_rate.proofs.values_lemmas.ConfiguredLemmas.{configuration-by}
 use Rattle.rs_rate.proofs.passes.encoding.code_chunks.Goals as goal
 
 pub code_low-requires-clause-block : goal.code_low-requires-clause-block

@@ -5,13 +5,13 @@ use Rattle.rs_field.specs.code.Column.{IsShard, column}
 use Rattle.rs_field.specs.rows.Rows.{Chunks}
 use Rattle.rs_field.specs.rows.Layout.{row_len}
 use Rattle.rs_field.specs.words.UpTo.{up_to}
-use Rattle.rs_field.proofs.of_words.Counting.{counts_rows}
+use Rattle.rs_field.proofs.words_lemmas.Counting.{counts_rows}
 use Rattle.rs_rate.specs.values.Configured.{configuration_at, rate_of, rows_to_encode}
 use Rattle.rs_rate.specs.rows.EncoderView.{given_originals}
 use Rattle.rs_rate.specs.rows.ShardRows.{word_in, shard_laid_out, shard_in_order}
-use Rattle.rs_rate.proofs.of_rows.ShardRowsLemmas.{chunk_count-more, column-put}
-use Rattle.rs_rate.proofs.of_passes.Coded.{are_recovery, words-read}
-use Rattle.rs_rate.proofs.of_passes.EncodeCounting.{counts_both, tails_within}
+use Rattle.rs_rate.proofs.rows_lemmas.ShardRowsLemmas.{chunk_count-more, column-put}
+use Rattle.rs_rate.proofs.passes_lemmas.Coded.{are_recovery, words-read}
+use Rattle.rs_rate.proofs.passes_lemmas.EncodeCounting.{counts_both, tails_within}
 use Rattle.rs_rate.proofs.passes.encoding.encode_rows.Goals as goal
 
 pub rows_are_bytes-requires : goal.rows_are_bytes-requires

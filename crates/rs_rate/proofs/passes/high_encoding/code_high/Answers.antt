@@ -2,13 +2,13 @@ use Rattle.std.proofs.Common.{◌≡◌, ℕ, ◌+◌, ◌*◌, ◌≤◌, false
 use Rattle.std.proofs.Math.Nat.{zero-mod}
 use Rattle.rs_field.specs.rows.View.{word}
 use Rattle.rs_field.specs.words.Transform.{forward}
-use Rattle.rs_field.proofs.of_words.Combination.{forward-same}
-use Rattle.rs_field.proofs.of_rows.Recursion.{fits_kept}
-use Rattle.rs_field.proofs.of_code.SupportedCounts.{high_fits}
+use Rattle.rs_field.proofs.words_lemmas.Combination.{forward-same}
+use Rattle.rs_field.proofs.rows_lemmas.Recursion.{fits_kept}
+use Rattle.rs_field.proofs.code_lemmas.SupportedCounts.{high_fits}
 use Rattle.rs_rate.specs.passes.Coding.{SumsBlocks}
-use Rattle.rs_rate.proofs.of_values.HighCounts.{rows-fit}
-use Rattle.rs_rate.proofs.of_passes.HighCoding.{high_coded}
-use Rattle.rs_rate.proofs.of_passes.EncodeCounting.{counts_both, high_total}
+use Rattle.rs_rate.proofs.values_lemmas.HighCounts.{rows-fit}
+use Rattle.rs_rate.proofs.passes_lemmas.HighCoding.{high_coded}
+use Rattle.rs_rate.proofs.passes_lemmas.EncodeCounting.{counts_both, high_total}
 use Rattle.rs_rate.proofs.passes.high_encoding.code_high.Goals as goal
 
 pub sum_blocks-requires : goal.sum_blocks-requires

@@ -2,10 +2,10 @@ use Rattle.std.proofs.Common.{◌≡◌, ◌+◌, ℕ, sym, ap, ◌∙◌, inl, 
 use Rattle.std.proofs.lemmas.Bool.{cases_lt}
 use Rattle.std.proofs.Math.Nat.{add-mod_right}
 use Rattle.rs_field.specs.rows.Rows.{symbol}
-use Rattle.rs_field.proofs.of_rows.RowOffsets.{outside_cell}
-use Rattle.rs_field.proofs.of_rows.Symbols.{symbol-zero}
+use Rattle.rs_field.proofs.rows_lemmas.RowOffsets.{outside_cell}
+use Rattle.rs_field.proofs.rows_lemmas.Symbols.{symbol-zero}
 use Rattle.rs_field.specs.rows.View.{word}
-use Rattle.rs_rate.proofs.of_passes.ZeroPadded.{zero_padded-in, zero_padded-past}
+use Rattle.rs_rate.proofs.passes_lemmas.ZeroPadded.{zero_padded-in, zero_padded-past}
 use Rattle.rs_rate.proofs.passes.high_encoding.pass_block.Goals as goal
 
 pub ifft-requires-clause-shift : goal.ifft-requires-clause-shift

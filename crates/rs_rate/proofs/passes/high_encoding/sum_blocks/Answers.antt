@@ -3,13 +3,13 @@ use Rattle.std.proofs.Math.Nat.{mod_self, add-mod_right}
 use Rattle.std.proofs.lemmas.Nat.{pow_pos, div-add-mod'}
 use Rattle.rs_field.specs.rows.Rows.{symbol}
 use Rattle.rs_field.specs.rows.View.{word}
-use Rattle.rs_field.proofs.of_rows.RowOffsets.{outside_cell, extent_then}
+use Rattle.rs_field.proofs.rows_lemmas.RowOffsets.{outside_cell, extent_then}
 use Rattle.rs_field.specs.words.StepBounds.{transform_steps}
-use Rattle.rs_field.proofs.of_rows.Recursion.{fits_kept}
-use Rattle.rs_field.proofs.of_words.Counting.{counts_rows, counts_within}
-use Rattle.rs_rate.proofs.of_values.PowerLemmas.{multiple_least, next_block}
-use Rattle.rs_rate.proofs.of_passes.HighCoding.{sums-start, sums-next}
-use Rattle.rs_rate.proofs.of_passes.EncodeCounting.{counts_both, further-next, further-within}
+use Rattle.rs_field.proofs.rows_lemmas.Recursion.{fits_kept}
+use Rattle.rs_field.proofs.words_lemmas.Counting.{counts_rows, counts_within}
+use Rattle.rs_rate.proofs.values_lemmas.PowerLemmas.{multiple_least, next_block}
+use Rattle.rs_rate.proofs.passes_lemmas.HighCoding.{sums-start, sums-next}
+use Rattle.rs_rate.proofs.passes_lemmas.EncodeCounting.{counts_both, further-next, further-within}
 use Rattle.rs_rate.proofs.passes.high_encoding.sum_blocks.Goals as goal
 
 pub loop-start-init : goal.loop-start-init

@@ -4,12 +4,12 @@ use Rattle.std.proofs.lemmas.Nat.{pow_pos}
 use Rattle.rs_field.specs.words.StepBounds.{transform_steps}
 use Rattle.rs_field.specs.rows.Rows.{symbol}
 use Rattle.rs_field.specs.rows.View.{cell, word}
-use Rattle.rs_field.proofs.of_rows.RowOffsets.{outside_cell}
-use Rattle.rs_field.proofs.of_rows.Recursion.{fits_kept}
-use Rattle.rs_field.proofs.of_words.Counting.{counts_rows, counts_then, counts_within}
-use Rattle.rs_rate.proofs.of_values.PowerLemmas.{next_block}
-use Rattle.rs_rate.proofs.of_passes.EncodeCounting.{counts_both, further-next, further-within}
-use Rattle.rs_rate.proofs.of_passes.LowCoding.{further-more}
+use Rattle.rs_field.proofs.rows_lemmas.RowOffsets.{outside_cell}
+use Rattle.rs_field.proofs.rows_lemmas.Recursion.{fits_kept}
+use Rattle.rs_field.proofs.words_lemmas.Counting.{counts_rows, counts_then, counts_within}
+use Rattle.rs_rate.proofs.values_lemmas.PowerLemmas.{next_block}
+use Rattle.rs_rate.proofs.passes_lemmas.EncodeCounting.{counts_both, further-next, further-within}
+use Rattle.rs_rate.proofs.passes_lemmas.LowCoding.{further-more}
 use Rattle.rs_rate.proofs.passes.low_encoding.code_further.Goals as goal
 
 pub copy_rows-requires-clause-within : goal.copy_rows-requires-clause-within

@@ -3,15 +3,15 @@ use Rattle.std.proofs.Math.Nat.{zero-mod, mod_self}
 use Rattle.rs_field.specs.rows.Rows.{symbol}
 use Rattle.rs_field.specs.code.Counts.{next_power}
 use Rattle.rs_field.specs.rows.View.{word}
-use Rattle.rs_field.proofs.of_words.Counting.{counts_rows, counts_then}
-use Rattle.rs_field.proofs.of_rows.Recursion.{fits_kept}
-use Rattle.rs_field.proofs.of_rows.RowOffsets.{outside_cell}
-use Rattle.rs_field.proofs.of_rows.Symbols.{symbol-zero}
-use Rattle.rs_rate.proofs.of_values.HighCounts.{rows-fit}
+use Rattle.rs_field.proofs.words_lemmas.Counting.{counts_rows, counts_then}
+use Rattle.rs_field.proofs.rows_lemmas.Recursion.{fits_kept}
+use Rattle.rs_field.proofs.rows_lemmas.RowOffsets.{outside_cell}
+use Rattle.rs_field.proofs.rows_lemmas.Symbols.{symbol-zero}
+use Rattle.rs_rate.proofs.values_lemmas.HighCounts.{rows-fit}
 use Rattle.std.proofs.lemmas.Bool.{cases_lt}
-use Rattle.rs_rate.proofs.of_passes.LowCoding.{low_coded}
-use Rattle.rs_rate.proofs.of_passes.ZeroPadded.{zero_padded-in, zero_padded-past}
-use Rattle.rs_rate.proofs.of_passes.EncodeCounting.{counts_both, low_total}
+use Rattle.rs_rate.proofs.passes_lemmas.LowCoding.{low_coded}
+use Rattle.rs_rate.proofs.passes_lemmas.ZeroPadded.{zero_padded-in, zero_padded-past}
+use Rattle.rs_rate.proofs.passes_lemmas.EncodeCounting.{counts_both, low_total}
 use Rattle.rs_rate.proofs.passes.low_encoding.code_low.Goals as goal
 
 pub clear_rows-requires : goal.clear_rows-requires

@@ -1,6 +1,6 @@
 use Rattle.std.proofs.Common.{rules, true≢false}
 use Rattle.std.proofs.lemmas.Bool.{cases_lt}
-use Rattle.rs_rate.proofs.of_passes.RestoringRows.{row-read}
+use Rattle.rs_rate.proofs.passes_lemmas.RestoringRows.{row-read}
 use Rattle.rs_rate.proofs.passes.restoring.are_zero_rows.Goals as goal
 
 pub returns-then-not-is_zero_row-clause-zero : goal.returns-then-not-is_zero_row-clause-zero

@@ -1,7 +1,7 @@
 use Rattle.std.proofs.Common.{◌-◌, ap, refl, sym, ◌∙◌, arith}
 use Rattle.rs_field.specs.rows.View.{word}
 use Rattle.rs_rate.specs.values.Configured.{rows_to_decode}
-use Rattle.rs_rate.proofs.of_passes.RestoringRows.{from_row_zero, checked_rows}
+use Rattle.rs_rate.proofs.passes_lemmas.RestoringRows.{from_row_zero, checked_rows}
 use Rattle.rs_rate.proofs.passes.restoring.interpolate.Goals as goal
 
 pub ifft_given-requires-clause-power : goal.ifft_given-requires-clause-power

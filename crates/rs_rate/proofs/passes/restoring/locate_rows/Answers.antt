@@ -6,12 +6,12 @@ use Rattle.rs_field.specs.rows.View.{cell, word}
 use Rattle.rs_field.specs.declared.rows.shards.ShardsRefMut.{ShardsRefMut}
 use Rattle.rs_field.specs.declared.words.steps.Steps.{Steps}
 use Rattle.rs_field.specs.rows.MarkedRows.{is_marked}
-use Rattle.rs_field.proofs.of_words.Counting.{counts_rows, counts_then}
-use Rattle.rs_field.proofs.of_rows.Recursion.{fits_kept}
-use Rattle.rs_field.proofs.of_rows.RowOffsets.{outside_cell, extent_then}
-use Rattle.rs_field.proofs.of_rows.Symbols.{symbol-zero}
+use Rattle.rs_field.proofs.words_lemmas.Counting.{counts_rows, counts_then}
+use Rattle.rs_field.proofs.rows_lemmas.Recursion.{fits_kept}
+use Rattle.rs_field.proofs.rows_lemmas.RowOffsets.{outside_cell, extent_then}
+use Rattle.rs_field.proofs.rows_lemmas.Symbols.{symbol-zero}
 use Rattle.rs_rate.specs.passes.Decoding.{located_word}
-use Rattle.rs_rate.proofs.of_passes.RestoringRows.{RowLocated, located_word-at, located_word-same}
+use Rattle.rs_rate.proofs.passes_lemmas.RestoringRows.{RowLocated, located_word-at, located_word-same}
 use Rattle.rs_rate.proofs.passes.restoring.locate_rows.Goals as goal
 use Rattle.rs_rate.proofs.passes.restoring.locate_rows.Goals.{then-given-p, else-given-p}
 

@@ -5,7 +5,7 @@ use Rattle.rs_field.specs.words.Field.{product, power}
 use Rattle.rs_field.specs.words.Derivative.{IsDerivativeAdded}
 use Rattle.rs_field.specs.rows.View.{word}
 use Rattle.rs_rate.specs.values.Configured.{rows_to_decode}
-use Rattle.rs_rate.proofs.of_passes.RestoringRows.{from_row_zero}
+use Rattle.rs_rate.proofs.passes_lemmas.RestoringRows.{from_row_zero}
 use Rattle.rs_rate.proofs.passes.restoring.restore_rows.Goals as goal
 use Rattle.rs_rate.proofs.passes.restoring.restore_rows.Goals.{else-agrees-via-then-agrees+else-tally-gt0}
 use Rattle.rs_rate.proofs.passes.restoring.restore_rows.Goals.{else-agrees-via-else-agrees}

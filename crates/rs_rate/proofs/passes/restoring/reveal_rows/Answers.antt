@@ -7,11 +7,11 @@ use Rattle.rs_field.specs.rows.View.{word}
 use Rattle.rs_field.specs.declared.rows.shards.ShardsRefMut.{ShardsRefMut}
 use Rattle.rs_field.specs.declared.words.steps.Steps.{Steps}
 use Rattle.rs_field.specs.rows.MarkedRows.{is_marked}
-use Rattle.rs_field.proofs.of_words.Counting.{counts_then, counts_none}
-use Rattle.rs_field.proofs.of_rows.Recursion.{fits_kept}
-use Rattle.rs_field.proofs.of_rows.RowOffsets.{outside_cell, extent_then}
+use Rattle.rs_field.proofs.words_lemmas.Counting.{counts_then, counts_none}
+use Rattle.rs_field.proofs.rows_lemmas.Recursion.{fits_kept}
+use Rattle.rs_field.proofs.rows_lemmas.RowOffsets.{outside_cell, extent_then}
 use Rattle.rs_rate.specs.rows.Marks.{restored_marks}
-use Rattle.rs_rate.proofs.of_passes.RestoringRows.{RowRevealed}
+use Rattle.rs_rate.proofs.passes_lemmas.RestoringRows.{RowRevealed}
 use Rattle.rs_rate.proofs.passes.restoring.reveal_rows.Goals as goal
 use Rattle.rs_rate.proofs.passes.restoring.reveal_rows.Goals.{then-is_restored, else-is_restored}
 

@@ -1,5 +1,5 @@
 use Rattle.std.proofs.Common.{rules, length, arith}
-use Rattle.rs_rate.proofs.of_passes.SumLemmas.{one_row, times_known, column-sum}
+use Rattle.rs_rate.proofs.passes_lemmas.SumLemmas.{one_row, times_known, column-sum}
 use Rattle.rs_rate.proofs.passes.sums.add_tail_times.Goals as goal
 
 pub insert_at-requires-clause-room : goal.insert_at-requires-clause-room

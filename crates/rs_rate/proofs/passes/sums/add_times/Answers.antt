@@ -8,10 +8,10 @@ use Rattle.rs_field.specs.code.Column.{Shard, column}
 use Rattle.rs_field.specs.rows.Rows.{Chunks, chunk, symbol}
 use Rattle.rs_field.specs.words.Field.{product, power}
 use Rattle.rs_field.specs.words.Tables.{times_factor}
-use Rattle.rs_field.proofs.of_code.Pieces.{column-rest}
-use Rattle.rs_field.proofs.of_rows.LayoutLemmas.{symbol_of_chunk}
+use Rattle.rs_field.proofs.code_lemmas.Pieces.{column-rest}
+use Rattle.rs_field.proofs.rows_lemmas.LayoutLemmas.{symbol_of_chunk}
 use Rattle.rs_rate.specs.passes.Sums.{sum_word}
-use Rattle.rs_rate.proofs.of_passes.SumLemmas.{times_known, words-first, words-last}
+use Rattle.rs_rate.proofs.passes_lemmas.SumLemmas.{times_known, words-first, words-last}
 use Rattle.rs_rate.proofs.passes.sums.add_times.Goals as goal
 
 -- The sum before, and what its first n chunks and the others become.

@@ -1,5 +1,5 @@
 use Rattle.std.proofs.Common.{◌/◌, arith}
-use Rattle.rs_rate.proofs.of_passes.SumLemmas.{zero-word}
+use Rattle.rs_rate.proofs.passes_lemmas.SumLemmas.{zero-word}
 use Rattle.rs_rate.proofs.passes.sums.clear_sum.Goals as goal
 
 pub returns : goal.returns

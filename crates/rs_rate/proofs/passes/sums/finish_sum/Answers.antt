@@ -1,6 +1,6 @@
 use Rattle.std.proofs.Common.{ap, ◌∙◌, arith}
 use Rattle.rs_field.specs.code.Column.{column}
-use Rattle.rs_rate.proofs.of_passes.SumLemmas.{one_row, column-sum}
+use Rattle.rs_rate.proofs.passes_lemmas.SumLemmas.{one_row, column-sum}
 use Rattle.rs_rate.proofs.passes.sums.finish_sum.Goals as goal
 
 pub move_tail-requires-clause-room : goal.move_tail-requires-clause-room

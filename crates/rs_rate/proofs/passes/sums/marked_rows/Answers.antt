@@ -1,6 +1,6 @@
 use Rattle.std.proofs.Common.{rules, List, ℕ, subst, sym}
 use Rattle.rs_rate.specs.passes.Sums.{ListsMarked}
-use Rattle.rs_rate.proofs.of_passes.SumLemmas.{listed-none, listed-more, listed-passed}
+use Rattle.rs_rate.proofs.passes_lemmas.SumLemmas.{listed-none, listed-more, listed-passed}
 use Rattle.rs_rate.proofs.passes.sums.marked_rows.Goals.{then-marks-row+in_ok-push, else-marks-row}
 use Rattle.rs_rate.proofs.passes.sums.marked_rows.Goals as goal
 

@@ -1,4 +1,4 @@
-use Rattle.rs_rate.proofs.of_passes.SumLemmas.{one_row}
+use Rattle.rs_rate.proofs.passes_lemmas.SumLemmas.{one_row}
 use Rattle.rs_rate.proofs.passes.sums.summed_piece.Goals as goal
 
 pub shard_at-requires : goal.shard_at-requires

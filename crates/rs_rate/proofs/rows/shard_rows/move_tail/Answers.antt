@@ -1,5 +1,5 @@
 use Rattle.std.proofs.Common.{rules}
-use Rattle.rs_rate.proofs.of_rows.ShardRowsLemmas.{row_end, moved-here, row_chunk-apart, part_length}
+use Rattle.rs_rate.proofs.rows_lemmas.ShardRowsLemmas.{row_end, moved-here, row_chunk-apart, part_length}
 use Rattle.rs_rate.proofs.rows.shard_rows.move_tail.Goals as goal
 
 pub returns-clause-here : goal.returns-clause-here

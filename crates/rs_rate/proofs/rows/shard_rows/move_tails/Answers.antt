@@ -1,7 +1,7 @@
 use Rattle.std.proofs.Common.{rules, length, arith}
 use Rattle.std.proofs.lemmas.Bool.{cases_eq}
-use Rattle.rs_field.proofs.of_rows.LayoutLemmas.{laid_out-same, in_order-same}
-use Rattle.rs_rate.proofs.of_rows.ShardRowsLemmas.{chunk_count-within}
+use Rattle.rs_field.proofs.rows_lemmas.LayoutLemmas.{laid_out-same, in_order-same}
+use Rattle.rs_rate.proofs.rows_lemmas.ShardRowsLemmas.{chunk_count-within}
 use Rattle.rs_rate.proofs.rows.shard_rows.move_tails.Goals as goal
 
 pub move_tail-requires-clause-room : goal.move_tail-requires-clause-room

@@ -1,6 +1,6 @@
 use Rattle.std.proofs.Common.{rules}
-use Rattle.rs_field.proofs.of_rows.LayoutLemmas.{shard-laid_out, shard-in_order}
-use Rattle.rs_rate.proofs.of_rows.ShardRowsLemmas.{row-fits}
+use Rattle.rs_field.proofs.rows_lemmas.LayoutLemmas.{shard-laid_out, shard-in_order}
+use Rattle.rs_rate.proofs.rows_lemmas.ShardRowsLemmas.{row-fits}
 use Rattle.rs_rate.proofs.rows.shard_rows.rows_are_bytes.Goals as goal
 
 pub returns-clause-laid_out : goal.returns-clause-laid_out

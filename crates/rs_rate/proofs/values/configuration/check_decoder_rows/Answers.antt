@@ -4,7 +4,7 @@ use Rattle.rs_field.specs.declared.code.error.Error.TheVariants.{OutOfMemory}
 use Rattle.rs_field.specs.code.Frame.{decoder_rows}
 use Rattle.rs_rate.specs.values.RowCounts.{decoder_rows_set_up}
 use Rattle.rs_rate.specs.values.ChunkCounts.{chunk_count, memory_outcome}
-use Rattle.rs_rate.proofs.of_values.ConfiguredLemmas.{asked_rows}
+use Rattle.rs_rate.proofs.values_lemmas.ConfiguredLemmas.{asked_rows}
 use Rattle.rs_rate.proofs.values.configuration.check_decoder_rows.Goals as goal
 
 pub returns-in_err-chunk_count : goal.returns-in_err-chunk_count

@@ -1,6 +1,6 @@
 use Rattle.std.proofs.Common.{true, false, sym, ◌∙◌}
 use Rattle.rs_field.specs.code.Counts.{default_rate}
-use Rattle.rs_rate.proofs.of_values.FrameLemmas.{default-frame, frame-outside}
+use Rattle.rs_rate.proofs.values_lemmas.FrameLemmas.{default-frame, frame-outside}
 use Rattle.rs_rate.proofs.values.frames.default_frame.Goals as goal
 
 pub returns-then-not-are_in_field : goal.returns-then-not-are_in_field

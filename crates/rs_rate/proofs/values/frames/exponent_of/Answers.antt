@@ -4,7 +4,7 @@ use Rattle.std.specs.Int.Count.{count_trailing_zeros}
 use Rattle.std.proofs.lemmas.Bool.{cases_eq}
 use Rattle.std.proofs.lemmas.Nat.{pow_pos}
 use Rattle.std.proofs.lemmas.Nat.Bits.{bit_at-trailing_zeros, bit_at-pow_other}
-use Rattle.rs_field.proofs.of_code.NextPower.{exponent-small, next_power-exponent}
+use Rattle.rs_field.proofs.code_lemmas.NextPower.{exponent-small, next_power-exponent}
 use Rattle.rs_rate.proofs.values.frames.exponent_of.Goals as goal
 
 -- The number of trailing zeros of a power of two is its exponent.

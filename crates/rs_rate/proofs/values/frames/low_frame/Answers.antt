@@ -1,6 +1,6 @@
 use Rattle.std.proofs.Common.{true}
 use Rattle.rs_field.specs.code.Counts.{low_rate}
-use Rattle.rs_rate.proofs.of_values.FrameLemmas.{frame-none, frame-made, frame-outside}
+use Rattle.rs_rate.proofs.values_lemmas.FrameLemmas.{frame-none, frame-made, frame-outside}
 use Rattle.rs_rate.proofs.values.frames.low_frame.Goals as goal
 
 pub returns-then-not-are_in_field : goal.returns-then-not-are_in_field

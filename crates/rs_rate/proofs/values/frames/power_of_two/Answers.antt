@@ -1,7 +1,7 @@
 use Rattle.std.proofs.Common.{◌≡◌, ℕ, ◌^◌, ◌<◌, ◌≤◌, ◌/◌, max, arith, inl, inr, pow_mono}
 use Rattle.std.proofs.lemmas.Bool.{cases_lt}
 use Rattle.rs_field.specs.code.Counts.{next_power}
-use Rattle.rs_field.proofs.of_code.NextPower.{next_power-small, next_power-is}
+use Rattle.rs_field.proofs.code_lemmas.NextPower.{next_power-small, next_power-is}
 use Rattle.rs_rate.proofs.values.frames.power_of_two.Goals as goal
 
 is_next : (n p x : ℕ) → n ≤ 65536 → p ≡ 2 ^ x → n ≤ p → p / 2 < max 1 n → p ≡ next_power n

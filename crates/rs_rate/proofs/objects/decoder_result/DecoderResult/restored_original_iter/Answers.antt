@@ -1,4 +1,4 @@
-use Rattle.rs_rate.proofs.of_rows.ResultLemmas.{lists-restored, restored-few}
+use Rattle.rs_rate.proofs.rows_lemmas.ResultLemmas.{lists-restored, restored-few}
 use Rattle.rs_rate.proofs.objects.decoder_result.DecoderResult.restored_original_iter.Goals as goal
 
 pub returns-clause-listed : goal.returns-clause-listed

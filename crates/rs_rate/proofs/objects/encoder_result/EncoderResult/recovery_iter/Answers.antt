@@ -1,4 +1,4 @@
-use Rattle.rs_rate.proofs.of_rows.ResultLemmas.{recovery-few}
+use Rattle.rs_rate.proofs.rows_lemmas.ResultLemmas.{recovery-few}
 use Rattle.rs_rate.proofs.objects.encoder_result.EncoderResult.recovery_iter.Goals as goal
 
 pub returns-clause-few : goal.returns-clause-few

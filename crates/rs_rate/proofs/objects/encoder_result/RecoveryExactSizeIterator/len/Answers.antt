@@ -1,5 +1,5 @@
 use Rattle.std.proofs.Common.{length, sym, ap, ◌∙◌}
-use Rattle.rs_rate.proofs.of_rows.ResultLemmas.{length-left}
+use Rattle.rs_rate.proofs.rows_lemmas.ResultLemmas.{length-left}
 use Rattle.rs_rate.proofs.objects.encoder_result.RecoveryExactSizeIterator.len.Goals as goal
 
 pub returns-clause-value : goal.returns-clause-value

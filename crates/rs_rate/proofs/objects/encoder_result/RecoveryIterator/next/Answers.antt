@@ -1,5 +1,5 @@
 use Rattle.std.proofs.Common.{rules, sym, ◌∙◌, arith}
-use Rattle.rs_rate.proofs.of_rows.ResultLemmas.{left-past, lends_next, recovery_count-few}
+use Rattle.rs_rate.proofs.rows_lemmas.ResultLemmas.{left-past, lends_next, recovery_count-few}
 use Rattle.rs_rate.proofs.objects.encoder_result.RecoveryIterator.next.Goals as goal
 
 pub returns-in_err-shard-clause-steps : goal.returns-in_err-shard-clause-steps

@@ -1,6 +1,6 @@
 use Rattle.std.proofs.Common.{rules, ap₂, sym, ◌∙◌, refl}
-use Rattle.rs_rate.proofs.of_values.ConfiguredLemmas.{asked_rows, either_way}
-use Rattle.rs_rate.proofs.of_rows.StateLemmas.{memory_outcome-made, on_ok-at, on_err-at}
+use Rattle.rs_rate.proofs.values_lemmas.ConfiguredLemmas.{asked_rows, either_way}
+use Rattle.rs_rate.proofs.rows_lemmas.StateLemmas.{memory_outcome-made, on_ok-at, on_err-at}
 use Rattle.rs_rate.proofs.objects.rate_object.RateObject.set_up_anew.Goals as goal
 
 pub returns-in_err-configuration-clause-grown : goal.returns-in_err-configuration-clause-grown

@@ -1,6 +1,6 @@
 use Rattle.std.proofs.Common.{refl, ap, ◌∙◌, rules}
 use Rattle.std.proofs.lemmas.Result.{err_from_is_err_and}
-use Rattle.rs_rate.proofs.of_values.ConfiguredLemmas.{asked_rows}
+use Rattle.rs_rate.proofs.values_lemmas.ConfiguredLemmas.{asked_rows}
 use Rattle.rs_rate.proofs.objects.rate_object.RateObject.with_counts.Goals as goal
 
 pub returns-in_err-configuration-clause-roomy : goal.returns-in_err-configuration-clause-roomy

@@ -2,7 +2,7 @@ use Rattle.std.proofs.Common.{ℕ, ◌<◌, bit_xor, List, length, subst, sym, a
 use Rattle.std.specs.Int.Bits.{xor_lt}
 use Rattle.std.specs.Prelude.{slice_index}
 use Rattle.rs_field.specs.words.DirectSum.{direct_factor}
-use Rattle.rs_rate.proofs.of_passes.SumLemmas.{factor_at}
+use Rattle.rs_rate.proofs.passes_lemmas.SumLemmas.{factor_at}
 use Rattle.rs_rate.proofs.passes.sums.SumBase.factor.Goals as goal
 
 pub factor-requires-clause-within : goal.factor-requires-clause-within

@@ -1,6 +1,6 @@
 use Rattle.std.proofs.Common.{rules}
-use Rattle.rs_rate.proofs.of_passes.ChangeLemmas.{distinct_rows_of}
-use Rattle.rs_rate.proofs.of_passes.SumLemmas.{written-back}
+use Rattle.rs_rate.proofs.passes_lemmas.ChangeLemmas.{distinct_rows_of}
+use Rattle.rs_rate.proofs.passes_lemmas.SumLemmas.{written-back}
 use Rattle.rs_rate.proofs.passes.sums.SumBase.new.Goals as goal
 
 pub row_count-requires : goal.row_count-requires

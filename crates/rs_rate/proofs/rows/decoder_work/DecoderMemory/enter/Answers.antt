@@ -3,8 +3,8 @@ use Rattle.rs_field.specs.code.Outcome.{state_after}
 use Rattle.rs_rate.specs.rows.Entering.{given_rows}
 use Rattle.rs_rate.specs.rows.Marks.{given_marks}
 use Rattle.rs_rate.specs.rows.ShardRows.{shard_laid_out}
-use Rattle.rs_rate.proofs.of_rows.AddedShards.{entry-free}
-use Rattle.rs_rate.proofs.of_rows.RowMaps.{rows-entered, some-marked}
+use Rattle.rs_rate.proofs.rows_lemmas.AddedShards.{entry-free}
+use Rattle.rs_rate.proofs.rows_lemmas.RowMaps.{rows-entered, some-marked}
 use Rattle.rs_rate.proofs.rows.decoder_work.DecoderMemory.enter.Goals as goal
 
 pub returns-clause-rows : goal.returns-clause-rows

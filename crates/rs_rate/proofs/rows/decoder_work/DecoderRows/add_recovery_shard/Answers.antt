@@ -6,12 +6,12 @@ use Rattle.rs_rate.specs.values.Configured.{rows_to_decode}
 use Rattle.rs_rate.specs.rows.DecoderView.{state_over, decoder_state}
 use Rattle.rs_rate.specs.rows.Entering.{given_rows, entry_outcome}
 use Rattle.rs_rate.specs.rows.Marks.{HoldGiven}
-use Rattle.rs_rate.proofs.of_rows.AddedShards.{IsEntered, recovery-added, entry-made, entry-refused}
+use Rattle.rs_rate.proofs.rows_lemmas.AddedShards.{IsEntered, recovery-added, entry-made, entry-refused}
 use Rattle.rs_field.specs.code.Counts.{Rate}
 use Rattle.rs_field.specs.code.Decoder.{with_recovery}
-use Rattle.rs_rate.proofs.of_values.ConfiguredLemmas.{places-known}
-use Rattle.rs_rate.proofs.of_rows.RowMaps.{hold-most, hold-recovery}
-use Rattle.rs_rate.proofs.of_rows.ShardRowsLemmas.{chunk_count-within}
+use Rattle.rs_rate.proofs.values_lemmas.ConfiguredLemmas.{places-known}
+use Rattle.rs_rate.proofs.rows_lemmas.RowMaps.{hold-most, hold-recovery}
+use Rattle.rs_rate.proofs.rows_lemmas.ShardRowsLemmas.{chunk_count-within}
 use Rattle.rs_rate.proofs.rows.decoder_work.DecoderRows.add_recovery_shard.Goals as goal
 use Rattle.rs_rate.proofs.rows.decoder_work.DecoderRows.add_recovery_shard.Goals.{After-enter}
 

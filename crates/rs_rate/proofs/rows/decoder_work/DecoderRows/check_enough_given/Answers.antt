@@ -1,7 +1,7 @@
 use Rattle.std.proofs.Common.{arith, sym}
 use Rattle.rs_rate.specs.rows.DecoderView.{decoder_state}
-use Rattle.rs_rate.proofs.of_rows.DecoderRows.{enough-few, enough-many}
-use Rattle.rs_rate.proofs.of_rows.RowMaps.{hold-most}
+use Rattle.rs_rate.proofs.rows_lemmas.DecoderRows.{enough-few, enough-many}
+use Rattle.rs_rate.proofs.rows_lemmas.RowMaps.{hold-most}
 use Rattle.rs_rate.proofs.rows.decoder_work.DecoderRows.check_enough_given.Goals as goal
 
 pub overflow_add-self : goal.overflow_add-self

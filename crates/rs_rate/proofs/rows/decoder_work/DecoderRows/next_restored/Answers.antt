@@ -1,5 +1,5 @@
 use Rattle.std.proofs.Common.{◌∙◌}
-use Rattle.rs_rate.proofs.of_rows.ResultLemmas.{restored_from-past, restored_from-none, restored_from-some}
+use Rattle.rs_rate.proofs.rows_lemmas.ResultLemmas.{restored_from-past, restored_from-none, restored_from-some}
 use Rattle.rs_rate.proofs.rows.decoder_work.DecoderRows.next_restored.Goals as goal
 
 pub returns-in-Some : goal.returns-in-Some

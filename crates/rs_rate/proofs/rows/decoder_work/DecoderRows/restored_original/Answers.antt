@@ -1,8 +1,8 @@
 use Rattle.std.proofs.Common.{rules, ◌<◌, length, sym, ap, arith}
 use Rattle.rs_rate.specs.values.Configured.{rows_to_decode}
 use Rattle.rs_rate.specs.rows.Marks.{restored_marks, restored_by_row}
-use Rattle.rs_rate.proofs.of_rows.RowMaps.{marked-at, part-in, part-out}
-use Rattle.rs_rate.proofs.of_rows.ShardRowsLemmas.{chunk_count-within}
+use Rattle.rs_rate.proofs.rows_lemmas.RowMaps.{marked-at, part-in, part-out}
+use Rattle.rs_rate.proofs.rows_lemmas.ShardRowsLemmas.{chunk_count-within}
 use Rattle.rs_rate.proofs.rows.decoder_work.DecoderRows.restored_original.Goals as goal
 
 pub returns-then-index-self : goal.returns-then-index-self

@@ -1,17 +1,17 @@
 use Rattle.std.proofs.Common.{ℕ, Bool, arith, sym, ◌∙◌}
 use Rattle.std.specs.Prelude.{is_some}
-use Rattle.rs_field.proofs.of_code.Entries.{all_some}
+use Rattle.rs_field.proofs.code_lemmas.Entries.{all_some}
 use Rattle.rs_rate.specs.values.Configured.{rate_of, rows_to_decode}
 use Rattle.rs_rate.specs.rows.Entering.{given_rows}
 use Rattle.rs_rate.specs.rows.Marks.{given_marks, originals_in}
 use Rattle.rs_rate.specs.rows.ShardRows.{shard_laid_out}
-use Rattle.rs_rate.proofs.of_values.FrameLemmas.{supported-in_field}
+use Rattle.rs_rate.proofs.values_lemmas.FrameLemmas.{supported-in_field}
 use Rattle.rs_field.specs.code.Column.{Shard}
 use Rattle.rs_field.specs.code.Frame.{original_row}
 use Rattle.rs_field.specs.rows.MarkedRows.{is_marked}
-use Rattle.rs_rate.proofs.of_values.ConfiguredLemmas.{places-known}
-use Rattle.rs_rate.proofs.of_rows.HowMany.{how_many-same, how_many-not, many_originals, many_rows}
-use Rattle.rs_rate.proofs.of_rows.RowMaps.{given_if_some, hold-most, some-marked, part-marked}
+use Rattle.rs_rate.proofs.values_lemmas.ConfiguredLemmas.{places-known}
+use Rattle.rs_rate.proofs.rows_lemmas.HowMany.{how_many-same, how_many-not, many_originals, many_rows}
+use Rattle.rs_rate.proofs.rows_lemmas.RowMaps.{given_if_some, hold-most, some-marked, part-marked}
 use Rattle.rs_rate.proofs.rows.decoder_work.DecoderRows.tally.Goals as goal
 
 pub overflow_add-given : goal.overflow_add-given

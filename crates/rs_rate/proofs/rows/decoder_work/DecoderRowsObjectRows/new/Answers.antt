@@ -1,4 +1,4 @@
-use Rattle.rs_rate.proofs.of_rows.RowMaps.{hold_nothing, nothing-given, none-marked}
+use Rattle.rs_rate.proofs.rows_lemmas.RowMaps.{hold_nothing, nothing-given, none-marked}
 use Rattle.rs_rate.proofs.rows.decoder_work.DecoderRowsObjectRows.new.Goals as goal
 
 pub invariant_of-result : goal.invariant_of-result

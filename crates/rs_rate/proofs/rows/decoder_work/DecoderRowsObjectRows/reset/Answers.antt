@@ -1,4 +1,4 @@
-use Rattle.rs_rate.proofs.of_rows.RowMaps.{hold_nothing, nothing-given, none-marked}
+use Rattle.rs_rate.proofs.rows_lemmas.RowMaps.{hold_nothing, nothing-given, none-marked}
 use Rattle.rs_rate.proofs.rows.decoder_work.DecoderRowsObjectRows.reset.Goals as goal
 
 pub invariant_of-self-2 : goal.invariant_of-self-2

@@ -1,9 +1,9 @@
 use Rattle.std.proofs.Common.{rules, ◌+◌, arith, ap, length}
 use Rattle.std.proofs.lemmas.List.{with_items_is}
-use Rattle.rs_field.proofs.of_words.UpTo.{length-up_to}
-use Rattle.rs_rate.proofs.of_rows.ShardRowsLemmas.{chunk_count-within, given-more, shard-entered}
+use Rattle.rs_field.proofs.words_lemmas.UpTo.{length-up_to}
+use Rattle.rs_rate.proofs.rows_lemmas.ShardRowsLemmas.{chunk_count-within, given-more, shard-entered}
 use Rattle.rs_rate.specs.values.Configured.{rows_to_encode}
-use Rattle.rs_rate.proofs.of_rows.StateLemmas.{with_shard-added}
+use Rattle.rs_rate.proofs.rows_lemmas.StateLemmas.{with_shard-added}
 use Rattle.rs_rate.specs.values.ChunkCounts.{chunk_count}
 use Rattle.rs_rate.proofs.rows.encoder_work.EncoderRows.add_original_shard.Goals as goal
 

@@ -1,5 +1,5 @@
 use Rattle.std.proofs.Common.{rules}
-use Rattle.rs_field.proofs.of_words.UpTo.{length-up_to}
+use Rattle.rs_field.proofs.words_lemmas.UpTo.{length-up_to}
 use Rattle.rs_rate.proofs.rows.encoder_work.EncoderRows.check_all_given.Goals as goal
 
 pub returns-then-self : goal.returns-then-self

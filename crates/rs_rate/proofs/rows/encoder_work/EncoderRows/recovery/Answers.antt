@@ -1,6 +1,6 @@
 use Rattle.std.proofs.Common.{arith, ap, length}
 use Rattle.rs_rate.specs.values.Configured.{rows_to_encode}
-use Rattle.rs_rate.proofs.of_rows.ShardRowsLemmas.{chunk_count-within}
+use Rattle.rs_rate.proofs.rows_lemmas.ShardRowsLemmas.{chunk_count-within}
 use Rattle.rs_rate.proofs.rows.encoder_work.EncoderRows.recovery.Goals as goal
 
 pub shard_at-requires : goal.shard_at-requires

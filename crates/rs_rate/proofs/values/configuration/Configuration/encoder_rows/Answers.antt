@@ -1,8 +1,8 @@
 use Rattle.std.proofs.Common.{◌<◌, sym, ◌∙◌, subst, arith}
 use Rattle.std.proofs.lemmas.Nat.{pow_pos}
 use Rattle.rs_rate.specs.values.Configured.{block_of}
-use Rattle.rs_rate.proofs.of_values.ConfiguredLemmas.{HasBlocks, blocks-known}
-use Rattle.rs_rate.proofs.of_values.PowerLemmas.{next_multiple-is}
+use Rattle.rs_rate.proofs.values_lemmas.ConfiguredLemmas.{HasBlocks, blocks-known}
+use Rattle.rs_rate.proofs.values_lemmas.PowerLemmas.{next_multiple-is}
 use Rattle.rs_rate.proofs.values.configuration.Configuration.encoder_rows.Goals as goal
 use Rattle.rs_rate.proofs.values.configuration.Configuration.encoder_rows.Goals.{After-block_rows, then-self, else-self}
 

@@ -6,8 +6,8 @@ use Rattle.rs_field.specs.code.Configuration.{configuration, validation_outcome}
 use Rattle.rs_field.specs.code.Frame.{frame_of}
 use Rattle.rs_rate.specs.declared.values.configuration.Configuration.{Configuration}
 use Rattle.rs_rate.specs.values.SetUp.{IsSetUp}
-use Rattle.rs_rate.proofs.of_values.ConfiguredLemmas.{with_frame-is}
-use Rattle.rs_rate.proofs.of_values.RateLemmas.{chooses, frame-low}
+use Rattle.rs_rate.proofs.values_lemmas.ConfiguredLemmas.{with_frame-is}
+use Rattle.rs_rate.proofs.values_lemmas.RateLemmas.{chooses, frame-low}
 use Rattle.rs_rate.proofs.values.configuration.Configuration.new.Goals as goal
 
 pub returns : goal.returns

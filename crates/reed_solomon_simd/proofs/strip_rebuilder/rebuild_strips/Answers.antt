@@ -1,7 +1,0 @@
-use Rattle.reed_solomon_simd.proofs.BaseLemmas.{few_surplus}
-use Rattle.reed_solomon_simd.proofs.strip_rebuilder.rebuild_strips.Goals as goal
-
-pub are_sums_used-requires : goal.are_sums_used-requires
-are_sums_used-requires g c = record {
-  few = few_surplus (g.P.Pieces.received c.args.received.now) _ c.requires.set_up c.in_ok-marks.ensures.surplus;
-}

@@ -1,0 +1,136 @@
+-- Direct sums over a base: the list of its rows, the factors, and the words of a sum.
+use Rattle.std.proofs.Common.{rules, ◌≡◌, ℕ, ◌+◌, ◌-◌, ◌*◌, ◌/◌, ◌%◌, ◌<◌, ◌≤◌, Bool, true, false, cond, List, [], ◌∷◌}
+use Rattle.std.proofs.Common.{◌++◌, take, drop, replicate, length, bit_xor, sym, ap, ap₂, ◌∙◌, arith, inl, inr, add-one}
+use Rattle.std.proofs.Common.{get_or}
+use Rattle.std.specs.Prelude.{slice_index}
+use Rattle.std.specs.Int.Bits.{xor_zero_r}
+use Rattle.std.proofs.Math.Seq.{get_or-append_seam, take-append_seam}
+use Rattle.std.proofs.lemmas.Bool.{cases_lt}
+use Rattle.std.proofs.lemmas.List.{get_or_append_left, get_or-append_right, length-append, get_or-replicate}
+use Rattle.rs_field.specs.code.DirectLaws.{locator_at}
+use Rattle.rs_field.specs.code.Frame.{row_count}
+use Rattle.rs_field.specs.code.Given.{Shards}
+use Rattle.rs_field.specs.declared.code.frame.Frame.{Frame}
+use Rattle.rs_field.specs.rows.Layout.{row_len}
+use Rattle.rs_field.specs.code.Column.{column}
+use Rattle.rs_field.specs.rows.MarkedRows.{is_marked}
+use Rattle.rs_field.specs.rows.Rows.{Chunks, chunk, symbol}
+use Rattle.rs_field.specs.words.DirectSum.{direct_factor}
+use Rattle.rs_field.specs.words.Field.{product, power, log}
+use Rattle.rs_field.specs.words.Tables.{times_factor}
+use Rattle.rs_field.specs.words.Transform.{sum_below}
+use Rattle.rs_field.proofs.words_lemmas.Combination.{sum_below-suc, sum_below-same, sum_below-zero}
+use Rattle.rs_rate.specs.passes.Decoding.{IsLocatorOf}
+use Rattle.rs_rate.proofs.passes_lemmas.Erased.{locator-given}
+use Rattle.rs_rate.specs.values.ChunkCounts.{chunk_count}
+use Rattle.rs_rate.specs.rows.ShardRows.{shard_laid_out}
+use Rattle.rs_rate.specs.passes.Sums.{AreMarksOf, ListsMarked, sum_word}
+use Rattle.rs_rate.proofs.rows_lemmas.ShardRowsLemmas.{column-put}
+
+-- One row has the chunks of a shard.
+pub one_row : (size chunks : ℕ) → chunks ≡ row_len size → chunk_count 1 size ≤ chunks
+unfolding chunk_count
+one_row size chunks is = omega arith
+
+-- Column j of a shard that was laid out in chunks is word j of the sum in these chunks.
+pub column-sum : (chunks : Chunks) (size j : ℕ) → size % 2 ≡ 0 → j < size / 2
+    → column j (shard_laid_out chunks size 0) ≡ sum_word chunks j
+column-sum chunks size j even inside = search (rules, column-put)
+
+-- The words of a sum in two parts: those of the first n chunks, and those of the others.
+pub words-first : (n j : ℕ) (xs ys : Chunks) → length xs ≡ n → j / 32 < n → sum_word (xs ++ ys) j ≡ sum_word xs j
+words-first n j xs ys long inside = search (rules, get_or_append_left)
+
+pub words-last : (n j : ℕ) (xs ys : Chunks) → length xs ≡ n → n ≤ j / 32
+    → sum_word (xs ++ ys) j ≡ sum_word ys (j - 32 * n)
+words-last n j xs ys long past = search (rules, get_or-append_right)
+
+-- A slice that was lent by a vector is its list of elements afterwards, if it has as many elements.
+pub written-back : {X : Type 0} (xs ys : List X) (n : ℕ) → length xs ≡ n → length ys ≡ n
+    → take n (xs ++ drop (length xs) ys) ≡ xs
+written-back xs ys n own other =
+    ap (λ m. take m (xs ++ drop (length xs) ys)) (sym own) ∙ take-append_seam xs (drop (length xs) ys)
+
+-- Words of zero bytes are 0.
+pub zero-word : (chunks : Chunks) (j : ℕ) → chunk chunks (j / 32) ≡ replicate 64 0 → sum_word chunks j ≡ 0
+zero-word chunks j is =
+    ap (λ (c : List ℕ). symbol c (j % 32)) is
+    ∙ ap₂ (λ a b. a + 256 * b) (get_or-replicate 64 (j % 32) 0 0 (omega arith))
+    (get_or-replicate 64 (j % 32 + 32) 0 0 (omega arith))
+
+-- A logarithm below 65535 is that of its factor.
+pub times_known : (l w : ℕ) → l < 65535 → times_factor l w ≡ product w (power l)
+times_known l w small = search rules
+
+-- ---- the list of marked rows
+
+-- The term of a row: its value if it is marked.
+term : List Bool → (ℕ → ℕ) → ℕ → ℕ
+term marks f x = cond (is_marked marks x) (f x) 0
+
+term-at : (marks : List Bool) (f : ℕ → ℕ) (x : ℕ) (b : Bool) → is_marked marks x ≡ b → term marks f x ≡ cond b (f x) 0
+unfolding term
+term-at marks f x b is = ap (λ (c : Bool). cond c (f x) 0) is
+
+pub listed-none : (marks : List Bool) → ListsMarked marks 0 []
+listed-none marks = search (rules, sum_below-zero)
+
+-- A marked row is listed next.
+pub listed-more : (marks : List Bool) (n : ℕ) (rows : List ℕ) → is_marked marks n ≡ true → ListsMarked marks n rows
+    → ListsMarked marks (n + 1) (rows ++ n ∷ [])
+unfolding term
+listed-more marks n rows is before =
+    let long : length (rows ++ n ∷ []) ≡ length rows + 1 = length-append rows (n ∷ []) in
+    let last : get_or (rows ++ n ∷ []) (length rows) 0 ≡ n = get_or-append_seam rows n [] 0 in
+    record {
+      entries = λ i h. elim (cases_lt i (length rows)) [
+        | inl earlier ↦
+            let here = before.entries i earlier in
+            let same = get_or_append_left rows (n ∷ []) 0 i earlier in
+            (omega (arith, same, here.0), ap (is_marked marks) same ∙ here.1)
+        | inr from ↦
+            let at : i ≡ length rows = omega arith in
+            let same : get_or (rows ++ n ∷ []) i 0 ≡ n = ap (λ m. get_or (rows ++ n ∷ []) m 0) at ∙ last in
+            (omega (arith, same), ap (is_marked marks) same ∙ is)
+      ];
+      sums = λ f.
+          ap (λ m. sum_below m (λ i. f (get_or (rows ++ n ∷ []) i 0))) (long ∙ add-one (length rows))
+          ∙ sum_below-suc (length rows) (λ i. f (get_or (rows ++ n ∷ []) i 0))
+          ∙ ap₂ bit_xor
+          (sum_below-same (length rows) (λ i. f (get_or (rows ++ n ∷ []) i 0)) (λ i. f (get_or rows i 0))
+          (λ i h. ap f (get_or_append_left rows (n ∷ []) 0 i h)) ∙ before.sums f)
+          (ap f last ∙ sym (term-at marks f n true is))
+          ∙ sym (sum_below-suc n (term marks f)) ∙ ap (λ m. sum_below m (term marks f)) (sym (add-one n));
+    }
+
+-- A row that is not marked is not listed.
+pub listed-passed : (marks : List Bool) (n : ℕ) (rows : List ℕ) → is_marked marks n ≡ false → ListsMarked marks n rows
+    → ListsMarked marks (n + 1) rows
+unfolding term
+listed-passed marks n rows is before = record {
+  entries = λ i h. let here = before.entries i h in (omega (arith, here.0), here.1);
+  sums = λ f.
+      before.sums f
+      ∙ sym (xor_zero_r (sum_below n (term marks f)))
+      ∙ ap (bit_xor (sum_below n (term marks f))) (sym (term-at marks f n false is))
+      ∙ sym (sum_below-suc n (term marks f)) ∙ ap (λ m. sum_below m (term marks f)) (sym (add-one n));
+}
+
+-- ---- the factors
+
+-- The factor depends on the locator modulo 65535.
+factor-mod : (a b c m n : ℕ) → a < 65536 → b < 65536 → a % 65535 ≡ m → b % 65535 ≡ n
+    → (a + c + (65535 - b)) % 65535 ≡ (m + c + (65535 - n)) % 65535
+factor-mod a b c m n ha hb ma nb = omega arith
+
+-- The factors are those of the given shards.
+pub factor_at : (frame : Frame) (k r : ℕ) (originals recovery : Shards) (marks : List Bool)
+    → AreMarksOf frame k r originals recovery marks → (locator : List ℕ) → IsLocatorOf frame marks locator
+    → (x y : ℕ) → x < row_count frame → y < row_count frame
+    → direct_factor (λ z. slice_index locator z) x y ≡ direct_factor (locator_at frame k r originals recovery) x y
+unfolding locator_at
+factor_at frame k r originals recovery marks same locator is x y hx hy =
+    let located = locator-given frame k r originals recovery marks same locator is in
+    factor-mod (slice_index locator x) (slice_index locator y) (65535 - log (bit_xor x y))
+    (locator_at frame k r originals recovery x) (locator_at frame k r originals recovery y)
+    (is.are_words x) (is.are_words y) (located x hx) (located y hy)
