@@ -75,7 +75,7 @@ size_t rs_work_bytes(size_t original_count, size_t recovery_count, size_t shard_
            UNIT - 1;
 }
 
-/* rs_verify requests the lists, and the rows of an encode or of a decode. */
+/* rs_verify requests the lists, and the rows of an encode or of a decode, or what sums need, which is less. */
 size_t rs_verify_work_bytes(size_t original_count, size_t recovery_count, size_t shard_bytes) {
     if (!is_counted(original_count, recovery_count, shard_bytes, 0)) return 0;
     struct shape shape = shape_of(original_count, recovery_count);
@@ -84,7 +84,7 @@ size_t rs_verify_work_bytes(size_t original_count, size_t recovery_count, size_t
 }
 
 /* rs_reconstruct requests the lists, a list of the wanted shards, marks for all shards, and either what sums need, or
-   marks for the rows of a decode, and the rows of a decode and of an encode. */
+   the rows of a decode and, if a recovery shard is wanted, of an encode. */
 size_t rs_reconstruct_work_bytes(size_t original_count, size_t recovery_count, size_t shard_bytes, size_t restored) {
     if (!is_counted(original_count, recovery_count, shard_bytes, restored) || restored > recovery_count) return 0;
     struct shape shape = shape_of(original_count, recovery_count);

@@ -44,9 +44,15 @@ static inline size_t power(size_t count) {
     return power;
 }
 
+/* How many rows a decode has. */
+static inline size_t decoder_rows(size_t original_count, size_t recovery_count) {
+    size_t low = power(original_count), high = power(recovery_count);
+    int is_low = low < high || (low == high && original_count > recovery_count);
+    return power(is_low ? low + recovery_count : high + original_count);
+}
+
 /* How many bytes the rows of a decode take. */
 static inline size_t bytes_of_rows(size_t original_count, size_t recovery_count, size_t shard_bytes) {
-    size_t low = power(original_count), high = power(recovery_count), strip = shard_bytes < 2048 ? shard_bytes : 2048;
-    int is_low = low < high || (low == high && original_count > recovery_count);
-    return power(is_low ? low + recovery_count : high + original_count) * ((strip + 63) / 64 * 64);
+    size_t strip = shard_bytes < 2048 ? shard_bytes : 2048;
+    return decoder_rows(original_count, recovery_count) * ((strip + 63) / 64 * 64);
 }

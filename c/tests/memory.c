@@ -13,22 +13,20 @@ struct tried {
     void *at;
 };
 
-/* How many requests for memory the calls make. rs_decode has rows, and rs_decode_shards sums the received shards,
-   because few are lost. */
+/* How many requests for memory the calls make. The decodes sum the received shards, because few are lost. */
 enum {
     TABLES = 6,
     ENCODE = 1,
     ENCODE_SHARDS = 1,
-    DECODE = 4,
+    DECODE = 6,
     DECODE_SHARDS = 7,
     RECONSTRUCT = 9,
     VERIFY = 3,
-    VERIFY_FEWER = 5,
+    VERIFY_FEWER = 6,
     UPDATE = 5
 };
-/* With a surplus shard, a decode restores to vectors first: the list of them, and each vector. rs_decode then sums,
-   too: it has two requests more than with rows. */
-enum { LIST = 1, SUMS = 2 };
+/* With a surplus shard, a decode restores to vectors first: the list of them, and each vector. */
+enum { LIST = 1 };
 /* The calls over received shards first make a list of the originals and one of the recovery shards. With two lost
    originals and rooms that do not fit, a decode makes a list and two vectors. */
 enum { LISTS = 2, RESTORED = LIST + 2 };
@@ -447,7 +445,7 @@ static void messages(void) {
         memset(originals, 1, size);
         each(anywhere ? "rs_decode_shards with a surplus shard" : "rs_decode with a surplus shard",
              anywhere ? decode_shards_surplus : decode_surplus, originals, sizeof originals,
-             (anywhere ? DECODE_SHARDS : DECODE + SUMS) + LIST + 1);
+             (anywhere ? DECODE_SHARDS : DECODE) + LIST + 1);
         for (size_t n = 0; n < 3 * size; n++)
             if (originals[n] != 7) wrong("not what was encoded");
         change_last_byte(originals + size);

@@ -1,4 +1,4 @@
-/* The library from C. Words: `rows FILE..` reads cases of rs_cases; `refusals`; `rounds SEED COUNT`; `pieces SEED
+/* The library from C. Words: `rows FILE..` reads cases of rs_scenarios; `refusals`; `rounds SEED COUNT`; `pieces SEED
    COUNT`; `mixes SEED COUNT`; `threads`. */
 #define _DEFAULT_SOURCE
 #define TEST "test"

@@ -1,4 +1,4 @@
-"""The library from Python. Words: the shared object, the file of digests of rs_cases, and codewords.txt of this folder."""
+"""The library from Python. Words: the shared object, the file of digests of rs_scenarios, and codewords.txt of this folder."""
 import ctypes
 import hashlib
 import os

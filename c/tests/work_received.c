@@ -122,22 +122,32 @@ static size_t needed(struct message *m, enum call call, size_t enough) {
     return many;
 }
 
-/* Counts and a size: each call with no, one, half of the most and the most lost originals, with a surplus and without.
-   The numbers of bytes are what the call needs that needs most, but for calls that find few shards by sums. */
+/* Whether a check of received shards without all originals sums shards: it has one sum of k products for each surplus
+   shard, and sums are taken if there are fewer products than four for each row of a decoder. */
+static int is_summed(size_t k, size_t r, size_t surplus) {
+    return surplus * k < 4 * decoder_rows(k, r);
+}
+
+/* Counts and a size: each call with no, one, half of the most and the most lost originals, without a surplus shard,
+   with one, and with all. The numbers of bytes are what the call needs that needs most, but for calls that find few
+   shards by sums. */
 static void shape(size_t k, size_t r, size_t size) {
     size_t used = heap_used, most = k < r ? k : r, verified = 0;
+    int has_rows = 0;
     size_t verify = rs_verify_work_bytes(k, r, size), update = rs_update_work_bytes(k, r);
     struct message m = made(k, r, size);
     if (needed(&m, UPDATE, update) != update && 16 * r < update - 127) wrong("an update needs fewer bytes");
-    for (size_t i = 0; i < 8; i++) {
-        size_t lost = i % 4 == 0 ? 0 : i % 4 == 1 ? 1 : i % 4 == 2 ? most / 2 : most, surplus = i / 4, bytes;
+    for (size_t i = 0; i < 12; i++) {
+        size_t lost = i % 4 == 0 ? 0 : i % 4 == 1 ? 1 : i % 4 == 2 ? most / 2 : most, bytes;
+        size_t surplus = i < 8 ? i / 4 : r - lost;
         if (lost + surplus > r || lost > most) continue;
+        if (lost && !is_summed(k, r, surplus)) has_rows = 1;
         lose(&m, lost, surplus);
         bytes = needed(&m, VERIFY, verify);
         if (bytes > verified) verified = bytes;
         needed(&m, RECONSTRUCT, rs_reconstruct_work_bytes(k, r, size, surplus ? m.wanted_number : 0));
     }
-    if (r > 1 && verified != verify) wrong("each verification needs fewer bytes");
+    if (has_rows && verified != verify) wrong("each verification needs fewer bytes");
     heap_used = used;
 }
 
