@@ -39,7 +39,7 @@ def reads():
         found = json.loads(printed("verify", at("set.rsv"), "--json", status=1, env=unreadable)[0])
         if found["lost_blocks"] != 3 or [file["state"] for file in found["files"]] != ["damaged", "whole"]:
             wrong(f"verify of a file that cannot be read everywhere: {found}")
-        run("repair", at("set.rsv"), "--to", at("new"), "-q", env=unreadable)
+        run("restore", at("set.rsv"), "--to", at("new"), "-q", env=unreadable)
         if tree(at("new")) != {"set/a": before["a"]}:
             wrong("a file that cannot be read everywhere is not restored")
         text = run(*create[:3], at("other.rsv"), *create[4:], status=4, env=unreadable)
@@ -63,7 +63,7 @@ def lost_later():
         os.remove(at("set", "b"))
         write(at("set", "b"), files["b"][:7 * block] + bytes(block) + files["b"][8 * block:])
         before = tree(at())
-        repair = ("repair", at("set.rsv"), "--to", at("new"))
+        repair = ("restore", at("set.rsv"), "--to", at("new"))
 
         def limited(name, last):
             """Repairs while no more than so many bytes of a file can be read. Returns what is printed if this fails, and otherwise None."""
@@ -98,10 +98,10 @@ def pieces():
         run("split", at("set"), "-n", "3", "-o", at("w"), "-q", "--block", "1000", *small)
         if read(at("set.rsv")) != volume or tree(at("v")) != tree(at("w")):
             wrong("volumes that are coded in small pieces")
-        run("join", at("w", "volume0001.rsv"), at("w", "volume0003.rsv"), "--to", at("new"), "-q", *small)
+        run("restore", at("w", "volume0001.rsv"), at("w", "volume0003.rsv"), "--to", at("new"), "-q", *small)
         os.remove(at("set", "b"))
         write(at("set", "a"), before["a"][:2000] + bytes(2000) + before["a"][4000:])
-        run("repair", at("set.rsv"), "--to", at("other"), "-q", *small)
+        run("restore", at("set.rsv"), "--to", at("other"), "-q", *small)
         if tree(at("new", "set")) != before or tree(at("other", "set")) != before:
             wrong("files that are restored in small pieces")
 
@@ -116,7 +116,7 @@ def unwritten():
         places = {"x.rsv": bodies(read(at("d.rsv")))[2], "volume0002.rsv": bodies(read(at("v", "volume0002.rsv")))[2]}
         for words, name, number in ((("create", at("d"), "-o", at("x.rsv"), "-r", "4"), "x.rsv", 12), (("split", at("d"), "-n", "2", "-o", at()), "volume0002.rsv", 5)):
             # The third record of a volume
-            failing = preloaded("fail_calls", FAIL_WRITE=f"/{name}.part", FAIL_FROM=places[name])
+            failing = preloaded("fail_calls", FAIL_WRITE=f"/{name}.rs_files.part", FAIL_FROM=places[name])
             if failing is None:
                 return
             text = run(*words, *made, status=4, env=failing)
@@ -141,7 +141,7 @@ def changes():
         write(at("a"), data[:-600])
         changing = preloaded("change_reads", READ_NAME="/a", READ_AFTER=len(data))
         text = run("repair", at("a.rsv"), status=4, env=changing)
-        if " does not have its digest: a file changed while it was read\n" not in text or read(at("a")) != data[:-600] or os.path.exists(at("a.damaged")):
+        if f"{at('a')}: its restored bytes do not have their digest: a file changed while it was read" not in text or read(at("a")) != data[:-600] or os.path.exists(at("a.damaged")):
             wrong(f"repair of a file that changes: {text}")
         run("repair", at("a.rsv"), "-q")
         if read(at("a")) != data:
@@ -174,7 +174,7 @@ def memory_refused():
         put(data)
         run("create", at("a"), "-q", "--block", "256", "-r", "4")
         volume = read(at("a.rsv"))
-        for words in (("create", at("a"), "-q", "--block", "256", "-r", "4", "--force"), ("verify", at("a.rsv")), ("repair", at("a.rsv"), "-q", "--force")):
+        for words in (("create", at("a"), "-q", "--block", "256", "-r", "4", "--force"), ("verify", at("a.rsv")), ("repair", at("a.rsv"), "-q")):
             put(data if words[0] == "create" else damaged)
             count = requests(words)[2]
             expected = 1 if words[0] == "verify" else 0
@@ -230,9 +230,14 @@ def killed():
             kill(took, "create", at("a"), "-q")
             if read(at("a")) != data or os.path.exists(at("a.rsv")) and read(at("a.rsv")) != whole:
                 wrong("a kill left a volume that is not whole, or changed the file")
-        run("create", at("a"), "-q", "--force")
-        if read(at("a.rsv")) != whole:
-            wrong("a run after a kill does not give the same volume")
+            create = ("create", at("a"), "-q", "--force")
+            if os.path.exists(at("a.rsv.rs_files.part")):
+                if at("a.rsv.rs_files.part") + ": another rs_files is writing this volume, or was killed" not in run(*create, status=4):
+                    wrong("create after a kill does not name the part that is left")
+                os.remove(at("a.rsv.rs_files.part"))
+            run(*create)
+            if read(at("a.rsv")) != whole:
+                wrong("a run after a kill does not give the same volume")
         only(at(), "a", "a.rsv")
         damaged = bytearray(data)
         damaged[1_000_000] ^= 1
@@ -249,7 +254,7 @@ def killed():
 
 
 def killed_spread():
-    """`split` and `join` are killed at random moments: inputs stay, no file is half there, and the next run succeeds."""
+    """`split` and `restore` are killed at random moments: inputs stay, no file is half there, and the next run succeeds."""
     with Folder() as at:
         write(at("set", "a"), RANDOM.randbytes(20_000_000))
         write(at("set", "b"), RANDOM.randbytes(5_000_000))
@@ -263,21 +268,31 @@ def killed_spread():
             found = tree(at("v"))
             if tree(at("set")) != files or any(data != volumes[name] for name, data in found.items() if ".part" not in name):
                 wrong("a kill of split left a volume that is not whole, or changed a file")
+            if any(".part" in name for name in found):
+                text = run(*split, "--force", status=4)
+                is_written = "volume0001.rsv.rs_files.part" not in found
+                if ("rename each NAME.rs_files.part to NAME" if is_written else "delete all files NAME.rs_files.part of them, this one first") not in text or tree(at("v")) != found:
+                    wrong(f"split after a kill does not say what to do with {sorted(found)}: {text}")
+                for name in found:
+                    if ".part" in name:
+                        os.rename(at("v", name), at("v", name.removesuffix(".rs_files.part"))) if is_written else os.remove(at("v", name))
+                if is_written and tree(at("v")) != volumes:
+                    wrong("parts that split says are whole are not")
             run(*split, "--force")
-            if {name: data for name, data in tree(at("v")).items() if ".part" not in name} != volumes:
+            if tree(at("v")) != volumes:
                 wrong("split after a kill does not give the same volumes")
         only(at("v"), *volumes)
         left = [at("v", name) for name in sorted(volumes)[1:]]
-        join = ("join", *left, "--to", at("new"), "-q")
-        took = timed(*join)
+        restore = ("restore", *left, "--to", at("new"), "-q")
+        took = timed(*restore)
         for _ in range(10):
             only(at(), "set", "v")
-            kill(took, *join)
+            kill(took, *restore)
             if tree(at("v")) != volumes or any(data != files[os.path.basename(name)] for name, data in tree(at("new")).items() if ".part" not in name):
-                wrong("a kill of join left a file that is not whole, or changed a volume")
-            run(*join, "--force")
+                wrong("a kill of restore left a file that is not whole, or changed a volume")
+            run(*restore, "--force")
             if {name: data for name, data in tree(at("new", "set")).items() if ".part" not in name} != files:
-                wrong("join after a kill does not give the same files")
+                wrong("restore after a kill does not give the same files")
 
 
 def read_only():
@@ -296,7 +311,7 @@ def read_only():
         as_nobody(at("d"))
         run("repair", at("d.rsv"), "-q", before=nobody)
         os.remove(at("v", "volume0002.rsv"))
-        run("join", at("v", "volume0001.rsv"), at("v", "volume0003.rsv"), "--to", at("j"), "-q", before=nobody)
+        run("restore", at("v", "volume0001.rsv"), at("v", "volume0003.rsv"), "--to", at("j"), "-q", before=nobody)
         for folder in (at("d"), at("j", "d")):
             found = {name: (read(os.path.join(folder, name)), os.stat(os.path.join(folder, name)).st_mode & 0o777) for name in data}
             if found != {"a": (data["a"], 0o444), "b": (data["b"], 0o400), "c": (data["c"], 0o644)}:
@@ -364,7 +379,7 @@ def syncs():
         write(at("a"), data)
         run("create", at("a"), "-q", "--block", "512", "-r", "20", env=logged)
         run("split", at("a"), "-o", at("v"), "-n", "3", "-q", env=logged)
-        run("join", at("v", "volume0001.rsv"), at("v", "volume0002.rsv"), "--to", at("j"), "-q", env=logged)
+        run("restore", at("v", "volume0001.rsv"), at("v", "volume0002.rsv"), "--to", at("j"), "-q", env=logged)
         write(at("a"), data[:-1] + b"?")
         run("repair", at("a.rsv"), "-q", env=logged)
         steps = [line.split("\t") for line in read(log).decode().splitlines()]
@@ -373,7 +388,7 @@ def syncs():
             wrong(f"{len(renamed)} files got their final names, and not 6: {steps}")
         for number in renamed:
             before, after = steps[:number], [step for step in steps[number + 1:] if step[0] != "rename"]
-            if ["sync", steps[number][1], ""] not in before or ["sync", os.path.dirname(steps[number][2]), ""] not in after[:1]:
+            if ["sync", steps[number][1], ""] not in before or ["sync", os.path.dirname(steps[number][2]), ""] not in after[:2]:
                 wrong(f"a file got its final name without syncs: {steps}")
 
 
@@ -452,7 +467,8 @@ def full():
             write(at("d", "x"), RANDOM.randbytes(2_000_000))
             write(at("d", "y"), data[:50_000])
             run("create", at("d"), "-q", "-r", "100%")
-            message(at("disk", "new", "d", "x"), "repair", at("d.rsv"), "--folder", at("none"), "--to", at("disk", "new"))
+            os.mkdir(at("none"))
+            message(at("disk", "new", "d", "x"), "restore", at("d.rsv"), "--folder", at("none"), "--to", at("disk", "new"))
             if tree(at("disk", "new")) != {"d/y": data[:50_000]}:
                 wrong("repair of a file beside one for which there is no room")
         finally:

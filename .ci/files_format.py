@@ -271,10 +271,10 @@ def restored_in_python(new, places):
 
 
 def restored_by_program(new, places):
-    """Returns what `join` restores into a new folder, and whether it succeeds."""
-    done = subprocess.run([PROGRAM, "join", *places, "--to", new, "-q"], stdout=subprocess.PIPE, stderr=subprocess.PIPE, timeout=20)
+    """Returns what `restore` writes into a new folder, and whether it succeeds."""
+    done = subprocess.run([PROGRAM, "restore", *places, "--to", new, "-q"], stdout=subprocess.PIPE, stderr=subprocess.PIPE, timeout=20)
     if done.returncode not in (0, 1, 3, 4):
-        wrong(f"join ends with status {done.returncode}: {done.stderr!r}")
+        wrong(f"restore ends with status {done.returncode}: {done.stderr!r}")
     return snapshot(new) if os.path.exists(new) else {}, done.returncode in (0, 1)
 
 

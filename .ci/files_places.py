@@ -37,7 +37,7 @@ def output_in_use():
     with Folder() as at:
         write(at("photos", "one.jpg"), RANDOM.randbytes(3000))
         write(at("photos", "two.jpg"), RANDOM.randbytes(30))
-        write(at("other"), b"")
+        write(at("other"), b"another file")
         os.mkdir(at("photos", "folder"))
         os.mkfifo(at("pipe"))
         os.symlink("photos/one.jpg", at("link"))
@@ -55,7 +55,7 @@ def output_in_use():
         write(at("v", "volume0002.rsv"), b"of somebody else")
         if at("v", "volume0002.rsv") + ": this is no volume" not in run("split", at("photos"), "-n", "3", "-o", at("v"), "--force", status=4):
             wrong("split over another file")
-        if tree(at("photos")) != before or tree(at("v")) != {"volume0002.rsv": b"of somebody else"} or read(at("other")) != b"" or not os.path.islink(at("link")):
+        if tree(at("photos")) != before or tree(at("v")) != {"volume0002.rsv": b"of somebody else"} or read(at("other")) != b"another file" or not os.path.islink(at("link")):
             wrong("a file that is no volume was replaced")
         run("create", at("photos"), "-q")
         volume = read(at("photos.rsv"))
@@ -99,9 +99,9 @@ def long_names():
         run("split", at("d"), "-n", "3", "-o", at("v"), "-q", "--block", "512")
         for name in before:
             os.remove(at("d", name))
-        run("join", *[at("v", name) for name in sorted(os.listdir(at("v")))[1:]], "--to", at("j"), "-q")
+        run("restore", *[at("v", name) for name in sorted(os.listdir(at("v")))[1:]], "--to", at("j"), "-q")
         if {name: data for name, data in tree(at("j", "d")).items() if "damaged" not in name} != before or parts_in(at()):
-            wrong("join of files with long names")
+            wrong("restore of files with long names")
 
 
 def long_paths():
@@ -131,7 +131,7 @@ def long_paths():
 
 
 def blocked():
-    """If a file cannot be restored, `repair` and `join` name it with the reason, and restore all others."""
+    """If a file cannot be restored, `repair` and `restore` name it with the reason, and restore all others."""
     with Folder() as at:
         for name in ("a", "b", "closed/c", "deep/er/d", "e", "file/f"):
             write(at("d", *name.split("/")), RANDOM.randbytes(3000))
@@ -169,9 +169,9 @@ def blocked():
             more = [] if force else ["e"]
             reasons = faults + [("e", "exists: use --force")] * len(more)
             paths = [(at(f"j{len(force)}", "d", name), reason) for name, reason in reasons]
-            restored_but(blocked + more, ("join", *volumes, "--to", at(f"j{len(force)}"), *force), before, at(f"j{len(force)}", "d"), paths, before=nobody)
+            restored_but(blocked + more, ("restore", *volumes, "--to", at(f"j{len(force)}"), *force), before, at(f"j{len(force)}", "d"), paths, before=nobody)
             if more and read(at("j0", "d", "e")) != b"another e":
-                wrong("join overwrites a file without --force")
+                wrong("restore overwrites a file without --force")
         for folder in ("d", "j0/d", "j1/d"):
             os.chmod(at(folder, "closed"), 0o700)
             os.rmdir(at(folder, "b", "inner"))
@@ -183,7 +183,7 @@ def blocked():
 
 
 def inputs_kept():
-    """`repair --to` and `join` with --force never overwrite a file or a volume that they read."""
+    """`restore --force` never overwrites a file or a volume that it reads."""
     with Folder() as at:
         write(at("a"), RANDOM.randbytes(3000))
         write(at("b"), RANDOM.randbytes(3000))
@@ -191,17 +191,17 @@ def inputs_kept():
         run("create", at("a"), at("b"), "-o", at("set.rsv"), "-q", "--block", "512", "-r", "8")
         write(at("a"), b"?" + before["a"][1:])
         os.remove(at("b"))
-        restored_but(["a"], ("repair", at("set.rsv"), "--to", at(), "--force"), before, at(), [(at("a"), "this file is read")])
+        restored_but(["a"], ("restore", at("set.rsv"), "--to", at(), "--force"), before, at(), [(at("a"), "this file is read")])
         # A set of which a file has the path of one of its volumes.
         write(at("s", "volume0001.rsv"), RANDOM.randbytes(3000))
         write(at("s", "z"), RANDOM.randbytes(300))
         names = tree(at("s"))
         run("split", at("s", "volume0001.rsv"), at("s", "z"), "-n", "2", "-o", at("v"), "-q", "--block", "512")
         volumes = tree(at("v"))
-        restored_but(["volume0001.rsv"], ("join", at("v", "volume0001.rsv"), at("v", "volume0002.rsv"), "--to", at("v"), "--force"), names, at("v"),
+        restored_but(["volume0001.rsv"], ("restore", at("v", "volume0001.rsv"), at("v", "volume0002.rsv"), "--to", at("v"), "--force"), names, at("v"),
                      [(at("v", "volume0001.rsv"), "this file is read")])
         if {name: data for name, data in tree(at("v")).items() if name != "z"} != volumes:
-            wrong("join overwrites a volume that it reads")
+            wrong("restore overwrites a volume that it reads")
 
 
 def links():
@@ -226,13 +226,13 @@ def links():
         os.symlink(at("outside"), at("new", "d", "sub"))
         faults = [(at("new", "d", name), "a folder of its path is a symbolic link") for name in ("sub/b", "sub/deep/c")]
         missing = {name: before[name] for name in ("sub/b", "sub/deep/c")}
-        restored_but([*missing], ("repair", at("d.rsv"), "--to", at("new"), "--force"), missing, at("new", "d"), faults)
+        restored_but([*missing], ("restore", at("d.rsv"), "--to", at("new"), "--force"), missing, at("new", "d"), faults)
         if tree(at("outside")) != {"b": b"of somebody else"}:
-            wrong("repair --to wrote through a symbolic link")
+            wrong("restore wrote through a symbolic link")
         # The folder itself may be a link, and a link in the place of a file is replaced, and not the file to which it leads.
         os.symlink("real", at("goal"))
         os.mkdir(at("real"))
-        run("repair", at("d.rsv"), "--to", at("goal"), "-q")
+        run("restore", at("d.rsv"), "--to", at("goal"), "-q")
         if tree(at("real", "d")) != {name: data for name, data in before.items() if name != "a"}:
             wrong("repair into a folder that is named by a link")
         os.remove(at("d", "sub"))
@@ -267,7 +267,7 @@ def modes():
             os.umask(0)
 
         run("repair", at("d.rsv"), "-q", env=logged, before=open_to_all)
-        run("join", at("v", "volume0001.rsv"), "--to", at("j"), "-q", env=logged, before=open_to_all)
+        run("restore", at("v", "volume0001.rsv"), "--to", at("j"), "-q", env=logged, before=open_to_all)
         steps = [line.split("\t") for line in read(log).decode().splitlines()]
         changed = [step for step in steps if step[0] == "mode"]
         if len(changed) != 2 * len(wanted) or any(int(step[2], 8) & 0o177 for step in changed):
@@ -289,7 +289,7 @@ def unread():
             return
         error = f"rs_files: {at('d', 'a')}: 3 blocks cannot be read: Input/output error (os error 5)\n"
         for words, status in ((("verify", at("d.rsv")), 1), (("verify", at("d.rsv"), "-q"), 1), (("verify", at("d.rsv"), "--json"), 1),
-                              (("repair", at("d.rsv"), "--to", at("new"), "--force"), 0)):
+                              (("restore", at("d.rsv"), "--to", at("new"), "--force"), 0)):
             if printed(*words, status=status, env=unreadable)[1] != error:
                 wrong(f"{words} of a file that cannot be read everywhere: {printed(*words, status=status, env=unreadable)[1]}")
         place = bodies(read(at("d.rsv")))[1]
@@ -315,12 +315,12 @@ def spread_volumes():
     """`verify` says of volumes of `split` whether they hold all blocks. The files need not be there."""
     with Folder() as at:
         volumes = split_set(at, 4)
-        if printed("verify", *volumes) != ("all volumes are whole, with 14 original blocks and 5 recovery blocks: join restores the files from them\n", ""):
+        if printed("verify", *volumes) != ("all volumes are whole, with 14 original blocks and 5 recovery blocks: restore makes the files from them\n", ""):
             wrong(f"verify of whole volumes: {printed('verify', *volumes)}")
         if printed("verify", *volumes, "-q") != ("", "") or json.loads(printed("verify", *volumes, "--json")[0])["status"] != 0:
             wrong("verify of whole volumes, with -q or --json")
         # The last volume has the blocks 3, 7, 11 and 15, of which the blocks from 14 on are recovery blocks.
-        words = "3 of 14 original blocks and 1 of 5 recovery blocks are not in these volumes: join can restore the files\n"
+        words = "3 of 14 original blocks and 1 of 5 recovery blocks are not in these volumes: restore can still make all files\n"
         # Lost blocks are also searched in other files of the folder, so these volumes are put elsewhere.
         os.mkdir(at("far"))
         os.rename(volumes[3], at("far", "4"))
@@ -335,7 +335,7 @@ def spread_volumes():
         whole = read(volumes[1])
         write(volumes[1], whole[:-1] + bytes([whole[-1] ^ 1]))
         out = printed("verify", *volumes, status=1)[0]
-        if "volume0002.rsv: the volume has 1 damaged or missing part of its description\n" not in out or "join" not in out or "missing:" in out:
+        if "volume0002.rsv: the volume has 1 damaged or missing part of its description\n" not in out or "restore" not in out or "missing:" in out:
             wrong(f"verify of a damaged volume: {out}")
         write(volumes[1], whole)
         os.remove(at("set", "b"))
@@ -346,7 +346,7 @@ def spread_volumes():
         write(at("other", "c"), b"")
         run("create", at("other"), "-q")
         os.remove(at("other", "c"))
-        if "missing: other/c\n" not in printed("verify", at("other.rsv"), status=1)[0]:
+        if f"no file was found in {at()}: " not in printed("verify", at("other.rsv"), status=1)[0]:
             wrong("verify of an empty file that is missing")
 
 
@@ -357,15 +357,15 @@ def damaged_blocks():
         before, whole = tree(at("set")), read(volumes[1])
         # The files have 14 blocks, so there are 7 recovery blocks. The second volume has the blocks 1, 4, 7, 10, 13, 16 and 19.
         blocks = bodies(whole)
-        kept = "all files and recovery blocks are whole, but a volume is damaged or cannot be read: repair writes damaged volumes anew\n"
-        lost = "all files are whole, but 1 of 7 recovery blocks cannot be used: repair writes damaged volumes anew\n"
+        kept = "all files and recovery blocks are whole, but a volume is damaged or cannot be read: repair writes damaged volumes again\n"
+        lost = "all files are whole, but 1 of 7 recovery blocks cannot be used: repair writes damaged volumes again\n"
         for places, number, words in ((blocks[:1], "1 damaged or missing block", kept), ([blocks[0] + 511, *blocks[1:2]], "2 damaged or missing blocks", kept),
                                       (blocks[5:6], "1 damaged or missing block", lost), ((blocks[4] + 1, blocks[6] + 1), "2 damaged or missing blocks", lost)):
             damaged = bytearray(whole)
             for place in places:
                 damaged[place] ^= 1
             wanted = f"{volumes[1]}: the volume has {number}\n{words}"
-            for command, status, more in (("repair", 0, f"written anew: {volumes[1]}\n"), ("verify", 1, "")):
+            for command, status, more in (("repair", 0, f"written again: {volumes[1]}\n"), ("verify", 1, "")):
                 write(volumes[1], bytes(damaged))
                 found = printed(command, *volumes, "--folder", at(), status=status)
                 if found != (wanted + more, ""):

@@ -81,8 +81,9 @@ def second_reader():
         if snapshot(at("new", "set")) != before:
             wrong(f"the reader in Python restores other entries: {set(snapshot(at('new', 'set')).items()) ^ set(before.items())}")
         write(at("set", "a"), b"")
-        if "blocks are lost" not in read_in_python(at("more"), at(), at("set.rsv"), whole=False) or os.path.exists(at("more")):
-            wrong("the reader in Python does not say that too many blocks are lost")
+        said, more = read_in_python(at("more"), at(), at("set.rsv"), whole=False), snapshot(at("more", "set"))
+        if "set/a: " not in said or "blocks are lost" not in said or {*more} != {b"e", b"l"} or not more.items() <= before.items():
+            wrong(f"the reader in Python restores {sorted(more)}, and says {said}, if too many blocks are lost")
 
 
 def places_in_python():

@@ -51,17 +51,17 @@ def old_volumes():
         old = tree(at("v"))
         write(at("set", "a"), RANDOM.randbytes(50_000))
         for variable, number in (("FAIL_SYNC", 1), ("FAIL_SYNC", 2), ("FAIL_SYNC", 3), ("FAIL_RENAME", 1)):
-            failing = preloaded("fail_calls", **{variable: f"volume000{number}.rsv.part"})
+            failing = preloaded("fail_calls", **{variable: f"volume000{number}.rsv.rs_files.part"})
             if failing is None:
                 return
             text = run(*split, "--force", status=4, env=failing)
             if f"{at('v', f'volume000{number}.rsv')}: Input/output error" not in text or tree(at("v")) != old:
                 wrong(f"split --force with {variable} of volume {number}: {text}{sorted(tree(at('v')))}")
-        text = run(*split, "--force", status=4, env=preloaded("fail_calls", FAIL_RENAME="volume0002.rsv.part"))
+        text = run(*split, "--force", status=4, env=preloaded("fail_calls", FAIL_RENAME="volume0002.rsv.rs_files.part"))
         new = tree(at("v"))
         if at("v", "volume0002.rsv") + ": Input/output error" not in text or new.keys() != old.keys() or new["volume0002.rsv"] != old["volume0002.rsv"]:
             wrong(f"split --force without the new name of volume 2: {text}{sorted(new)}")
-        run("join", at("v", "volume0001.rsv"), at("v", "volume0003.rsv"), "--to", at("new"), "-q")
+        run("restore", at("v", "volume0001.rsv"), at("v", "volume0003.rsv"), "--to", at("new"), "-q")
         if tree(at("new", "set")) != tree(at("set")):
             wrong("the volumes that got their names do not restore the files")
 
@@ -79,14 +79,14 @@ def killed_between():
         new = tree(at("w"))
         for number in (1, 2, 3):
             names = [f"volume000{i}.rsv" for i in (1, 2, 3)]
-            killing = preloaded("fail_calls", KILL_RENAME=names[number - 1] + ".part")
+            killing = preloaded("fail_calls", KILL_RENAME=names[number - 1] + ".rs_files.part")
             if killing is None:
                 return
             for name, data in old.items():
                 write(at("v", name), data)
             run(*split, "-o", at("v"), status=-9, env=killing)
             renamed = {name: (new if i + 1 < number else old)[name] for i, name in enumerate(names)}
-            parts = {name + ".part": new[name] for name in names[number - 1:]}
+            parts = {name + ".rs_files.part": new[name] for name in names[number - 1:]}
             if tree(at("v")) != {**renamed, **parts}:
                 wrong(f"split --force that is killed before the rename of volume {number} leaves {sorted(tree(at('v')))}")
             for name in parts:
@@ -105,13 +105,13 @@ def failed_repair():
             write(at("d", "b"), changed(data["b"], 700))
             os.remove(at("d", "gone"))
             before = tree(at("d"))
-            failing = preloaded("fail_calls", FAIL_RENAME=".part", **more)
+            failing = preloaded("fail_calls", FAIL_RENAME=".rs_files.part", **more)
             if failing is None:
                 return
             text = run("repair", at("d.rsv"), status=4, env=failing)
             if tree(at("d")) != before or "rs_files: 3 files could not be restored" not in text or "restored 0 files\n" not in text:
                 wrong(f"repair without final names, {more}: {text}{sorted(tree(at('d')))}")
-            text = run("repair", at("d.rsv"), status=4, env=preloaded("fail_calls", FAIL_RENAME="/a.part", **more))
+            text = run("repair", at("d.rsv"), status=4, env=preloaded("fail_calls", FAIL_RENAME="/a.rs_files.part", **more))
             after = {"a": before["a"], "b": data["b"], "b.damaged": before["b"], "gone": data["gone"]}
             if tree(at("d")) != after or "restored 2 files, and kept 1 damaged file as NAME.damaged" not in text:
                 wrong(f"repair without the final name of one file, {more}: {text}{sorted(tree(at('d')))}")
@@ -133,19 +133,19 @@ def folders_without_sync():
         warning = "rs_files: {}: warning: this folder cannot be synced: Invalid argument (os error 22)\n"
         if printed("create", at("d", "a"), "-o", at("a.rsv"), "-q", env=failing) != ("", warning.format(at())):
             wrong("create in a folder that cannot be synced")
-        if printed("split", at("d"), "-n", "2", "-o", at("v"), "-q", env=failing) != ("", warning.format(at("v"))):
+        if printed("split", at("d"), "-n", "2", "-o", at("v"), "-q", env=failing) != ("", warning.format(at()) + warning.format(at("v"))):
             wrong("split into a folder that cannot be synced")
         write(at("d", "a"), changed(data, 5))
         error = printed("repair", at("a.rsv"), "--folder", at("d"), "-q", env=failing)[1]
         if error != warning.format(at("d")) or read(at("d", "a")) != data or read(at("d", "a.damaged")) != changed(data, 5):
             wrong(f"repair in a folder that cannot be synced: {error}")
-        error = printed("join", at("v", "volume0001.rsv"), at("v", "volume0002.rsv"), "--to", at("new"), "-q", env=failing)[1]
-        if error != warning.format(at("new", "d")) or tree(at("new")) != {"d/a": data}:
-            wrong(f"join into a folder that cannot be synced: {error}")
+        error = printed("restore", at("v", "volume0001.rsv"), at("v", "volume0002.rsv"), "--to", at("new"), "-q", env=failing)[1]
+        if error != "".join(warning.format(path) for path in (at(), at("new"), at("new", "d"))) or tree(at("new")) != {"d/a": data}:
+            wrong(f"restore into a folder that cannot be synced: {error}")
 
 
 def times():
-    """A file has its old time, to the second, after `repair`, `repair --to` and `join`."""
+    """A file has its old time, to the second, after `repair` and `restore`."""
     with Folder() as at:
         data = {"a": RANDOM.randbytes(5000), "b": RANDOM.randbytes(700), "empty": b""}
         seconds = {"a": 1_000_000_000, "b": 1, "empty": 1_700_000_000}
@@ -157,9 +157,9 @@ def times():
         write(at("d", "a"), changed(data["a"], 600))
         for name in ("b", "empty"):
             os.remove(at("d", name))
-        run("repair", at("d.rsv"), "--to", at("other"), "-q")
+        run("restore", at("d.rsv"), "--to", at("other"), "-q")
         run("repair", at("d.rsv"), "-q")
-        run("join", at("v", "volume0001.rsv"), at("v", "volume0002.rsv"), "--to", at("new"), "-q", status=(0, 1))
+        run("restore", at("v", "volume0001.rsv"), at("v", "volume0002.rsv"), "--to", at("new"), "-q", status=(0, 1))
         for folder in (at("d"), at("other", "d"), at("new", "d")):
             found = {name: os.stat(os.path.join(folder, name)).st_mtime for name in data}
             if found != seconds or any(read(os.path.join(folder, name)) != content for name, content in data.items()):
@@ -186,7 +186,7 @@ def sizes_shown():
 
 
 def progress_of_restores():
-    """`split`, `repair` and `join` show progress if the user asks for it, and show none if the user does not. `repair` and `join` first look
+    """`split`, `repair` and `restore` show progress if the user asks for it, and show none if the user does not. `repair` and `restore` first look
     for blocks, and then restore them, and `split` compares old volumes first: each step has its own progress."""
     with Folder() as at:
         data = RANDOM.randbytes(3_000_000)
@@ -195,8 +195,8 @@ def progress_of_restores():
         write(at("a"), changed(data, 5))
         run("split", at("a"), "-n", "2", "-o", at("v"), "-q")
         for words, status, steps in ((("split", at("a"), "-n", "2", "-o", at("v"), "--force"), 0, 2),
-                                     (("join", at("v", "volume0002.rsv"), "--to", at("new"), "--force"), 0, 2),
-                                     (("repair", at("a.rsv"), "--to", at("other"), "--force"), 0, 2)):
+                                     (("restore", at("v", "volume0002.rsv"), "--to", at("new"), "--force"), 0, 2),
+                                     (("restore", at("a.rsv"), "--to", at("other"), "--force"), 0, 2)):
             for more, shown in (((), False), (("--progress", "never"), False), (("--progress", "always"), True), (("--progress", "always", "-q"), True)):
                 error = printed(*words, *more, status=status)[1]
                 if error.count("\r100%, ") != (steps if shown else 0) or not shown and error:
@@ -223,9 +223,10 @@ def shown_names():
         name, shown = "a\x1b[31m\nb\t\x7f\u0085 \u00e9\\", "a\\u{1b}[31m\\nb\\t\\u{7f}\\u{85} \u00e9\\"
         data = RANDOM.randbytes(5000)
         write(at("d", name), data)
+        write(at("d", "z"), b"")
         volume = at("d\x1b.rsv")
         out = [printed("create", at("d"), "-o", volume, "--block", "512", "-r", "20")]
-        if not out[0][0].startswith(at("d\\u{1b}.rsv") + ": 1 file in 10 blocks"):
+        if not out[0][0].startswith(at("d\\u{1b}.rsv") + ": 2 files in 10 blocks"):
             wrong(f"create shows {out}")
 
         def seen(text, *words, **options):
@@ -262,7 +263,7 @@ def empty_paths():
         os.remove(at("a"))
         before = tree(at())
         for option, *words in (("--output", "create", at("v"), "-o", ""), ("--output", "split", at("v"), "-n", "2", "--output="),
-                               ("--to", "join", at("v", "volume0001.rsv"), "--to", ""), ("--to", "repair", at("a.rsv"), "--to="),
+                               ("--to", "restore", at("v", "volume0001.rsv"), "--to", ""), ("--to", "restore", at("a.rsv"), "--to="),
                                ("--folder", "repair", at("a.rsv"), "--folder", ""), ("--folder", "verify", at("a.rsv"), "--folder=")):
             if printed(*words, status=2, cwd=at()) != ("", f"rs_files: {option}: the path is empty\n") or tree(at()) != before:
                 wrong(f"{words} with an empty path")
@@ -300,13 +301,13 @@ def replaced_parts():
             for name, content in {**data, "f": damaged}.items():
                 write(at("d", name), content)
             os.remove(at("d", "g"))
-            env = preloaded("replace_files", REPLACED=at("d", "f.part"), REPLACED_BY=victim, **{when: "/f.part"})
+            env = preloaded("replace_files", REPLACED=at("d", "f.rs_files.part"), REPLACED_BY=victim, **{when: "/f.rs_files.part"})
             if env is None:
                 return
             text = run("repair", at("d.rsv"), status=4, env=env)
             check("repair")
             # A link that replaces the file at the last moment gets its name. The damaged file keeps its second name.
-            left, kept = ("f.part", "f") if when == "AT_LENGTH" else ("f", "f.damaged")
+            left, kept = ("f.rs_files.part", "f") if when == "AT_LENGTH" else ("f", "f.damaged")
             if at("d", "f") + f": {REPLACED}" not in text or "restored 1 file\n" not in text or os.readlink(at("d", left)) != victim:
                 wrong(f"repair with a link in the place of a part, {when}: {text}")
             os.remove(at("d", left))
@@ -314,7 +315,7 @@ def replaced_parts():
                 wrong(f"repair with a link in the place of a part, {when}: {sorted(tree(at('d')))} {text}")
             os.remove(at("d", kept))
         for words in (("create", at("d"), "-o", at("new.rsv")), ("split", at("d"), "-n", "2", "-o", at())):
-            part = at("new.rsv.part" if words[0] == "create" else "volume0001.rsv.part")
+            part = at("new.rsv.rs_files.part" if words[0] == "create" else "volume0001.rsv.rs_files.part")
             text = run(*words, status=4, env=preloaded("replace_files", REPLACED=part, REPLACED_BY=victim, AT_LENGTH=part))
             check(words[0])
             if f": {REPLACED}" not in text or os.readlink(part) != victim:
@@ -341,25 +342,25 @@ def many_files():
             write(at("more", str(number)), b"")
         run("create", at("more"), "-q")
         run("verify", at("more.rsv"), "-q")
-        run("join", *volumes, "--to", at("new"), "-q", before=few)
-        run("join", *volumes, "--to", at("small"), "-q", "--memory", "1", before=few)
+        run("restore", *volumes, "--to", at("new"), "-q", before=few)
+        run("restore", *volumes, "--to", at("small"), "-q", "--memory", "1", before=few)
         if tree(at("new", "d")) != files or tree(at("small", "d")) != files:
-            wrong("join of many files")
+            wrong("restore of many files")
         for name in ("010", "250"):
             to = at("with" + name)
             text = None
             for target in (victim, None):
                 more = {} if target is None else {"REPLACED_BY": target}
-                env = preloaded("replace_files", REPLACED=os.path.join(to, "d", name + ".part"), AT_LENGTH=f"/d/{name}.part", **more)
+                env = preloaded("replace_files", REPLACED=os.path.join(to, "d", name + ".rs_files.part"), AT_LENGTH=f"/d/{name}.rs_files.part", **more)
                 if env is None:
                     return
-                text = run("join", *volumes, "--to", to, status=4, env=env, seconds=60)
-                check("join")
-                os.remove(os.path.join(to, "d", name + ".part"))
+                text = run("restore", *volumes, "--to", to, status=4, env=env, seconds=60)
+                check("restore")
+                os.remove(os.path.join(to, "d", name + ".rs_files.part"))
                 if os.path.join(to, "d", name) + f": {REPLACED}" not in text or "rs_files: 1 file could not be restored" not in text:
-                    wrong(f"join with another file in the place of a part: {text}")
+                    wrong(f"restore with another file in the place of a part: {text}")
                 if tree(os.path.join(to, "d")) != {other: content for other, content in files.items() if other != name}:
-                    wrong("join of the other files")
+                    wrong("restore of the other files")
                 for other in os.listdir(os.path.join(to, "d")):
                     os.remove(os.path.join(to, "d", other))
 
@@ -370,7 +371,7 @@ def replaced_files():
         secret = at("outside", "secret")
         write(secret, RANDOM.randbytes(3000))
         for words in (("create", at("d"), "-o", at("new.rsv")), ("create", at("d", "a"), "-o", at("new.rsv")), ("split", at("d"), "-n", "2", "-o", at("v"))):
-            part = "/new.rsv.part" if words[0] == "create" else "/volume0001.rsv.part"
+            part = "/new.rsv.rs_files.part" if words[0] == "create" else "/volume0001.rsv.rs_files.part"
             for reason, settings in ((REPLACED, {"REPLACED_BY": secret, "AT_OPEN": "/d/a"}), ("this is no regular file", {"REPLACED_BY": secret, "AT_LENGTH": part}),
                                      ("this is no regular file", {"AT_LENGTH": part})):
                 write(at("d", "a"), RANDOM.randbytes(3000))
@@ -397,8 +398,9 @@ def own_parts():
             write(at("d", *name.split("/")), content)
         run("create", at("d"), "-q", "--block", "512", "-r", "100%")
         run("split", at("d"), "-n", "2", "-o", at("v"), "-q")
-        run("join", at("v", "volume0001.rsv"), at("v", "volume0002.rsv"), "--to", at("new"), "-q")
-        run("repair", at("d.rsv"), "--folder", at("none"), "--to", at("other"), "-q")
+        run("restore", at("v", "volume0001.rsv"), at("v", "volume0002.rsv"), "--to", at("new"), "-q")
+        os.mkdir(at("none"))
+        run("restore", at("d.rsv"), "--folder", at("none"), "--to", at("other"), "-q")
         if tree(at("new", "d")) != files or tree(at("other", "d")) != files:
             wrong(f"files with names of parts, in an empty folder: {sorted(tree(at('new')))}")
         for name in names:
@@ -428,8 +430,8 @@ def attributes_refused():
                 return
             to, other, damaged = at(f"j{number}"), at(f"r{number}"), changed(data, 5)
             write(at("d", "a"), damaged)
-            for words, folder, status in ((("join", at("v", "volume0001.rsv"), at("v", "volume0002.rsv"), "--to", to), os.path.join(to, "d"), 0),
-                                          (("repair", at("d.rsv"), "--to", other), os.path.join(other, "d"), 0), (("repair", at("d.rsv")), at("d"), 0)):
+            for words, folder, status in ((("restore", at("v", "volume0001.rsv"), at("v", "volume0002.rsv"), "--to", to), os.path.join(to, "d"), 0),
+                                          (("restore", at("d.rsv"), "--to", other), os.path.join(other, "d"), 0), (("repair", at("d.rsv")), at("d"), 0)):
                 path = os.path.join(folder, "a")
                 out, error = printed(*words, status=status, env=failing)
                 if error != warnings.replace("{}", path) or "restored 1 file" not in out:
@@ -459,16 +461,16 @@ def odd_volumes():
             for words in (("info", odd), ("info", at("a.rsv"), odd)):
                 if printed(*words, status=4, seconds=60)[1] != error:
                     wrong(f"{words} with a volume that is no regular file")
-            for words in (("verify", odd), ("repair", odd), ("join", odd, "--to", at("new"))):
+            for words in (("verify", odd), ("repair", odd), ("restore", odd, "--to", at("new"))):
                 if printed(*words, status=4, seconds=60)[1] != error + "rs_files: no volume can be read\n":
                     wrong(f"{words} with a volume that is no regular file")
             for words, status in ((("verify", odd, at("a.rsv"), "--folder", at(), "--json"), 1), (("repair", at("a.rsv"), odd), 1),
-                                  (("join", at("v", "volume0001.rsv"), odd, at("v", "volume0002.rsv"), "--to", at("new"), "--force"), 0)):
+                                  (("restore", at("v", "volume0001.rsv"), odd, at("v", "volume0002.rsv"), "--to", at("new"), "--force"), 0)):
                 out, said = printed(*words, status=status, seconds=60)
                 if said != error or words[0] == "verify" and json.loads(out)["volumes"][1] != {"name": odd, "state": "unreadable"}:
                     wrong(f"{words} with a volume that is no regular file: {out} {said}")
         if read(at("new", "a")) != data:
-            wrong("join with a volume that is no regular file")
+            wrong("restore with a volume that is no regular file")
 
 
 TESTS = (closed_streams, old_volumes, killed_between, failed_repair, folders_without_sync, times, sizes_shown, progress_of_restores, same_length,

@@ -94,6 +94,26 @@ def moved_files():
             made.check(what, {name: at("set", place) for name, place in places.items()})
 
 
+def moved_to_entries():
+    """A file is found that was moved into an empty folder of the set, into a folder to which a link of the set leads, or to the target of a link
+    that led nowhere."""
+    for place, link in (("inbox/a", None), ("deep/a", "deep"), ("newest", "newest")):
+        with Folder() as at:
+            files = {"a": RANDOM.randbytes(5000), "deep/b": RANDOM.randbytes(300)}
+            for name, data in files.items():
+                write(at("set", name), data)
+            os.mkdir(at("set", "inbox"))
+            if link:
+                os.symlink(link, at("set", "latest"))
+            run("create", at("set"), "--block", "256", "-r", "1", "-q")
+            os.rename(at("set", "a"), at("set", place))
+            if f"moved: set/a is at {at('set', place)}\n" not in run("verify", at("set.rsv"), status=1):
+                wrong(f"verify does not find a file that was moved to {place}")
+            run("repair", at("set.rsv"), "-q")
+            if any(read(at("set", name)) != files["a"] for name in ("a", place)):
+                wrong(f"repair does not restore a file that was moved to {place}")
+
+
 def renamed_set():
     """The folder of the set was renamed: all its files are found in the new folder, and in the old place after a repair."""
     with Folder() as at:
@@ -257,7 +277,7 @@ def first_version_updated():
             write(at("set.rsv"), damaged(volume, place, 3))
             before = tree(at())
             out = run("verify", at("set.rsv"), status=1) + run("repair", at("set.rsv"), status=1)
-            if tree(at()) != before or "anew" in out:
+            if tree(at()) != before or "written again" in out:
                 wrong(f"verify and repair of a damaged volume of version 1 say {out!r}")
         write(at("set.rsv"), volume)
         rot(at("set", "a"))
@@ -269,4 +289,4 @@ def first_version_updated():
         run("verify", at("set.rsv"))
 
 
-TESTS = (moved_files, renamed_set, exchanged_files, shifted_blocks, shifted_far, searched_folders, equal_blocks, wrong_digests, first_version_moved, first_version_updated)
+TESTS = (moved_files, moved_to_entries, renamed_set, exchanged_files, shifted_blocks, shifted_far, searched_folders, equal_blocks, wrong_digests, first_version_moved, first_version_updated)

@@ -203,7 +203,7 @@ def repaired_volumes():
                 run("verify", at("set.rsv"), status=1)
                 out = run("repair", at("set.rsv"))
                 now = tree(at())
-                if now["set.rsv"] != volume or f"written anew: {at('set.rsv')}\n" not in out:
+                if now["set.rsv"] != volume or f"written again: {at('set.rsv')}\n" not in out:
                     wrong(f"repair of a volume with damage of {name} and of the file {place}: {out!r}")
                 if now.pop("set.rsv.damaged", b"") != bad or any(now["set/" + file] != data for file, data in files.items()):
                     wrong(f"repair of a volume with damage of {name} does not keep it, or does not restore the file {place}")
@@ -231,9 +231,9 @@ def kept_volumes():
             wrong("repair of files that cannot be restored changed something")
         write(at("set", "a"), files["a"])
         edited(at("set", "b"), damaged(files["b"], 100, 5))
-        run("repair", at("set.rsv"), "--to", at("to"))
+        run("restore", at("set.rsv"), "--to", at("to"))
         if read(at("set.rsv")) != bad or read(at("to", "set", "b")) != files["b"] or os.path.exists(at("set.rsv.damaged")):
-            wrong("repair --to changed the volume")
+            wrong("restore changed the volume")
         write(at("set.rsv.damaged"), b"older")
         run("repair", at("set.rsv"), "-q")
         if (read(at("set.rsv")), read(at("set.rsv.damaged")), read(at("set.rsv.damaged2"))) != (volume, b"older", bad):

@@ -106,7 +106,7 @@ def copies():
 
 
 def restored_entries():
-    """Links, empty folders, times to the nanosecond and permission bits come back, by `repair` and by `join`, and no file is written through
+    """Links, empty folders, times to the nanosecond and permission bits come back, by `repair` and by `restore`, and no file is written through
     a link."""
     with Folder() as at:
         mixed_folder(at, 1000)
@@ -115,9 +115,9 @@ def restored_entries():
         before = snapshot(at("set"))
         run("verify", at("set.rsv"), "-q")
         os.rename(at("set"), at("old"))
-        run("join", at("v", "volume0001.rsv"), at("v", "volume0003.rsv"), "--to", at("new"), "-q")
+        run("restore", at("v", "volume0001.rsv"), at("v", "volume0003.rsv"), "--to", at("new"), "-q")
         if snapshot(at("new", "set")) != before:
-            wrong(f"join restores other entries: {set(snapshot(at('new', 'set')).items()) ^ set(before.items())}")
+            wrong(f"restore makes other entries: {set(snapshot(at('new', 'set')).items()) ^ set(before.items())}")
         run("repair", at("set.rsv"), "-q")
         if snapshot(at("set")) != before:
             wrong(f"repair restores other entries: {set(snapshot(at('set')).items()) ^ set(before.items())}")

@@ -337,21 +337,28 @@ def gaps_of(description):
 
 
 def data_of(description, candidates):
-    """Returns the data of a set, from what can be its blocks, and the indexes of restored blocks that are not right."""
+    """Returns the data of a set, from what can be its blocks, and three sets of indexes: of blocks that are lost, and of restored blocks without
+    their digest, or with other bytes than zeros where no file is."""
     k, found, gaps = description.k, {}, gaps_of(description)
 
-    def is_right(index, block):
-        has_zeros = not any(any(block[start:end]) for start, end in gaps.get(index, ()))
-        return has_zeros and has_digest(description, index, block)
+    def has_zeros(index, block):
+        return not any(any(block[start:end]) for start, end in gaps.get(index, ()))
 
     for index, block in candidates:
-        if index not in found and is_right(index, block):
+        if index not in found and has_zeros(index, block) and has_digest(description, index, block):
             found[index] = block
     missing = [i for i in range(k) if i not in found]
-    left = len(found) + len(missing) - k
-    check(len(found) >= k, f"{len(missing)} blocks are lost, and {left} recovery blocks are left")
+    if len(found) < k:
+        found.update({i: bytes(description.b) for i in missing})
+        return b"".join(found[i] for i in range(k)), {*missing}, set(), set()
     found.update(decode(k, description.r, found, missing) if missing else {})
-    return b"".join(found[i] for i in range(k)), {i for i in missing if not is_right(i, found[i])}
+    wrong = {i for i in missing if not has_digest(description, i, found[i])}
+    return b"".join(found[i] for i in range(k)), set(), wrong, {i for i in missing if not has_zeros(i, found[i])}
+
+
+def is_restored(entry, contents, blocks, wrong):
+    """Returns whether a file is right. If there is a wrong block, the digest of the file decides. In version 1, a file has none."""
+    return not wrong or (not blocks & wrong if entry.digest is None else sha256(contents).digest() == entry.digest)
 
 
 def write_entry(new, entry, contents):
@@ -387,15 +394,18 @@ def restore(new, places):
     description, name = set_of(volumes)
     sources = [blocks_of(description, name, volumes)]
     sources += [blocks_of_folder(description, os.fsencode(folder)) for folder in folders]
-    data, bad = data_of(description, (candidate for source in sources for candidate in source))
+    data, lost, wrong, unpadded = data_of(description, (candidate for source in sources for candidate in source))
     os.mkdir(new)
     # Links come last, so no file is written through one of them.
     entries = sorted(zip(description.entries, places_of(description)), key=lambda pair: pair[0].kind == LINK)
     for entry, place in entries:
         try:
-            blocks = range(place // description.b, -(-(place + entry.size) // description.b) if entry.size else 0)
-            check(not bad & {*blocks}, f"{os.fsdecode(entry.name)}: a block is damaged after decoding")
-            write_entry(os.fsencode(new), entry, data[place:place + entry.size])
+            blocks = {*range(place // description.b, -(-(place + entry.size) // description.b) if entry.size else 0)}
+            contents = data[place:place + entry.size]
+            check(not blocks & lost, f"{os.fsdecode(entry.name)}: {len(blocks & lost)} of its blocks are lost")
+            is_right = entry.kind != FILE or is_restored(entry, contents, blocks, wrong)
+            check(is_right and not blocks & unpadded, f"{os.fsdecode(entry.name)}: its restored bytes are not right")
+            write_entry(os.fsencode(new), entry, contents)
         except (OSError, ValueError) as fault:
             faults.append(str(fault))
     return faults

@@ -1,5 +1,5 @@
 //! Reads the values of options.
-use crate::settings::Recovery;
+use rs_file_sets::cutting::Recovery;
 
 /// Reads a number of bytes: digits, and optionally `K`, `M` or `G` for 2^10, 2^20 or 2^30 bytes.
 ///

@@ -1,23 +1,23 @@
 //! `create`: makes a volume with the recovery blocks of files.
-use crate::assembly::LARGEST_DESCRIPTION;
 use crate::comparing::may_replace;
-use crate::counted::{Counted, Kinds};
-use crate::failure::{Failure, Result};
-use crate::folder::{Cut, cut_data, piece_bytes, shape_of};
-use crate::hashing::{CHUNK, add_bytes};
-use crate::identity::open_regular;
-use crate::names::{Shown, front_of_volume, paths_of};
-use crate::output::at_path;
-use crate::progress::Progress;
-use crate::settings::{
-    NO_OUTPUT, Recovery, Request, STATUS_FAILED, STATUS_LOST, STATUS_WHOLE, VERSION,
-};
-use crate::source::{FileBlocks, Holders, Origin, SummedBlocks, failure_of};
-use crate::volume_sink::{VolumeSink, Volumes, check_output};
-use crate::walking::{Found, find};
+use crate::log::{Lines, Log};
+use crate::settings::{NO_OUTPUT, Request, STATUS_FAILED, STATUS_LOST, STATUS_WHOLE, VERSION};
 use reed_solomon_simd::engine::tables::Tables;
 use reed_solomon_simd::engine::{DefaultEngine, EngineKind};
+use rs_file_sets::cutting::{Cut, Recovery, cut_data, piece_bytes, shape_of};
+use rs_folders::counted::{Counted, Kinds};
+use rs_folders::failure::{Failure, Result};
+use rs_folders::hashing::{CHUNK, add_bytes};
+use rs_folders::identity::open_regular;
+use rs_folders::names::{Name, Shown, front_of_volume, paths_of};
+use rs_folders::output::at_path;
+use rs_folders::progress::Progress;
+use rs_folders::source::{FileBlocks, Holders, Origin, SummedBlocks, failure_of};
+use rs_folders::walking::{Found, find};
+use rs_volume_files::assembly::LARGEST_DESCRIPTION;
+use rs_volume_files::volume_sink::{VolumeSink, Volumes, check_output, check_parts, part_of};
 use rs_volumes::checking::{UNIT, data_end, fits};
+use rs_volumes::coding_error::CodingError;
 use rs_volumes::creating::create as create_blocks;
 use rs_volumes::description::{CREATOR, Description, Entry, Field, Kind, Version};
 use rs_volumes::digest::digest_of;
@@ -25,6 +25,7 @@ use rs_volumes::placement::places_of;
 use rs_volumes::write_description;
 use sha2::{Digest, Sha256};
 use std::alloc::{AllocError, Global};
+use std::io::ErrorKind;
 use std::os::unix::fs::MetadataExt;
 use std::rt::{Clock, Files, Runtime};
 use std::{fs, io};
@@ -94,6 +95,8 @@ struct Making<'a, R: Files + Clock + Eprint> {
     // The path of each entry, and whether the path is a symbolic link to a file.
     paths: Vec<String>,
     linked: Vec<bool>,
+    // The digests of the files that are known from old volumes. This list can be shorter than the list of entries.
+    known: Vec<Option<[u8; 32]>>,
 }
 
 impl<'a, R: Files + Clock + Eprint> Making<'a, R> {
@@ -119,7 +122,14 @@ impl<'a, R: Files + Clock + Eprint> Making<'a, R> {
             paths: paths_of(alloc, folder.as_str(), entries.as_slice())?,
             description: description_of(alloc, entries, cut, volumes.min(1000) as u32)?,
             linked,
+            known: Vec::new(alloc),
         })
+    }
+
+    // Returns the digest of the file with this index, if it is known from old volumes. The file was compared with it
+    // after its length and its time were read, and `check_unchanged` compares these once more.
+    fn known_digest(&self, index: usize) -> Option<[u8; 32]> {
+        self.known.get(index).copied().flatten()
     }
 
     // Returns the number of bytes of the description with all digests and sums. Fails if it is larger than 1 GiB: no
@@ -139,12 +149,14 @@ impl<'a, R: Files + Clock + Eprint> Making<'a, R> {
         Ok(bytes)
     }
 
-    // Returns the number of bytes that are read: each file for its own digest, and all blocks.
+    // Returns the number of bytes that are read: each file for its own digest, unless this is known, and all blocks.
     fn bytes_to_read(&self) -> u64 {
         let blocks = u64::from(self.description.original_count);
         let mut total = blocks.saturating_mul(self.description.block_bytes);
-        for entry in &self.description.entries {
-            total = total.saturating_add(entry.size);
+        for (index, entry) in self.description.entries.iter().enumerate() {
+            if self.known_digest(index).is_none() {
+                total = total.saturating_add(entry.size);
+            }
         }
         total
     }
@@ -189,6 +201,9 @@ impl<'a, R: Files + Clock + Eprint> Making<'a, R> {
         }
         if entry.size == 0 {
             return Ok(digest_of(&[]));
+        }
+        if let Some(known) = self.known_digest(index) {
+            return Ok(known);
         }
         let follows = self.linked.get(index).copied().unwrap_or(false);
         let mut file = open_regular(self.rt, path.as_str(), follows)?;
@@ -235,6 +250,12 @@ impl<'a, R: Files + Clock + Eprint> Making<'a, R> {
                 Ok(())
             }
             Err(error) => {
+                if is_full(&error) {
+                    let missing = Counted(sink.missing(), "byte");
+                    let _ = eprintln!(self.rt;
+                        "rs_files: the disk has no room for {missing} of the new volumes"
+                    );
+                }
                 let (read, written) = (source.blocks.path_of(&error), sink.path_of(&error));
                 Err(failure_of(self.alloc, read, written, error))
             }
@@ -262,7 +283,8 @@ impl<'a, R: Files + Clock + Eprint> Making<'a, R> {
     // Begins all volumes, with room for their records, writes into them, and gives them their final names.
     fn write(&mut self, outputs: &[String], volumes: &mut Volumes<R>) -> Result<()> {
         for output in outputs {
-            volumes.begin(self.rt, self.alloc, output.as_str())?;
+            let part = part_of(self.alloc, output.as_str())?;
+            volumes.begin(self.rt, self.alloc, output.as_str(), part)?;
         }
         let total = self.bytes_to_read();
         let mut progress = Progress::new(self.rt, self.request.progress, total);
@@ -272,6 +294,14 @@ impl<'a, R: Files + Clock + Eprint> Making<'a, R> {
         self.check_unchanged()?;
         self.describe(&mut sink)?;
         volumes.finish(self.rt, self.alloc, self.request.force)
+    }
+}
+
+// Returns whether a block could not be written because the disk is full.
+fn is_full(error: &CodingError) -> bool {
+    match error {
+        CodingError::Write(_, error) => error.kind() == ErrorKind::StorageFull,
+        _ => false,
     }
 }
 
@@ -293,26 +323,66 @@ fn check_file<R: Files>(rt: &R, alloc: Global, path: &str, entry: &Entry) -> Res
     ))
 }
 
-/// What `create`, `split` or `update` made.
+/// Which volumes are made of which files.
 #[derive(Clone, Copy)]
-pub struct Made {
-    /// The numbers of entries.
-    pub entries: Kinds,
-    /// The block size and the numbers of blocks.
-    pub cut: Cut,
-    /// The exit status. It is `STATUS_FAILED` if names that are not UTF-8 were left out, unless the request allows
-    /// this.
-    pub status: u8,
+pub struct Task<'a> {
+    /// The request of the command line.
+    pub request: &'a Request,
+    /// The paths of the files and folders.
+    pub files: &'a [String],
+    /// The number of recovery blocks.
+    pub recovery: Recovery,
+    /// The paths of the volumes. One volume gets the recovery blocks. Several volumes get all blocks, which are dealt
+    /// to them in turn.
+    pub outputs: &'a [String],
 }
 
-/// Makes the recovery blocks of files, and writes volumes at the paths `outputs`. One volume gets the recovery blocks.
-/// Several volumes get all blocks, which are dealt to them in turn. Returns `None`, and writes nothing, if old volumes
-/// must not be replaced, for a reason of [`may_replace`].
+// What `create`, `split` or `update` made.
+#[derive(Drop)]
+struct Made {
+    // The numbers of entries.
+    entries: Kinds,
+    // The block size and the numbers of blocks.
+    cut: Cut,
+    // The largest file: its size, and its name as messages show it.
+    largest: (u64, String),
+    // The exit status. It is `STATUS_FAILED` if names that are not UTF-8 were left out, unless the request allows this.
+    status: u8,
+}
+
+// Returns what is made of entries.
+fn made_of(alloc: Global, request: &Request, found: &Found, cut: Cut) -> Result<Made, AllocError> {
+    let mut entries = Kinds::none();
+    let mut largest: (u64, &[u8]) = (0, b"");
+    for entry in &found.entries {
+        entries.add(entry.kind);
+        if entry.size > largest.0 {
+            largest = (entry.size, entry.name.as_slice());
+        }
+    }
+    Ok(Made {
+        entries,
+        cut,
+        largest: (largest.0, format!(in alloc; "{}", Name(largest.1))?),
+        status: if found.has_left_out && !request.skip_names {
+            STATUS_FAILED
+        } else {
+            STATUS_WHOLE
+        },
+    })
+}
+
+/// The lists of the object that `create`, `split` and `update` print with `--json`.
+const LISTS: [&str; 6] = ["volumes", "left_out", "edited", "new", "removed", "rotten"];
+
+/// Makes volumes, and prints what was made. Returns the exit status. It is `STATUS_LOST` if old volumes must not be
+/// replaced, for a reason of [`may_replace`]. Then nothing is written.
 ///
 /// # Errors
 ///
 /// In this order, fails:
 ///
+/// - for a reason of [`check_parts`],
 /// - for each volume, for a reason of [`check_output`],
 /// - for a reason of [`find`],
 /// - for a reason of [`may_replace`],
@@ -324,89 +394,110 @@ pub struct Made {
 /// - for each file, if its length or the time of its last change cannot be read, or is not the one from before,
 /// - if `read_description` does not accept the description,
 /// - for a reason of [`VolumeSink::describe`],
-/// - for a reason of [`Volumes::finish`].
+/// - for a reason of [`Volumes::finish`],
+/// - if the result cannot be printed.
 ///
 /// Every step fails if memory cannot be allocated. If the function fails after a volume was begun, it removes all
 /// volumes that do not have their final names.
-pub fn make<R: Runtime>(
+pub fn make<R: Runtime>(rt: &R, alloc: Global, task: Task<'_>) -> Result<u8> {
+    let mut log = Log::new(alloc, task.request, &LISTS)?;
+    let Some(made) = make_volumes(rt, alloc, task, &mut log)? else {
+        return log.end(rt, STATUS_LOST);
+    };
+    for output in task.outputs {
+        log.add("volumes", ("path", output.as_str()), None)?;
+    }
+    log.set_numbers(&[
+        ("files", made.entries.files),
+        ("links", made.entries.links),
+        ("folders", made.entries.folders),
+        ("block_bytes", made.cut.block_bytes),
+        ("original_blocks", u64::from(made.cut.original_count)),
+        ("recovery_blocks", u64::from(made.cut.recovery_count)),
+    ])?;
+    if log.is_told() {
+        tell(rt, task, &made)?;
+    }
+    log.end(rt, made.status)
+}
+
+// Makes volumes. Returns `None` if old volumes must not be replaced.
+fn make_volumes<R: Runtime>(
     rt: &R,
     alloc: Global,
-    request: &Request,
-    files: &[String],
-    recovery: Recovery,
-    outputs: &[String],
+    task: Task<'_>,
+    log: &mut Log,
 ) -> Result<Option<Made>> {
-    for output in outputs {
+    let request = task.request;
+    check_parts(rt, alloc, task.outputs)?;
+    for output in task.outputs {
         check_output(rt, alloc, output.as_str(), request.force)?;
     }
-    let found = find(rt, alloc, files, outputs)?;
-    if !may_replace(rt, alloc, request, outputs, &found)? {
+    let found = find(rt, alloc, task.files, task.outputs)?;
+    tell_left_out(rt, &found, log)?;
+    let Some(known) = may_replace(rt, alloc, request, task.outputs, &found, log)? else {
         return Ok(None);
-    }
-    let data_bytes = data_end(UNIT, found.entries.as_slice()).unwrap_or(u64::MAX);
-    let cut = cut_data(data_bytes, request.block_bytes, recovery)?;
-    let mut made = Made {
-        entries: Kinds::none(),
-        cut,
-        status: STATUS_WHOLE,
     };
-    for entry in &found.entries {
-        made.entries.add(entry.kind);
-    }
-    if found.has_left_out && !request.skip_names {
-        made.status = STATUS_FAILED;
-    }
-    let mut making = Making::new(rt, alloc, request, found, cut, outputs.len())?;
+    let data_bytes = data_end(UNIT, found.entries.as_slice()).unwrap_or(u64::MAX);
+    let cut = cut_data(data_bytes, request.block_bytes, task.recovery)?;
+    let made = made_of(alloc, request, &found, cut)?;
+    let mut making = Making::new(rt, alloc, request, found, cut, task.outputs.len())?;
+    making.known = known;
     let mut volumes = Volumes::new(alloc, &making.description, making.description_bytes()?);
-    if let Err(failure) = making.write(outputs, &mut volumes) {
+    if let Err(failure) = making.write(task.outputs, &mut volumes) {
         volumes.remove(rt);
         return Err(failure);
     }
     Ok(Some(made))
 }
 
-/// Makes one volume with the recovery blocks of files, and prints what was made. Returns the exit status. It is
-/// `STATUS_LOST` if an old volume must not be replaced.
-///
-/// # Errors
-///
-/// Fails for a reason of [`make`], or if the result cannot be printed.
-pub fn make_volume<R: Runtime>(
-    rt: &R,
-    alloc: Global,
-    request: &Request,
-    files: &[String],
-    recovery: Recovery,
-    output: String,
-) -> Result<u8> {
-    let outputs = [output];
-    let Some(made) = make(rt, alloc, request, files, recovery, &outputs)? else {
-        return Ok(STATUS_LOST);
-    };
-    if !request.quiet {
-        tell(rt, outputs[0].as_str(), made)?;
+// Prints what was left out, and why.
+fn tell_left_out<R: Print>(rt: &R, found: &Found, log: &mut Log) -> Result<()> {
+    let mut lines = Lines::new();
+    for left in &found.left_out {
+        let path = left.path.as_str();
+        log.add("left_out", ("path", path), Some(("reason", left.reason)))?;
+        if log.is_told() && lines.next() {
+            let (path, reason) = (Shown(path), left.reason);
+            println!(rt; "left out: {path}: {reason}")?;
+        }
     }
-    Ok(made.status)
+    Ok(lines.end(rt)?)
 }
 
 /// Runs `create`: makes the recovery blocks of files, and writes them into one volume. Returns the exit status.
 ///
 /// # Errors
 ///
-/// Fails if the name of the volume is not known. Then fails for a reason of [`make_volume`].
+/// Fails if the name of the volume is not known. Then fails for a reason of [`make`].
 pub fn create<R: Runtime>(rt: &R, alloc: Global, request: &Request) -> Result<u8> {
-    let output = output_of(alloc, request)?;
-    let recovery = request.recovery.unwrap_or(Recovery::Percent(10));
-    let files = request.paths.as_slice();
-    make_volume(rt, alloc, request, files, recovery, output)
+    let outputs = [output_of(alloc, request)?];
+    let task = Task {
+        request,
+        files: request.paths.as_slice(),
+        recovery: request.recovery.unwrap_or(Recovery::Percent(10)),
+        outputs: &outputs,
+    };
+    make(rt, alloc, task)
 }
 
-// Prints what was made at a path.
-fn tell<R: Print>(rt: &R, path: &str, made: Made) -> io::Result<()> {
-    let entries = made.entries;
-    let originals = Counted(u64::from(made.cut.original_count), "block");
-    let recovery = Counted(u64::from(made.cut.recovery_count), "recovery block");
-    let bytes = made.cut.block_bytes;
-    let path = Shown(path);
-    println!(rt; "{path}: {entries} in {originals} of {bytes} bytes, {recovery}")
+// Prints what was made. Warns if the largest file is larger than what one volume of recovery blocks can restore.
+fn tell<R: Print + Eprint>(rt: &R, task: Task<'_>, made: &Made) -> io::Result<()> {
+    let (entries, cut) = (made.entries, made.cut);
+    let [output] = task.outputs else {
+        let (volumes, lose) = (task.outputs.len(), task.request.lose);
+        return println!(rt; "{entries} in {volumes} volumes, of which {lose} may be lost");
+    };
+    let originals = Counted(u64::from(cut.original_count), "block");
+    let recovery = Counted(u64::from(cut.recovery_count), "recovery block");
+    let (bytes, path) = (cut.block_bytes, Shown(output.as_str()));
+    println!(rt; "{path}: {entries} in {originals} of {bytes} bytes, {recovery}")?;
+    let most = bytes.saturating_mul(u64::from(cut.recovery_count));
+    let (size, name) = (made.largest.0, made.largest.1.as_str());
+    if size > most {
+        eprintln!(rt;
+            "rs_files: {name}: warning: this file has {size} bytes, and the recovery blocks can restore {most}: if it is lost, it cannot be restored. Choose more with -r"
+        )?;
+    }
+    Ok(())
 }

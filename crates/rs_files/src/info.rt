@@ -1,12 +1,12 @@
 //! `info`: shows what a volume describes.
-use crate::assembly::Set;
-use crate::counted::Counted;
-use crate::failure::{Failure, Result};
-use crate::json::{add, add_text, entries_of, object_of, text_in, word_of};
-use crate::names::{Name, Shown};
-use crate::records::Walk;
+use crate::json::{add_text, entry_json, object_of, text_in, word_of};
 use crate::settings::{Request, STATUS_WHOLE};
-use crate::volume::{Form, open_sized, open_volume};
+use rs_folders::counted::Counted;
+use rs_folders::failure::{Failure, Result};
+use rs_folders::names::{Name, Shown};
+use rs_volume_files::assembly::Set;
+use rs_volume_files::records::Walk;
+use rs_volume_files::volume::{Form, open_sized, open_volume};
 use rs_volumes::description::{CREATOR, Description, Entry, Kind, Version};
 use rs_volumes::record::BLOCK;
 use serde_json::Value;
@@ -24,14 +24,23 @@ fn creator_of(description: &Description) -> Option<&[u8]> {
     None
 }
 
-// Prints what a volume with this number of blocks describes as JSON.
+// Prints what a volume with this number of blocks describes as JSON. There can be many entries, so each of them is
+// printed by itself.
 fn tell_json<R: Print>(rt: &R, alloc: Global, description: &Description, here: u64) -> Result<()> {
-    let text = volume_json(alloc, description, here)?;
-    Ok(println!(rt; "{text}")?)
+    let object = numbers_json(alloc, description, here)?;
+    let front = object.as_str().strip_suffix('}').unwrap_or("");
+    print!(rt; "{front},\"files\":[")?;
+    let mut separator = "";
+    for entry in &description.entries {
+        let text = Value::Object(entry_json(alloc, entry)?).to_string(alloc)?;
+        print!(rt; "{separator}{text}")?;
+        separator = ",";
+    }
+    Ok(println!(rt; "]}}")?)
 }
 
-// Returns what a volume with this number of blocks describes as the text of a JSON object.
-fn volume_json(alloc: Global, description: &Description, here: u64) -> Result<String, AllocError> {
+// Returns what a volume with this number of blocks describes, without the entries, as the text of a JSON object.
+fn numbers_json(alloc: Global, description: &Description, here: u64) -> Result<String, AllocError> {
     let version = match description.version {
         Version::First => 1,
         Version::Second => 2,
@@ -49,8 +58,6 @@ fn volume_json(alloc: Global, description: &Description, here: u64) -> Result<St
         let creator = text_in(alloc, creator)?;
         add_text(alloc, &mut object, "creator", creator.as_str())?;
     }
-    let files = entries_of(alloc, description.entries.as_slice(), &[])?;
-    add(alloc, &mut object, "files", files)?;
     Value::Object(object).to_string(alloc)
 }
 
@@ -107,10 +114,15 @@ fn blocks_in<R: Files>(rt: &R, alloc: Global, set: &Set, path: &str, form: Form)
 }
 
 // Opens a volume, and prints what it describes.
-fn tell_volume<R: Files + Print>(rt: &R, alloc: Global, path: &str, json: bool) -> Result<()> {
-    let (set, form) = open_volume(rt, alloc, path)?;
+fn tell_volume<R: Files + Print>(
+    rt: &R,
+    alloc: Global,
+    path: &str,
+    request: &Request,
+) -> Result<()> {
+    let (set, form) = open_volume(rt, alloc, path, request.memory)?;
     let here = blocks_in(rt, alloc, &set, path, form)?;
-    if json {
+    if request.json {
         return tell_json(rt, alloc, &set.description, here);
     }
     Ok(tell(rt, path, &set.description, here)?)
@@ -127,7 +139,7 @@ pub fn info<R: Files + Print>(rt: &R, alloc: Global, request: &Request) -> Resul
         return Err(Failure::of("no volume is given"));
     }
     for path in &request.paths {
-        tell_volume(rt, alloc, path.as_str(), request.json)?;
+        tell_volume(rt, alloc, path.as_str(), request)?;
     }
     Ok(STATUS_WHOLE)
 }

@@ -1,6 +1,6 @@
 //! Parts of the JSON that is printed.
-use crate::failure::Result;
-use crate::names::{Name, text_of};
+use rs_folders::failure::Result;
+use rs_folders::names::{Name, text_of};
 use rs_volumes::description::{Entry, Kind};
 use serde_json::{Map, Value};
 use std::alloc::{AllocError, Global};
@@ -70,31 +70,19 @@ pub fn word_of(kind: Kind) -> &'static str {
     }
 }
 
-/// Returns a list of entries with their names, kinds and sizes, and with the targets of symbolic links. An entry with a
-/// word in `states` also has this word as its state.
+/// Returns an object for an entry, with its name, its kind and its size, and with the target of a symbolic link.
 ///
 /// # Errors
 ///
 /// [`AllocError`] if memory cannot be allocated.
-pub fn entries_of(
-    alloc: Global,
-    entries: &[Entry],
-    states: &[&'static str],
-) -> Result<Value, AllocError> {
-    let mut list = Vec::new(alloc);
-    for (index, entry) in entries.iter().enumerate() {
-        let mut object = object_of(alloc, &[("size", entry.size)])?;
-        let name = text_in(alloc, entry.name.as_slice())?;
-        add_text(alloc, &mut object, "name", name.as_str())?;
-        add_text(alloc, &mut object, "kind", word_of(entry.kind))?;
-        if entry.kind == Kind::Link {
-            let target = text_in(alloc, entry.target.as_slice())?;
-            add_text(alloc, &mut object, "target", target.as_str())?;
-        }
-        if let Some(state) = states.get(index) {
-            add_text(alloc, &mut object, "state", *state)?;
-        }
-        list.push(Value::Object(object))?;
+pub fn entry_json(alloc: Global, entry: &Entry) -> Result<Map<String, Value>, AllocError> {
+    let mut object = object_of(alloc, &[("size", entry.size)])?;
+    let name = text_in(alloc, entry.name.as_slice())?;
+    add_text(alloc, &mut object, "name", name.as_str())?;
+    add_text(alloc, &mut object, "kind", word_of(entry.kind))?;
+    if entry.kind == Kind::Link {
+        let target = text_in(alloc, entry.target.as_slice())?;
+        add_text(alloc, &mut object, "target", target.as_str())?;
     }
-    Ok(Value::Array(list))
+    Ok(object)
 }

@@ -1,45 +1,98 @@
-//! `repair`: restores damaged and missing files.
-use crate::failure::Result;
-use crate::finishing::restore_files;
+//! `repair` and `restore`: restore files in their folder, or into another one.
+use crate::checked::tell_nowhere;
+use crate::log::Log;
+use crate::looking::{Look, folder_of, look_for, open_request};
 use crate::rebuilding::rebuild;
-use crate::scanning::{Scan, scan_request};
-use crate::searching::find_elsewhere;
 use crate::settings::{Request, STATUS_DAMAGED, STATUS_FAILED, STATUS_LOST, STATUS_WHOLE};
-use crate::verifying::{folder_of, report};
-use std::alloc::Global;
+use crate::verifying::{add_counts, report, tell_lost, tell_volumes};
+use rs_file_sets::restoring::write_blocks;
+use rs_file_sets::scanning::scan_paths;
+use rs_file_sets::targets::{Outcome, Targets};
+use rs_folders::counted::{Counted, Kinds};
+use rs_folders::failure::{Failure, Result};
+use rs_folders::names::{Name, Shown};
+use rs_folders::placing::Goal;
+use rs_volumes::description::{Description, Entry};
+use std::alloc::{AllocError, Global};
+use std::io;
 use std::rt::{Clock, Files, Runtime};
 
-/// Runs `repair`: restores the damaged and missing files of a set, and writes damaged volumes anew. Returns the exit
-/// status. It is `STATUS_FAILED` if a file could not be restored.
+/// The lists of the object that `repair` and `restore` print with `--json`.
+const LISTS: [&str; 5] = ["restored", "failed", "lost", "moved", "written"];
+
+// What is restored, and where.
+#[derive(Clone, Copy)]
+struct Job<'a> {
+    request: &'a Request,
+    // What was found of the set, and the folder in which its files were looked for.
+    found: &'a Look,
+    folder: &'a str,
+    goal: Goal<'a>,
+}
+
+/// Runs `repair`: restores the damaged and missing files of a set in their folder, and writes damaged volumes again.
+/// Returns the exit status. It is `STATUS_LOST` if not enough blocks are left for a file, and otherwise `STATUS_FAILED`
+/// if a file could not be restored for another reason. All other files are restored.
 ///
 /// # Errors
 ///
 /// In this order, fails if:
 ///
-/// - no volume is named,
+/// - no volume is named, or a folder of the request is not there,
 /// - no volume can be read, or volumes belong to different sets,
-/// - the files cannot be restored, for a reason of [`restore_files`],
-/// - the damaged volumes cannot be written anew, for a reason of [`rebuild`].
+/// - a name after `--only` is not in the set,
+/// - a block that was found cannot be read or restored,
+/// - the result cannot be printed,
+/// - the damaged volumes cannot be written again, for a reason of [`rebuild`].
 ///
 /// Every step fails if memory cannot be allocated.
 pub fn repair<R: Runtime>(rt: &R, alloc: Global, request: &Request) -> Result<u8> {
     let folder = folder_of(request)?;
-    let mut found = scan_request(rt, alloc, request, Some(folder))?;
-    let elsewhere = find_elsewhere(rt, alloc, request, folder, &mut found)?;
-    if !request.quiet {
-        elsewhere.tell(rt, &found)?;
-    }
-    let status = repair_found(rt, alloc, request, &found, folder)?;
-    if status != STATUS_WHOLE || request.to.is_some() || found.has_whole_volumes() {
-        return Ok(status);
-    }
-    // The files are whole by now.
-    let whole = if found.has_whole_files() {
-        found
-    } else {
-        scan_request(rt, alloc, request, Some(folder))?
+    let volumes = open_request(rt, alloc, request)?;
+    let found = look_for(rt, alloc, request, volumes, Some(folder))?;
+    let mut log = Log::new(alloc, request, &LISTS)?;
+    add_counts(&mut log, &found.scan)?;
+    let job = Job {
+        request,
+        found: &found,
+        folder,
+        goal: Goal {
+            folder,
+            in_place: true,
+            force: false,
+            set: found.scan.description(),
+        },
     };
-    let is_whole = rebuild(rt, alloc, request, &whole)?;
+    let mut status = mend(rt, alloc, job, &mut log)?;
+    if status == STATUS_WHOLE && found.has_all() && !found.scan.has_whole_volumes() {
+        status = mend_volumes(rt, alloc, request, found, &mut log)?;
+    }
+    log.end(rt, status)
+}
+
+// Writes the damaged volumes of a set again, whose files are whole by now. Returns the exit status.
+fn mend_volumes<R: Runtime>(
+    rt: &R,
+    alloc: Global,
+    request: &Request,
+    found: Look,
+    log: &mut Log,
+) -> Result<u8> {
+    let folder = folder_of(request)?;
+    let scan = if found.has_whole_files() {
+        found.scan
+    } else {
+        let paths = request.paths.as_slice();
+        scan_paths(
+            rt,
+            alloc,
+            paths,
+            request.memory,
+            request.progress,
+            Some(folder),
+        )?
+    };
+    let is_whole = rebuild(rt, alloc, request, &scan, log)?;
     Ok(if is_whole {
         STATUS_WHOLE
     } else {
@@ -47,29 +100,215 @@ pub fn repair<R: Runtime>(rt: &R, alloc: Global, request: &Request) -> Result<u8
     })
 }
 
-// Restores the damaged and missing files of a set, if there are some and enough blocks were found. The files are
-// written into `folder`, where they were searched, or into the folder after `--to`. Returns the exit status.
-fn repair_found<R: Files + Clock + Print + Eprint>(
+/// Runs `restore`: restores the files of a set into another folder. Volumes of `split` hold the files, so none are
+/// looked for unless `--folder` is given. With one volume, the files in their folder that are whole are not restored.
+/// Returns the exit status, as [`repair`] does.
+///
+/// # Errors
+///
+/// Fails if `--to` is not given. Then fails for a reason of [`repair`], apart from the last one.
+pub fn restore<R: Runtime>(rt: &R, alloc: Global, request: &Request) -> Result<u8> {
+    let Some(to) = &request.to else {
+        return Err(Failure::of("say where the files go, as --to FOLDER"));
+    };
+    let volumes = open_request(rt, alloc, request)?;
+    let is_spread = volumes.set.description.volumes > 1;
+    let folder = if is_spread && request.folder.is_none() {
+        None
+    } else {
+        Some(folder_of(request)?)
+    };
+    let found = look_for(rt, alloc, request, volumes, folder)?;
+    let mut log = Log::new(alloc, request, &LISTS)?;
+    add_counts(&mut log, &found.scan)?;
+    let job = Job {
+        request,
+        found: &found,
+        folder: folder.unwrap_or(""),
+        goal: Goal {
+            folder: to.as_str(),
+            in_place: false,
+            force: request.force,
+            set: found.scan.description(),
+        },
+    };
+    let status = mend(rt, alloc, job, &mut log)?;
+    log.end(rt, status)
+}
+
+// Restores the entries of a request that are not whole and can be restored, and names the others. Returns the exit
+// status.
+fn mend<R: Files + Clock + Print + Eprint>(
     rt: &R,
     alloc: Global,
-    request: &Request,
-    found: &Scan,
-    folder: &str,
+    job: Job<'_>,
+    log: &mut Log,
 ) -> Result<u8> {
-    let counts = found.counts();
-    if counts.lost <= counts.recovery && !found.has_whole_files() {
-        let target = match &request.to {
-            Some(to) => to.as_str(),
-            None => folder,
-        };
-        let in_place = request.to.is_none();
-        let all = restore_files(rt, alloc, request, found, target, in_place)?;
-        return Ok(if all { STATUS_WHOLE } else { STATUS_FAILED });
+    let found = job.found;
+    found.tell_moved(rt, log)?;
+    let (wanted, lost) = divided(alloc, found)?;
+    let loses = lost.contains(&true);
+    // If nothing of the set is in its folder, the folder is probably another one.
+    let is_nowhere = loses && !found.scan.has_files() && !found.scan.is_spread();
+    if is_nowhere && log.is_told() {
+        tell_nowhere(rt, job.folder)?;
     }
-    report(rt, request, found, counts, folder)?;
-    Ok(if counts.lost > counts.recovery {
-        STATUS_LOST
-    } else {
-        STATUS_WHOLE
-    })
+    let is_left = !wanted.contains(&true) || is_nowhere && job.goal.in_place;
+    if is_left && !loses {
+        report(rt, found, job.folder, log, STATUS_WHOLE)?;
+        return Ok(STATUS_WHOLE);
+    }
+    let all = is_left || restore_entries(rt, alloc, job, wanted, log)?;
+    if loses {
+        tell_beyond(rt, found, lost.as_slice(), is_nowhere && is_left, log)?;
+        return Ok(STATUS_LOST);
+    }
+    Ok(if all { STATUS_WHOLE } else { STATUS_FAILED })
+}
+
+// Returns which entries of a request are not whole: those that can be restored, and those that cannot.
+fn divided(alloc: Global, found: &Look) -> Result<(Vec<bool>, Vec<bool>), AllocError> {
+    let restorable = found.scan.restorable(alloc)?;
+    let mut wanted = Vec::new(alloc);
+    let mut lost = Vec::new(alloc);
+    for (index, can) in restorable.iter().enumerate() {
+        wanted.push(*can && found.is_broken(index))?;
+        lost.push(!*can && found.is_broken(index))?;
+    }
+    Ok((wanted, lost))
+}
+
+// Prints which entries cannot be restored, unless `is_short` is set, which volumes are damaged, and how many blocks are
+// needed.
+fn tell_beyond<R: Print + Eprint>(
+    rt: &R,
+    found: &Look,
+    lost: &[bool],
+    is_short: bool,
+    log: &mut Log,
+) -> Result<()> {
+    for (entry, is_lost) in found.scan.description().entries.iter().zip(lost) {
+        if *is_lost {
+            log.add_entry("lost", entry.name.as_slice(), None)?;
+            if !log.is_kept() && !is_short {
+                let name = Name(entry.name.as_slice());
+                eprintln!(rt; "rs_files: cannot be restored: {name}")?;
+            }
+        }
+    }
+    if log.is_told() {
+        tell_volumes(rt, &found.scan)?;
+    }
+    if !log.is_kept() {
+        tell_lost(rt, found.scan.counts())?;
+    }
+    Ok(())
+}
+
+// Restores the entries that `wanted` marks, and prints what became of each. Returns whether all were restored. If this
+// fails, all files that do not have their final names are removed.
+fn restore_entries<R: Files + Clock + Print + Eprint>(
+    rt: &R,
+    alloc: Global,
+    job: Job<'_>,
+    wanted: Vec<bool>,
+    log: &mut Log,
+) -> Result<bool> {
+    let mut targets = Targets::new(alloc, wanted);
+    let restored = restore_into(rt, alloc, job, &mut targets);
+    targets.remove(rt);
+    let outcomes = targets.outcomes.as_slice();
+    for outcome in outcomes {
+        if let Outcome::Failed(failure) = outcome {
+            failure.tell(rt);
+        }
+    }
+    restored?;
+    if targets.without_room > 0 {
+        let bytes = Counted(targets.without_room, "byte");
+        eprintln!(rt; "rs_files: the disk has no room for {bytes} of these files")?;
+    }
+    tell_outcomes(rt, alloc, job.goal.set, outcomes, log)
+}
+
+// Begins the parts of files, writes their blocks, and gives all entries their final names.
+fn restore_into<R: Files + Clock + Eprint>(
+    rt: &R,
+    alloc: Global,
+    job: Job<'_>,
+    targets: &mut Targets<R>,
+) -> Result<()> {
+    let (scan, request) = (&job.found.scan, job.request);
+    targets.begin(rt, alloc, scan, job.goal)?;
+    write_blocks(rt, alloc, scan, targets, request.memory, request.progress)?;
+    targets.finish(rt, alloc, job.goal);
+    Ok(())
+}
+
+// Prints what became of each entry, and how many were restored. Returns whether all were.
+fn tell_outcomes<R: Print + Eprint>(
+    rt: &R,
+    alloc: Global,
+    set: &Description,
+    outcomes: &[Outcome],
+    log: &mut Log,
+) -> Result<bool> {
+    let mut restored = Kinds::none();
+    let (mut kept, mut failed) = (0u64, 0u64);
+    for (entry, outcome) in set.entries.iter().zip(outcomes) {
+        match outcome {
+            Outcome::Left => {}
+            Outcome::Restored(path) => {
+                restored.add(entry.kind);
+                kept = kept.saturating_add(u64::from(path.is_some()));
+                note_restored(rt, entry, path, log)?;
+            }
+            Outcome::Failed(failure) => {
+                failed = failed.saturating_add(1);
+                let reason = format!(in alloc; "{failure}")?;
+                let reason = Some(("reason", reason.as_str()));
+                log.add_entry("failed", entry.name.as_slice(), reason)?;
+            }
+        }
+    }
+    if log.is_told() {
+        tell_restored(rt, restored, kept)?;
+    }
+    if failed > 0 {
+        let failed = Counted(failed, "file");
+        eprintln!(rt; "rs_files: {failed} could not be restored")?;
+    }
+    Ok(failed == 0)
+}
+
+// Prints that an entry was restored, and which damaged file was kept.
+fn note_restored<R: Print>(
+    rt: &R,
+    entry: &Entry,
+    kept: &Option<String>,
+    log: &mut Log,
+) -> Result<()> {
+    let name = entry.name.as_slice();
+    match kept {
+        Some(path) => log.add_entry("restored", name, Some(("kept", path.as_str())))?,
+        None => log.add_entry("restored", name, None)?,
+    }
+    if log.is_told() {
+        let name = Name(name);
+        println!(rt; "restored: {name}")?;
+        if let Some(path) = kept {
+            let path = Shown(path.as_str());
+            println!(rt; "kept: {path}")?;
+        }
+    }
+    Ok(())
+}
+
+// Prints how many entries were restored.
+fn tell_restored<R: Print>(rt: &R, restored: Kinds, kept: u64) -> io::Result<()> {
+    if kept == 0 {
+        return println!(rt; "restored {restored}");
+    }
+    let damaged = Counted(kept, "damaged file");
+    println!(rt; "restored {restored}, and kept {damaged} as NAME.damaged")
 }

@@ -1,171 +1,17 @@
 //! Reads the command line.
 use crate::arguments::{bytes_of, recovery_of};
-use crate::failure::Result;
-use crate::names::front_of_volume;
+use crate::forms::{COMMANDS, Choice, Form, Takes};
 use crate::settings::{
     Action, NO_OUTPUT, Request, STATUS_FAILED, STATUS_USAGE, STATUS_WHOLE, VERSION,
 };
 use clap::error::ErrorKind;
 use clap::{Arg, ArgAction, ArgMatches, Command};
+use rs_folders::failure::Result;
+use rs_folders::names::front_of_volume;
 use rs_volumes::checking::allows_block;
 use std::alloc::{AllocError, Global};
 use std::env;
 use std::rt::Env;
-
-/// The commands, with the names of their paths and their help texts.
-const COMMANDS: [(&str, &str, &str); 7] = [
-    (
-        "create",
-        "FILE",
-        "Make a volume with recovery blocks beside the files",
-    ),
-    ("split", "FILE", "Spread the files over volumes"),
-    (
-        "update",
-        "VOLUME",
-        "Make the volume of create anew after files were changed",
-    ),
-    ("verify", "VOLUME", "Look for damage"),
-    ("repair", "VOLUME", "Restore damaged and missing files"),
-    ("join", "VOLUME", "Restore all files from volumes"),
-    ("info", "VOLUME", "Show what a volume describes"),
-];
-
-/// An option: the commands that have it; its name; its letter or none; the name of its value, or none if it takes no
-/// value; and its help text.
-type Choice = (
-    &'static str,
-    &'static str,
-    Option<char>,
-    Option<&'static str>,
-    &'static str,
-);
-
-/// The options that can be given several times.
-const REPEATED: [&str; 2] = ["accept", "search"];
-
-/// The options of all commands.
-const OPTIONS: [Choice; 17] = [
-    (
-        "create",
-        "output",
-        Some('o'),
-        Some("VOLUME"),
-        "Write this volume [default: FILE.rsv]",
-    ),
-    (
-        "split",
-        "output",
-        Some('o'),
-        Some("FOLDER"),
-        "Write the volumes into this folder (needed)",
-    ),
-    (
-        "split",
-        "volumes",
-        Some('n'),
-        Some("COUNT"),
-        "Make this many volumes (needed)",
-    ),
-    (
-        "split",
-        "lose",
-        None,
-        Some("COUNT"),
-        "Allow this many volumes to be lost [default: 1]",
-    ),
-    (
-        "create update",
-        "recovery",
-        Some('r'),
-        Some("COUNT"),
-        "Make this many recovery blocks, e.g. 10% or 300 [default: 10%, or the share of before]",
-    ),
-    (
-        "create split update",
-        "block",
-        None,
-        Some("BYTES"),
-        "Cut the files into blocks of this size [default: about 2000 blocks]",
-    ),
-    (
-        "create split update",
-        "accept",
-        None,
-        Some("NAME"),
-        "Protect this file although its bytes changed and its time did not",
-    ),
-    (
-        "create split update",
-        "skip-names",
-        None,
-        None,
-        "Leave out files whose names are not UTF-8",
-    ),
-    (
-        "update verify repair",
-        "folder",
-        None,
-        Some("FOLDER"),
-        "The files are in this folder [default: the folder of the volume]",
-    ),
-    (
-        "verify repair",
-        "search",
-        None,
-        Some("FOLDER"),
-        "Look for lost files and blocks in this folder too",
-    ),
-    (
-        "repair",
-        "to",
-        None,
-        Some("FOLDER"),
-        "Write the restored files into this folder",
-    ),
-    (
-        "join",
-        "to",
-        None,
-        Some("FOLDER"),
-        "Write the files into this folder (needed)",
-    ),
-    (
-        "create split repair join",
-        "force",
-        None,
-        None,
-        "Overwrite files that exist",
-    ),
-    (
-        "create split update repair join",
-        "memory",
-        None,
-        Some("BYTES"),
-        "Use about this much memory, e.g. 64M [default: 1G]",
-    ),
-    (
-        "verify info",
-        "json",
-        None,
-        None,
-        "Print the result as JSON",
-    ),
-    (
-        "create split update verify repair join",
-        "progress",
-        None,
-        Some("WHEN"),
-        "Show progress: auto, always or never [default: auto]",
-    ),
-    (
-        "create split update verify repair join info",
-        "quiet",
-        Some('q'),
-        None,
-        "Print only errors",
-    ),
-];
 
 /// A request, or the status with which the program ends at once.
 #[derive(Drop)]
@@ -178,63 +24,50 @@ pub enum Parsed {
 
 // Returns an option as clap takes it.
 fn arg_of<'a>(alloc: Global, choice: Choice) -> Arg<'a> {
-    let (_, name, letter, value, help) = choice;
+    let Choice(name, letter, takes, help) = choice;
     let arg = Arg::new(alloc, name).long(name).help(help);
     let arg = match letter {
         Some(letter) => arg.short(letter),
         None => arg,
     };
-    match value {
-        Some(shown) if REPEATED.contains(&name) => arg.value_name(shown).action(ArgAction::Append),
-        Some(shown) => arg.value_name(shown).action(ArgAction::Set),
-        None => arg.action(ArgAction::SetTrue),
+    match takes {
+        Takes::Nothing => arg.action(ArgAction::SetTrue),
+        Takes::One(shown) => arg.value_name(shown).action(ArgAction::Set),
+        Takes::Needed(shown) => arg.value_name(shown).required(true).action(ArgAction::Set),
+        Takes::Many(shown) => arg.value_name(shown).action(ArgAction::Append),
     }
 }
 
 // Returns the paths of a command as clap takes them.
-fn paths_arg<'a>(alloc: Global, shown: &'a str) -> Arg<'a> {
+fn paths_arg<'a>(alloc: Global, form: &Form) -> Arg<'a> {
+    let (shown, help) = form.paths;
     Arg::new(alloc, "paths")
         .value_name(shown)
+        .help(help)
         .required(true)
         .action(ArgAction::Append)
         .num_args(1..)
 }
 
-// Returns the paths and the options of a command.
-fn args_of<'a>(alloc: Global, name: &'a str, paths: &'a str) -> Result<Vec<Arg<'a>>, AllocError> {
-    let mut args = Vec::new(alloc);
-    args.push(paths_arg(alloc, paths))?;
-    for choice in OPTIONS {
-        if choice.0.split(' ').any(|command| command == name) {
-            args.push(arg_of(alloc, choice))?;
-        }
-    }
-    Ok(args)
-}
-
 // Returns a command that takes paths, with its options.
-fn command_of<'a>(
-    alloc: Global,
-    name: &'a str,
-    paths: &'a str,
-    about: &'a str,
-) -> Result<Command<'a>, AllocError> {
-    let args = args_of(alloc, name, paths)?;
-    Command::new(alloc, name).about(about).args(args)
-}
-
-// Returns all commands.
-fn all_commands<'a>(alloc: Global) -> Result<Vec<Command<'a>>, AllocError> {
-    let mut commands = Vec::new(alloc);
-    for (name, paths, about) in COMMANDS {
-        commands.push(command_of(alloc, name, paths, about)?)?;
+fn command_of<'a>(alloc: Global, form: &Form) -> Result<Command<'a>, AllocError> {
+    let mut args = Vec::new(alloc);
+    args.push(paths_arg(alloc, form))?;
+    for choice in form.options {
+        args.push(arg_of(alloc, *choice))?;
     }
-    Ok(commands)
+    Command::new(alloc, form.name)
+        .about(form.about)
+        .after_help(form.after)
+        .args(args)
 }
 
 // Returns the program with all commands, as clap takes it.
 fn program<'a>(alloc: Global) -> Result<Command<'a>, AllocError> {
-    let commands = all_commands(alloc)?;
+    let mut commands = Vec::new(alloc);
+    for form in COMMANDS {
+        commands.push(command_of(alloc, &form)?)?;
+    }
     let top = Command::new(alloc, "rs_files")
         .version(VERSION)
         .about("Protects files against damage, and spreads them over places")
@@ -297,7 +130,7 @@ fn action_of(name: &str) -> Action {
         "update" => Action::Update,
         "verify" => Action::Verify,
         "repair" => Action::Repair,
-        "join" => Action::Join,
+        "restore" => Action::Restore,
         _ => Action::Info,
     }
 }
@@ -346,12 +179,14 @@ fn plain_request(
         to: text_of(alloc, matches, "to")?,
         folder: text_of(alloc, matches, "folder")?,
         search: texts_of(alloc, matches, "search")?,
+        only: texts_of(alloc, matches, "only")?,
         accept: texts_of(alloc, matches, "accept")?,
         recovery: None,
         block_bytes: None,
         memory: 1 << 30,
         volumes: 0,
         lose: 1,
+        quick: matches.get_flag("quick"),
         skip_names: matches.get_flag("skip-names"),
         json: matches.get_flag("json"),
         quiet,
@@ -402,6 +237,11 @@ fn check_filled(request: &Request) -> Result<(), &'static str> {
     }
     if is_empty(&request.folder) {
         return Err("--folder: the path is empty");
+    }
+    for path in request.search.iter().chain(request.only.iter()) {
+        if path.as_str().is_empty() {
+            return Err("--search and --only: an empty text names nothing");
+        }
     }
     Ok(())
 }
@@ -461,23 +301,19 @@ fn set_volumes(request: &mut Request, matches: &ArgMatches<'_>) -> Result<(), &'
     Ok(())
 }
 
-// Checks that a command has the options that it needs.
+// Checks that a command has the options that it needs, and that they can be combined.
 fn check_needed(request: &Request) -> Result<(), &'static str> {
     match request.action {
         Action::Create
             if request.output.is_none() && front_of_volume(request.paths.as_slice()).is_none() => {
             Err(NO_OUTPUT)
         }
-        Action::Split if request.volumes == 0 => Err(
-            "split: say how many volumes to make, as -n 6",
-        ),
         Action::Split if request.lose == 0 || request.lose >= request.volumes => {
             Err("split: --lose must be at least 1, and below the number of volumes")
         }
-        Action::Split if request.output.is_none() => Err(
-            "split: say where the volumes go, as -o FOLDER",
-        ),
-        Action::Join if request.to.is_none() => Err("join: say where the files go, as --to FOLDER"),
+        Action::Verify if request.quick && !request.search.is_empty() => {
+            Err("verify: --quick reads no file, so it looks for none with --search")
+        }
         _ => Ok(()),
     }
 }

@@ -1,18 +1,19 @@
-//! Writes damaged volumes anew, from the blocks of their set.
+//! Writes damaged volumes again, from the blocks of their set.
 use crate::creating::written;
-use crate::failure::{Failure, Result};
-use crate::folder::{piece_bytes, shape_of};
-use crate::layout::Deal;
-use crate::names::Shown;
-use crate::output::{at_path, free_path};
-use crate::placing::link_or_rename;
-use crate::progress::Progress;
-use crate::scanning::{Scan, ScannedVolume};
+use crate::log::Log;
 use crate::settings::Request;
-use crate::source::{FileBlocks, Holders, failure_of};
-use crate::volume_sink::{VolumeSink, Volumes};
 use reed_solomon_simd::engine::tables::Tables;
 use reed_solomon_simd::engine::{DefaultEngine, EngineKind};
+use rs_file_sets::cutting::{piece_bytes, shape_of};
+use rs_file_sets::scanning::{Scan, ScannedVolume};
+use rs_folders::failure::{Failure, Result};
+use rs_folders::names::Shown;
+use rs_folders::output::{at_path, free_path};
+use rs_folders::placing::link_or_rename;
+use rs_folders::progress::Progress;
+use rs_folders::source::{FileBlocks, Holders, failure_of};
+use rs_volume_files::layout::Deal;
+use rs_volume_files::volume_sink::{VolumeSink, Volumes, second_part_of};
 use rs_volumes::creating::create as create_blocks;
 use rs_volumes::description::Version;
 use rs_volumes::digest::digest_of;
@@ -36,14 +37,20 @@ fn damaged_paths(alloc: Global, found: &Scan) -> Result<Vec<Option<&str>>, Alloc
     Ok(paths)
 }
 
-/// Writes the damaged volumes of a scan anew, and keeps each damaged one as `NAME.damaged`. Nothing is written if an
+/// Writes the damaged volumes of a scan again, and keeps each damaged one as `NAME.damaged`. Nothing is written if an
 /// original block was not found, or if the volumes have version 1. Returns whether all volumes are whole now.
 ///
 /// # Errors
 ///
 /// Fails if a block cannot be read, a volume cannot be written, or a block does not have its digest. Then the damaged
 /// volumes have their names. Every step fails if memory cannot be allocated.
-pub fn rebuild<R: Runtime>(rt: &R, alloc: Global, request: &Request, found: &Scan) -> Result<bool> {
+pub fn rebuild<R: Runtime>(
+    rt: &R,
+    alloc: Global,
+    request: &Request,
+    found: &Scan,
+    log: &mut Log,
+) -> Result<bool> {
     let paths = damaged_paths(alloc, found)?;
     let can_write = found.description().version == Version::Second && found.counts().lost == 0;
     let count = paths.iter().flatten().count();
@@ -64,14 +71,18 @@ pub fn rebuild<R: Runtime>(rt: &R, alloc: Global, request: &Request, found: &Sca
         description.as_slice(),
         &mut volumes,
     );
-    if let Err(failure) = outcome {
-        volumes.remove(rt);
-        return Err(failure);
-    }
-    if !request.quiet {
-        for path in paths.iter().flatten() {
+    let kept = match outcome {
+        Ok(kept) => kept,
+        Err(failure) => {
+            volumes.remove(rt);
+            return Err(failure);
+        }
+    };
+    for (path, kept) in paths.iter().flatten().zip(kept.as_slice()) {
+        log.add("written", ("path", *path), Some(("kept", kept.as_str())))?;
+        if log.is_told() {
             let path = Shown(*path);
-            println!(rt; "written anew: {path}")?;
+            println!(rt; "written again: {path}")?;
         }
     }
     let is_damaged = |volume: &&ScannedVolume| !volume.damage.is_none();
@@ -79,7 +90,8 @@ pub fn rebuild<R: Runtime>(rt: &R, alloc: Global, request: &Request, found: &Sca
     Ok(count == damaged && found.unreadable.is_empty())
 }
 
-// Writes volumes, and gives them their names. Those without a path are left out.
+// Writes volumes, and gives them their names. Those without a path are left out. Returns the paths at which the damaged
+// volumes are kept.
 fn fill<R: Runtime>(
     rt: &R,
     alloc: Global,
@@ -88,19 +100,22 @@ fn fill<R: Runtime>(
     paths: &[Option<&str>],
     description: &[u8],
     volumes: &mut Volumes<R>,
-) -> Result<()> {
+) -> Result<Vec<String>> {
     for path in paths {
         match path {
-            Some(path) => volumes.begin(rt, alloc, *path)?,
+            Some(path) => volumes.begin(rt, alloc, *path, second_part_of(alloc, *path)?)?,
             None => volumes.leave_out()?,
         }
     }
     code(rt, alloc, request, found, description, volumes)?;
+    let mut all_kept = Vec::new(alloc);
     for path in paths.iter().flatten() {
         let kept = free_path(rt, alloc, "", *path, "damaged", None)?;
         at_path(alloc, *path, link_or_rename(rt, *path, kept.as_str()))?;
+        all_kept.push(kept)?;
     }
-    volumes.finish(rt, alloc, true)
+    volumes.finish(rt, alloc, true)?;
+    Ok(all_kept)
 }
 
 // Codes the blocks of a set again, and writes those of some volumes. Fails if a block does not have its digest.

@@ -1,18 +1,19 @@
 //! The request that the command line makes, and the exit statuses.
+use rs_file_sets::cutting::Recovery;
 
-/// The version of the program. Volumes say by which version they were made.
-pub const VERSION: &str = "2.0";
+/// The version of the product. Volumes say by which version they were made.
+pub const VERSION: &str = "1.4.0";
 
 /// The exit status if all is well.
 pub const STATUS_WHOLE: u8 = 0;
 
-/// The exit status of `verify` if damage was found that can be repaired.
+/// The exit status of `verify` if damage was found that can be repaired, or with `--quick` a file that has changed.
 pub const STATUS_DAMAGED: u8 = 1;
 
 /// The exit status if the command line is wrong.
 pub const STATUS_USAGE: u8 = 2;
 
-/// The exit status if damage cannot be repaired.
+/// The exit status if damage cannot be repaired, or if a rotten file must not be protected.
 pub const STATUS_LOST: u8 = 3;
 
 /// The exit status after any other error, also if a file could not be protected or restored.
@@ -28,28 +29,16 @@ pub enum Action {
     Create,
     /// Spreads the blocks of files over several volumes.
     Split,
-    /// Makes the volume of a set anew.
+    /// Makes the volume of a set again.
     Update,
     /// Looks for damage.
     Verify,
-    /// Restores damaged and missing files.
+    /// Restores damaged and missing files in their folder.
     Repair,
-    /// Restores all files from volumes.
-    Join,
+    /// Restores files into another folder.
+    Restore,
     /// Shows what a volume describes.
     Info,
-}
-
-/// The number of recovery blocks that the user wants.
-#[derive(Clone, Copy)]
-pub enum Recovery {
-    /// A percentage of the number of original blocks.
-    Percent(u32),
-    /// This number of blocks.
-    Count(u32),
-    /// The smallest number with which any `lose` of `volumes` volumes may be lost, if the blocks are dealt to the
-    /// volumes in turn.
-    Spread { volumes: u32, lose: u32 },
 }
 
 /// A command with its options.
@@ -61,12 +50,15 @@ pub struct Request {
     pub paths: Vec<String>,
     /// The volume that `create` writes, or the folder of `split`.
     pub output: Option<String>,
-    /// The folder into which files are written.
+    /// The folder into which `restore` writes files.
     pub to: Option<String>,
     /// The folder in which the files of the set are.
     pub folder: Option<String>,
     /// More folders in which lost files and blocks are looked for.
     pub search: Vec<String>,
+    /// The names of the entries that the command is about: of files, or of folders with all that is in them. An empty
+    /// list means all entries.
+    pub only: Vec<String>,
     /// The names of files that are protected although their bytes changed and their times did not.
     pub accept: Vec<String>,
     /// The number of recovery blocks that `create` and `update` make. `None` means the default.
@@ -79,6 +71,8 @@ pub struct Request {
     pub volumes: u32,
     /// How many volumes of `split` may be lost.
     pub lose: u32,
+    /// Whether `verify` compares only sizes and times.
+    pub quick: bool,
     /// Whether names that are not UTF-8 may be left out.
     pub skip_names: bool,
     /// Whether the result is printed as JSON.

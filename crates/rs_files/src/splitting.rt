@@ -1,10 +1,15 @@
 //! `split`: spreads files over volumes.
-use crate::creating::make;
-use crate::failure::{Failure, Result};
-use crate::names::path_in;
-use crate::settings::{Recovery, Request, STATUS_LOST};
+use crate::creating::{Task, make};
+use crate::settings::Request;
+use rs_file_sets::cutting::Recovery;
+use rs_folders::failure::{Failure, Result};
+use rs_folders::names::path_in;
+use rs_volume_files::volume_sink::check_parts;
 use std::alloc::{AllocError, Global};
 use std::rt::Runtime;
+
+/// The largest number of volumes.
+const MOST_VOLUMES: u32 = 1000;
 
 // Returns the paths of all volumes in a folder.
 fn outputs_in(alloc: Global, volumes: u32, folder: &str) -> Result<Vec<String>, AllocError> {
@@ -21,7 +26,8 @@ fn outputs_in(alloc: Global, volumes: u32, folder: &str) -> Result<Vec<String>, 
 ///
 /// # Errors
 ///
-/// Fails if `-o` is not given. Then fails for a reason of [`make`].
+/// Fails if `-o` is not given. Then fails for a reason of [`check_parts`], also for volumes of an earlier run that
+/// wrote more of them. Then fails for a reason of [`make`].
 pub fn split<R: Runtime>(rt: &R, alloc: Global, request: &Request) -> Result<u8> {
     let Some(folder) = &request.output else {
         return Err(Failure::of("say where the volumes go, as -o FOLDER"));
@@ -29,14 +35,16 @@ pub fn split<R: Runtime>(rt: &R, alloc: Global, request: &Request) -> Result<u8>
     let volumes = request.volumes;
     let lose = request.lose;
     let outputs = outputs_in(alloc, volumes, folder.as_str())?;
-    let recovery = Recovery::Spread { volumes, lose };
-    let files = request.paths.as_slice();
-    let Some(made) = make(rt, alloc, request, files, recovery, outputs.as_slice())? else {
-        return Ok(STATUS_LOST);
+    check_parts(
+        rt,
+        alloc,
+        outputs_in(alloc, MOST_VOLUMES, folder.as_str())?.as_slice(),
+    )?;
+    let task = Task {
+        request,
+        files: request.paths.as_slice(),
+        recovery: Recovery::Spread { volumes, lose },
+        outputs: outputs.as_slice(),
     };
-    if !request.quiet {
-        let entries = made.entries;
-        println!(rt; "{entries} in {volumes} volumes, of which {lose} may be lost")?;
-    }
-    Ok(made.status)
+    make(rt, alloc, task)
 }

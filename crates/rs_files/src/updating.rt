@@ -1,11 +1,11 @@
-//! `update`: makes a volume anew after files were changed.
-use crate::creating::make_volume;
-use crate::failure::{Failure, Result};
-use crate::identity::exists;
-use crate::names::{path_in, text_of};
-use crate::settings::{Recovery, Request};
-use crate::verifying::folder_of;
-use crate::volume::open_volumes;
+//! `update`: makes a volume again after files were changed.
+use crate::creating::{Task, make};
+use crate::looking::{folder_of, open_request};
+use crate::settings::Request;
+use rs_file_sets::cutting::Recovery;
+use rs_folders::failure::{Failure, Result};
+use rs_folders::identity::exists;
+use rs_folders::names::{path_in, text_of};
 use rs_volumes::description::Description;
 use std::alloc::{AllocError, Global};
 use std::rt::{Files, Runtime};
@@ -45,7 +45,7 @@ fn share_of(set: &Description) -> Recovery {
     Recovery::Percent(percent.clamp(1, 10_000) as u32)
 }
 
-/// Runs `update`: makes the volume of a set anew, with the files as they are now. Returns the exit status. It is
+/// Runs `update`: makes the volume of a set again, with the files as they are now. Returns the exit status. It is
 /// `STATUS_LOST` if the bytes of a file changed while its length and its time did not, and the file is not accepted:
 /// then the old volume stays.
 ///
@@ -53,30 +53,30 @@ fn share_of(set: &Description) -> Recovery {
 ///
 /// In this order, fails if:
 ///
-/// - not exactly one volume is named, or it cannot be read,
+/// - not exactly one volume is named, the folder after `--folder` is not there, or the volume cannot be read,
 /// - it is one of several volumes of `split`,
-/// - the new volume cannot be made, for a reason of [`make_volume`].
+/// - the new volume cannot be made, for a reason of [`make`].
 pub fn update<R: Runtime>(rt: &R, alloc: Global, request: &Request) -> Result<u8> {
     let [volume] = request.paths.as_slice() else {
         return Err(Failure::of(
-            "name one volume: the volumes of split are made anew with split --force",
+            "name one volume: the volumes of split are made again with split --force",
         ));
     };
     let folder = folder_of(request)?;
-    let old = open_volumes(rt, alloc, request.paths.as_slice())?;
+    let old = open_request(rt, alloc, request)?;
     let set = &old.set.description;
     if set.volumes > 1 {
-        let reason = "this is one of several volumes: make them anew with split --force";
+        let reason = "this is one of several volumes: make them again with split --force";
         return Err(Failure::at(alloc, volume.as_str(), reason));
     }
     let recovery = request.recovery.unwrap_or(share_of(set));
     let tops = tops_of(rt, alloc, folder, set)?;
-    make_volume(
-        rt,
-        alloc,
+    let outputs = [volume.clone()?];
+    let task = Task {
         request,
-        tops.as_slice(),
+        files: tops.as_slice(),
         recovery,
-        volume.clone()?,
-    )
+        outputs: &outputs,
+    };
+    make(rt, alloc, task)
 }

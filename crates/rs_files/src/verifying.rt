@@ -1,70 +1,53 @@
 //! `verify`: looks for damage.
-use crate::counted::Counted;
-use crate::failure::{Failure, Result};
-use crate::json::{add, add_text, entries_of, object_of};
-use crate::names::{Name, Shown, folder_to_open, parent_of};
-use crate::scanner::State;
-use crate::scanning::{Counts, Scan, ScannedVolume, scan_request};
-use crate::searching::find_elsewhere;
+use crate::checked::Checked;
+use crate::json::{add, add_text};
+use crate::log::Log;
+use crate::looking::{Look, folder_of, look_for, open_request};
+use crate::quick::{verify_named, verify_quick};
 use crate::settings::{Request, STATUS_DAMAGED, STATUS_LOST, STATUS_WHOLE};
+use rs_file_sets::scanning::{Counts, Scan, ScannedVolume};
+use rs_folders::counted::Counted;
+use rs_folders::failure::Result;
+use rs_folders::names::Shown;
 use rs_volumes::description::Version;
 use serde_json::{Map, Value};
 use std::alloc::{AllocError, Global};
 use std::io;
 use std::rt::Runtime;
 
-/// Returns the folder of the files: the folder after `--folder`, or else the folder of the first volume.
-///
-/// # Errors
-///
-/// Fails if neither a folder nor a volume is named.
-pub fn folder_of(request: &Request) -> Result<&str> {
-    if let Some(folder) = &request.folder {
-        return Ok(folder.as_str());
-    }
-    match request.paths.first() {
-        Some(path) => Ok(folder_to_open(parent_of(path.as_str()))),
-        None => Err(Failure::of("no volume is given")),
-    }
-}
-
-/// Returns the exit status for a scan: `STATUS_LOST` if more blocks are lost than recovery blocks are left,
-/// `STATUS_WHOLE` if all recovery blocks and all volumes are whole, and all files are whole or the volumes hold them,
-/// and `STATUS_DAMAGED` otherwise.
-pub fn status_of(scan: &Scan, counts: Counts) -> u8 {
+// Returns the exit status for what was found: `STATUS_LOST` if an entry that the request is about cannot be restored,
+// or more blocks are lost than recovery blocks are left, `STATUS_WHOLE` if all is whole, and `STATUS_DAMAGED`
+// otherwise. All is whole if the entries are, or the volumes hold them. If the request is about all entries, all
+// recovery blocks and all volumes must be whole too.
+fn status_of(alloc: Global, found: &Look) -> Result<u8, AllocError> {
+    let (scan, counts) = (&found.scan, found.scan.counts());
     let are_held = counts.lost == 0 && scan.is_spread();
-    if counts.lost > counts.recovery {
+    let are_files_whole = found.has_whole_files() || are_held;
+    let is_more_whole = counts.recovery == counts.recovery_count && scan.has_whole_volumes();
+    let is_lost = if found.has_all() {
+        counts.lost > counts.recovery
+    } else {
+        let restorable = scan.restorable(alloc)?;
+        let mut numbered = restorable.iter().enumerate();
+        numbered.any(|(index, can)| !can && found.is_broken(index))
+    };
+    Ok(if is_lost {
         STATUS_LOST
-    } else if (scan.has_whole_files() || are_held)
-        && counts.recovery == counts.recovery_count
-        && scan.has_whole_volumes()
-    {
+    } else if are_files_whole && (is_more_whole || !found.has_all()) {
         STATUS_WHOLE
     } else {
         STATUS_DAMAGED
-    }
+    })
 }
 
-// Returns the word for the state of an entry.
-fn word_of(state: State) -> &'static str {
-    match state {
-        State::Whole => "whole",
-        State::Damaged => "damaged",
-        State::Missing => "missing",
+// Returns the states of the entries.
+fn checked(found: &Look) -> Checked<'_> {
+    Checked {
+        entries: found.scan.description().entries.as_slice(),
+        states: found.scan.states.as_slice(),
+        chosen: found.chosen.as_slice(),
+        words: ["whole", "damaged", "missing"],
     }
-}
-
-// Prints which entries are damaged or missing.
-fn tell_files<R: Print>(rt: &R, scan: &Scan) -> io::Result<()> {
-    let entries = scan.description().entries.as_slice();
-    for (entry, state) in entries.iter().zip(scan.states.as_slice()) {
-        if *state != State::Whole {
-            let word = word_of(*state);
-            let name = Name(entry.name.as_slice());
-            println!(rt; "{word}: {name}")?;
-        }
-    }
-    Ok(())
 }
 
 /// Prints which volumes are damaged, and how many of their blocks.
@@ -98,17 +81,20 @@ fn tell_volume<R: Print>(rt: &R, volume: &ScannedVolume) -> io::Result<()> {
 }
 
 // Prints whether the files can be restored, or what to do about damaged volumes.
-fn tell_blocks<R: Print>(rt: &R, scan: &Scan, counts: Counts) -> io::Result<()> {
+fn tell_blocks<R: Print>(rt: &R, found: &Look, counts: Counts) -> io::Result<()> {
+    let scan = &found.scan;
     let whole = counts.recovery;
     let damaged = counts.recovery_count.saturating_sub(whole);
     let recovery = Counted(counts.recovery_count as u64, "recovery block");
     let advice = match scan.description().version {
         Version::First => "make the volume again with update",
-        Version::Second => "repair writes damaged volumes anew",
+        Version::Second => "repair writes damaged volumes again",
     };
-    if !scan.has_whole_files() {
+    if !found.has_whole_files() {
         let lost = Counted(counts.lost as u64, "lost block");
         println!(rt; "{lost}, and {whole} of {recovery} left: the files can be repaired")
+    } else if !found.has_all() {
+        println!(rt; "the files after --only are whole")
     } else if damaged > 0 {
         println!(rt; "all files are whole, but {damaged} of {recovery} cannot be used: {advice}")
     } else if !scan.has_whole_volumes() {
@@ -127,17 +113,17 @@ fn tell_spread<R: Print>(rt: &R, scan: &Scan, counts: Counts) -> io::Result<()> 
     let damaged = r.saturating_sub(left);
     if lost > 0 || damaged > 0 {
         println!(rt;
-            "{lost} of {k} original blocks and {damaged} of {r} recovery blocks are not in these volumes: join can restore the files"
+            "{lost} of {k} original blocks and {damaged} of {r} recovery blocks are not in these volumes: restore can still make all files"
         )
     } else if !scan.has_whole_volumes() {
         println!(rt;
-            "a volume is damaged or cannot be read, but all blocks are in these volumes: restore the files with join, and make the volumes again with split"
+            "a volume is damaged or cannot be read, but all blocks are in these volumes: get the files with restore, and make the volumes again with split"
         )
     } else {
         let blocks = Counted(u64::from(k), "original block");
         let recovery = Counted(r as u64, "recovery block");
         println!(rt;
-            "all volumes are whole, with {blocks} and {recovery}: join restores the files from them"
+            "all volumes are whole, with {blocks} and {recovery}: restore makes the files from them"
         )
     }
 }
@@ -157,62 +143,56 @@ pub fn tell_lost<R: Eprint>(rt: &R, counts: Counts) -> io::Result<()> {
     )
 }
 
-// Prints which folder was searched, if none of the files of the set was found there.
-fn tell_folder<R: Print>(rt: &R, scan: &Scan, folder: &str) -> io::Result<()> {
-    if scan.states.is_empty() || scan.has_files() {
-        return Ok(());
-    }
-    let folder = Shown(folder);
-    println!(rt;
-        "no file was found in {folder}: if the files are in another folder, name it with --folder"
-    )
-}
-
-/// Prints which files and volumes are damaged or missing, and what can be done, unless only errors are printed. If the
-/// files cannot be restored, this is an error, which is always printed.
+/// Prints which files and volumes are damaged or missing, and what can be done, if lines are printed. If the files
+/// cannot be restored, this is an error, which is printed without `--json`. `folder` is the folder in which the files
+/// were looked for.
 ///
 /// # Errors
 ///
 /// Fails if the result cannot be printed.
 pub fn report<R: Print + Eprint>(
     rt: &R,
-    request: &Request,
-    scan: &Scan,
-    counts: Counts,
+    found: &Look,
     folder: &str,
+    log: &Log,
+    status: u8,
 ) -> io::Result<()> {
-    if !request.quiet {
-        tell_found(rt, scan, folder)?;
+    let (scan, counts) = (&found.scan, found.scan.counts());
+    if log.is_kept() {
+        return Ok(());
     }
-    if counts.lost > counts.recovery {
+    if log.is_told() {
+        // Nobody expects the files of volumes of `split` to be there.
+        if !scan.is_spread() {
+            checked(found).tell(rt, folder)?;
+        }
+        if found.has_all() {
+            tell_volumes(rt, scan)?;
+        }
+    }
+    if status == STATUS_LOST {
         tell_lost(rt, counts)
-    } else if request.quiet {
+    } else if !log.is_told() {
         Ok(())
     } else if scan.is_spread() {
         tell_spread(rt, scan, counts)
     } else {
-        tell_blocks(rt, scan, counts)
+        tell_blocks(rt, found, counts)
     }
 }
 
-// Prints which files and volumes are damaged or missing. If the volumes are those of `split`, nobody expects the files
-// to be there.
-fn tell_found<R: Print>(rt: &R, scan: &Scan, folder: &str) -> io::Result<()> {
-    if scan.is_spread() {
-        return tell_volumes(rt, scan);
-    }
-    tell_files(rt, scan)?;
-    tell_volumes(rt, scan)?;
-    tell_folder(rt, scan, folder)
-}
-
-// Returns the words for the states of the files.
-fn words_of(alloc: Global, scan: &Scan) -> Result<Vec<&'static str>, AllocError> {
-    let mut words = Vec::new(alloc);
-    for state in &scan.states {
-        words.push(word_of(*state))?;
-    }
-    Ok(words)
+/// Adds the numbers of blocks that were found to a log.
+///
+/// # Errors
+///
+/// [`AllocError`] if memory cannot be allocated.
+pub fn add_counts(log: &mut Log, scan: &Scan) -> Result<(), AllocError> {
+    let counts = scan.counts();
+    log.set_numbers(&[
+        ("lost_blocks", counts.lost as u64),
+        ("recovery_blocks", counts.recovery_count as u64),
+        ("whole_recovery_blocks", counts.recovery as u64),
+    ])
 }
 
 // Returns the name of a volume and a word for its state as JSON.
@@ -257,52 +237,37 @@ fn add_unreadable(alloc: Global, scan: &Scan, volumes: &mut Vec<Value>) -> Resul
     Ok(())
 }
 
-// Prints the result of a scan as JSON.
-fn tell_json<R: Print>(rt: &R, alloc: Global, scan: &Scan, counts: Counts) -> Result<()> {
-    let text = result_json(alloc, scan, counts)?;
-    Ok(println!(rt; "{text}")?)
-}
-
-// Returns the result of a scan as the text of a JSON object.
-fn result_json(alloc: Global, scan: &Scan, counts: Counts) -> Result<String, AllocError> {
-    let numbers = [
-        ("status", u64::from(status_of(scan, counts))),
-        ("lost_blocks", counts.lost as u64),
-        ("recovery_blocks", counts.recovery_count as u64),
-        ("whole_recovery_blocks", counts.recovery as u64),
-    ];
-    let words = words_of(alloc, scan)?;
-    let entries = scan.description().entries.as_slice();
-    let files = entries_of(alloc, entries, words.as_slice())?;
-    let mut object = object_of(alloc, &numbers)?;
-    add(alloc, &mut object, "files", files)?;
-    add(alloc, &mut object, "volumes", volumes_json(alloc, scan)?)?;
-    Value::Object(object).to_string(alloc)
-}
-
 /// Runs `verify`: looks for damage in the files of a set and in its volumes. Returns the exit status.
 ///
 /// # Errors
 ///
 /// In this order, fails if:
 ///
-/// - no volume is named,
+/// - no volume is named, or a folder of the request is not there,
 /// - no volume can be read, or volumes belong to different sets,
+/// - a name after `--only` is not in the set,
 /// - the result cannot be printed.
 ///
 /// Every step fails if memory cannot be allocated.
 pub fn verify<R: Runtime>(rt: &R, alloc: Global, request: &Request) -> Result<u8> {
     let folder = folder_of(request)?;
-    let mut found = scan_request(rt, alloc, request, Some(folder))?;
-    let elsewhere = find_elsewhere(rt, alloc, request, folder, &mut found)?;
-    let counts = found.counts();
-    if request.json {
-        tell_json(rt, alloc, &found, counts)?;
-    } else {
-        if !request.quiet {
-            elsewhere.tell(rt, &found)?;
-        }
-        report(rt, request, &found, counts, folder)?;
+    let volumes = open_request(rt, alloc, request)?;
+    let set = &volumes.set.description;
+    if request.quick {
+        return verify_quick(rt, alloc, request, set, folder);
     }
-    Ok(status_of(&found, counts))
+    if let Some(status) = verify_named(rt, alloc, request, set, folder)? {
+        return Ok(status);
+    }
+    let found = look_for(rt, alloc, request, volumes, Some(folder))?;
+    let mut log = Log::new(alloc, request, &["moved"])?;
+    found.tell_moved(rt, &mut log)?;
+    let status = status_of(alloc, &found)?;
+    report(rt, &found, folder, &log, status)?;
+    if log.is_kept() {
+        add_counts(&mut log, &found.scan)?;
+        log.set("files", checked(&found).json(alloc)?)?;
+        log.set("volumes", volumes_json(alloc, &found.scan)?)?;
+    }
+    log.end(rt, status)
 }

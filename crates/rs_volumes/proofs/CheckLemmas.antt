@@ -116,10 +116,6 @@ pub known_past : (fields : List Field) (i : ℕ) → length fields ≤ i → kno
 unfolding known_fields
 known_past fields i h = rw (drop_all i fields h) refl
 
-pub bytes_past : (fields : List Field) (i : ℕ) → length fields ≤ i
-    → length (flat_map field_spelling (fields_of (drop i fields))) ≡ 0
-bytes_past fields i h = rw (drop_all i fields h) refl
-
 -- A field is not longer than all fields.
 bytes_of_each : (fs : List Field) (k : ℕ) (d : Field) → k < length fs
     → length (get_or fs k d).bytes.items ≤ length (flat_map field_spelling (fields_of fs))

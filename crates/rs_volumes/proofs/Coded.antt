@@ -11,7 +11,7 @@ use Rattle.rs_field.specs.code.Given.{Shards}
 use Rattle.rs_field.specs.code.OneCall.{default_of}
 use Rattle.rs_field.specs.code.Pieces.{IsStrip}
 use Rattle.rs_field.specs.code.RoundTrip.{AreCoded}
-use Rattle.rs_field.proofs.of_code.SupportedCounts.{default_fits}
+use Rattle.rs_field.proofs.code_lemmas.SupportedCounts.{default_fits}
 use Rattle.reed_solomon_simd.proofs.StateLemmas.{valid-supported}
 
 -- what one call codes has the size of its pieces

@@ -13,7 +13,7 @@ use Rattle.rs_field.specs.code.Column.{Shard, AreShards, shard_at}
 use Rattle.rs_field.specs.code.Given.{Shards}
 use Rattle.rs_field.specs.code.OneCall.{default_of}
 use Rattle.rs_field.specs.code.Pieces.{IsStrip}
-use Rattle.rs_field.proofs.of_code.Pieces.{strips-join}
+use Rattle.rs_field.proofs.code_lemmas.Pieces.{strips-join}
 use Rattle.rs_volumes.specs.declared.coding_error.CodingError.{CodingError}
 use Rattle.rs_volumes.specs.declared.coding_error.CodingError.TheVariants as errors
 use Rattle.rs_volumes.specs.declared.creating.Shape.{Shape}

@@ -57,10 +57,6 @@ pub round_up_least : (unit at : ℕ) → 0 < unit → at ≤ round_up unit at
 unfolding round_up
 round_up_least unit at some = blocks_hold unit at some
 
-pub round_up_below : (unit at : ℕ) → 0 < unit → round_up unit at < at + unit
-unfolding round_up
-round_up_below unit at some = let h = blocks_needed unit at some in omega (arith, h, some)
-
 -- ---- the end of files
 
 -- A file without bytes takes no room.

@@ -1,5 +1,5 @@
 -- The order of names, and why no name of an accepted list is a folder of another one.
-use Rattle.std.proofs.Common.{rules, ◌≡◌, ◌≢◌, ℕ, zero, suc, ◌<◌, Bool, true, false, not, cond, eqb, List, []}
+use Rattle.std.proofs.Common.{◌≡◌, ◌≢◌, ℕ, zero, suc, ◌<◌, Bool, true, false, not, cond, eqb, List, []}
 use Rattle.std.proofs.Common.{◌∷◌, length, get_or, Result, Ok, Err, refl, sym, ap, subst, ◌∙◌, arith, ◌⊎◌, inl, inr}
 use Rattle.std.proofs.lemmas.Bool.{lt-ltb, ltb-true, eq-eqb, ne_eqb, eqb-true}
 use Rattle.std.specs.Prelude.{OnOk}
@@ -13,11 +13,6 @@ use Rattle.rs_volumes.proofs.Fields.{bind_ok, guard_ok}
 by_cases : (b : Bool) → (b ≡ true) ⊎ (b ≡ false)
 by_cases true = inl refl
 by_cases false = inr refl
-
--- Two bytes of the same rank are the same.
-rank_same : (x y : ℕ) → rank x ≡ rank y → x ≡ y
-unfolding rank
-rank_same x y e = search rules
 
 no_empty : (a : List ℕ) → is_before a [] ≡ true → ⊥
 unfolding is_before

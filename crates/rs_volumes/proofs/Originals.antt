@@ -21,8 +21,8 @@ use Rattle.rs_field.specs.code.Outcome.{result_and_then}
 use Rattle.rs_field.specs.code.Pieces.{pieces, IsStrip}
 use Rattle.rs_field.specs.code.Frame.{decoder_rows}
 use Rattle.rs_field.specs.code.RoundTrip.{AreCoded, AreLeft, lost_of}
-use Rattle.rs_field.proofs.of_code.OneRoundTrip.{restores_in_one_call}
-use Rattle.rs_field.proofs.of_code.PieceStates.{shard_at-pieces, shards-cut, recovery-cut}
+use Rattle.rs_field.proofs.code_lemmas.OneRoundTrip.{restores_in_one_call}
+use Rattle.rs_field.proofs.code_lemmas.PieceStates.{shard_at-pieces, shards-cut, recovery-cut}
 use Rattle.reed_solomon_simd.proofs.SetUp.{started-parts}
 use Rattle.rs_volumes.specs.declared.creating.Shape.{Shape}
 use Rattle.rs_volumes.specs.declared.restoring.Plan.{Plan}

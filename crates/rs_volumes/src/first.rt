@@ -1,5 +1,5 @@
 //! Version 1 of the format of volumes, which is only read.
-ghost use Rattle.std.specs.Prelude.{◌≡◌, ◌<◌, ◌^◌, ◌==◌, [], All, IfOk, OnOk, Ok, length};
+ghost use Rattle.std.specs.Prelude.{◌≡◌, ◌<◌, ◌^◌, ◌==◌, [], All, IfOk, OnOk, Ok};
 ghost use Rattle.std.specs.Str.{is_utf8};
 ghost use Rattle.rs_volumes.specs.Description.{FileSet, entry_of, entries_of, set_of};
 ghost use Rattle.rs_volumes.specs.Heads.{VolumeHead, HeadFits, head_of, head_spelling, head_in};

@@ -1,5 +1,5 @@
 //! Whether a name is allowed, and the order of names.
-ghost use Rattle.std.specs.Prelude.{◌≡◌, [], true, false};
+ghost use Rattle.std.specs.Prelude.{◌≡◌, [], false};
 ghost use Rattle.rs_volumes.specs.Names.{is_part, has_parts, rank, is_before, is_folder_of};
 
 // Returns whether a part of a name is allowed between two slashes: it is not empty, `.` or `..`.

@@ -1,5 +1,5 @@
 //! The head of a record in a volume of version 2: 64 bytes.
-ghost use Rattle.std.specs.Prelude.{◌≡◌, ◌++◌, IfOk, OnOk, Ok, length, take};
+ghost use Rattle.std.specs.Prelude.{◌≡◌, ◌++◌, IfOk, OnOk, Ok, length};
 ghost use Rattle.rs_volumes.specs.Reading.{Reads};
 ghost use Rattle.rs_volumes.specs.Records.{Head, HeadFits, head_of, front_spelling, head_spelling, front_in};
 ghost use Rattle.rs_volumes.specs.Records.{check_of, head_in};

@@ -1,6 +1,6 @@
 //! Writes a description as bytes, in version 2.
 ghost use Rattle.std.specs.Prelude.{◌≡◌, ◌<◌, ◌^◌, ◌++◌, length, All, OnOk, IfOk};
-ghost use Rattle.std.specs.Int.{w16, w32, w64, to_le_bytes};
+ghost use Rattle.std.specs.Int.{to_le_bytes};
 ghost use Rattle.std.specs.List.{flat_map};
 ghost use Rattle.rs_volumes.specs.Description.{entry_of, entries_of, field_of, fields_of, set_of, kind_number};
 ghost use Rattle.rs_volumes.specs.Description.{entry_spelling, entry_numbers, name_spelling, field_spelling};

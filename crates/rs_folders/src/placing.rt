@@ -1,8 +1,9 @@
 //! Where restored entries may be written, and how they get their attributes and their final names.
 use crate::failure::{Failure, Result, warn};
-use crate::identity::{Identity, exists, identity_at, is_one_of, open_found};
-use crate::names::{Name, path_in, text_of};
-use crate::output::{Part, at_path, free_path, make_parent, sync_folder};
+use crate::folders::Folders;
+use crate::identity::{Identity, exists, identity_at, is_one_of, open_found, replaced};
+use crate::names::{Name, PART, path_in, text_of};
+use crate::output::{Part, at_path, free_path};
 use rs_volumes::description::{Description, Entry, Kind};
 use std::alloc::Global;
 use std::fs::{FileTimes, Metadata, OpenFile, OpenOptions, Permissions};
@@ -25,8 +26,6 @@ pub struct Goal<'a> {
     pub in_place: bool,
     /// Whether files that exist are overwritten, if the entries were not searched in this folder.
     pub force: bool,
-    /// Whether only errors are printed.
-    pub quiet: bool,
     /// The description of the set.
     pub set: &'a Description,
 }
@@ -212,6 +211,7 @@ pub fn make_link<R: Files + Eprint>(
     target: &Target<'_>,
     goal: Goal<'_>,
     inputs: &[Identity],
+    folders: &mut Folders,
 ) -> Result<Option<String>> {
     let path = target.path.as_str();
     let Some(text) = text_of(target.entry.target.as_slice()) else {
@@ -219,20 +219,34 @@ pub fn make_link<R: Files + Eprint>(
             "the target of this symbolic link is not UTF-8: this program cannot restore it";
         return Err(Failure::at(alloc, path, reason));
     };
-    make_parent(rt, alloc, path)?;
-    let part = free_path(rt, alloc, goal.folder, target.name, "part", Some(goal.set))?;
+    folders.make_parent(rt, alloc, path)?;
+    let part = free_path(rt, alloc, goal.folder, target.name, PART, Some(goal.set))?;
     at_path(alloc, path, symlink(rt, text, part.as_str()))?;
+    let own = identity_at(rt, part.as_str());
     let outcome = match make_room(rt, alloc, target, goal, inputs) {
         Ok(kept) => {
-            let named = at_path(alloc, path, fs::rename(rt, part.as_str(), path));
-            settle(rt, path, named, kept)
+            let named = at_path(alloc, path, rename_link(rt, part.as_str(), path, own));
+            settle(rt, alloc, path, named, kept, folders)
         }
         Err(failure) => Err(failure),
     };
-    if outcome.is_err() && is_link(rt, part.as_str()) {
+    if outcome.is_err() && own.is_some() && identity_at(rt, part.as_str()) == own {
         let _ = fs::remove_file(rt, part.as_str());
     }
     outcome
+}
+
+// Renames a symbolic link. `own` is the identity that it had when it was made.
+fn rename_link<R: Files>(rt: &R, part: &str, path: &str, own: Option<Identity>) -> io::Result<()> {
+    if own.is_none() || identity_at(rt, part) != own {
+        return Err(replaced());
+    }
+    fs::rename(rt, part, path)?;
+    if identity_at(rt, path) == own {
+        Ok(())
+    } else {
+        Err(replaced())
+    }
 }
 
 /// Makes a folder, and gives it its permission bits and its time. Returns the path of the damaged file that was kept.
@@ -246,12 +260,13 @@ pub fn make_folder<R: Files + Eprint>(
     target: &Target<'_>,
     goal: Goal<'_>,
     inputs: &[Identity],
+    folders: &mut Folders,
 ) -> Result<Option<String>> {
     let path = target.path.as_str();
-    make_parent(rt, alloc, path)?;
+    folders.make_parent(rt, alloc, path)?;
     let kept = make_room(rt, alloc, target, goal, inputs)?;
     let named = at_path(alloc, path, fs::create_dir_all(rt, path));
-    let kept = settle(rt, path, named, kept)?;
+    let kept = settle(rt, alloc, path, named, kept, folders)?;
     let found = at_path(alloc, path, fs::symlink_metadata(rt, path))?;
     let (mode, time) = at_path(alloc, path, folder_set(rt, path, &found, target.entry))?;
     warn_unset(rt, path, "its permission bits", mode);
@@ -294,21 +309,23 @@ pub fn make_room<R: Files>(
     }
 }
 
-/// Syncs the folder of a restored entry that has got its name, and returns the path of the damaged file that was kept.
-/// If the entry could not get its name, the damaged file has only its own name again.
+/// Notes that the folder of a restored entry that has got its name must be synced, and returns the path of the damaged
+/// file that was kept. If the entry could not get its name, the damaged file has only its own name again.
 ///
 /// # Errors
 ///
 /// Fails if the entry could not get its name.
 pub fn settle<R: Files + Eprint>(
     rt: &R,
+    alloc: Global,
     path: &str,
     named: Result<()>,
     kept: Option<String>,
+    folders: &mut Folders,
 ) -> Result<Option<String>> {
     match (named, kept) {
         (Ok(()), kept) => {
-            sync_folder(rt, path);
+            folders.note(rt, alloc, path);
             Ok(kept)
         }
         (Err(failure), Some(kept)) => {

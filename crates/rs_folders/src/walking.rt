@@ -2,7 +2,10 @@
 use crate::counted::Counted;
 use crate::failure::{Failure, Result, warn};
 use crate::identity::{Identity, identities, identity_of, is_one_of};
-use crate::names::{folder_to_open, last_of, order_of, parent_of, path_in, text_of, trimmed};
+use crate::leftovers::LEFT_PART;
+use crate::names::{
+    folder_to_open, is_part, last_of, order_of, parent_of, path_in, text_of, trimmed,
+};
 use crate::output::at_path;
 use rs_volumes::checking::is_name;
 use rs_volumes::description::{Entry, Kind};
@@ -24,6 +27,17 @@ pub struct Found {
     pub linked: Vec<bool>,
     /// Whether names, or targets of symbolic links, that are not UTF-8 were left out.
     pub has_left_out: bool,
+    /// What else was left out.
+    pub left_out: Vec<LeftOut>,
+}
+
+/// Something that was found and is not part of the set.
+#[derive(Drop)]
+pub struct LeftOut {
+    /// Its path.
+    pub path: String,
+    /// Why it is not part of the set.
+    pub reason: &'static str,
 }
 
 // An entry of the set.
@@ -67,7 +81,8 @@ fn folder_of(path: &str) -> &str {
 ///
 /// The files at `outputs` are old volumes, which new volumes replace. Below a path, they are left out. Names, and
 /// targets of symbolic links, that are not UTF-8 are left out as well, because this program cannot use them. For each
-/// folder with such names, and for each such link, the function prints a message.
+/// folder with such names, and for each such link, the function prints a message. Files below a path that a run of this
+/// program has not finished are left out too.
 ///
 /// # Errors
 ///
@@ -91,6 +106,7 @@ pub fn find<R: Files + Eprint + Alloc + Clone + Drop>(
         waiting: Vec::new(alloc),
         found: Vec::new(alloc),
         has_left_out: false,
+        left_out: Vec::new(alloc),
     };
     for path in paths {
         walk.add_path(folder, trimmed(path.as_str()))?;
@@ -98,6 +114,7 @@ pub fn find<R: Files + Eprint + Alloc + Clone + Drop>(
     let FolderWalk {
         mut found,
         has_left_out,
+        left_out,
         ..
     } = walk;
     if found.is_empty() {
@@ -116,6 +133,7 @@ pub fn find<R: Files + Eprint + Alloc + Clone + Drop>(
         entries,
         linked,
         has_left_out,
+        left_out,
     })
 }
 
@@ -161,6 +179,8 @@ struct FolderWalk<'a, R: Files + Eprint + Alloc + Clone + Drop> {
     found: Vec<FoundEntry>,
     // Whether something was left out because it is not UTF-8.
     has_left_out: bool,
+    // What else was left out.
+    left_out: Vec<LeftOut>,
 }
 
 impl<'a, R: Files + Eprint + Alloc + Clone + Drop> FolderWalk<'a, R> {
@@ -189,7 +209,8 @@ impl<'a, R: Files + Eprint + Alloc + Clone + Drop> FolderWalk<'a, R> {
         Ok(())
     }
 
-    // Visits a path: adds a file or a symbolic link, or lists a folder. Other things, as pipes, are left out.
+    // Visits a path: adds a file or a symbolic link, or lists a folder. Old volumes and other things, as pipes, are
+    // left out. So are files that a run of this program has not finished, unless they are named.
     fn visit(&mut self, next: &Waiting) -> Result<()> {
         let path = next.path.as_str();
         let found = at_path(self.alloc, path, fs::symlink_metadata(self.rt, path))?;
@@ -201,14 +222,27 @@ impl<'a, R: Files + Eprint + Alloc + Clone + Drop> FolderWalk<'a, R> {
         };
         if metadata.is_dir() {
             self.list(next, &metadata)
+        } else if !next.is_named && is_part(last_of(path)) {
+            self.leave_out(path, LEFT_PART)
         } else if metadata.is_symlink() {
             self.add_link(next, &metadata)
-        } else if metadata.is_file() && !is_one_of(self.rt, path, self.written.as_slice()) {
+        } else if !metadata.is_file() {
+            self.leave_out(path, "this is a pipe, a socket or a device")
+        } else if is_one_of(self.rt, path, self.written.as_slice()) {
+            self.leave_out(path, "this is a volume that is replaced")
+        } else {
             let entry = self.entry(next, Kind::File, &metadata)?;
             self.add(path, entry, is_linked)
-        } else {
-            Ok(())
         }
+    }
+
+    // Notes that something is not part of the set.
+    fn leave_out(&mut self, path: &str, reason: &'static str) -> Result<()> {
+        self.left_out.push(LeftOut {
+            path: String::from_str(self.alloc, path)?,
+            reason,
+        })?;
+        Ok(())
     }
 
     // Returns an entry with this metadata, which has no target and no digest yet.

@@ -1,5 +1,5 @@
 //! Walks the records of a volume of version 2.
-use crate::source::read_at;
+use rs_folders::source::read_at;
 use rs_volumes::record::{MAGIC, RECORD_HEAD_BYTES, RecordHead, read_record_head};
 use std::alloc::{AllocError, Global};
 use std::io;
@@ -69,22 +69,6 @@ fn find_head(bytes: &[u8]) -> Option<(usize, RecordHead)> {
         }
     }
     None
-}
-
-/// Returns whether a record ends at the end of bytes.
-pub fn ends_record(bytes: &[u8]) -> bool {
-    for (index, byte) in bytes.iter().enumerate() {
-        let rest = bytes.get(index..).unwrap_or(&[]);
-        if *byte == MAGIC[0] {
-            if let Some(head) = head_of(rest) {
-                let body = rest.len().saturating_sub(RECORD_HEAD_BYTES);
-                if head.body_bytes == body as u64 {
-                    return true;
-                }
-            }
-        }
-    }
-    false
 }
 
 // Reads bytes until the buffer is full, the file ends, or a read fails. Returns the number of bytes, and the error.

@@ -1,8 +1,7 @@
 //! Chooses the block size of a set, its numbers of blocks, and the size of the pieces that are coded at a time.
-ghost use Rattle.std.specs.Prelude.{◌≡◌, ◌<◌, ◌≤◌, ◌^◌, ◌%◌, IfSome};
+ghost use Rattle.std.specs.Prelude.{◌≡◌, ◌<◌, ◌≤◌, ◌^◌, ◌%◌};
 
-use crate::failure::{Failure, Result};
-use crate::settings::Recovery;
+use rs_folders::failure::{Failure, Result};
 use rs_volumes::checking::{allows_block, allows_counts};
 use rs_volumes::creating::Shape;
 use rs_volumes::description::Description;
@@ -18,6 +17,23 @@ const PAGE: u64 = 4096;
 
 /// The number of these multiples in the largest block, which has 2^40 bytes.
 const MOST_PAGES: u64 = 1 << 28;
+
+/// The number of recovery blocks that the user wants.
+#[derive(Clone, Copy)]
+pub enum Recovery {
+    /// A percentage of the number of original blocks.
+    Percent(u32),
+    /// This number of blocks.
+    Count(u32),
+    /// The smallest number with which any `lose` of `volumes` volumes may be lost, if the blocks are dealt to the
+    /// volumes in turn.
+    Spread {
+        /// The number of volumes.
+        volumes: u32,
+        /// How many of them may be lost.
+        lose: u32,
+    },
+}
 
 /// The block size of a set and its numbers of blocks.
 #[derive(Clone, Copy)]

@@ -36,6 +36,11 @@ impl Kinds {
         }
     }
 
+    /// Returns whether there are no entries.
+    pub fn is_empty(&self) -> bool {
+        self.files == 0 && self.links == 0 && self.folders == 0
+    }
+
     /// Counts an entry of this kind.
     pub fn add(&mut self, kind: Kind) {
         let number = match kind {
@@ -50,7 +55,7 @@ impl Kinds {
 impl fmt::Display for Kinds {
     fn fmt<W: fmt::Write>(&self, f: &mut fmt::Formatter<W>) -> fmt::Result {
         let mut separator = "";
-        if self.files > 0 || self.links == 0 && self.folders == 0 {
+        if self.files > 0 || self.is_empty() {
             write!(f, "{}", Counted(self.files, "file"))?;
             separator = ", ";
         }

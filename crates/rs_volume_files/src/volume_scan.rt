@@ -1,13 +1,13 @@
 //! Looks for the blocks of a set in its volumes, and finds what is damaged there.
 use crate::assembly::Set;
-use crate::failure::Result;
 use crate::first::{Records, block_in, record_at};
 use crate::layout::{Deal, LINE_BYTES, Layout, first_line};
 use crate::records::{Record, Walk};
-use crate::runs::{is_padded, places_in};
 use crate::scanner::Scanner;
-use crate::source::{Origin, read_at};
 use crate::volume::{Form, open_sized, part_in};
+use rs_folders::failure::Result;
+use rs_folders::runs::{is_padded, places_in};
+use rs_folders::source::{Origin, read_at};
 use rs_volumes::digest::is_digest;
 use rs_volumes::placement::Place;
 use rs_volumes::record::{BLOCK, PART};

@@ -1,9 +1,9 @@
 //! What a scan of the files and volumes of a set has found so far.
-use crate::counted::Counted;
-use crate::failure::warn;
-use crate::hashing::CHUNK;
-use crate::progress::Progress;
-use crate::source::Origin;
+use rs_folders::counted::Counted;
+use rs_folders::failure::warn;
+use rs_folders::hashing::CHUNK;
+use rs_folders::progress::Progress;
+use rs_folders::source::Origin;
 use rs_volumes::description::Description;
 use std::alloc::{AllocError, Global};
 use std::io;

@@ -1,15 +1,15 @@
 //! Opens volumes, and finds their set.
 use crate::assembly::{Assembly, LARGEST_PART, Part, Set, read_part};
-use crate::failure::{Failure, Result};
 use crate::first;
 use crate::first::Records;
-use crate::identity::open_regular;
 use crate::layout::{LINE_BYTES, begins_volume};
-use crate::output::at_path;
-use crate::records::{Record, Walk, ends_record};
-use crate::source::read_at;
+use crate::records::{Record, Walk};
+use rs_folders::failure::{Failure, Result};
+use rs_folders::identity::open_regular;
+use rs_folders::output::at_path;
+use rs_folders::source::read_at;
 use rs_volumes::first::{HEAD_BYTES, MAGIC};
-use rs_volumes::record::{PART, RECORD_HEAD_BYTES};
+use rs_volumes::record::PART;
 use std::alloc::Global;
 use std::fs;
 use std::fs::OpenFile;
@@ -74,13 +74,12 @@ pub fn part_in<'a, F: Read + Seek + Drop>(
     Some(part)
 }
 
-/// The number of bytes at the end of a volume that hold a whole record: its last part of the description.
-const END_BYTES: u64 = RECORD_HEAD_BYTES as u64 + LARGEST_PART;
-
 // Looks for the set of volumes.
 #[derive(Drop)]
 struct Finder {
     alloc: Global,
+    // The number of bytes of memory that a description may take.
+    memory: u64,
     // The first set whose description is whole.
     set: Option<Set>,
     // The parts of descriptions that were found before.
@@ -93,11 +92,12 @@ struct Finder {
 
 impl Finder {
     // Returns a finder that has found nothing.
-    fn new(alloc: Global) -> Finder {
+    fn new(alloc: Global, memory: u64) -> Finder {
         Finder {
             alloc,
+            memory,
             set: None,
-            assembly: Assembly::new(alloc),
+            assembly: Assembly::new(alloc, memory),
             fault: None,
             body: Vec::new(alloc),
         }
@@ -113,14 +113,14 @@ impl Finder {
     // Looks for the set in a file. Returns how the blocks of the file are found. Fails if it is no volume.
     fn open<R: Files>(&mut self, rt: &R, path: &str) -> Result<Form> {
         let (mut file, size) = open_sized(rt, self.alloc, path)?;
-        if let Ok(volume) = first::open_front(&mut file, size, self.alloc) {
+        if let Ok(volume) = first::open_front(&mut file, size, self.alloc, self.memory) {
             return Ok(self.keep_first(volume));
         }
         let mut walk = Walk::new(self.alloc, file, size)?;
         if self.has_records(&mut walk) {
             return Ok(Form::Second);
         }
-        match first::open_damaged(&mut walk.file, size, self.alloc) {
+        match first::open_damaged(&mut walk.file, size, self.alloc, self.memory) {
             Ok(volume) => Ok(self.keep_first(volume)),
             Err(fault) => Err(no_volume(self.alloc, path, &fault)),
         }
@@ -173,13 +173,19 @@ fn no_volume(alloc: Global, path: &str, fault: &Failure) -> Failure {
     )
 }
 
-/// Opens one volume, and returns its set and how its blocks are found.
+/// Opens one volume, and returns its set and how its blocks are found. `memory` is the number of bytes of memory that
+/// its description may take, approximately.
 ///
 /// # Errors
 ///
 /// Fails if the volume cannot be read, or if memory cannot be allocated.
-pub fn open_volume<R: Files>(rt: &R, alloc: Global, path: &str) -> Result<(Set, Form)> {
-    let mut finder = Finder::new(alloc);
+pub fn open_volume<R: Files>(
+    rt: &R,
+    alloc: Global,
+    path: &str,
+    memory: u64,
+) -> Result<(Set, Form)> {
+    let mut finder = Finder::new(alloc, memory);
     let form = finder.open(rt, path)?;
     let Finder { set, fault, .. } = finder;
     match set {
@@ -197,14 +203,20 @@ fn fault_of(fault: Option<Failure>) -> Failure {
 }
 
 /// Opens volumes, and finds their set: that of the first description that is whole, in the order of the volumes and of
-/// their bytes. For each volume that cannot be read, the function prints a message.
+/// their bytes. For each volume that cannot be read, the function prints a message. `memory` is the number of bytes of
+/// memory that descriptions may take, approximately.
 ///
 /// # Errors
 ///
 /// Fails if no volume can be read, if a volume belongs to another set, if a message cannot be printed, or if memory
 /// cannot be allocated.
-pub fn open_volumes<R: Files + Eprint>(rt: &R, alloc: Global, paths: &[String]) -> Result<Volumes> {
-    let mut finder = Finder::new(alloc);
+pub fn open_volumes<R: Files + Eprint>(
+    rt: &R,
+    alloc: Global,
+    paths: &[String],
+    memory: u64,
+) -> Result<Volumes> {
+    let mut finder = Finder::new(alloc, memory);
     let mut read = Vec::new(alloc);
     let mut unreadable = Vec::new(alloc);
     for path in paths {
@@ -275,8 +287,9 @@ fn without_set<R: Eprint>(
     Failure::of("no volume can be read")
 }
 
-/// Returns whether a file is a volume, which may be damaged: a regular file that begins or ends as a volume of version
-/// 2, or has the magic number of version 1 in its first 8 bytes or in its last 64 bytes.
+/// Returns whether a file is a volume, which may be damaged: a regular file that begins as a volume of version 2, or at
+/// least half of whose bytes are in records, or a file of version 1 with a head at its beginning or its end, or whose
+/// description can be read without a head. An empty file also counts as one, because nothing is lost with it.
 ///
 /// # Errors
 ///
@@ -284,20 +297,30 @@ fn without_set<R: Eprint>(
 pub fn is_volume<R: Files>(rt: &R, alloc: Global, path: &str) -> Result<bool> {
     // A pipe is not opened: a program that opens a pipe waits until another one writes into it.
     let metadata = at_path(alloc, path, fs::metadata(rt, path))?;
-    if !metadata.is_file() || metadata.len() < HEAD_BYTES as u64 {
+    if !metadata.is_file() {
         return Ok(false);
     }
     let (mut file, size) = open_sized(rt, alloc, path)?;
     let mut front = [0u8; LINE_BYTES];
     let count = size.min(LINE_BYTES as u64) as usize;
     at_path(alloc, path, read_at(&mut file, 0, &mut front[..count]))?;
-    if begins_volume(&front) || front.starts_with(&MAGIC) {
+    let mut back = [0u8; HEAD_BYTES];
+    let count = size.min(HEAD_BYTES as u64) as usize;
+    let start = size - count as u64;
+    at_path(alloc, path, read_at(&mut file, start, &mut back[..count]))?;
+    if size == 0 || begins_volume(&front) || front.starts_with(&MAGIC) || back.starts_with(&MAGIC) {
         return Ok(true);
     }
-    let mut bytes = vec![in alloc; 0u8; END_BYTES.min(size) as usize]?;
-    let start = size.saturating_sub(END_BYTES);
-    at_path(alloc, path, read_at(&mut file, start, &mut bytes))?;
-    let last = bytes.len().saturating_sub(HEAD_BYTES);
-    let has_head = bytes.get(last..).unwrap_or(&[]).starts_with(&MAGIC);
-    Ok(has_head || ends_record(bytes.as_slice()))
+    let mut walk = Walk::new(alloc, file, size)?;
+    Ok(has_records(&mut walk) || first::open_damaged(&mut walk.file, size, alloc, u64::MAX).is_ok())
+}
+
+// Returns whether at least half of the bytes of a file are in records.
+fn has_records<F: Read + Seek + Drop>(walk: &mut Walk<F>) -> bool {
+    for _ in 0..u64::MAX {
+        if walk.next().is_none() {
+            break;
+        }
+    }
+    walk.gap <= walk.size / 2
 }

@@ -1,32 +1,34 @@
 //! Writes files that are restored from blocks.
 ghost use Rattle.rs_field.specs.code.Given.{nothing};
 
-use crate::failure::Result;
-use crate::folder::{piece_bytes, shape_of};
-use crate::output::Part;
-use crate::progress::Progress;
-use crate::runs::{Run, is_padded, places_in, places_of_piece, run_of};
+use crate::cutting::{piece_bytes, shape_of};
 use crate::scanning::Scan;
-use crate::source::{FileBlocks, Holders, failure_of};
 use crate::targets::Targets;
 use reed_solomon_simd::engine::tables::Tables;
 use reed_solomon_simd::engine::{DefaultEngine, EngineKind};
+use rs_folders::failure::Result;
+use rs_folders::hashing::{CHUNK, add_bytes, add_zeros, hash_at};
+use rs_folders::output::Part;
+use rs_folders::progress::Progress;
+use rs_folders::runs::{Run, is_padded, places_in, places_of_piece, run_of};
+use rs_folders::source::{FileBlocks, Holders, failure_of};
+use rs_volumes::coding_error::CodingError;
 use rs_volumes::description::{Description, Version};
+use rs_volumes::digest::is_digest;
 use rs_volumes::pieces::BlockSink;
 use rs_volumes::placement::Place;
 use rs_volumes::restoring::{Plan, restore};
+use sha2::{Digest, Sha256};
 use std::alloc::{AllocError, Global};
 use std::io;
-use std::io::ErrorKind;
+use std::io::{ErrorKind, Read, Seek, SeekFrom};
 use std::rt::{Clock, Files};
 
 /// The files that are being restored. This sink writes blocks into them.
 #[derive(Drop)]
-struct FileSink<'a, R: Files + Print + Eprint> {
+struct FileSink<'a, R: Files + Eprint> {
     rt: &'a R,
     alloc: Global,
-    /// Whether progress is shown.
-    shown: bool,
     /// The files that are restored.
     targets: &'a mut Targets<R>,
     /// Where the original blocks lie in the files.
@@ -37,13 +39,9 @@ struct FileSink<'a, R: Files + Print + Eprint> {
     unpadded: Vec<bool>,
 }
 
-impl<'a, R: Files + Print + Eprint> FileSink<'a, R> {
+impl<'a, R: Files + Eprint> FileSink<'a, R> {
     // Gives up a file that cannot be written. The other files can still be restored.
     fn give_up(&mut self, file: usize, error: io::Error) {
-        // The message begins on a line of its own.
-        if self.shown {
-            let _ = eprintln!(self.rt; "");
-        }
         self.targets.give_up(self.rt, self.alloc, file, error);
     }
 
@@ -69,7 +67,7 @@ impl<'a, R: Files + Print + Eprint> FileSink<'a, R> {
     }
 }
 
-impl<'a, R: Files + Print + Eprint> BlockSink for FileSink<'a, R> {
+impl<'a, R: Files + Eprint> BlockSink for FileSink<'a, R> {
     ghost written = { λ _. nothing };
 
     fn put(&mut self, index: usize, start: usize, piece: &[u8]) -> io::Result<()> {
@@ -170,15 +168,14 @@ fn recovery_blocks(
 }
 
 /// Writes the blocks of the files that have a part, and compares each block with its digest. If a block cannot be
-/// written into its file, the function gives up this file, prints the reason, and writes the other files.
+/// written into its file, or does not have its digest, the function gives up this file, and writes the other files.
 ///
 /// `memory` is the number of bytes that the function may use, approximately. `shown` says whether to show progress.
 ///
 /// # Errors
 ///
-/// Fails if a block cannot be read or restored, then if a block does not have its digest. Every step fails if memory
-/// cannot be allocated.
-pub fn write_blocks<R: Files + Clock + Print + Eprint>(
+/// Fails if a block cannot be read or restored, or if memory cannot be allocated.
+pub fn write_blocks<R: Files + Clock + Eprint>(
     rt: &R,
     alloc: Global,
     scan: &Scan,
@@ -201,26 +198,29 @@ pub fn write_blocks<R: Files + Clock + Print + Eprint>(
     let mut sink = FileSink {
         rt,
         alloc,
-        shown,
         targets,
         places: scan.places.as_slice(),
         is_padded: description.version == Version::Second,
         unpadded: vec![in alloc; false; plan.wanted.len()]?,
     };
-    restore_blocks(alloc, description, &plan, memory, &mut source, &mut sink)?;
+    let are_right = restore_blocks(alloc, description, &plan, memory, &mut source, &mut sink)?;
+    if !are_right {
+        give_up_wrong(rt, alloc, scan, sink.targets)?;
+    }
     sink.give_up_unpadded();
     Ok(())
 }
 
-// Restores the blocks of a plan: reads the blocks of a source, and writes blocks into the sink.
-fn restore_blocks<R: Files + Clock + Print + Eprint>(
+// Restores the blocks of a plan: reads the blocks of a source, and writes blocks into the sink. Returns whether all
+// blocks have their digests.
+fn restore_blocks<R: Files + Clock + Eprint>(
     alloc: Global,
     description: &Description,
     plan: &Plan,
     memory: u64,
     source: &mut FileBlocks<'_, R>,
     sink: &mut FileSink<'_, R>,
-) -> Result<()> {
+) -> Result<bool> {
     let tables = Tables::new(alloc)?;
     let engine = DefaultEngine::new(&tables, EngineKind::Ssse3);
     let shape = shape_of(description);
@@ -229,7 +229,85 @@ fn restore_blocks<R: Files + Clock + Print + Eprint>(
     let outcome = restore(alloc, shape, piece, engine, plan, digests, source, sink);
     source.end();
     match outcome {
-        Ok(()) => Ok(()),
+        Ok(()) => Ok(true),
+        // The error names the first such block. There can be more of them.
+        Err(CodingError::Digest(_)) => Ok(false),
         Err(error) => Err(failure_of(alloc, source.path_of(&error), "", error)),
     }
+}
+
+// Gives up the files with wrong bytes.
+fn give_up_wrong<R: Files + Eprint>(
+    rt: &R,
+    alloc: Global,
+    scan: &Scan,
+    targets: &mut Targets<R>,
+) -> Result<(), AllocError> {
+    let mut buffer = vec![in alloc; 0u8; CHUNK]?;
+    for file in 0..targets.parts.len() {
+        let checked = match targets.parts.get_mut(file) {
+            Some(Some(part)) => check_bytes(rt, scan, file, part, &mut buffer),
+            _ => Ok(()),
+        };
+        if let Err(error) = checked {
+            targets.give_up(rt, alloc, file, error);
+        }
+    }
+    Ok(())
+}
+
+// Fails if the part of a file cannot be read, or if its bytes are wrong.
+fn check_bytes<R: Files>(
+    rt: &R,
+    scan: &Scan,
+    file: usize,
+    part: &mut Part<R>,
+    buffer: &mut [u8],
+) -> io::Result<()> {
+    let is_right = has_digests(part.open(rt)?, scan, file, buffer)?;
+    part.close_again();
+    if is_right {
+        return Ok(());
+    }
+    let reason =
+        "its restored bytes do not have their digest: a file changed while it was read, or the volume is wrong";
+    Err(io::Error::new(ErrorKind::InvalidData, reason))
+}
+
+// Returns whether a file has the bytes that a set describes: its digest, or in a set of version 1 the digests of its
+// blocks.
+fn has_digests<F: Read + Seek>(
+    handle: &mut F,
+    scan: &Scan,
+    file: usize,
+    buffer: &mut [u8],
+) -> io::Result<bool> {
+    let description = scan.description();
+    if description.version == Version::Second {
+        return match description.entries.get(file) {
+            Some(entry) => Ok(hash_at(handle, 0, entry.size, buffer)? == entry.digest),
+            None => Ok(false),
+        };
+    }
+    let from = scan.places.partition_point(|place| place.file < file);
+    for place in scan.places.iter().skip(from) {
+        if place.file != file {
+            break;
+        }
+        let mut hasher = Sha256::new();
+        handle.seek(SeekFrom::Start(place.offset))?;
+        add_bytes(&mut hasher, handle, place.bytes, buffer)?;
+        add_zeros(
+            &mut hasher,
+            description.block_bytes.saturating_sub(place.bytes),
+        );
+        if !is_digest(
+            description.digests.as_slice(),
+            place.block,
+            &hasher.finalize(),
+        ) {
+            return Ok(false);
+        }
+    }
+    Ok(true)
 }

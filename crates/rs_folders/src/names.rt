@@ -100,7 +100,24 @@ pub fn last_of(path: &str) -> &str {
     }
 }
 
-/// Returns a path that is short enough for an ending of up to 20 bytes. If the last part of the path has more than 120
+/// The ending of the name of a file that is being written. No other program gives a file such a name, so a file that
+/// has it was left by a run of this program that was killed, unless another run is at work.
+pub const PART: &str = "rs_files.part";
+
+/// Returns whether a name is one that the program gives to a file while it is written: `NAME.rs_files.part`, or
+/// `NAME.rs_files.part2` and so on.
+pub fn is_part(name: &str) -> bool {
+    match name.rsplit_once(PART) {
+        Some((front, number)) => {
+            front.len() > 1
+                && front.ends_with('.')
+                && number.bytes().all(|digit| digit.is_ascii_digit())
+        }
+        None => false,
+    }
+}
+
+/// Returns a path that is short enough for an ending of up to 23 bytes. If the last part of the path has more than 120
 /// bytes, it is cut to at most 120 bytes.
 pub fn shortened(path: &str) -> &str {
     let name = last_of(path);

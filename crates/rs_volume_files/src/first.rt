@@ -1,8 +1,8 @@
 //! Reads volumes of version 1.
-use crate::assembly::{LARGEST_DESCRIPTION, Set};
-use crate::failure::{Failure, Result};
-use crate::hashing::{CHUNK, hash_at};
-use crate::source::read_at;
+use crate::assembly::{LARGEST_DESCRIPTION, Set, check_memory};
+use rs_folders::failure::{Failure, Result};
+use rs_folders::hashing::{CHUNK, hash_at};
+use rs_folders::source::read_at;
 use rs_volumes::digest::{digest_of, is_digest};
 use rs_volumes::first::{HEAD_BYTES, Head, read_description, read_head};
 use std::alloc::Global;
@@ -49,15 +49,28 @@ struct Source<'a, F> {
     file: &'a mut F,
     size: u64,
     alloc: Global,
+    // The number of bytes of memory that its description may take.
+    memory: u64,
 }
 
-/// Reads a volume that begins with a head and its description.
+/// Reads a volume that begins with a head and its description. `memory` is the number of bytes of memory that the
+/// description may take.
 ///
 /// # Errors
 ///
 /// Fails if there is no head or no sound description, or if the file cannot be read.
-pub fn open_front<F: Read + Seek>(file: &mut F, size: u64, alloc: Global) -> Result<FirstVolume> {
-    let mut source = Source { file, size, alloc };
+pub fn open_front<F: Read + Seek>(
+    file: &mut F,
+    size: u64,
+    alloc: Global,
+    memory: u64,
+) -> Result<FirstVolume> {
+    let mut source = Source {
+        file,
+        size,
+        alloc,
+        memory,
+    };
     let head = source.head(0)?;
     let bytes = source.copy(head.description_bytes, 0)?;
     if digest_of(bytes.as_slice()) != head.digest {
@@ -72,8 +85,18 @@ pub fn open_front<F: Read + Seek>(file: &mut F, size: u64, alloc: Global) -> Res
 /// # Errors
 ///
 /// Fails if the description is found in none of these ways, or if the file cannot be read.
-pub fn open_damaged<F: Read + Seek>(file: &mut F, size: u64, alloc: Global) -> Result<FirstVolume> {
-    let mut source = Source { file, size, alloc };
+pub fn open_damaged<F: Read + Seek>(
+    file: &mut F,
+    size: u64,
+    alloc: Global,
+    memory: u64,
+) -> Result<FirstVolume> {
+    let mut source = Source {
+        file,
+        size,
+        alloc,
+        memory,
+    };
     for offset in [0, source.last()] {
         if let Ok(volume) = source.with_head(offset) {
             return Ok(volume);
@@ -93,6 +116,7 @@ impl<'a, F: Read + Seek> Source<'a, F> {
         if count > LARGEST_DESCRIPTION || count > self.size.saturating_sub(offset) {
             return Err(Failure::of("it is too short"));
         }
+        check_memory(count, &[], self.memory)?;
         let mut bytes = vec![in self.alloc; 0u8; count as usize]?;
         read_at(self.file, offset, &mut bytes)?;
         Ok(bytes)
@@ -119,6 +143,7 @@ impl<'a, F: Read + Seek> Source<'a, F> {
 
     // Returns the volume with this description. Its records begin after the first copy.
     fn volume(&mut self, bytes: &[u8]) -> Result<FirstVolume> {
+        check_memory(bytes.len() as u64, bytes, self.memory)?;
         let description = read_description(self.alloc, bytes)?;
         let set = Set {
             description,

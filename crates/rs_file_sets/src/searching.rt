@@ -1,16 +1,14 @@
 //! Looks for lost files and blocks in other files: in files that were renamed or moved, and at any byte of a file.
-use crate::counted::Counted;
-use crate::failure::Result;
-use crate::hashing::{CHUNK, hash_at};
-use crate::identity::{Identity, identity_of, open_regular};
-use crate::names::{Name, Shown, folder_to_open, path_in};
-use crate::progress::Progress;
 use crate::rolling::{RollingSum, Sums};
-use crate::runs::places_in;
-use crate::scanner::State;
 use crate::scanning::Scan;
-use crate::settings::Request;
-use crate::source::{FileBlocks, Holders, Origin, read_at};
+use rs_folders::failure::Result;
+use rs_folders::hashing::{CHUNK, hash_at};
+use rs_folders::identity::{Identity, identity_of, open_regular};
+use rs_folders::names::{folder_to_open, path_in};
+use rs_folders::progress::Progress;
+use rs_folders::runs::places_in;
+use rs_folders::source::{FileBlocks, Holders, Origin, read_at};
+use rs_volume_files::scanner::State;
 use rs_volumes::description::Kind;
 use rs_volumes::digest::is_digest;
 use rs_volumes::pieces::BlockSource;
@@ -30,28 +28,6 @@ pub struct Elsewhere {
     pub files: Vec<usize>,
     /// The number of lost blocks that were found at another place.
     pub blocks: usize,
-}
-
-impl Elsewhere {
-    /// Prints which files were renamed or moved, and how many lost blocks were found elsewhere.
-    ///
-    /// # Errors
-    ///
-    /// Fails if a message cannot be printed.
-    pub fn tell<R: Print>(&self, rt: &R, scan: &Scan) -> io::Result<()> {
-        let entries = scan.description().entries.as_slice();
-        for index in &self.files {
-            if let (Some(entry), Some(path)) = (entries.get(*index), scan.paths.get(*index)) {
-                let (name, path) = (Name(entry.name.as_slice()), Shown(path.as_str()));
-                println!(rt; "moved: {name} is at {path}")?;
-            }
-        }
-        if self.blocks > 0 {
-            let blocks = Counted(self.blocks as u64, "lost block");
-            println!(rt; "{blocks} found in other files or at other places")?;
-        }
-        Ok(())
-    }
 }
 
 // A file in which lost blocks may be.
@@ -76,12 +52,12 @@ struct Search<'a, R: Runtime> {
     found: Elsewhere,
 }
 
-/// Looks for the lost blocks of a set below `folder`, and below the folders after `--search`, and records in `scan`
-/// where they were found.
+/// Looks for the lost blocks of a set below the folders, and records in `scan` where they were found. Nothing is looked
+/// for below `to`, the folder into which files are restored, if there is one.
 ///
 /// In this order, the function looks for files that have the length and the digest of a file that is not whole, for
-/// blocks with the digest of a lost block, and, if more blocks are lost than recovery blocks are left, for lost blocks at
-/// any byte of the files that are not whole files of the set. A block is believed only if it has its digest.
+/// blocks with the digest of a lost block, and, if more blocks are lost than recovery blocks are left, for lost blocks
+/// at any byte of the files that are not whole files of the set. A block is believed only if it has its digest.
 ///
 /// # Errors
 ///
@@ -89,8 +65,8 @@ struct Search<'a, R: Runtime> {
 pub fn find_elsewhere<R: Runtime>(
     rt: &R,
     alloc: Global,
-    request: &Request,
-    folder: &str,
+    folders: &[&str],
+    to: &Option<String>,
     scan: &mut Scan,
 ) -> Result<Elsewhere> {
     let mut search = Search {
@@ -106,7 +82,7 @@ pub fn find_elsewhere<R: Runtime>(
     };
     let before = search.lost()?.len();
     if before > 0 {
-        search.collect(folder, request)?;
+        search.collect(folders, to)?;
         if search.find_files()? {
             search.check_blocks()?;
         }
@@ -141,6 +117,15 @@ impl<'a, R: Runtime> Search<'a, R> {
             .unwrap_or(State::Missing)
     }
 
+    // Returns whether a path of the scan is that of a volume or of a whole file. Links and empty folders of the set do not
+    // count: a file can have been moved into such a folder, or to the place to which such a link leads.
+    fn is_known(&self, index: usize) -> bool {
+        match self.scan.description().entries.get(index) {
+            Some(entry) => matches!(entry.kind, Kind::File) && self.state(index) == State::Whole,
+            None => true,
+        }
+    }
+
     // Returns the identities of the whole files of the set, of the volumes, and of the folder into which files are
     // restored, in order. No lost block is looked for there.
     fn known(&self, to: &Option<String>) -> Result<Vec<Identity>, AllocError> {
@@ -151,8 +136,7 @@ impl<'a, R: Runtime> Search<'a, R> {
             }
         }
         for (index, path) in self.scan.paths.iter().enumerate() {
-            let is_volume = index >= self.scan.states.len();
-            if is_volume || self.state(index) == State::Whole {
+            if self.is_known(index) {
                 if let Ok(metadata) = fs::metadata(self.rt, path.as_str()) {
                     known.push(Identity::of(&metadata))?;
                 }
@@ -162,13 +146,12 @@ impl<'a, R: Runtime> Search<'a, R> {
         Ok(known)
     }
 
-    // Collects the regular files below a folder and below the folders after `--search`, in order of their sizes.
-    fn collect(&mut self, folder: &str, request: &Request) -> Result<()> {
-        let known = self.known(&request.to)?;
+    // Collects the regular files below the folders, in order of their sizes.
+    fn collect(&mut self, folders: &[&str], to: &Option<String>) -> Result<()> {
+        let known = self.known(to)?;
         let mut waiting = Vec::new(self.alloc);
-        waiting.push(String::from_str(self.alloc, folder)?)?;
-        for folder in &request.search {
-            waiting.push(folder.clone()?)?;
+        for folder in folders {
+            waiting.push(String::from_str(self.alloc, *folder)?)?;
         }
         for _ in 0..u64::MAX {
             match waiting.pop() {
@@ -506,7 +489,7 @@ impl<F: Read + Seek + Drop> Windows<F> {
         })
     }
 
-    // Moves the window by some bytes. By one byte its sum moves with it, and otherwise it is computed anew.
+    // Moves the window by some bytes. By one byte its sum moves with it, and otherwise it is computed again.
     fn pass(&mut self, bytes: u64) {
         if bytes != 1 || self.slide_one().is_err() {
             self.at = self.at.saturating_add(bytes);

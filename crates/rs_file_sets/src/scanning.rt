@@ -1,17 +1,16 @@
 //! Looks for the blocks of a set, in its files and in volumes.
-use crate::assembly::Set;
-use crate::failure::{Failure, Result};
 use crate::file_scan::scan_entries;
-use crate::names::paths_of;
-use crate::progress::Progress;
-use crate::scanner::{Scanner, State};
-use crate::settings::Request;
-use crate::source::Origin;
-use crate::volume::{Volume, Volumes, open_sized, open_volumes};
-use crate::volume_scan::{Damage, VolumeScan};
+use rs_folders::failure::{Failure, Result};
+use rs_folders::names::paths_of;
+use rs_folders::progress::Progress;
+use rs_folders::source::Origin;
+use rs_volume_files::assembly::Set;
+use rs_volume_files::scanner::{Scanner, State};
+use rs_volume_files::volume::{Volume, Volumes, open_sized, open_volumes};
+use rs_volume_files::volume_scan::{Damage, VolumeScan};
 use rs_volumes::description::{Description, Version};
 use rs_volumes::placement::{Place, places_of};
-use std::alloc::Global;
+use std::alloc::{AllocError, Global};
 use std::rt::{Clock, Files};
 
 /// The entries and blocks of a set that were found.
@@ -26,7 +25,8 @@ pub struct Scan {
     pub origins: Vec<Option<Origin>>,
     /// The state of each entry.
     pub states: Vec<State>,
-    /// The paths of the entries, and then of the volumes. The path of an entry whose name is not UTF-8 is empty.
+    /// The paths of the entries, and then of the volumes. The path of an entry is empty if its name is not UTF-8, or if
+    /// the files were not looked for.
     pub paths: Vec<String>,
     /// The volumes that can be read.
     pub volumes: Vec<ScannedVolume>,
@@ -43,8 +43,9 @@ pub struct ScannedVolume {
     pub damage: Damage,
 }
 
-/// Opens the volumes of a request, and looks for all blocks of their set in the volumes and, if `folder` is given, in
-/// the files of the set below that folder.
+/// Opens the volumes at `paths`, and looks for all blocks of their set in the volumes and, if `folder` is given, in the
+/// files of the set below that folder. `shown` says whether to show progress, and `memory` how many bytes of memory
+/// descriptions may take, approximately.
 ///
 /// For each volume that cannot be read, the function prints a message. A block that cannot be read is not an error: it
 /// is not found. For each file and each volume with such blocks, the function prints a message. It also prints a
@@ -54,34 +55,30 @@ pub struct ScannedVolume {
 ///
 /// Fails for a reason of [`open_volumes`], if the block size is 0, if a volume cannot be opened again, or if memory
 /// cannot be allocated.
-pub fn scan_request<R: Files + Clock + Eprint>(
-    rt: &R,
-    alloc: Global,
-    request: &Request,
-    folder: Option<&str>,
-) -> Result<Scan> {
-    scan_paths(
-        rt,
-        alloc,
-        request.paths.as_slice(),
-        request.progress,
-        folder,
-    )
-}
-
-/// Does what [`scan_request`] does, for volumes at `paths`. `shown` says whether to show progress.
-///
-/// # Errors
-///
-/// Fails for a reason of [`scan_request`].
 pub fn scan_paths<R: Files + Clock + Eprint>(
     rt: &R,
     alloc: Global,
     paths: &[String],
+    memory: u64,
     shown: bool,
     folder: Option<&str>,
 ) -> Result<Scan> {
-    let volumes = open_volumes(rt, alloc, paths)?;
+    let volumes = open_volumes(rt, alloc, paths, memory)?;
+    scan_opened(rt, alloc, volumes, shown, folder)
+}
+
+/// Does what [`scan_paths`] does, for volumes that are open.
+///
+/// # Errors
+///
+/// Fails if the block size is 0, if a volume cannot be opened again, or if memory cannot be allocated.
+pub fn scan_opened<R: Files + Clock + Eprint>(
+    rt: &R,
+    alloc: Global,
+    volumes: Volumes,
+    shown: bool,
+    folder: Option<&str>,
+) -> Result<Scan> {
     let description = &volumes.set.description;
     if description.block_bytes == 0 {
         return Err(Failure::of("the blocks are empty"));
@@ -89,7 +86,11 @@ pub fn scan_paths<R: Files + Clock + Eprint>(
     let total = bytes_to_read(rt, alloc, &volumes, folder.is_some())?;
     let progress = Progress::new(rt, shown, total);
     let mut scanner = Scanner::new(alloc, description, progress)?;
-    let mut paths = paths_of(alloc, folder.unwrap_or(""), description.entries.as_slice())?;
+    let entries = description.entries.as_slice();
+    let mut paths = match folder {
+        Some(folder) => paths_of(alloc, folder, entries)?,
+        None => no_paths(alloc, entries.len())?,
+    };
     let places = places_of(alloc, description)?;
     let states = match folder {
         Some(_) => scan_entries(rt, alloc, description, &paths, &places, &mut scanner)?,
@@ -119,6 +120,15 @@ pub fn scan_paths<R: Files + Clock + Eprint>(
         volumes,
         unreadable,
     })
+}
+
+// Returns empty paths: the files of a set are nowhere.
+fn no_paths(alloc: Global, count: usize) -> Result<Vec<String>, AllocError> {
+    let mut paths = Vec::new(alloc);
+    for _ in 0..count {
+        paths.push(String::new(alloc))?;
+    }
+    Ok(paths)
 }
 
 // Returns the number of bytes that a scan reads at most: the original blocks, if the files are searched, and the
@@ -189,6 +199,28 @@ impl Scan {
             recovery: recovery.iter().filter(|origin| origin.is_some()).count(),
             recovery_count: recovery.len(),
         }
+    }
+
+    /// Returns for each entry whether it can be restored. A file can be restored if all its blocks were found, or if at
+    /// least as many recovery blocks are left as blocks are lost. Other entries have no blocks.
+    ///
+    /// # Errors
+    ///
+    /// [`AllocError`] if memory cannot be allocated.
+    pub fn restorable(&self, alloc: Global) -> Result<Vec<bool>, AllocError> {
+        let mut restorable = vec![in alloc; true; self.states.len()]?;
+        let counts = self.counts();
+        if counts.lost <= counts.recovery {
+            return Ok(restorable);
+        }
+        for place in &self.places {
+            if !matches!(self.origins.get(place.block), Some(Some(_))) {
+                if let Some(own) = restorable.get_mut(place.file) {
+                    *own = false;
+                }
+            }
+        }
+        Ok(restorable)
     }
 
     /// Returns whether each volume can be read and is whole.

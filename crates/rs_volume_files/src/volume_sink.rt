@@ -1,11 +1,13 @@
 //! Volumes that are being written.
 ghost use Rattle.rs_field.specs.code.Given.{nothing};
 
-use crate::failure::{Failure, Result};
-use crate::identity::exists;
 use crate::layout::{Deal, Layout, PART_BYTES, first_line, part_bytes};
-use crate::output::{Part, at_path, free_path, sync_folder};
 use crate::volume::is_volume;
+use rs_folders::failure::{Failure, Result};
+use rs_folders::folders::Folders;
+use rs_folders::identity::exists;
+use rs_folders::names::{PART as PART_ENDING, shortened};
+use rs_folders::output::{Part, at_path};
 use rs_volumes::coding_error::CodingError;
 use rs_volumes::description::Description;
 use rs_volumes::digest::digest_of;
@@ -43,6 +45,63 @@ pub fn check_output<R: Files>(rt: &R, alloc: Global, path: &str, force: bool) ->
     }
 }
 
+/// Returns the path under which a new volume is written until it is whole. It has only one such path, so no two runs
+/// of the program write it at once, and a part of a killed run is not taken for one of a later run.
+///
+/// # Errors
+///
+/// [`AllocError`] if memory cannot be allocated.
+pub fn part_of(alloc: Global, path: &str) -> Result<String, AllocError> {
+    let front = shortened(path);
+    format!(in alloc; "{front}.{PART_ENDING}")
+}
+
+/// Returns the path under which a damaged volume is written again. It differs from that of a new volume: such a part
+/// says nothing about the other volumes of the set.
+///
+/// # Errors
+///
+/// [`AllocError`] if memory cannot be allocated.
+pub fn second_part_of(alloc: Global, path: &str) -> Result<String, AllocError> {
+    let front = shortened(path);
+    format!(in alloc; "{front}.{PART_ENDING}2")
+}
+
+/// Checks that no other run of the program writes new volumes at these paths, and that no killed run has left parts of
+/// them. The paths are those of all volumes of a command, in order.
+///
+/// New volumes are begun in order, get their names in order, and are removed in the other order. So as long as the
+/// first one is a part, no old volume was replaced. If the first one is no part and another one is, all of them are
+/// whole. The message names the part that must be removed first, or renamed first.
+///
+/// # Errors
+///
+/// Fails if there is a part. Then the message says what to do. Also fails if memory cannot be allocated.
+pub fn check_parts<R: Files>(rt: &R, alloc: Global, paths: &[String]) -> Result<()> {
+    let mut has_first = false;
+    let mut left: Option<String> = None;
+    for (number, path) in paths.iter().enumerate() {
+        let part = part_of(alloc, path.as_str())?;
+        if exists(rt, part.as_str()) {
+            has_first = has_first || number == 0;
+            if has_first || left.is_none() {
+                left = Some(part);
+            }
+        }
+    }
+    let Some(left) = left else {
+        return Ok(());
+    };
+    let reason = if !has_first {
+        "another rs_files is giving new volumes their names, or was killed then. The new volumes are whole: if none is at work, rename each NAME.rs_files.part to NAME"
+    } else if paths.len() == 1 {
+        "another rs_files is writing this volume, or was killed before it was whole: if none is at work, delete this file and run the command again"
+    } else {
+        "another rs_files is writing new volumes, or was killed before they were whole. No old one was replaced: if none is at work, delete all files NAME.rs_files.part of them, this one first"
+    };
+    Err(Failure::at(alloc, left.as_str(), reason))
+}
+
 /// The volumes that a command writes.
 #[derive(Drop)]
 pub struct Volumes<R: Files> {
@@ -52,6 +111,10 @@ pub struct Volumes<R: Files> {
     deal: Deal,
     block_bytes: u64,
     description_bytes: u64,
+    // The number of bytes that were written so far.
+    written: u64,
+    // The folders of the volumes.
+    folders: Folders,
 }
 
 impl<R: Files> Volumes<R> {
@@ -62,6 +125,8 @@ impl<R: Files> Volumes<R> {
             deal: Deal::of(set.original_count, set.recovery_count, set.volumes),
             block_bytes: set.block_bytes,
             description_bytes,
+            written: 0,
+            folders: Folders::new(alloc),
         }
     }
 
@@ -74,14 +139,15 @@ impl<R: Files> Volumes<R> {
         }
     }
 
-    /// Begins the next volume, with room for its records, at `path`.
+    /// Begins the next volume, with room for its records, and makes its folder. It is written at the path `part`, and
+    /// gets the path `path` when it is whole.
     ///
     /// # Errors
     ///
-    /// Fails for a reason of [`Part::begin`], or if memory cannot be allocated.
-    pub fn begin(&mut self, rt: &R, alloc: Global, path: &str) -> Result<()> {
+    /// Fails if its folder cannot be made, for a reason of [`Part::begin`], or if memory cannot be allocated.
+    pub fn begin(&mut self, rt: &R, alloc: Global, path: &str, part: String) -> Result<()> {
         let size = self.layout(self.parts.len() as u64).size();
-        let part = free_path(rt, alloc, "", path, "part", None)?;
+        self.folders.make_parent(rt, alloc, path)?;
         let part = Part::begin(rt, alloc, path, part, size, VOLUME_MODE)?;
         match self.parts.push(Some(part)) {
             Ok(()) => Ok(()),
@@ -106,9 +172,11 @@ impl<R: Files> Volumes<R> {
     /// Gives all volumes their final names. If `force` is set, old volumes with these names are replaced. All volumes
     /// of a command are in one folder.
     ///
-    /// No old volume is replaced before all new volumes are synced and all names are checked. If the first volume
-    /// cannot be renamed, no other one is. If a later one cannot be renamed, the others still get their names, so that
-    /// as many volumes as possible belong together.
+    /// No old volume is replaced before all new volumes and their folder are synced, and all names are checked. The
+    /// first volume is renamed and the folder is synced before the others are renamed: what [`check_parts`] says of
+    /// the parts that are left is then also true after a loss of power. If the first volume cannot be renamed, no
+    /// other one is. If a later one cannot be renamed, the others still get their names, so that as many volumes as
+    /// possible belong together.
     ///
     /// # Errors
     ///
@@ -123,11 +191,39 @@ impl<R: Files> Volumes<R> {
     {
         self.sync(rt, alloc)?;
         self.check(rt, alloc, force)?;
-        let outcome = self.rename(rt, alloc);
-        if let Some(part) = self.parts.iter().flatten().next() {
-            sync_folder(rt, part.path.as_str());
+        let first = self
+            .parts
+            .iter()
+            .position(|part| part.is_some())
+            .unwrap_or(0);
+        let others = first.saturating_add(1)..self.parts.len();
+        let has_others = !others.is_empty();
+        if has_others {
+            self.sync_folders(rt, alloc);
+        }
+        self.rename(rt, alloc, first)?;
+        self.sync_folders(rt, alloc);
+        let mut outcome = Ok(());
+        for number in others {
+            if let Err(failure) = self.rename(rt, alloc, number) {
+                outcome = Err(failure);
+            }
+        }
+        if has_others {
+            self.sync_folders(rt, alloc);
         }
         outcome
+    }
+
+    // Syncs the folders of all volumes, and those above new folders.
+    fn sync_folders(&mut self, rt: &R, alloc: Global)
+    where
+        R: Eprint,
+    {
+        for part in self.parts.iter().flatten() {
+            self.folders.note(rt, alloc, part.path.as_str());
+        }
+        self.folders.sync(rt);
     }
 
     // Syncs all volumes.
@@ -146,24 +242,18 @@ impl<R: Files> Volumes<R> {
         Ok(())
     }
 
-    // Renames all volumes to their final names. If some of them cannot be renamed, the function returns the reason for
-    // the last one.
-    fn rename(&self, rt: &R, alloc: Global) -> Result<()> {
-        let mut outcome = Ok(());
-        for (number, part) in self.parts.iter().flatten().enumerate() {
-            if let Err(failure) = part.rename(rt, alloc) {
-                if number == 0 {
-                    return Err(failure);
-                }
-                outcome = Err(failure);
-            }
+    // Renames the volume with this number to its final name, if it is written.
+    fn rename(&self, rt: &R, alloc: Global, number: usize) -> Result<()> {
+        match self.parts.get(number) {
+            Some(Some(part)) => part.rename(rt, alloc),
+            _ => Ok(()),
         }
-        outcome
     }
 
-    /// Removes the files of all volumes that do not have their final names.
+    /// Removes the files of all volumes that do not have their final names, the first one last: as long as it is there,
+    /// [`check_parts`] does not take the others for volumes that are whole.
     pub fn remove(&self, rt: &R) {
-        for part in self.parts.iter().flatten() {
+        for part in self.parts.iter().rev().flatten() {
             part.remove(rt);
         }
     }
@@ -221,12 +311,23 @@ impl<'a, R: Files> VolumeSink<'a, R> {
         Ok(())
     }
 
+    /// Returns the number of bytes of the volumes that are not written yet.
+    pub fn missing(&self) -> u64 {
+        let mut total = 0u64;
+        for part in self.volumes.parts.iter().flatten() {
+            total = total.saturating_add(part.size);
+        }
+        total.saturating_sub(self.volumes.written)
+    }
+
     // Writes bytes into the volume with this number, from byte `offset` on.
     fn write(&mut self, number: usize, offset: u64, bytes: &[u8]) -> Result<()> {
         match self.volumes.parts.get_mut(number) {
             Some(Some(part)) => {
                 let written = part.write_at(self.rt, offset, bytes);
-                at_path(self.alloc, part.path.as_str(), written)
+                at_path(self.alloc, part.path.as_str(), written)?;
+                self.volumes.written = self.volumes.written.saturating_add(bytes.len() as u64);
+                Ok(())
             }
             _ => Ok(()),
         }
@@ -302,7 +403,11 @@ impl<'a, R: Files> BlockSink for VolumeSink<'a, R> {
             .saturating_add(RECORD_HEAD_BYTES as u64)
             .saturating_add(start as u64);
         match self.volumes.parts.get_mut(volume as usize) {
-            Some(Some(part)) => part.write_at(self.rt, offset, piece),
+            Some(Some(part)) => {
+                part.write_at(self.rt, offset, piece)?;
+                self.volumes.written = self.volumes.written.saturating_add(piece.len() as u64);
+                Ok(())
+            }
             Some(None) => Ok(()),
             None => Err(io::Error::from(ErrorKind::NotFound)),
         }

@@ -1,30 +1,39 @@
 //! Files that appear under their final names only when they are whole.
-use crate::failure::{Failure, Result, warn};
+use crate::failure::{Failure, Result};
 use crate::identity::{Identity, exists, identity_at, open_found, replaced};
-use crate::names::{folder_to_open, order_of, parent_of, path_in, shortened};
+use crate::names::{order_of, path_in, shortened};
 use rs_volumes::description::{Description, Entry, Version};
 use std::alloc::Global;
 use std::fs::{Metadata, OpenFile, OpenOptions};
-use std::io::{Seek, SeekFrom, Write};
+use std::io::{ErrorKind, Seek, SeekFrom, Write};
 use std::os::unix::fs::{MetadataExt, OpenOptionsExt};
 use std::rt::Files;
 use std::{fs, io};
 
-/// A file that is being written under another name: `NAME.part`, or `NAME.part2` and so on if that is in use. A long
-/// name is cut in these names.
+/// The reason why a file cannot be written whose part exists.
+const AT_WORK: &str =
+    "another rs_files is writing this file, or was killed while it wrote it: if none is at work, delete this file and run the command again";
+
+/// A file that is being written under another name: `NAME.rs_files.part`, or `NAME.rs_files.part2` and so on if that is
+/// in use. A long name is cut in these names.
 ///
 /// The file is written, synced and changed through the handle that made it. So if somebody puts another file or a
-/// symbolic link in its place, that file is not touched. Only a part that was closed is opened again by its path.
+/// symbolic link in its place, that file is not touched. Only a part that was closed is opened again by its path, and
+/// only if the same file is there.
 #[derive(Drop)]
 pub struct Part<R: Files> {
     /// The path of the finished file.
     pub path: String,
+    /// The number of bytes of the finished file.
+    pub size: u64,
     // The path of the file while it is written.
     part: String,
     // The open file. `None` if the file was closed.
     handle: Option<R::File>,
     // The metadata of the file when it was closed. `None` if it stays open.
     closed: Option<Metadata>,
+    // The permission bits with which the file was made.
+    mode: u32,
 }
 
 /// Returns the path in `folder` of the first of the names `NAME.SUFFIX`, `NAME.SUFFIX2`, `NAME.SUFFIX3` and so on that
@@ -91,13 +100,14 @@ pub fn at_path<T>(alloc: Global, path: &str, outcome: io::Result<T>) -> Result<T
 }
 
 impl<R: Files> Part<R> {
-    /// Begins a file of `size` bytes at the path `part`, and makes its folder. The file gets the permission bits of
-    /// `mode`, without those that the mask of the user takes away. No file is replaced: a file `NAME.part` can belong
-    /// to somebody else, or to the set.
+    /// Begins a file of `size` bytes at the path `part`, in a folder that exists. The file gets the permission bits of
+    /// `mode`, without those that the mask of the user takes away. No file is replaced: a file with the name of a part
+    /// can belong to another run of the program, or to the set.
     ///
     /// # Errors
     ///
-    /// Fails if the folder or the file cannot be made, or if memory cannot be allocated. Then no file is left.
+    /// Fails if a file has the name of the part, if the file cannot be made, or if memory cannot be allocated. Then no
+    /// file is left.
     pub fn begin(
         rt: &R,
         alloc: Global,
@@ -106,17 +116,23 @@ impl<R: Files> Part<R> {
         size: u64,
         mode: u32,
     ) -> Result<Part<R>> {
-        make_parent(rt, alloc, path)?;
         let path = String::from_str(alloc, path)?;
         let mut options = OpenOptions::new();
-        options.write(true).create_new(true).mode(mode);
-        let handle = at_path(alloc, path.as_str(), options.open(rt, part.as_str()))?;
+        options.read(true).write(true).create_new(true).mode(mode);
+        let handle = match options.open(rt, part.as_str()) {
+            Err(error) if error.kind() == ErrorKind::AlreadyExists => {
+                return Err(Failure::at(alloc, part.as_str(), AT_WORK));
+            }
+            opened => at_path(alloc, path.as_str(), opened)?,
+        };
         let sized = handle.set_len(size);
         let begun = Part {
             path,
+            size,
             part,
             handle: Some(handle),
             closed: None,
+            mode,
         };
         match sized {
             Ok(()) => Ok(begun),
@@ -146,7 +162,7 @@ impl<R: Files> Part<R> {
                 Ok(own) => Identity::of(&own) == Identity::of(&found),
                 Err(_) => false,
             },
-            (None, Some(closed)) => can_be(&found, closed),
+            (None, Some(closed)) => is_same(&found, closed, self.mode),
             (None, None) => false,
         }
     }
@@ -178,7 +194,8 @@ impl<R: Files> Part<R> {
     /// Any error of the system. [`ErrorKind::InvalidInput`] if another file is in its place.
     pub fn open(&mut self, rt: &R) -> io::Result<&mut R::File> {
         if self.handle.is_none() {
-            self.handle = Some(open_again(rt, self.part.as_str(), &self.closed)?);
+            let part = self.part.as_str();
+            self.handle = Some(open_again(rt, part, &self.closed, self.mode)?);
         }
         match &mut self.handle {
             Some(handle) => Ok(handle),
@@ -211,7 +228,7 @@ impl<R: Files> Part<R> {
     }
 
     /// Renames the file to its final name. A file with this name is replaced, so the caller checks first whether it may
-    /// be. The new name can be lost after a loss of power, until [`sync_folder`] is called.
+    /// be. The new name can be lost after a loss of power, until its folder is synced.
     ///
     /// # Errors
     ///
@@ -234,11 +251,17 @@ impl<R: Files> Part<R> {
     }
 }
 
-// Opens a part again that was closed. `closed` is its metadata at that time.
-fn open_again<R: Files>(rt: &R, part: &str, closed: &Option<Metadata>) -> io::Result<R::File> {
+// Opens a part again that was made with the permission bits `mode` and was closed. `closed` is its metadata at that
+// time.
+fn open_again<R: Files>(
+    rt: &R,
+    part: &str,
+    closed: &Option<Metadata>,
+    mode: u32,
+) -> io::Result<R::File> {
     let found = fs::symlink_metadata(rt, part)?;
     match closed {
-        Some(closed) if can_be(&found, closed) => {
+        Some(closed) if is_same(&found, closed, mode) => {
             // A pipe that is opened to be read and written does not wait for another program.
             let mut options = OpenOptions::new();
             options.read(true).write(true);
@@ -248,50 +271,18 @@ fn open_again<R: Files>(rt: &R, part: &str, closed: &Option<Metadata>) -> io::Re
     }
 }
 
-// Returns whether a file that was found can be a part that was closed: it is no symbolic link, and has the same device,
-// type, owner, permission bits, length and number of names. The number of the file on its device is not compared:
-// some file systems, such as FAT, can give a file another number after it was closed.
-fn can_be(found: &Metadata, closed: &Metadata) -> bool {
-    found.dev() == closed.dev()
+// Returns whether a file that was found is the part that was made with the permission bits `mode` and closed later: it
+// has the same device, number there, type, owner, permission bits, length and number of names.
+//
+// A file system that does not keep permission bits, such as FAT, can also give a file another number after it was
+// closed. There the number is not compared. Everybody who may write into a folder there may also write into each file
+// of it, so nobody gains anything if another file has taken the place of the part.
+fn is_same(found: &Metadata, closed: &Metadata, mode: u32) -> bool {
+    let keeps_bits = closed.mode() & 0o777 == mode;
+    (Identity::of(found) == Identity::of(closed) || !keeps_bits)
+        && found.dev() == closed.dev()
         && found.mode() == closed.mode()
         && found.uid() == closed.uid()
         && found.nlink() == closed.nlink()
         && found.len() == closed.len()
-}
-
-/// Makes the folder of a file, and the folders above it.
-///
-/// # Errors
-///
-/// Fails if a folder cannot be made.
-pub fn make_parent<R: Files>(rt: &R, alloc: Global, path: &str) -> Result<()> {
-    let folder = parent_of(path);
-    if folder.is_empty() {
-        return Ok(());
-    }
-    match fs::create_dir_all(rt, folder) {
-        Ok(()) => Ok(()),
-        Err(error) => {
-            let reason = format_args!("its folder cannot be made: {error}");
-            Err(Failure::at(alloc, path, reason))
-        }
-    }
-}
-
-/// Syncs the folder of a file, so that the new name of the file is kept after a loss of power. Some file systems cannot
-/// sync a folder. Then the file is whole and has its name all the same, so the function only prints a warning.
-pub fn sync_folder<R: Files + Eprint>(rt: &R, path: &str) {
-    let folder = folder_to_open(parent_of(path));
-    if let Err(error) = sync_opened(rt, folder) {
-        warn(
-            rt,
-            folder,
-            format_args!("warning: this folder cannot be synced: {error}"),
-        );
-    }
-}
-
-// Opens a folder and syncs it.
-fn sync_opened<R: Files>(rt: &R, folder: &str) -> io::Result<()> {
-    fs::open(rt, folder)?.sync_all()
 }

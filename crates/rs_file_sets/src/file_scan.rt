@@ -1,11 +1,11 @@
 //! Looks for the blocks of a set in its files, and finds the states of its entries.
-use crate::failure::Result;
-use crate::hashing::{CHUNK, add_bytes, add_zeros, hash_at};
-use crate::identity::open_regular;
-use crate::names::{Name, text_of};
-use crate::runs::places_in;
-use crate::scanner::{Scanner, State};
-use crate::source::{Opened, Origin};
+use rs_folders::failure::Result;
+use rs_folders::hashing::{CHUNK, add_bytes, add_zeros, hash_at};
+use rs_folders::identity::open_regular;
+use rs_folders::names::{Name, text_of};
+use rs_folders::runs::places_in;
+use rs_folders::source::{Opened, Origin};
+use rs_volume_files::scanner::{Scanner, State};
 use rs_volumes::description::{Description, Entry, Kind};
 use rs_volumes::digest::is_digest;
 use rs_volumes::placement::Place;
@@ -49,9 +49,12 @@ pub fn scan_entries<'a, R: Files + Clock + Eprint>(
     Ok(states)
 }
 
-// Looks what has the name of an entry, and reads no file. A file with its length may be whole. Fails if the entry
-// counts as missing although something has its name.
-fn look<R: Files>(rt: &R, alloc: Global, entry: &Entry, path: &str) -> io::Result<State> {
+/// Looks what has the name of an entry, and reads no file. A file with its length may be whole.
+///
+/// # Errors
+///
+/// Fails if the entry is missing. If something has its name, the error is not [`ErrorKind::NotFound`].
+pub fn look<R: Files>(rt: &R, alloc: Global, entry: &Entry, path: &str) -> io::Result<State> {
     let found = match entry.kind {
         Kind::File => fs::metadata(rt, path)?,
         Kind::Link | Kind::Folder => fs::symlink_metadata(rt, path)?,

@@ -1,6 +1,6 @@
 //! Puts descriptions together from their parts.
-use crate::failure::{Failure, Result};
 use crate::layout::{PART_BYTES, PART_OPENING_BYTES, part_bytes};
+use rs_folders::failure::{Failure, Result};
 use rs_volumes::description::Description;
 use rs_volumes::digest::digest_of;
 use rs_volumes::read_description;
@@ -12,6 +12,47 @@ pub const LARGEST_DESCRIPTION: u64 = 1 << 30;
 
 /// About how many bytes a part takes in memory beside its own bytes.
 const PART_MEMORY: u64 = 200;
+
+/// How much memory descriptions may take in any case, in bytes. The program needs as much for everything else.
+const LEAST_MEMORY: u64 = 32 << 20;
+
+// Returns the number of 4 bytes at an offset, or 0 if there are too few bytes.
+fn number_at(bytes: &[u8], offset: usize) -> u64 {
+    match bytes.get(offset..).unwrap_or(&[]).first_chunk::<4>() {
+        Some(number) => u64::from(u32::from_le_bytes(*number)),
+        None => 0,
+    }
+}
+
+// Returns about how many bytes of memory the program needs for a set whose description has `total` bytes, and begins
+// with these bytes. In both versions, the numbers of blocks and of entries are at the same places. An entry has at
+// least 22 bytes, and a block at least 32.
+fn memory_for(total: u64, bytes: &[u8]) -> u64 {
+    let blocks = number_at(bytes, 16)
+        .saturating_add(number_at(bytes, 20))
+        .min(total / 32);
+    let entries = number_at(bytes, 24).min(total / 22);
+    total
+        .saturating_mul(3)
+        .saturating_add(blocks.saturating_mul(100))
+        .saturating_add(entries.saturating_mul(400))
+}
+
+/// Checks that `memory` bytes are enough for a description of `total` bytes that begins with these bytes.
+///
+/// # Errors
+///
+/// Fails if they are not. Then the message says how much memory would do.
+pub fn check_memory(total: u64, bytes: &[u8], memory: u64) -> Result<()> {
+    let needed = memory_for(total, bytes);
+    if needed <= memory.max(LEAST_MEMORY) {
+        return Ok(());
+    }
+    let needed = needed.div_ceil(1 << 20);
+    Err(Failure::of(format_args!(
+        "its description needs about {needed} MiB of memory: allow this with --memory {needed}M"
+    )))
+}
 
 /// The description of the set of a command.
 #[derive(Drop)]
@@ -82,16 +123,19 @@ impl Parts {
 #[derive(Drop)]
 pub struct Assembly {
     alloc: Global,
+    // The number of bytes of memory that a description may take.
+    memory: u64,
     sets: BTreeMap<[u8; 32], Parts>,
     // The number of bytes that the parts take.
     held: u64,
 }
 
 impl Assembly {
-    /// Returns an assembly without parts.
-    pub fn new(alloc: Global) -> Assembly {
+    /// Returns an assembly without parts. `memory` is the number of bytes of memory that a description may take.
+    pub fn new(alloc: Global, memory: u64) -> Assembly {
         Assembly {
             alloc,
+            memory,
             sets: BTreeMap::new(alloc),
             held: 0,
         }
@@ -101,8 +145,10 @@ impl Assembly {
     ///
     /// # Errors
     ///
-    /// Fails if memory cannot be allocated, or if the description is whole and breaks a rule.
+    /// Fails if the description needs more memory than is allowed, if memory cannot be allocated, or if the
+    /// description is whole and breaks a rule.
     pub fn add(&mut self, set: &[u8; 32], index: u32, part: Part<'_>) -> Result<Option<Set>> {
+        check_memory(part.total, &[], self.memory)?;
         let room = PART_MEMORY.saturating_add(part.bytes.len() as u64);
         if self.held.saturating_add(room) > LARGEST_DESCRIPTION + (LARGEST_DESCRIPTION >> 4) {
             return Ok(None);
@@ -137,6 +183,7 @@ impl Assembly {
         if digest_of(bytes.as_slice()) != *set {
             return Ok(None);
         }
+        check_memory(parts.total, bytes.as_slice(), self.memory)?;
         match read_description(self.alloc, bytes.as_slice()) {
             Ok(description) => Ok(Some(Set {
                 description,

@@ -1,17 +1,17 @@
 //! The entries that a restore writes.
-use crate::counted::Kinds;
-use crate::failure::{Failure, Result};
-use crate::identity::{Identity, identities};
-use crate::names::{Name, Shown};
-use crate::output::{Part, free_path};
-use crate::placing::{
+use crate::scanning::Scan;
+use rs_folders::failure::{Failure, Result};
+use rs_folders::folders::Folders;
+use rs_folders::identity::{Identity, identities};
+use rs_folders::names::PART;
+use rs_folders::output::{Part, free_path};
+use rs_folders::placing::{
     Goal, Target, check_target, complete, make_folder, make_link, make_room, settle,
 };
-use crate::scanner::State;
-use crate::scanning::Scan;
 use rs_volumes::description::{Entry, Kind};
 use std::alloc::Global;
 use std::io;
+use std::io::ErrorKind;
 use std::rt::Files;
 
 /// How many parts stay open. A process may open only a limited number of files, on most systems 1024. So the other
@@ -21,15 +21,15 @@ const MOST_OPEN: usize = 100;
 /// The permission bits of a file while it is written: nobody else may read it.
 const PART_MODE: u32 = 0o600;
 
-/// The numbers of entries that were restored and not restored, and of damaged files that were kept.
-#[derive(Clone, Copy)]
-pub struct Restored {
-    /// The numbers of entries that were restored.
-    pub entries: Kinds,
-    /// The number of damaged files and links that were kept.
-    pub kept: usize,
-    /// The number of entries that could not be restored.
-    pub failed: usize,
+/// What a restore did with an entry.
+#[derive(Drop)]
+pub enum Outcome {
+    /// The entry was not to be restored.
+    Left,
+    /// The entry was restored. If a damaged file had its name, this file has the path now.
+    Restored(Option<String>),
+    /// The entry could not be restored, for this reason.
+    Failed(Failure),
 }
 
 /// The files that a restore writes.
@@ -37,34 +37,38 @@ pub struct Restored {
 pub struct Targets<R: Files> {
     /// For each entry of the set, the file that is being written, if there is one.
     pub parts: Vec<Option<Part<R>>>,
+    /// What was done with each entry so far.
+    pub outcomes: Vec<Outcome>,
+    /// The number of bytes of the files for which the disk has no room.
+    pub without_room: u64,
+    // The entries that are to be restored.
+    wanted: Vec<bool>,
     // The number of parts that stay open.
     open: usize,
     // The file that was written last, by its index.
     last: usize,
-    // What was restored so far.
-    restored: Restored,
     // The files and volumes that are read. No restored file may replace one of them.
     inputs: Vec<Identity>,
+    // The folders in which entries are restored.
+    folders: Folders,
 }
 
-impl<R: Files + Print + Eprint> Targets<R> {
-    /// Returns targets without a file.
-    pub fn new(alloc: Global) -> Targets<R> {
+impl<R: Files + Eprint> Targets<R> {
+    /// Returns targets for the entries that `wanted` marks. No file has been begun.
+    pub fn new(alloc: Global, wanted: Vec<bool>) -> Targets<R> {
         Targets {
             parts: Vec::new(alloc),
+            outcomes: Vec::new(alloc),
+            without_room: 0,
+            wanted,
             open: 0,
             last: 0,
-            restored: Restored {
-                entries: Kinds::none(),
-                kept: 0,
-                failed: 0,
-            },
             inputs: Vec::new(alloc),
+            folders: Folders::new(alloc),
         }
     }
 
-    /// Begins a part for each file that is not whole. For each file that cannot be restored, the function prints the
-    /// reason.
+    /// Begins a part for each file that is to be restored.
     ///
     /// # Errors
     ///
@@ -73,36 +77,40 @@ impl<R: Files + Print + Eprint> Targets<R> {
         if !goal.in_place && goal.force {
             self.inputs = identities(rt, alloc, scan.paths.as_slice())?;
         }
-        let entries = goal.set.entries.as_slice();
-        self.parts.reserve(entries.len())?;
-        for (entry, state) in entries.iter().zip(scan.states.as_slice()) {
-            let part = if *state != State::Whole && entry.kind == Kind::File {
-                self.begin_one(rt, alloc, entry, goal)
-            } else {
-                None
-            };
-            self.parts.push(part)?;
+        for (index, entry) in goal.set.entries.iter().enumerate() {
+            self.parts.push(None)?;
+            self.outcomes.push(Outcome::Left)?;
+            if entry.kind == Kind::File && self.is_wanted(index) {
+                let inputs = self.inputs.as_slice();
+                let begun = begin_part(rt, alloc, entry, goal, inputs, &mut self.folders);
+                self.keep(index, begun);
+            }
         }
         Ok(())
     }
 
-    // Begins the part of a file. If this fails, the function prints the reason.
-    fn begin_one(
-        &mut self,
-        rt: &R,
-        alloc: Global,
-        entry: &Entry,
-        goal: Goal<'_>,
-    ) -> Option<Part<R>> {
-        match begin_part(rt, alloc, entry, goal, self.inputs.as_slice()) {
+    // Returns whether an entry is to be restored.
+    fn is_wanted(&self, index: usize) -> bool {
+        self.wanted.get(index).copied().unwrap_or(false)
+    }
+
+    // Keeps a part that was begun, or the reason why it was not.
+    fn keep(&mut self, index: usize, begun: Result<Part<R>>) {
+        match begun {
             Ok(mut part) => {
                 self.limit_open(&mut part);
-                Some(part)
+                if let Some(slot) = self.parts.get_mut(index) {
+                    *slot = Some(part);
+                }
             }
-            Err(failure) => {
-                self.count_failure(rt, &failure);
-                None
-            }
+            Err(failure) => self.set_outcome(index, Outcome::Failed(failure)),
+        }
+    }
+
+    // Records what was done with an entry.
+    fn set_outcome(&mut self, index: usize, outcome: Outcome) {
+        if let Some(own) = self.outcomes.get_mut(index) {
+            *own = outcome;
         }
     }
 
@@ -140,73 +148,65 @@ impl<R: Files + Print + Eprint> Targets<R> {
         }
     }
 
-    // Prints why an entry cannot be restored, and counts the entry.
-    fn count_failure(&mut self, rt: &R, failure: &Failure) {
-        failure.tell(rt);
-        self.restored.failed = self.restored.failed.saturating_add(1);
-    }
-
-    /// Removes the part of a file into which blocks cannot be written, and prints the reason. The other files are still
-    /// restored.
+    /// Removes the part of a file that cannot be restored. The other files are still restored.
     pub fn give_up(&mut self, rt: &R, alloc: Global, file: usize, error: io::Error) {
         let Some(slot) = self.parts.get_mut(file) else {
             return;
         };
         if let Some(part) = slot.take() {
             part.remove(rt);
-            self.count_failure(rt, &Failure::at(alloc, part.path.as_str(), error));
+            if error.kind() == ErrorKind::StorageFull {
+                self.without_room = self.without_room.saturating_add(part.size);
+            }
+            let failure = Failure::at(alloc, part.path.as_str(), error);
+            self.set_outcome(file, Outcome::Failed(failure));
         }
     }
 
     /// Gives the restored files their permission bits, times and final names, and then makes the empty folders and the
-    /// symbolic links that are not whole. So nothing is written through these links. For each entry that cannot be
-    /// restored, the function prints the reason.
-    pub fn finish(&mut self, rt: &R, alloc: Global, scan: &Scan, goal: Goal<'_>) -> Restored {
+    /// symbolic links. So nothing is written through these links. At the end, each folder with a new name is synced.
+    pub fn finish(&mut self, rt: &R, alloc: Global, goal: Goal<'_>) {
         for kind in [Kind::File, Kind::Folder, Kind::Link] {
-            self.finish_kind(rt, alloc, scan, goal, kind);
+            self.finish_kind(rt, alloc, goal, kind);
         }
-        self.restored
+        self.folders.sync(rt);
     }
 
-    // Finishes the entries of one kind that are not whole.
-    fn finish_kind(&mut self, rt: &R, alloc: Global, scan: &Scan, goal: Goal<'_>, kind: Kind) {
-        let entries = goal.set.entries.as_slice();
-        for (index, (entry, state)) in entries.iter().zip(scan.states.as_slice()).enumerate() {
-            if entry.kind == kind && *state != State::Whole {
+    // Finishes the entries of one kind.
+    fn finish_kind(&mut self, rt: &R, alloc: Global, goal: Goal<'_>, kind: Kind) {
+        for (index, entry) in goal.set.entries.iter().enumerate() {
+            if entry.kind == kind && self.is_wanted(index) {
                 self.finish_one(rt, alloc, index, entry, goal);
             }
         }
     }
 
-    // Finishes an entry, and counts it. If it cannot be restored, the function prints the reason.
+    // Finishes an entry, and records the outcome.
     fn finish_one(&mut self, rt: &R, alloc: Global, index: usize, entry: &Entry, goal: Goal<'_>) {
         let part = match self.parts.get_mut(index) {
             Some(slot) => slot.take(),
             None => None,
         };
-        let outcome = match (entry.kind, part) {
+        let finished = match (entry.kind, part) {
             (Kind::File, Some(part)) => self.finish_file(rt, alloc, part, entry, goal),
-            // This file could not be written, which was said before.
+            // This file could not be written. The outcome says why.
             (Kind::File, None) => return,
-            _ => finish_other(rt, alloc, entry, goal, self.inputs.as_slice()),
-        };
-        match outcome {
-            Ok(kept) => {
-                self.restored.entries.add(entry.kind);
-                self.restored.kept = self
-                    .restored
-                    .kept
-                    .saturating_add(usize::from(kept.is_some()));
-                tell(rt, entry, kept, goal);
+            _ => {
+                let inputs = self.inputs.as_slice();
+                finish_other(rt, alloc, entry, goal, inputs, &mut self.folders)
             }
-            Err(failure) => self.count_failure(rt, &failure),
-        }
+        };
+        let outcome = match finished {
+            Ok(kept) => Outcome::Restored(kept),
+            Err(failure) => Outcome::Failed(failure),
+        };
+        self.set_outcome(index, outcome);
     }
 
     // Gives a restored file its permission bits, its time and its final name, and removes it if this fails. Returns the
     // path of the damaged file that was kept.
     fn finish_file(
-        &self,
+        &mut self,
         rt: &R,
         alloc: Global,
         mut part: Part<R>,
@@ -223,7 +223,7 @@ impl<R: Files + Print + Eprint> Targets<R> {
     // Gives a restored file its permission bits, its time and its final name. Returns the path of the damaged file that
     // was kept.
     fn name_file(
-        &self,
+        &mut self,
         rt: &R,
         alloc: Global,
         part: &mut Part<R>,
@@ -233,30 +233,25 @@ impl<R: Files + Print + Eprint> Targets<R> {
         complete(rt, alloc, part, entry)?;
         let target = Target::of(alloc, entry, goal)?;
         let kept = make_room(rt, alloc, &target, goal, self.inputs.as_slice())?;
-        settle(rt, target.path.as_str(), part.rename(rt, alloc), kept)
+        let named = part.rename(rt, alloc);
+        settle(
+            rt,
+            alloc,
+            target.path.as_str(),
+            named,
+            kept,
+            &mut self.folders,
+        )
     }
 
-    /// Removes all parts that are left.
-    pub fn remove(&self, rt: &R) {
+    /// Removes all parts that are left, and the new folders in which nothing is.
+    pub fn remove(&mut self, rt: &R) {
         for part in &self.parts {
             if let Some(part) = part {
                 part.remove(rt);
             }
         }
-    }
-}
-
-// Prints that an entry was restored, and which damaged file was kept, unless only errors are printed. If this cannot be
-// printed, the summary after it cannot be printed either, and the command fails there.
-fn tell<R: Print>(rt: &R, entry: &Entry, kept: Option<String>, goal: Goal<'_>) {
-    if goal.quiet {
-        return;
-    }
-    let name = Name(entry.name.as_slice());
-    let _ = println!(rt; "restored: {name}");
-    if let Some(kept) = kept {
-        let kept = Shown(kept.as_str());
-        let _ = println!(rt; "kept: {kept}");
+        self.folders.remove_empty(rt);
     }
 }
 
@@ -267,10 +262,12 @@ fn begin_part<R: Files>(
     entry: &Entry,
     goal: Goal<'_>,
     inputs: &[Identity],
+    folders: &mut Folders,
 ) -> Result<Part<R>> {
     let target = Target::of(alloc, entry, goal)?;
     check_target(rt, alloc, &target, goal, inputs)?;
-    let part = free_path(rt, alloc, goal.folder, target.name, "part", Some(goal.set))?;
+    folders.make_parent(rt, alloc, target.path.as_str())?;
+    let part = free_path(rt, alloc, goal.folder, target.name, PART, Some(goal.set))?;
     Part::begin(rt, alloc, target.path.as_str(), part, entry.size, PART_MODE)
 }
 
@@ -281,11 +278,12 @@ fn finish_other<R: Files + Eprint>(
     entry: &Entry,
     goal: Goal<'_>,
     inputs: &[Identity],
+    folders: &mut Folders,
 ) -> Result<Option<String>> {
     let target = Target::of(alloc, entry, goal)?;
     check_target(rt, alloc, &target, goal, inputs)?;
     match entry.kind {
-        Kind::Link => make_link(rt, alloc, &target, goal, inputs),
-        _ => make_folder(rt, alloc, &target, goal, inputs),
+        Kind::Link => make_link(rt, alloc, &target, goal, inputs, folders),
+        _ => make_folder(rt, alloc, &target, goal, inputs, folders),
     }
 }

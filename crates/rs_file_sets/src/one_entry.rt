@@ -1,0 +1,65 @@
+//! The state of one entry, without the blocks of its set.
+use crate::file_scan::look;
+use rs_folders::hashing::hash_at;
+use rs_folders::identity::open_regular;
+use rs_volume_files::scanner::State;
+use rs_volumes::description::{Entry, Kind, Version};
+use std::alloc::Global;
+use std::fs;
+use std::fs::Metadata;
+use std::os::unix::fs::MetadataExt;
+use std::rt::Files;
+
+/// Returns whether a file has the length and the time of an entry. Version 1 has no nanoseconds.
+pub fn has_time(entry: &Entry, metadata: &Metadata, version: Version) -> bool {
+    let seconds = u64::from_le_bytes(metadata.mtime().to_le_bytes());
+    let has_nanoseconds = match version {
+        Version::First => true,
+        Version::Second => metadata.mtime_nsec() == i64::from(entry.nanoseconds),
+    };
+    metadata.len() == entry.size && seconds == entry.seconds && has_nanoseconds
+}
+
+/// Returns the state of an entry by the length and the time of a file, the target of a symbolic link, and the existence
+/// of a folder. No file is read.
+pub fn state_by_time<R: Files>(
+    rt: &R,
+    alloc: Global,
+    entry: &Entry,
+    path: &str,
+    version: Version,
+) -> State {
+    let has_its_time = match fs::metadata(rt, path) {
+        Ok(found) => has_time(entry, &found, version),
+        Err(_) => false,
+    };
+    match look(rt, alloc, entry, path) {
+        Ok(State::Whole) if entry.kind == Kind::File && !has_its_time => State::Damaged,
+        Ok(state) => state,
+        Err(_) => State::Missing,
+    }
+}
+
+/// Returns whether an entry of a set of version 2 is whole. A file is read and compared with its own digest. `buffer`
+/// is memory for its bytes.
+pub fn is_whole<R: Files>(
+    rt: &R,
+    alloc: Global,
+    entry: &Entry,
+    path: &str,
+    buffer: &mut [u8],
+) -> bool {
+    if !matches!(look(rt, alloc, entry, path), Ok(State::Whole)) {
+        return false;
+    }
+    if entry.kind != Kind::File || entry.size == 0 {
+        return true;
+    }
+    match open_regular(rt, path, true) {
+        Ok(mut file) => match hash_at(&mut file, 0, entry.size, buffer) {
+            Ok(own) => own == entry.digest,
+            Err(_) => false,
+        },
+        Err(_) => false,
+    }
+}

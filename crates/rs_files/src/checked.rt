@@ -1,0 +1,90 @@
+//! The states of the entries of a set, as they are printed.
+use crate::json::{add_text, entry_json};
+use crate::log::Lines;
+use rs_folders::names::{Name, Shown};
+use rs_volume_files::scanner::State;
+use rs_volumes::description::Entry;
+use serde_json::Value;
+use std::alloc::{AllocError, Global};
+use std::io;
+
+/// The states of the entries that a request is about.
+#[derive(Clone, Copy)]
+pub struct Checked<'a> {
+    /// All entries of the set.
+    pub entries: &'a [Entry],
+    /// Their states.
+    pub states: &'a [State],
+    /// For each entry, whether the request is about it.
+    pub chosen: &'a [bool],
+    /// The words for the states whole, damaged and missing.
+    pub words: [&'static str; 3],
+}
+
+impl<'a> Checked<'a> {
+    // Returns the word for a state.
+    fn word_of(&self, state: State) -> &'static str {
+        let [whole, damaged, missing] = self.words;
+        match state {
+            State::Whole => whole,
+            State::Damaged => damaged,
+            State::Missing => missing,
+        }
+    }
+
+    /// Returns whether one of the entries was found, whole or not.
+    pub fn has_some(&self) -> bool {
+        self.states.iter().any(|state| *state != State::Missing)
+    }
+
+    /// Prints which entries are not whole. If none was found in `folder`, the function prints this instead.
+    ///
+    /// # Errors
+    ///
+    /// Fails if the result cannot be printed.
+    pub fn tell<R: Print>(&self, rt: &R, folder: &str) -> io::Result<()> {
+        if !self.entries.is_empty() && !self.has_some() {
+            return tell_nowhere(rt, folder);
+        }
+        let mut lines = Lines::new();
+        let states = self.states.iter().zip(self.chosen);
+        for (entry, (state, is_chosen)) in self.entries.iter().zip(states) {
+            if *is_chosen && *state != State::Whole && lines.next() {
+                let word = self.word_of(*state);
+                let name = Name(entry.name.as_slice());
+                println!(rt; "{word}: {name}")?;
+            }
+        }
+        lines.end(rt)
+    }
+
+    /// Returns the entries with their states as JSON.
+    ///
+    /// # Errors
+    ///
+    /// [`AllocError`] if memory cannot be allocated.
+    pub fn json(&self, alloc: Global) -> Result<Value, AllocError> {
+        let mut list = Vec::new(alloc);
+        let states = self.states.iter().zip(self.chosen);
+        for (entry, (state, is_chosen)) in self.entries.iter().zip(states) {
+            if *is_chosen {
+                let mut object = entry_json(alloc, entry)?;
+                add_text(alloc, &mut object, "state", self.word_of(*state))?;
+                list.push(Value::Object(object))?;
+            }
+        }
+        Ok(Value::Array(list))
+    }
+}
+
+/// Prints that no file of a set was found in a folder, and what to do.
+///
+/// # Errors
+///
+/// Fails if the line cannot be printed.
+pub fn tell_nowhere<R: Print>(rt: &R, folder: &str) -> io::Result<()> {
+    let folder = Shown(folder);
+    println!(rt;
+        "no file was found in {folder}: if the files are in another folder, name it with --folder"
+    )
+}

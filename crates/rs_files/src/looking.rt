@@ -1,0 +1,185 @@
+//! Looks for the blocks of a set as a request says.
+use crate::log::Log;
+use crate::settings::Request;
+use rs_file_sets::scanning::{Scan, scan_opened};
+use rs_file_sets::searching::{Elsewhere, find_elsewhere};
+use rs_folders::counted::Counted;
+use rs_folders::failure::{Failure, Result};
+use rs_folders::leftovers::tell_leftovers;
+use rs_folders::names::{Name, Shown, folder_to_open, parent_of};
+use rs_volume_files::scanner::State;
+use rs_volume_files::volume::{Volumes, open_volumes};
+use rs_volumes::description::{Description, Entry};
+use std::alloc::Global;
+use std::fs;
+use std::io::ErrorKind;
+use std::rt::{Files, Runtime};
+
+/// What was found of a set, and the entries that a request is about.
+#[derive(Drop)]
+pub struct Look {
+    /// The entries and blocks that were found.
+    pub scan: Scan,
+    /// For each entry, whether the request is about it.
+    pub chosen: Vec<bool>,
+    // What was found in other files.
+    elsewhere: Elsewhere,
+}
+
+/// Returns the folder of the files: the folder after `--folder`, or else the folder of the first volume.
+///
+/// # Errors
+///
+/// Fails if neither a folder nor a volume is named.
+pub fn folder_of(request: &Request) -> Result<&str> {
+    if let Some(folder) = &request.folder {
+        return Ok(folder.as_str());
+    }
+    match request.paths.first() {
+        Some(path) => Ok(folder_to_open(parent_of(path.as_str()))),
+        None => Err(Failure::of("no volume is given")),
+    }
+}
+
+// Checks that a folder is there.
+fn check_folder<R: Files>(rt: &R, alloc: Global, folder: &str) -> Result<()> {
+    match fs::metadata(rt, folder) {
+        Ok(found) if found.is_dir() => Ok(()),
+        Ok(_) => Err(Failure::at(alloc, folder, "this is no folder")),
+        Err(error) if error.kind() == ErrorKind::NotFound => {
+            Err(Failure::at(alloc, folder, "there is no such folder"))
+        }
+        Err(error) => Err(Failure::at(alloc, folder, error)),
+    }
+}
+
+/// Opens the volumes of a request, and finds their set.
+///
+/// # Errors
+///
+/// Fails if a folder after `--folder` or `--search` is not there. Then fails for a reason of [`open_volumes`].
+pub fn open_request<R: Files + Eprint>(
+    rt: &R,
+    alloc: Global,
+    request: &Request,
+) -> Result<Volumes> {
+    if let Some(folder) = &request.folder {
+        check_folder(rt, alloc, folder.as_str())?;
+    }
+    for folder in &request.search {
+        check_folder(rt, alloc, folder.as_str())?;
+    }
+    open_volumes(rt, alloc, request.paths.as_slice(), request.memory)
+}
+
+/// Returns for each entry of a set whether a request is about it: its name, or the name of a folder above it, follows
+/// `--only`, or there is no `--only`.
+///
+/// # Errors
+///
+/// Fails if nothing in the set has a name that follows `--only`, or if memory cannot be allocated.
+pub fn chosen_of(alloc: Global, request: &Request, set: &Description) -> Result<Vec<bool>> {
+    let mut chosen = vec![in alloc; request.only.is_empty(); set.entries.len()]?;
+    for name in &request.only {
+        let name = name.as_str().trim_end_matches('/');
+        let mut is_in_set = false;
+        for (entry, is_chosen) in set.entries.iter().zip(chosen.as_mut_slice()) {
+            if is_at_or_below(entry, name.as_bytes()) {
+                *is_chosen = true;
+                is_in_set = true;
+            }
+        }
+        if !is_in_set {
+            let reason = "this name is not in the set: info prints the names";
+            return Err(Failure::at(alloc, name, reason));
+        }
+    }
+    Ok(chosen)
+}
+
+// Returns whether an entry has a name, or is in a folder of this name.
+fn is_at_or_below(entry: &Entry, name: &[u8]) -> bool {
+    match entry.name.as_slice().strip_prefix(name) {
+        Some(rest) => rest.is_empty() || rest.starts_with(b"/"),
+        None => false,
+    }
+}
+
+/// Looks for all blocks of a set in its volumes, in its files below `folder`, if there is one, and if blocks are lost
+/// in other files. `volumes` are the volumes of the request. For each file that a run of the program has not finished,
+/// the function prints a warning.
+///
+/// # Errors
+///
+/// Fails for a reason of [`chosen_of`], [`scan_opened`] or [`find_elsewhere`].
+pub fn look_for<R: Runtime>(
+    rt: &R,
+    alloc: Global,
+    request: &Request,
+    volumes: Volumes,
+    folder: Option<&str>,
+) -> Result<Look> {
+    let chosen = chosen_of(alloc, request, &volumes.set.description)?;
+    let mut scan = scan_opened(rt, alloc, volumes, request.progress, folder)?;
+    tell_leftovers(rt, alloc, scan.paths.as_slice())?;
+    let mut folders = Vec::new(alloc);
+    if let Some(folder) = folder {
+        folders.push(folder)?;
+    }
+    for folder in &request.search {
+        folders.push(folder.as_str())?;
+    }
+    let elsewhere = find_elsewhere(rt, alloc, folders.as_slice(), &request.to, &mut scan)?;
+    Ok(Look {
+        scan,
+        chosen,
+        elsewhere,
+    })
+}
+
+impl Look {
+    /// Returns whether the request is about an entry.
+    pub fn is_chosen(&self, index: usize) -> bool {
+        self.chosen.get(index).copied().unwrap_or(false)
+    }
+
+    /// Returns whether the request is about an entry that is not whole.
+    pub fn is_broken(&self, index: usize) -> bool {
+        let is_whole = matches!(self.scan.states.get(index), Some(State::Whole));
+        self.is_chosen(index) && !is_whole
+    }
+
+    /// Returns whether all entries that the request is about are whole.
+    pub fn has_whole_files(&self) -> bool {
+        (0..self.chosen.len()).all(|index| !self.is_broken(index))
+    }
+
+    /// Returns whether the request is about all entries.
+    pub fn has_all(&self) -> bool {
+        self.chosen.iter().all(|is_chosen| *is_chosen)
+    }
+
+    /// Prints which files were renamed or moved, and how many lost blocks were found elsewhere.
+    ///
+    /// # Errors
+    ///
+    /// Fails if a message cannot be printed, or if memory cannot be allocated.
+    pub fn tell_moved<R: Print>(&self, rt: &R, log: &mut Log) -> Result<()> {
+        let entries = self.scan.description().entries.as_slice();
+        for index in &self.elsewhere.files {
+            if let (Some(entry), Some(path)) = (entries.get(*index), self.scan.paths.get(*index)) {
+                let at = Some(("path", path.as_str()));
+                log.add_entry("moved", entry.name.as_slice(), at)?;
+                if log.is_told() {
+                    let (name, path) = (Name(entry.name.as_slice()), Shown(path.as_str()));
+                    println!(rt; "moved: {name} is at {path}")?;
+                }
+            }
+        }
+        if self.elsewhere.blocks > 0 && log.is_told() {
+            let blocks = Counted(self.elsewhere.blocks as u64, "lost block");
+            println!(rt; "{blocks} found in other files or at other places")?;
+        }
+        Ok(())
+    }
+}

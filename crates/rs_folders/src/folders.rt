@@ -1,0 +1,147 @@
+//! The folders in which files are made: they are made too, synced, and removed if nothing is in them.
+use crate::failure::{Failure, Result, warn};
+use crate::identity::exists;
+use crate::names::{folder_to_open, parent_of};
+use std::alloc::{AllocError, Global};
+use std::fs::OpenFile;
+use std::io::ErrorKind;
+use std::rt::Files;
+use std::{fs, io};
+
+/// The folders in which a command makes files.
+///
+/// Until a folder is synced, a loss of power can undo the new names in it. Each folder is synced once, after all files
+/// in it have their names: a sync takes longer than everything else that a small file needs.
+#[derive(Drop)]
+pub struct Folders {
+    // The folders in which something has got a new name, and which are not synced yet.
+    changed: Vec<String>,
+    // The folders that did not exist before.
+    made: Vec<String>,
+    // The folders that cannot be synced, about which a warning was printed.
+    told: Vec<String>,
+}
+
+impl Folders {
+    /// Returns a list without folders.
+    pub fn new(alloc: Global) -> Folders {
+        Folders {
+            changed: Vec::new(alloc),
+            made: Vec::new(alloc),
+            told: Vec::new(alloc),
+        }
+    }
+
+    /// Notes that something has got its name at a path. If memory cannot be allocated, its folder is synced at once.
+    pub fn note<R: Files + Eprint>(&mut self, rt: &R, alloc: Global, path: &str) {
+        if self.add(alloc, path).is_err() {
+            let _ = sync_folder(rt, folder_to_open(parent_of(path)));
+        }
+    }
+
+    // Adds the folder of a path, unless it was added last.
+    fn add(&mut self, alloc: Global, path: &str) -> Result<(), AllocError> {
+        let folder = folder_to_open(parent_of(path));
+        let is_last = match self.changed.last() {
+            Some(last) => last.as_str() == folder,
+            None => false,
+        };
+        if !is_last {
+            self.changed.push(String::from_str(alloc, folder)?)?;
+        }
+        Ok(())
+    }
+
+    /// Makes the folder of a file, and the folders above it. A new folder has a new name too, in the folder above it.
+    ///
+    /// # Errors
+    ///
+    /// Fails if a folder cannot be made, or if memory cannot be allocated.
+    pub fn make_parent<R: Files>(&mut self, rt: &R, alloc: Global, path: &str) -> Result<()> {
+        let folder = parent_of(path);
+        if folder.is_empty() {
+            return Ok(());
+        }
+        self.add_missing(rt, alloc, folder)?;
+        match fs::create_dir_all(rt, folder) {
+            Ok(()) => Ok(()),
+            Err(error) => {
+                let reason = format_args!("its folder cannot be made: {error}");
+                Err(Failure::at(alloc, path, reason))
+            }
+        }
+    }
+
+    // Notes those of the folders of a path that do not exist yet, and the folders above them. `path` is the path of a
+    // folder.
+    fn add_missing<R: Files>(
+        &mut self,
+        rt: &R,
+        alloc: Global,
+        path: &str,
+    ) -> Result<(), AllocError> {
+        let mut folder = path;
+        for _ in 0..path.len() {
+            if folder.is_empty() || exists(rt, folder) {
+                break;
+            }
+            self.add(alloc, folder)?;
+            self.made.push(String::from_str(alloc, folder)?)?;
+            folder = parent_of(folder);
+        }
+        Ok(())
+    }
+
+    /// Syncs all folders of the list, each of them once, and empties the list.
+    ///
+    /// Some file systems cannot sync a folder. Then the files in it are whole and have their names all the same, so the
+    /// function only prints a warning, once for each folder.
+    pub fn sync<R: Files + Eprint>(&mut self, rt: &R) {
+        // If the list cannot be sorted, a folder can be synced twice.
+        let _ = self
+            .changed
+            .sort_by(|one, other| one.as_str().cmp(other.as_str()));
+        let mut last = "";
+        for folder in &self.changed {
+            if folder.as_str() == last {
+                continue;
+            }
+            last = folder.as_str();
+            let is_told = self.told.iter().any(|told| told.as_str() == last);
+            if !is_told && !sync_folder(rt, last) {
+                if let Ok(folder) = folder.clone() {
+                    let _ = self.told.push(folder);
+                }
+            }
+        }
+        self.changed.clear();
+    }
+
+    /// Removes those of the folders that this list has made in which nothing is.
+    pub fn remove_empty<R: Files>(&mut self, rt: &R) {
+        // A folder comes before the folder in which it is. If the folders cannot be sorted, some can be left.
+        let _ = self.made.sort_by(|one, other| other.len().cmp(&one.len()));
+        for folder in &self.made {
+            // A folder with files in it is not removed.
+            let _ = fs::remove_dir(rt, folder.as_str());
+        }
+    }
+}
+
+// Syncs a folder. If it cannot be synced, the function prints a warning, and returns false. A folder that is no longer
+// there is left out.
+fn sync_folder<R: Files + Eprint>(rt: &R, folder: &str) -> bool {
+    match sync_opened(rt, folder) {
+        Err(error) if error.kind() != ErrorKind::NotFound => {
+            let reason = format_args!("warning: this folder cannot be synced: {error}");
+            warn(rt, folder, reason);
+            false
+        }
+        _ => true,
+    }
+}
+
+// Opens a folder and syncs it.
+fn sync_opened<R: Files>(rt: &R, folder: &str) -> io::Result<()> {
+    fs::open(rt, folder)?.sync_all()
+}
