@@ -300,6 +300,15 @@ impl Engine for DefaultEngine<'_> {
         }
     }
 
+    fn mul_add_bytes(&self, steps: &mut Steps, x: &mut [u8], y: &[[u8; 64]], log_m: GfElement) {
+        match self {
+            Self::Naive(engine) => Engine::mul_add_bytes(engine, steps, x, y, log_m),
+            Self::NoSimd(engine) => Engine::mul_add_bytes(engine, steps, x, y, log_m),
+            Self::Avx2(engine) => Engine::mul_add_bytes(engine, steps, x, y, log_m),
+            Self::Ssse3(engine) => Engine::mul_add_bytes(engine, steps, x, y, log_m),
+        }
+    }
+
     fn eval_poly(&self, steps: &mut Steps, erasures: &mut [GfElement], truncated_size: usize) {
         match self {
             Self::Naive(engine) => engine.eval_poly(steps, erasures, truncated_size),

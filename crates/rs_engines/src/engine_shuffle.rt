@@ -9,7 +9,7 @@ use crate::any_factor::{AnyFactor, factor_of};
 use crate::butterflies::{Backward, Forward};
 use crate::byte_vector::ByteVector;
 use crate::factors::ThreeFactors;
-use crate::shuffle_rows::{add_row, mul_chunks, one_layer, two_layers};
+use crate::shuffle_rows::{add_row, add_row_to_bytes, mul_chunks, one_layer, two_layers};
 use crate::shuffle_tables::ShuffleTables;
 use rs_field::engine::GfElement;
 use rs_field::engine::kernel::{Kernel, ThreeLogarithms};
@@ -163,5 +163,10 @@ impl<V: ByteVector, T: ShuffleTables> Kernel for ByShuffles<V, T> {
     fn mul_add_row(&self, x: &mut [[u8; 64]], y: &[[u8; 64]], log_m: GfElement) {
         let products = self.tables.products(log_m);
         add_row::<V>(x, y, factor_of(products.lend(), log_m));
+    }
+
+    fn mul_add_bytes(&self, x: &mut [u8], y: &[[u8; 64]], log_m: GfElement) {
+        let products = self.tables.products(log_m);
+        add_row_to_bytes::<V>(x, y, factor_of(products.lend(), log_m));
     }
 }

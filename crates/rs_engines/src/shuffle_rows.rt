@@ -1,8 +1,8 @@
 //! Products, butterflies and two layers of butterflies of rows by shuffles, chunk by chunk.
-ghost use Rattle.std.specs.Prelude.{◌≡◌, ℕ, ◌<◌, length, bit_xor};
+ghost use Rattle.std.specs.Prelude.{◌≡◌, ℕ, ◌*◌, ◌<◌, length, bit_xor};
 ghost use Rattle.rs_field.specs.words.Tables.{times_factor};
 ghost use Rattle.rs_field.specs.words.Field.{product};
-ghost use Rattle.rs_field.specs.rows.Rows.{chunk, symbol};
+ghost use Rattle.rs_field.specs.rows.Rows.{byte_symbol, chunk, symbol};
 ghost use Rattle.rs_field.specs.words.Products.{IsNibbleBytes};
 ghost use Rattle.rs_field.specs.rows.Pairs.{at_two_symbols};
 ghost use Rattle.rs_field.specs.rows.TwoLayers.{at_four_symbols};
@@ -13,6 +13,7 @@ use crate::butterflies::Butterflies;
 use crate::byte_vector::ByteVector;
 use crate::factors::{Factor, General, Small, ThreeFactors};
 use crate::shuffle_chunks::{add_chunk, four_chunks, mul_chunk, two_chunks};
+use rs_field::engine::byte_chunks::{chunk_at, put_chunk};
 use rs_field::engine::tables::Multiply128lutT;
 
 /// Multiplies each symbol of a row by a factor.
@@ -36,6 +37,23 @@ fn add_chunks<V: ByteVector, F: Factor>(x: &mut [[u8; 64]], y: &[[u8; 64]], fact
 {
     for k in 0..x.len() {
         add_chunk::<V, F>(&mut x[k], &y[k], factor);
+    }
+}
+
+// Adds to each symbol of the chunks of bytes the product of the same symbol of a row with a factor of class F.
+#[inline(always)]
+fn add_to_bytes<V: ByteVector, F: Factor>(x: &mut [u8], y: &[[u8; 64]], factor: F)
+    requires { length x.old ≡ length y.now * 64 }
+    ensures length { length x.new ≡ length x.old }
+    ensures sums { (k s : ℕ) → k < length y.now → s < 32
+        → byte_symbol x.new k s
+        ≡ bit_xor (byte_symbol x.old k s)
+        (times_factor (F.log factor) (symbol (chunk y.now k) s)) }
+{
+    for k in 0..y.len() {
+        let mut sum = chunk_at(x, k);
+        add_chunk::<V, F>(&mut sum, &y[k], factor);
+        put_chunk(x, k, &sum);
     }
 }
 
@@ -109,6 +127,30 @@ pub fn add_row<V: ByteVector>(x: &mut [[u8; 64]], y: &[[u8; 64]], factor: AnyFac
         AnyFactor::General(General { log_m, products }) => {
             let products = &copied(products);
             add_chunks::<V, _>(x, y, General { log_m, products })
+        }
+    }
+}
+
+/// Adds to each symbol of the chunks of bytes the product of the same symbol of a row with a factor. There is a loop
+/// over chunks for each class of factors.
+#[inline(always)]
+pub fn add_row_to_bytes<V: ByteVector>(x: &mut [u8], y: &[[u8; 64]], factor: AnyFactor<'_>)
+    requires { length x.old ≡ length y.now * 64 }
+    ensures length { length x.new ≡ length x.old }
+    ensures sums { (k s : ℕ) → k < length y.now → s < 32
+        → byte_symbol x.new k s
+        ≡ bit_xor (byte_symbol x.old k s)
+        (times_factor (log_of factor.entry) (symbol (chunk y.now k) s)) }
+{
+    match factor {
+        AnyFactor::Zero(factor) => add_to_bytes::<V, _>(x, y, factor),
+        AnyFactor::Small(Small { log_m, products }) => {
+            let products = &copied(products);
+            add_to_bytes::<V, _>(x, y, Small { log_m, products })
+        }
+        AnyFactor::General(General { log_m, products }) => {
+            let products = &copied(products);
+            add_to_bytes::<V, _>(x, y, General { log_m, products })
         }
     }
 }

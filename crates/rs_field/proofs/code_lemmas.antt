@@ -22,7 +22,7 @@ pub mod AgreeingMessages
 pub mod Pieces
 pub mod PieceStates
 pub mod ListedMaps
-pub mod RestoredBelow
+pub mod MissingShards
 pub mod Agreement
 pub mod Changes
 pub mod Entries

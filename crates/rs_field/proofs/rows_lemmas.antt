@@ -15,3 +15,4 @@ pub mod PartLoops
 pub mod Directions
 pub mod BlockChunks
 pub mod DerivativeStep
+pub mod ByteChunks

@@ -1,8 +1,8 @@
 //! What engines are made of, at its public paths.
 pub use crate::rows::engine::Engine;
 pub use crate::rows::{
-    Naive, ShardsRefMut, block, derivative, engine_naive, kernel, layout, marked_rows, rows,
-    shards, symbols, transform, vectors,
+    Naive, ShardsRefMut, block, byte_chunks, derivative, engine_naive, kernel, layout, marked_rows,
+    rows, shards, symbols, transform, vectors,
 };
 pub use crate::words::{
     CANTOR_BASIS, GF_BITS, GF_MODULUS, GF_ORDER, GF_POLYNOMIAL, GfElement, Steps, lent_tables,

@@ -1,6 +1,7 @@
 //! Rows of chunks: how they are lent, laid out, summed and transformed, the trait `Engine`, and the plain engine. Of
 //! this crate, these modules import only from `words`.
 pub mod block;
+pub mod byte_chunks;
 pub mod bytes;
 pub mod derivative;
 pub mod engine;

@@ -1,25 +1,24 @@
 -- If one-call `decode` succeeds, the received shards belong to one message only, and its lost originals are restored.
-use Rattle.std.proofs.Common.{rules, ◌≡◌, ℕ, ◌+◌, ◌<◌, Bool, true, false, List, [], ◌∷◌, length, refl, sym, ap, subst}
+use Rattle.std.proofs.Common.{◌≡◌, ℕ, ◌<◌, false, List, [], ◌∷◌, length, refl, sym, ap, subst}
 use Rattle.std.proofs.Common.{◌∙◌}
-use Rattle.std.proofs.Common.{inl, inr, arith, All, nat_eq}
+use Rattle.std.proofs.Common.{inl, inr, arith, nat_eq}
 use Rattle.std.specs.Prelude.{Result, Ok, Err, Some, None, IfOk, MatchResult}
 use Rattle.std.specs.List.{AllByRecursion, IsDistinct}
 use Rattle.std.proofs.lemmas.Bool.{eqb-false, ne_eqb}
 use Rattle.std.proofs.lemmas.List.Elements.{recursion_from_All, All-from_recursion}
 use Rattle.std.proofs.lemmas.Grind.{common_steps}
 use Rattle.rs_field.specs.declared.code.error.Error.{Error}
-use Rattle.rs_field.specs.code.Column.{Shard, AreShards, shard_at}
+use Rattle.rs_field.specs.code.Column.{Shard, shard_at}
 use Rattle.rs_field.specs.code.Counts.{default_rate}
 use Rattle.rs_field.specs.code.Frame.{decoder_rows}
 use Rattle.rs_field.specs.code.Outcome.{result_and_then}
 use Rattle.rs_field.specs.code.Configuration.{Configuration, validation_outcome, start_outcome}
-use Rattle.rs_field.specs.code.Code.{AreRecovery}
 use Rattle.rs_field.specs.code.Given.{Shards, nothing, with_entry, AreAmong, Agrees}
 use Rattle.rs_field.specs.code.Decoder.{DecoderState, fresh_decoder, with_original, with_recovery, enough_given}
 use Rattle.rs_field.specs.code.Decoder.{IsAgreeing, DecodeAnswers, Restored}
 use Rattle.rs_field.specs.code.OneCall.{Items, default_of, with_originals, with_recoveries, with_both}
 use Rattle.rs_field.specs.code.OneCall.{decoding_outcome, OneDecodeAnswers, originals_alone, counts_outcome}
-use Rattle.rs_field.specs.code.RoundTrip.{AreCoded, AreLeft, BelongTo, RestoresOnly, lost_of}
+use Rattle.rs_field.specs.code.RoundTrip.{AreCoded, AreLeft, BelongTo, RestoresOnly}
 use Rattle.rs_field.proofs.code_lemmas.Entries.{entered_all, AreFree, indexes, among-entered_all}
 use Rattle.rs_field.proofs.code_lemmas.Given.{entered_cases, nothing_among}
 use Rattle.rs_field.proofs.code_lemmas.OneRoundTrip.{then_ok, restores_in_one_call}

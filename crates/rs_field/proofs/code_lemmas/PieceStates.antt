@@ -10,7 +10,7 @@ use Rattle.std.proofs.lemmas.List.Elements.{All-map, All-take, All-drop}
 use Rattle.rs_field.specs.code.Column.{Shard, IsShard, AreShards, shard_at, column, columns}
 use Rattle.rs_field.specs.code.Configuration.{Configuration}
 use Rattle.rs_field.specs.code.Code.{AreRecovery, AreRecoveryWords}
-use Rattle.rs_field.specs.code.Decoder.{DecoderState, IsConsistent, missing_of, Restored}
+use Rattle.rs_field.specs.code.Decoder.{DecoderState, IsConsistent}
 use Rattle.rs_field.specs.code.Given.{Shards, Agrees}
 use Rattle.rs_field.proofs.code_lemmas.AgreeingMessages.{column_taken, consistent}
 use Rattle.rs_field.proofs.code_lemmas.DecodedColumn.{IsTaken}
@@ -33,13 +33,6 @@ module _ (start end : ℕ) where
   pub is_some-map : (o : Option Shard) → is_some (option_map (λ s. between start end s) o) ≡ is_some o
   is_some-map (Some s) = refl
   is_some-map None = refl
-
-  -- A missing piece is the piece of the missing shard.
-  missing-cut : (s : DecoderState) (message : List Shard) (i : ℕ)
-      → missing_of (state_of_pieces start end s) (pieces start end message) i
-      ≡ option_map (λ x. between start end x) (missing_of s message i)
-  unfolding missing_of
-  missing-cut s message i = search (rules, shard_at-pieces)
 
 -- ---- strips
 
@@ -101,15 +94,6 @@ module _ {start end : ℕ} where
               ∙ ap (λ (x : Shard). between start end x) (agrees.coded.2 i s.0 s.1) ∙ s.2,
         );
       }
-
-  -- The restored pieces are the pieces of the missing shards of any message that agrees.
-  pub restored-cut : {s : DecoderState} {message : List Shard} {out : Shards}
-      → IsStrip start end s.configuration.shard_bytes
-      → Agrees s.configuration s.originals s.recovery message → Restored (state_of_pieces start end s) out
-      → (i : ℕ) → out i ≡ option_map (λ x. between start end x) (missing_of s message i)
-  restored-cut {s} {message} strip agrees restored i =
-      restored.missing i ∙ ap (λ (m : List Shard). missing_of (state_of_pieces start end s) m i)
-      (sym (restored.only (pieces start end message) (agrees-cut strip agrees))) ∙ missing-cut start end s message i
 
   -- If the pieces of a strip are consistent, a polynomial has the words of the given shards in each column of the
   -- strip.

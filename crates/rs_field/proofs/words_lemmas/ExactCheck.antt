@@ -1,12 +1,11 @@
 -- Whether some polynomial has the given words as values, from the rows after the backward transform, for one column.
-use Rattle.std.proofs.Common.{◌≡◌, ℕ, zero, suc, ◌+◌, ◌^◌, ◌<◌, ◌≤◌, ◌⊎◌, List, [], ◌∷◌, length, sym, ap, ◌∙◌, arith}
+use Rattle.std.proofs.Common.{◌≡◌, ℕ, zero, suc, ◌+◌, ◌^◌, ◌<◌, ◌≤◌, List, [], ◌∷◌, length, sym, ap, ◌∙◌, arith}
 use Rattle.std.proofs.lemmas.Bool.{cases_eq}
 use Rattle.std.proofs.lemmas.Grind.{common_steps}
 use Rattle.rs_field.specs.words.Field.{product, power}
 use Rattle.rs_field.specs.words.Polynomial.{value}
 use Rattle.rs_field.specs.words.Transform.{forward}
 use Rattle.rs_field.specs.words.Locator.{log_sum}
-use Rattle.rs_field.proofs.words_lemmas.Product.{zero_product}
 use Rattle.rs_field.proofs.words_lemmas.Total.{product-comm}
 use Rattle.rs_field.proofs.words_lemmas.Inverse.{product_cancel}
 use Rattle.rs_field.proofs.words_lemmas.Power.{power_lt, power_pos}
@@ -28,13 +27,6 @@ pub record Takes (n b : ℕ) (marks words : ℕ → ℕ) (q : List ℕ) : Type 0
   pub degree : length q ≡ b
   pub coefficients : WordsOneByOne q
   pub given : (x : ℕ) → x < n → marks x ≡ 0 → value q x ≡ words x
-
--- Rows are located one at a time: zero at a marked point, zero at a known zero, and elsewhere the given word times the
--- locator's power.
-pub are_located : (n : ℕ) (marks words f : ℕ → ℕ) → ((x : ℕ) → x < n → marks x ≡ 1 → f x ≡ 0)
-    → ((x : ℕ) → x < n → marks x ≡ 0 → ((words x ≡ 0) × (f x ≡ 0))
-    ⊎ (f x ≡ product (words x) (power (log_sum n marks x)))) → AreLocated n marks words f
-are_located n marks words f erased rest = grind (arith, common_steps, zero_product)
 
 -- ---- the marked points as roots
 

@@ -13,6 +13,10 @@ chunk chunks k = slice_index_or chunks k []
 abbrev pub symbol : List ℕ → ℕ → ℕ
 symbol c s = slice_index c s + 256 * slice_index c (s + 32)
 
+-- symbol s of chunk k of bytes, whose chunks lie end to end
+abbrev pub byte_symbol : List ℕ → ℕ → ℕ → ℕ
+byte_symbol bytes k s = slice_index bytes (k * 64 + s) + 256 * slice_index bytes (k * 64 + (s + 32))
+
 -- the chunks before the a-th and from the b-th on are the same in both lists
 abbrev pub SameOutside : ℕ → ℕ → Chunks → Chunks → Type 0
 SameOutside a b old new = (k : ℕ) → (k < a) ⊎ (b ≤ k) → chunk new k ≡ chunk old k

@@ -77,6 +77,10 @@ pub enum Error {
         recovery_count: usize,
     },
     /// Memory could not be allocated, or the bytes of all rows exceed `usize::MAX`.
+    ///
+    /// Each call says for which memory this error can come, and at which place in its order of errors. The rows are
+    /// those of whole shards. Their bytes are checked before anything is allocated for them, also by a call that codes
+    /// strip by strip and allocates less. A `reset` that fails with this error leaves its object as it was.
     OutOfMemory,
 }
 
@@ -103,7 +107,8 @@ impl fmt::Display for Error {
                 recovery_received_count,
             } => write!(
                 f,
-                "inconsistent shards: {original_received_count} original + {recovery_received_count} recovery agree with no message"
+                "inconsistent shards: {original_received_count} original + {recovery_received_count} recovery \
+                 agree with no message"
             ),
             Error::InvalidOriginalShardIndex {
                 original_count,
@@ -129,7 +134,8 @@ impl fmt::Display for Error {
                 recovery_received_count,
             } => write!(
                 f,
-                "not enough shards: {original_received_count} original + {recovery_received_count} recovery < {original_count} original_count"
+                "not enough shards: {original_received_count} original + {recovery_received_count} recovery \
+                 < {original_count} original_count"
             ),
             Error::TooFewOriginalShards {
                 original_count,

@@ -1,16 +1,18 @@
 //! The trait of an engine.
-ghost use Rattle.std.specs.Prelude.{◌≡◌, ℕ, ◌+◌, ◌%◌, ◌^◌, ◌<◌, ◌≤◌, true, length, slice_index};
+ghost use Rattle.std.specs.Prelude.{◌≡◌, ℕ, ◌+◌, ◌*◌, ◌%◌, ◌^◌, ◌<◌, ◌≤◌, true, length, slice_index};
 ghost use Rattle.std.specs.Prelude.{bit_xor};
 ghost use Rattle.rs_field.specs.words.Field.{product, power, log};
 ghost use Rattle.rs_field.specs.words.Tables.{times_factor};
 ghost use Rattle.rs_field.specs.rows.MarkedRows.{is_marked, OthersAreZero};
 ghost use Rattle.rs_field.specs.words.Transform.{forward};
-ghost use Rattle.rs_field.specs.rows.Rows.{chunk, symbol};
+ghost use Rattle.rs_field.specs.rows.Rows.{byte_symbol, chunk, symbol};
 ghost use Rattle.rs_field.specs.rows.View.{word, Fits, SameExtent, SameRowsOutside, AreZero};
 ghost use Rattle.rs_field.specs.words.Locator.{IsLocator, IsLocatorBelow};
 ghost use Rattle.rs_field.specs.words.StepBounds.{LocatorCounts, TransformCounts, RowProductCounts, RowSumCounts};
+ghost use Rattle.rs_field.specs.words.StepBounds.{ByteSumCounts};
 
 use super::ShardsRefMut;
+use super::byte_chunks::{chunk_at, put_chunk};
 use super::bytes::symbols_are_words;
 use super::marked_rows::marked_end;
 use super::sums::xor;
@@ -23,7 +25,7 @@ use crate::words::{GF_MODULUS, GF_ORDER, GfElement, Steps};
 /// separately for each symbol. The points of the values are `skew_delta`, `skew_delta + 1` and so on. Every call
 /// succeeds and allocates nothing.
 ///
-/// A type that provides `fft`, `ifft`, `mul` and `eval_poly` is an engine. The other five calls have default bodies.
+/// A type that provides `fft`, `ifft`, `mul` and `eval_poly` is an engine. The other six calls have default bodies.
 pub trait Engine: Drop {
     /// Transforms the `size` rows from `pos` on forward, at `skew_delta`.
     ///
@@ -162,6 +164,27 @@ pub trait Engine: Drop {
             steps.row_step();
             xor(x, y);
             self.mul(steps, x, log_m);
+        }
+    }
+
+    /// Adds `y` times the generator to the power `log_m` to the chunks of bytes `x`, symbol by symbol and in place. 65535
+    /// represents the factor zero. The bytes are as many as those of `y`, at least one chunk.
+    ///
+    /// The default body adds one chunk after another with `mul_add`, which is at most three row steps for each chunk.
+    /// The engines of this library take one.
+    fn mul_add_bytes(&self, steps: &mut Steps, x: &mut [u8], y: &[[u8; 64]], log_m: GfElement)
+        requires same { length x.old ≡ length y.now * 64 }
+        requires some { 0 < length y.now }
+        ensures length { length x.new ≡ length x.old }
+        ensures sums { (k s : ℕ) → k < length y.now → s < 32
+            → byte_symbol x.new k s
+            ≡ bit_xor (byte_symbol x.old k s) (times_factor log_m (symbol (chunk y.now k) s)) }
+        ensures counts { ByteSumCounts (length y.now) steps.old steps.new }
+    {
+        for k in 0..y.len() {
+            let mut row = [chunk_at(x, k)];
+            self.mul_add(steps, &mut row, &y[k..k + 1], log_m);
+            put_chunk(x, k, &row[0]);
         }
     }
 

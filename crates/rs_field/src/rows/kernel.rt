@@ -1,10 +1,11 @@
 //! The parts of an engine that differ from engine to engine.
-ghost use Rattle.std.specs.Prelude.{◌≡◌, ℕ, ◌<◌, length, bit_xor};
+ghost use Rattle.std.specs.Prelude.{◌≡◌, ℕ, ◌*◌, ◌<◌, length, bit_xor};
 ghost use Rattle.rs_field.specs.words.Field.{product, power};
 ghost use Rattle.rs_field.specs.words.Tables.{times_factor};
-ghost use Rattle.rs_field.specs.rows.Rows.{chunk, symbol};
+ghost use Rattle.rs_field.specs.rows.Rows.{byte_symbol, chunk, symbol};
 ghost use Rattle.rs_field.specs.rows.TwoLayers.{IsForwardTwoLayers, IsBackwardTwoLayers};
 
+use super::byte_chunks::{chunk_at, put_chunk};
 use crate::words::GfElement;
 use crate::words::lent_tables::LentTables;
 
@@ -117,4 +118,23 @@ pub trait Kernel: Drop {
         ensures { (k s : ℕ) → k < length x.old → s < 32
             → symbol (chunk x.new k) s
             ≡ bit_xor (symbol (chunk x.old k) s) (times_factor log_m (symbol (chunk y.now k) s)) };
+
+    /// Adds `y` times the factor of a butterfly to the chunks of bytes `x`; 65535 represents the factor zero. The bytes
+    /// are as many as those of `y`.
+    ///
+    /// The default body adds one chunk after another with `mul_add_row`. An engine can have a body of its own that does
+    /// not look up the factor for each chunk.
+    fn mul_add_bytes(&self, x: &mut [u8], y: &[[u8; 64]], log_m: GfElement)
+        requires { length x.old ≡ length y.now * 64 }
+        ensures length { length x.new ≡ length x.old }
+        ensures sums { (k s : ℕ) → k < length y.now → s < 32
+            → byte_symbol x.new k s
+            ≡ bit_xor (byte_symbol x.old k s) (times_factor log_m (symbol (chunk y.now k) s)) }
+    {
+        for k in 0..y.len() {
+            let mut row = [chunk_at(x, k)];
+            self.mul_add_row(&mut row, &y[k..k + 1], log_m);
+            put_chunk(x, k, &row[0]);
+        }
+    }
 }

@@ -79,6 +79,11 @@ impl<K: Kernel> Engine for K {
         self.mul_add_row(x, y, log_m);
     }
 
+    fn mul_add_bytes(&self, steps: &mut Steps, x: &mut [u8], y: &[[u8; 64]], log_m: GfElement) {
+        steps.row_step();
+        Kernel::mul_add_bytes(self, x, y, log_m);
+    }
+
     fn eval_poly(&self, steps: &mut Steps, erasures: &mut [GfElement], truncated_size: usize) {
         let log_walsh = self.tables().log_walsh();
         locating::eval_poly(steps, erasures, truncated_size, log_walsh);

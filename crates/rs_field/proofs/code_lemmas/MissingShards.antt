@@ -1,34 +1,25 @@
--- A decode by strips: the bytes in the rooms after some strips, and the proof that the rooms hold the restored
--- originals after all strips.
-use Rattle.std.proofs.Common.{rules, ◌≡◌, ℕ, zero, suc, ◌+◌, ◌-◌, ◌/◌, ◌%◌, ◌<◌, ◌≤◌, ◌⊎◌, Bool, true, false, cond}
-use Rattle.std.proofs.Common.{List, [], ◌++◌, length, take, drop, get_or, All, refl, sym, ap, ap₂, ◌∙◌, subst, inl, inr}
+-- The missing shards of a message: how many there are, how long they are, and that the items of a decode are these
+-- shards. A strip has as many given pieces as there are given shards, so the same number of shards is missing from it.
+use Rattle.std.proofs.Common.{rules, ◌≡◌, ℕ, zero, suc, ◌+◌, ◌-◌, ◌<◌, ◌≤◌, ◌⊎◌, Bool, true, false, cond}
+use Rattle.std.proofs.Common.{List, [], length, get_or, All, refl, sym, ap, ap₂, ◌∙◌, subst, inl, inr}
 use Rattle.std.proofs.Common.{arith}
-use Rattle.std.proofs.lemmas.Grind.{common_steps}
 use Rattle.std.specs.Prelude.{Some, None, is_some, unwrap_or, not, ◌&&◌, nat_lt, Result, Ok, Err}
-use Rattle.std.specs.List.{between}
-use Rattle.std.specs.Option.{option_map}
 use Rattle.std.proofs.Math.Path.{fun_ext}
-use Rattle.std.proofs.Math.Seq.{take-add}
 use Rattle.std.proofs.lemmas.Bool.{cases_lt, lt-ltb, le-ltb}
-use Rattle.std.proofs.lemmas.List.{get_or-map, length-map, take_all, ext_get_or}
+use Rattle.std.proofs.lemmas.List.{length-map}
 use Rattle.rs_field.specs.declared.code.error.Error.{Error}
 use Rattle.rs_field.specs.declared.code.error.Error.TheVariants.{InconsistentShards, NotEnoughShards}
 use Rattle.rs_field.specs.code.Column.{Shard}
-use Rattle.rs_field.specs.code.Counts.{supports}
-use Rattle.rs_field.specs.code.Decoder.{DecoderState, IsAgreeing, originals_given, recovery_given, enough_given}
+use Rattle.rs_field.specs.code.Decoder.{DecoderState, IsAgreeing, originals_given, enough_given}
 use Rattle.rs_field.specs.code.Decoder.{missing_of, Restored, NoneAgrees}
-use Rattle.rs_field.specs.code.Given.{Shards, AreWithin, Lists, items_below, count_below}
+use Rattle.rs_field.specs.code.Given.{Shards, Lists, items_below, count_below}
 use Rattle.rs_field.specs.code.OneCall.{Items}
-use Rattle.rs_field.specs.code.Pieces.{pieces, IsStrip, ArePut, room_length}
+use Rattle.rs_field.specs.code.Pieces.{pieces, IsStrip}
 use Rattle.rs_field.specs.code.PieceStates.{pieces_of, state_of_pieces, shards_listed, HoldRestored}
-use Rattle.rs_field.proofs.code_lemmas.Agreement.{one_message}
 use Rattle.rs_field.proofs.code_lemmas.Given.{count_below-zero, count_below-suc}
-use Rattle.rs_field.proofs.code_lemmas.GivenRows.{given_within}
 use Rattle.rs_field.proofs.code_lemmas.Listed.{length-listed}
-use Rattle.rs_field.proofs.code_lemmas.ListedMaps.{lists-same, listed-changed, listed-all}
-use Rattle.rs_field.proofs.code_lemmas.Pieces.{AreStripPut, put-inside, put-fit, room-whole}
-use Rattle.rs_field.proofs.code_lemmas.PieceStates.{is_some-map, agrees-cut, restored-cut, consistent-whole}
-use Rattle.rs_field.proofs.code_lemmas.PieceStates.{AreConsistentBelow}
+use Rattle.rs_field.proofs.code_lemmas.ListedMaps.{lists-same, listed-all}
+use Rattle.rs_field.proofs.code_lemmas.PieceStates.{is_some-map, agrees-cut}
 
 -- ---- numbers of pieces
 
@@ -143,20 +134,6 @@ missing-sized s message agrees =
     by_test i x (inr past) b found =
         absurd (let found = rw (le-ltb i s.configuration.original_count past) at found in let no : ⊥ = cc in no)
 
--- The strips below a byte are restored: their pieces are consistent, and each room holds the first bytes of the missing
--- shard of each message that agrees.
-pub record IsRestoredBelow (s : DecoderState) (grows : Bool) (bound : ℕ) (rooms : List Shard) : Type 0 where
-  pub consistent : AreConsistentBelow s bound
-  pub number : length rooms + originals_given s ≡ s.configuration.original_count
-  pub fit : All (λ room. length room ≡ room_length grows bound s.configuration.shard_bytes) rooms
-  pub held : (message : List Shard) → IsAgreeing s message → (i : ℕ) → i < length rooms
-      → take bound (get_or rooms i []) ≡ take bound (get_or (missing_shards s message) i [])
-
--- Joining a piece to the first bytes of a shard gives more first bytes.
-take-joined : (start : ℕ) (old piece rest : Shard) → start ≤ length old
-    → take (start + length piece) (take start old ++ (piece ++ rest)) ≡ take start old ++ piece
-take-joined start old piece rest inside = grind (arith, common_steps)
-
 module _ (s : DecoderState) (start end : ℕ) {out : Shards} {items : Items}
     (restored : Restored (state_of_pieces start end s) out) (listing : Lists out items) where
   -- The listed items are the missing pieces.
@@ -172,93 +149,6 @@ module _ (s : DecoderState) (start end : ℕ) {out : Shards} {items : Items}
 
   pub pieces-sized : All (λ x. length x ≡ end - start) (shards_listed items)
   pieces-sized = search (rules, items-are, missing-sized)
-
-module _ {s : DecoderState} {start end : ℕ} {out : Shards} {items : Items}
-    (strip : IsStrip start end s.configuration.shard_bytes)
-    (restored : Restored (state_of_pieces start end s) out) (listing : Lists out items) where
-  -- The listed items are the pieces of the missing shards of each message that agrees.
-  items-cut : (message : List Shard) → IsAgreeing s message
-      → shards_listed items ≡ pieces start end (missing_shards s message)
-  items-cut message agrees =
-      let k = s.configuration.original_count in
-      let same : out ≡ (λ i. option_map (λ x. between start end x) (missing_of s message i)) =
-      fun_ext (restored-cut strip agrees restored) in
-      items-are s start end restored listing
-      ∙ ap (λ (g : Shards). shards_listed (items_below k g)) (sym (fun_ext restored.missing) ∙ same)
-      ∙ listed-changed (λ x. between start end x) k 0 (missing_of s message)
-
-  -- After the listed items are put into the rooms, one more strip is restored.
-  pub restored-further : {grows : Bool} {old new : List Shard} → ArePut start end (shards_listed items) old new
-      → IsRestoredBelow s grows start old → IsRestoredBelow s grows end new
-  restored-further {grows} {old} {new} put before =
-      let number = length-map items (λ item. item.1) in
-      let all = pieces-number s start end restored listing in
-      let p : AreStripPut grows s.configuration.shard_bytes start end (shards_listed items) old new = record {
-        strip = strip;
-        put = put;
-        number = omega (arith, number, all, before.number);
-        sized = pieces-sized s start end restored listing;
-        fit = before.fit;
-      } in
-      let size : (i : ℕ) → i < length old → start + length (get_or (shards_listed items) i []) ≡ end = (λ i h.
-      let piece = p.sized i [] (omega (arith, p.number, h)) in omega (arith, piece, strip.order)) in
-      let at : (i : ℕ) → i < length old
-      → take end (get_or new i []) ≡ take start (get_or old i []) ++ get_or (shards_listed items) i [] =
-      (λ i h. ap₂ (λ (n : ℕ) (x : Shard). take n x) (sym (size i h)) (put.1 i h)
-      ∙ take-joined start (get_or old i []) (get_or (shards_listed items) i []) (drop end (get_or old i []))
-      (put-inside p i [] h)) in
-      record {
-        consistent = λ j inside. elim (cases_lt j (start / 2)) [
-          | inl low ↦ before.consistent j low
-          | inr high ↦ (start, end, strip, high, inside, (restored.message, restored.agrees))
-        ];
-        number = ap (λ (n : ℕ). n + originals_given s) put.0 ∙ before.number;
-        fit = put-fit p;
-        held = λ message agrees i h.
-            let here : i < length old = omega (arith, h, put.0) in
-            let n = missing-number s message in
-            let shard : Shard = get_or (missing_shards s message) i [] in
-            let cut : get_or (shards_listed items) i []
-            ≡ take (end - start) (drop start (get_or (missing_shards s message) i [])) =
-            ap (λ (l : List Shard). get_or l i []) (items-cut message agrees)
-            ∙ get_or-map (λ x. between start end x) (missing_shards s message) i [] []
-            (omega (arith, here, before.number, n)) in
-            at i here ∙ ap₂ (λ (a b : Shard). a ++ b) (before.held message agrees i here) cut
-            ∙ sym (take-add start (end - start) (get_or (missing_shards s message) i []))
-            ∙ ap (λ (n : ℕ). take n (get_or (missing_shards s message) i []))
-            (let e : start + (end - start) ≡ end = omega (arith, strip.order) in e);
-      }
-
--- After all strips are restored, the rooms hold the restored originals.
-pub restored-all : {s : DecoderState} {grows : Bool} {rooms : List Shard}
-    → supports s.configuration.rate s.configuration.original_count s.configuration.recovery_count ≡ true
-    → s.configuration.shard_bytes % 2 ≡ 0
-    → AreWithin s.configuration.original_count s.configuration.shard_bytes s.originals
-    → AreWithin s.configuration.recovery_count s.configuration.shard_bytes s.recovery
-    → s.configuration.original_count ≤ originals_given s + recovery_given s
-    → IsRestoredBelow s grows s.configuration.shard_bytes rooms → HoldRestored s rooms
-restored-all {s} {grows} {rooms} supported even own_within coded_within enough done =
-    let c = s.configuration in
-    let (message, agrees) =
-    consistent-whole (given_within c s.originals s.recovery supported own_within coded_within) even done.consistent in
-    let number = missing-number s message in
-    let sized = missing-sized s message agrees in
-    record {
-      out = missing_of s message;
-      restored = record {
-        message = message;
-        agrees = agrees;
-        only = λ other also. one_message supported even enough also agrees;
-        missing = λ i. refl;
-      };
-      items = items_below c.original_count (missing_of s message);
-      listed = missing-lists s message;
-      held = ext_get_or [] rooms (missing_shards s message) (omega (arith, number, done.number)) (λ i h.
-          let long = sized i [] (omega (arith, number, done.number, h)) in
-          let room = done.fit i [] h ∙ room-whole grows c.shard_bytes in
-          sym (take_all c.shard_bytes (get_or rooms i []) (omega (arith, room))) ∙ done.held message agrees i h
-          ∙ take_all c.shard_bytes (get_or (missing_shards s message) i []) (omega (arith, long)));
-    }
 
 module _ {s : DecoderState} {rooms : List Shard} (holds : HoldRestored s rooms) where
   held-are : rooms ≡ missing_shards s holds.restored.message
