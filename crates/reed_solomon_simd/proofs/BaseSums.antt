@@ -12,7 +12,7 @@ use Rattle.rs_field.specs.code.Column.{Shard, IsShard, column, shard_at}
 use Rattle.rs_field.specs.code.Counts.{default_rate, supports}
 use Rattle.rs_field.specs.code.Decoder.{DecoderState, IsDecoder, IsAgreeing, IsConsistent, originals_given}
 use Rattle.rs_field.specs.code.Decoder.{recovery_given}
-use Rattle.rs_field.specs.code.DirectLaws.{IsPartOf, summed_word, shard_in_row}
+use Rattle.rs_field.specs.code.DirectLaws.{IsPartOf, entry_in, given_at, summed_word, shard_in_row}
 use Rattle.rs_field.specs.code.Frame.{row_count, original_row, recovery_row, frame_at}
 use Rattle.rs_field.specs.code.Given.{Shards, AreWithin}
 use Rattle.rs_field.specs.code.Pieces.{IsStrip}
@@ -20,8 +20,7 @@ use Rattle.rs_field.specs.code.PieceStates.{pieces_of, state_of_pieces}
 use Rattle.rs_field.specs.rows.MarkedRows.{is_marked}
 use Rattle.rs_field.proofs.code_lemmas.Agreement.{one_message}
 use Rattle.rs_field.proofs.code_lemmas.DirectColumn.{direct_original, direct_recovery}
-use Rattle.rs_field.proofs.code_lemmas.GivenRows.{AreGiven, given_within, given-either, given-below, shard_in_row-own}
-use Rattle.rs_field.proofs.code_lemmas.GivenRows.{shard_in_row-coded}
+use Rattle.rs_field.proofs.code_lemmas.GivenRows.{AreGiven, given_within, given-either, given-below}
 use Rattle.rs_field.proofs.code_lemmas.BaseShards.{AreSums, all_located, base_given, agrees_with_part}
 use Rattle.rs_field.proofs.code_lemmas.BaseShards.{consistent_by_sums}
 use Rattle.rs_field.proofs.code_lemmas.Columns.{shard_from_columns, shard_in}
@@ -157,12 +156,9 @@ module _ (s : DecoderState) (is : IsDecoder default_rate s) (start end : ℕ)
     -- No piece was received in the row of a shard that can be rebuilt.
     pub wanted-missing : (w : ShardIndex) → CanBeRebuilt s w
         → shard_in_row (state_of_pieces start end s) (row_of (frame_at s.configuration) w) ≡ None
-    wanted-missing (Original i) can =
-        let t = state_of_pieces start end s in
-        shard_in_row-own t i can.0 ∙ ap (option_map (λ x. between start end x)) can.1
-    wanted-missing (Recovery i) can =
-        let t = state_of_pieces start end s in
-        shard_in_row-coded t i (decoder_frame s is) can.0 ∙ ap (option_map (λ x. between start end x)) can.1
+    unfolding given_at entry_in
+    wanted-missing (Original i) can = search rules
+    wanted-missing (Recovery i) can = search (rules, decoder_frame)
 
     -- The direct sum is the piece of a wanted shard.
     pub wanted-piece : (message : List Shard) (agrees : IsAgreeing (state_of_pieces start end s) message)
@@ -189,7 +185,9 @@ module _ (s : DecoderState) (is : IsDecoder default_rate s) (start end : ℕ)
     -- Shards with the direct sums as their words are equal.
     pub sums-same : (x : ℕ) (one other : Shard) → IsBaseSum marks (state_of_pieces start end s) x one
         → IsBaseSum marks (state_of_pieces start end s) x other → one ≡ other
-    sums-same x one other first second = search (rules, shard_from_columns)
+    sums-same x one other first second =
+        shard_from_columns first.is_shard second.is_shard (even-strip s is start end strip)
+        (λ j inside. first.words j inside ∙ sym (second.words j inside))
 
     -- A row outside of the base has no mark, if no shard was received in it.
     pub missing-unmarked : (x : ℕ) → shard_in_row (state_of_pieces start end s) x ≡ None → is_marked marks x ≡ false

@@ -11,7 +11,7 @@ use Rattle.rs_field.specs.code.OneCall.{Items}
 use Rattle.rs_field.specs.code.PieceStates.{HoldRestored, shards_listed}
 use Rattle.rs_field.proofs.code_lemmas.Listed.{items_from-some, items_from-none, items_from-past}
 use Rattle.rs_field.proofs.code_lemmas.ListedMaps.{lists-same}
-use Rattle.rs_field.proofs.code_lemmas.RestoredBelow.{missing-past}
+use Rattle.rs_field.proofs.code_lemmas.MissingShards.{missing-past}
 use Rattle.reed_solomon_simd.proofs.Collecting.{with_entries, with_entries-lists}
 
 -- The originals restored below an index are in the map, and the other restored originals are still in the list.

@@ -20,7 +20,7 @@ use Rattle.rs_field.proofs.code_lemmas.Given.{some_of, nothing_among}
 use Rattle.rs_field.proofs.code_lemmas.Listed.{items_from-suc, length-listed}
 use Rattle.rs_field.proofs.code_lemmas.ListedMaps.{listed-all, listed-changed}
 use Rattle.rs_field.proofs.code_lemmas.PieceStates.{shard_at-pieces, shards-cut}
-use Rattle.rs_field.proofs.code_lemmas.RestoredBelow.{count-pieces}
+use Rattle.rs_field.proofs.code_lemmas.MissingShards.{count-pieces}
 use Rattle.rs_field.proofs.code_lemmas.Unique.{recovery_unique}
 use Rattle.rs_rate.proofs.rows_lemmas.StateLemmas.{valid-supported}
 use Rattle.reed_solomon_simd.proofs.ConsistentStrips.{even-strip, few-originals}

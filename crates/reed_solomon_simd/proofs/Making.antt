@@ -1,6 +1,6 @@
 -- The loop over strips: what is made after some strips, and after all.
-use Rattle.std.proofs.Common.{rules, ◌≡◌, ℕ, ◌-◌, ◌<◌, ◌≤◌, Bool, true, false, List, length, sym, ap, ap₂, ◌∙◌, subst}
-use Rattle.std.proofs.Common.{inl, inr, All, Result, Ok, Err, ◌+◌, arith}
+use Rattle.std.proofs.Common.{◌≡◌, ℕ, Bool, true, false, List, length, sym, ap, ◌∙◌, subst}
+use Rattle.std.proofs.Common.{inl, inr, Result, Ok, Err, ◌+◌, arith}
 use Rattle.std.specs.Prelude.{◌⊎◌, OnOk, OnErr, IfErr, MatchResult}
 use Rattle.rs_field.specs.declared.code.error.Error.{Error}
 use Rattle.rs_field.specs.declared.code.error.Error.TheVariants.{OutOfMemory}
@@ -8,7 +8,7 @@ use Rattle.rs_field.specs.code.Column.{Shard}
 use Rattle.rs_field.specs.code.Decoder.{DecoderState, NoneAgrees, originals_given, recovery_given}
 use Rattle.rs_field.specs.code.Pieces.{IsStrip, ArePut}
 use Rattle.rs_field.specs.code.PieceStates.{state_of_pieces}
-use Rattle.rs_field.proofs.code_lemmas.RestoredBelow.{none-pieces}
+use Rattle.rs_field.proofs.code_lemmas.MissingShards.{none-pieces}
 use Rattle.reed_solomon_simd.specs.declared.shard_index.ShardIndex.{ShardIndex}
 use Rattle.reed_solomon_simd.specs.Making.{CanMake, AreRooms}
 use Rattle.reed_solomon_simd.specs.Reconstructed.{AreReconstructed}

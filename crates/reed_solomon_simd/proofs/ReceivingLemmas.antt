@@ -1,7 +1,5 @@
 -- From shards that were added to a decoder to the result of collecting received shards.
-use Rattle.std.proofs.Common.{◌≡◌, ℕ, Option, Some, Result, Ok, Err, refl, sym, ap, ◌∙◌, inl, inr}
-use Rattle.std.specs.Prelude.{IsOk}
-use Rattle.std.proofs.lemmas.Bool.{false≢true}
+use Rattle.std.proofs.Common.{◌≡◌, ℕ, Option, Some, Result, Ok, sym, ap, ◌∙◌, inl, inr}
 use Rattle.rs_field.specs.declared.code.error.Error.{Error}
 use Rattle.rs_field.specs.code.Configuration.{start_outcome, UpToMemory}
 use Rattle.rs_field.specs.code.Counts.{default_rate}
@@ -15,10 +13,6 @@ use Rattle.reed_solomon_simd.specs.Verified.{received_size, receiving_outcome, I
 was-set_up : (o : Result (Unit {0}) Error) → UpToMemory o (Ok tt) → o ≡ Ok tt
 was-set_up o (inl same) = sym same
 was-set_up o (inr lacks) = let refused = lacks.1 in absurd (let no : ⊥ = cc in no)
-
-success : (o : Result (Unit {0}) Error) → IsOk o → o ≡ Ok tt
-success (Ok u) is = refl
-success (Err e) is = absurd (false≢true is)
 
 module _ (k r : ℕ) (originals recovery : Items) where
   module _ (size : ℕ) (sized : Some size ≡ received_size originals recovery) where

@@ -19,7 +19,7 @@ use Rattle.reed_solomon_simd.specs.declared.room_error.RoomError.{RoomError}
 use Rattle.reed_solomon_simd.specs.declared.room_error.RoomError.TheVariants.{Refused}
 use Rattle.reed_solomon_simd.specs.Into.{RestoresInto, DecodesInto, rooms_fit}
 use Rattle.reed_solomon_simd.proofs.RoomFits.{fills, fits-many, fits-all}
-use Rattle.rs_field.proofs.code_lemmas.RestoredBelow.{held-number, held-sized}
+use Rattle.rs_field.proofs.code_lemmas.MissingShards.{held-number, held-sized}
 
 -- If whole rooms were written, they hold what was written.
 pub put-whole : (size : ℕ) (made old new : List Shard) → ArePut 0 size made old new → length made ≡ length old

@@ -1,6 +1,6 @@
 -- A round of a decoder over a strip of each received shard.
-use Rattle.std.proofs.Common.{rules, ◌≡◌, ℕ, suc, ◌+◌, ◌-◌, ◌<◌, ◌≤◌, Bool, true, List, [], ◌∷◌, length, drop, get_or}
-use Rattle.std.proofs.Common.{Result, Ok, Err, Some, sym, ap, ◌∙◌, subst, inl, inr, arith}
+use Rattle.std.proofs.Common.{rules, ◌≡◌, ℕ, suc, ◌+◌, ◌-◌, ◌<◌, ◌≤◌, [], ◌∷◌, length, drop, get_or}
+use Rattle.std.proofs.Common.{Result, Ok, Err, Some, sym, ap, ◌∙◌, arith}
 use Rattle.std.specs.Prelude.{MatchResult}
 use Rattle.std.proofs.lemmas.List.{length-drop, get_or-map, drop_more}
 use Rattle.rs_field.specs.declared.code.error.Error.{Error}
@@ -12,7 +12,7 @@ use Rattle.rs_field.specs.code.Decoder.{enough_given, Restored, NoneAgrees, Deco
 use Rattle.rs_field.specs.code.Given.{Shards, AreWithin}
 use Rattle.rs_field.specs.code.PieceStates.{pieces_of, state_of_pieces, shards_listed}
 use Rattle.rs_field.specs.code.OneCall.{Items}
-use Rattle.rs_field.proofs.code_lemmas.RestoredBelow.{enough-pieces}
+use Rattle.rs_field.proofs.code_lemmas.MissingShards.{enough-pieces}
 use Rattle.rs_rate.proofs.rows_lemmas.FirstShards.{first, original-taken, recovery-taken}
 use Rattle.reed_solomon_simd.proofs.CallerLemmas.{ended}
 

@@ -1,24 +1,18 @@
 -- Checking wanted shards one after another.
-use Rattle.std.proofs.Common.{rules, ◌≡◌, ℕ, ◌+◌, ◌<◌, Bool, false, List, [], ◌∷◌, length, get_or, replicate, drop}
+use Rattle.std.proofs.Common.{rules, ◌≡◌, ℕ, ◌+◌, ◌<◌, List, [], ◌∷◌, length, get_or, drop}
 use Rattle.std.proofs.Common.{Result}
-use Rattle.std.proofs.lemmas.List.{get_or-replicate, get_or_past, length-replicate, drop_more}
+use Rattle.std.proofs.lemmas.List.{drop_more}
 use Rattle.rs_field.specs.code.Decoder.{DecoderState}
 use Rattle.rs_field.specs.code.Outcome.{result_and_then}
 use Rattle.reed_solomon_simd.specs.declared.reconstruct_error.ReconstructError.{ReconstructError}
 use Rattle.reed_solomon_simd.specs.declared.shard_index.ShardIndex.{ShardIndex}
 use Rattle.reed_solomon_simd.specs.Reconstructed.{wanted_outcome}
-use Rattle.reed_solomon_simd.specs.WantedMarks.{AreMarked}
 
 -- Checking a wanted shard and others is checking the shard, and then the others.
 pub wanted-more : (s : DecoderState) (before rest : List ShardIndex) (shard : ShardIndex)
     → wanted_outcome s before (shard ∷ rest)
     ≡ result_and_then (λ _. wanted_outcome s (shard ∷ before) rest) (wanted_outcome s before (shard ∷ []))
 wanted-more s before rest shard = search rules
-
--- Without wanted shards, no place is marked.
-pub marked-none : (n m : ℕ) (originals recovery : List Bool) → originals ≡ replicate n false
-    → recovery ≡ replicate m false → AreMarked [] originals recovery
-marked-none n m originals recovery own coded = search (rules, get_or-replicate, get_or_past, length-replicate)
 
 -- If the next wanted shard was checked, what is left is to check the others after it, or to return its error.
 pub wanted-next : (s : DecoderState) (before wanted : List ShardIndex) (i : ℕ) (d : ShardIndex)

@@ -11,6 +11,7 @@ use Rattle.rs_field.specs.code.Given.{Shards}
 use Rattle.rs_field.specs.code.Pieces.{IsStrip}
 use Rattle.rs_field.specs.rows.MarkedRows.{is_marked}
 use Rattle.rs_rate.specs.declared.passes.sums.SumBase.{SumBase}
+use Rattle.rs_rate.specs.passes.Decoding.{IsLocatorOf}
 use Rattle.reed_solomon_simd.specs.declared.shard_index.ShardIndex.{ShardIndex}
 use Rattle.reed_solomon_simd.specs.declared.shard_index.ShardIndex.TheVariants.{Original, Recovery}
 
@@ -31,26 +32,32 @@ marked_state marks s =
       recovery = marked_part marks (frame_at s.configuration).recovery_from s.recovery;
     }
 
--- marks of rows mark a base: as many received shards as there are originals
-pub record MarkBase (s : DecoderState) (marks : List Bool) : Type 0 where
+-- exactly the rows are marked in which a shard was received
+pub record MarksReceived (s : DecoderState) (marks : List Bool) : Type 0 where
   pub count : length marks ≡ row_count (frame_at s.configuration)
+  pub exact : (x : ℕ) → x < length marks → is_marked marks x ≡ is_some (shard_in_row s x)
+
+-- marks of the first rows mark a base: the shards that were received in them, as many as there are originals
+pub record MarkBase (s : DecoderState) (marks : List Bool) : Type 0 where
+  pub exact : (x : ℕ) → x < length marks → is_marked marks x ≡ is_some (shard_in_row s x)
   pub received : (x : ℕ) → is_marked marks x ≡ true → is_some (shard_in_row s x) ≡ true
   pub enough : originals_given (marked_state marks s) + recovery_given (marked_state marks s)
       ≡ s.configuration.original_count
 
--- the conditions of summing a strip of the received shards: the marks of the base mark a base of them
+-- a base of the received shards, with the locator of all other rows
+pub record IsBase (s : DecoderState) (base : SumBase) : Type 0 where
+  pub marked : MarkBase s base.marks.now
+  pub located : IsLocatorOf (frame_at s.configuration) base.marks.now base.locator.now
+
+-- the conditions of summing a strip of the received shards
 pub record CanSum (s : DecoderState) (base : SumBase) (start end : ℕ) : Type 0 where
   pub set_up : IsDecoder default_rate s
-  pub originals : base.counts.original_count ≡ s.configuration.original_count
-  pub recovery : base.counts.recovery_count ≡ s.configuration.recovery_count
-  pub marked : MarkBase s base.marks.items
+  pub based : IsBase s base
   pub strip : IsStrip start end s.configuration.shard_bytes
 
 -- a base of received shards, with the number of received shards that are not in it, for strips of n bytes
 pub record AreSumsReady (base : SumBase) (surplus : ℕ) (s : DecoderState) (n : ℕ) : Type 0 where
-  pub originals : base.counts.original_count ≡ s.configuration.original_count
-  pub recovery : base.counts.recovery_count ≡ s.configuration.recovery_count
-  pub marked : MarkBase s base.marks.items
+  pub based : IsBase s base
   pub surplus_is : originals_given s + recovery_given s ≡ s.configuration.original_count + surplus
   pub few : n ≤ 2048
 

@@ -1,6 +1,6 @@
 -- Making wanted shards from received shards, strip by strip.
 use Rattle.std.specs.Prelude.{◌≡◌, ◌⊎◌, ℕ, zero, suc, [], ◌∷◌, ◌++◌, is_some, if◌then◌else◌}
-use Rattle.std.specs.Prelude.{◌-◌, All, Bool, true, false, List, length, Result, Ok, MatchResult}
+use Rattle.std.specs.Prelude.{All, Bool, true, false, List, length, Result, Ok, MatchResult}
 use Rattle.rs_field.specs.declared.code.error.Error.{Error}
 use Rattle.rs_field.specs.declared.code.error.Error.TheVariants.{OutOfMemory}
 use Rattle.rs_field.specs.code.Column.{Shard}

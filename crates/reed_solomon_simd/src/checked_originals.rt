@@ -1,4 +1,4 @@
-//! Checks of originals in a slice, without any memory.
+//! Checks of originals. Those of a slice need no memory.
 ghost use Rattle.std.specs.Prelude.{◌≡◌, ◌+◌, ◌≤◌, length, OnOk, Err, MatchResult};
 ghost use Rattle.rs_field.specs.code.Column.{IsShard};
 ghost use Rattle.rs_field.specs.code.Encoder.{EncoderState, with_shard};
@@ -49,7 +49,7 @@ pub fn check_originals(counts: DefaultRateCounts, originals: &[&[u8]]) -> Result
 }
 
 // Checks the original with this index. Fails with `TooManyOriginalShards`, and then with `DifferentShardSize`.
-fn check_original(
+pub(crate) fn check_original(
     original_count: usize,
     shard_bytes: usize,
     index: usize,

@@ -120,8 +120,7 @@ fn enter(
     Ok(())
 }
 
-// Returns the originals of a map in order of their index. Fails with `TooFewOriginalShards` if one is missing, and with
-// `OutOfMemory` if the list cannot be allocated.
+// All keys of the map are below `original_count`, so an original is missing exactly if the list is too short.
 fn in_order(
     alloc: Global,
     original_count: usize,

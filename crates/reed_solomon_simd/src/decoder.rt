@@ -13,7 +13,7 @@ ghost use Rattle.rs_rate.specs.objects.ResultView.{answered_originals};
 use crate::engine::{DefaultEngine, Steps};
 use crate::rate::{DefaultRateDecoder, RateDecoder};
 use crate::{DecoderResult, Error};
-use rs_rate::rate::rounds::{decode_round, lent_originals};
+use rs_rate::rate::split_rounds::{decode_round, lent_originals};
 use std::alloc::Global;
 
 /// A decoder of the default rate, over an engine that is chosen by name. It decodes any number of messages with the

@@ -13,7 +13,7 @@ ghost use Rattle.rs_rate.specs.values.ChunkCounts.{chunk_count};
 use crate::engine::{DefaultEngine, Steps};
 use crate::rate::{DefaultRateEncoder, RateEncoder};
 use crate::{EncoderResult, Error};
-use rs_rate::rate::rounds::{encode_round, lent_recovery};
+use rs_rate::rate::split_rounds::{encode_round, lent_recovery};
 use std::alloc::Global;
 
 /// An encoder of the default rate, over an engine that is chosen by name. It codes any number of messages with the same

@@ -8,10 +8,10 @@ ghost use Rattle.rs_field.specs.code.OneCall.{default_of};
 ghost use Rattle.rs_field.specs.code.Frame.{encoder_rows};
 ghost use Rattle.reed_solomon_simd.specs.Rooms.{shards_of};
 
+use crate::checked_originals::check_original;
 use crate::originals::LentShards;
 use crate::rooms::Rooms;
 use crate::strip_encoder::{encode_strips_with, strip_encoder};
-use rs_field::bytes::are_bytes;
 use rs_field::engine::Engine;
 use rs_field::error::Error;
 use rs_rate::rate::{DefaultRateCounts, DefaultRateEncoder, check_encoder_rows};
@@ -111,7 +111,7 @@ impl<'a> LentOriginals<'a> {
         Ok((originals, encoder))
     }
 
-    // Adds the next original. Fails with `TooManyOriginalShards`, and then with `DifferentShardSize`.
+    // Adds the next original. Fails with the errors of `check_original`.
     fn add(&mut self, shard: &'a [u8]) -> Result<(), Error>
         ensures answer { result ≡ answer_of (with_shard (lent_state self.old) shard.now) }
         ensures left { lent_state self.new
@@ -119,17 +119,8 @@ impl<'a> LentOriginals<'a> {
         ensures counts { self.new.counts ≡ self.old.counts }
         ensures size { self.new.shard_bytes ≡ self.old.shard_bytes }
     {
-        let original_count = self.counts.original_count;
-        if self.shards.len() == original_count {
-            return Err(Error::TooManyOriginalShards { original_count });
-        }
-        if shard.len() != self.shard_bytes {
-            return Err(Error::DifferentShardSize {
-                shard_bytes: self.shard_bytes,
-                got: shard.len(),
-            });
-        }
-        are_bytes(shard);
+        let index = self.shards.len();
+        check_original(self.counts.original_count, self.shard_bytes, index, shard)?;
         self.shards.push_reserved(shard);
         Ok(())
     }
@@ -220,7 +211,7 @@ impl<'a> LentOriginals<'a> {
     }
 }
 
-// Returns `count` empty vectors, each with memory for `bytes` bytes, or fails with `OutOfMemory`.
+// Each vector has memory for `bytes` bytes, so it does not grow later when its strips are put into it.
 pub(crate) fn empty_vectors(
     alloc: Global,
     count: usize,

@@ -10,7 +10,6 @@
 //! messages with the same memory. The module [`rate`] has objects whose rate, engine and memory the caller chooses.
 #![tactic(auto)]
 
-pub mod apart;
 mod checked_originals;
 mod completing;
 mod decoder;
@@ -28,9 +27,11 @@ pub mod reconstructing;
 pub mod restoring;
 mod room_error;
 pub mod rooms;
+pub mod separate_store;
 mod shard_index;
 mod slices;
 pub mod store;
+mod strip_bytes;
 pub mod strip_comparer;
 pub mod strip_decoder;
 pub mod strip_encoder;

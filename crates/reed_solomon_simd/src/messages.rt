@@ -83,7 +83,7 @@ pub fn split(alloc: Global, bytes: &[u8], original_count: usize) -> Result<Vec<V
     Ok(shards)
 }
 
-// Returns a shard of `size` bytes: the given bytes, and zeros after them. Fails if the shard cannot be allocated.
+// The zeros fill the last shard. `join` leaves them out, since it knows the length of the message.
 fn padded(alloc: Global, bytes: &[u8], size: usize) -> Result<Vec<u8>, AllocError>
     requires { length bytes.now ≤ size }
     ensures { IfOk result
@@ -135,8 +135,8 @@ pub fn join<T: AsSlice<u8>>(alloc: Global, shards: &[T], total: usize) -> Result
     Ok(message)
 }
 
-// Returns the size of all shards. Fails with `TooFewOriginalShards` if there is no shard, then with `InvalidShardSize`
-// if the size of the first one is zero or odd, and then with `DifferentShardSize` for the first one of another size.
+// Fails with `TooFewOriginalShards` if there is no shard, then with `InvalidShardSize` if the size of the first one is
+// zero or odd, and then with `DifferentShardSize` for the first one of another size.
 fn size_of_all<T: AsSlice<u8>>(shards: &[T]) -> Result<usize, Error>
     ensures { result ≡ size_of_shards (map T.items shards.now) }
 {

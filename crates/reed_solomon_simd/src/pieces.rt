@@ -69,8 +69,6 @@ impl<'a> Pieces for ReceivedShards<'a> {
     }
 }
 
-// Returns the bytes of the shard in place `index` from byte `start` up to, but not including, byte `end`, or `None` if
-// the place has no shard.
 fn piece_at<'a>(
     places: &[Option<&'a [u8]>],
     index: usize,

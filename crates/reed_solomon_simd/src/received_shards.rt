@@ -18,7 +18,7 @@ use std::alloc::Global;
 
 /// Received shards of one kind: originals or recovery shards.
 #[derive(Drop)]
-pub struct Places<'a> {
+pub struct ShardsByIndex<'a> {
     /// A place for each index, with the shard if it was received.
     pub(crate) shards: Vec<Option<&'a [u8]>>,
     /// The number of shards that were received.
@@ -26,16 +26,16 @@ pub struct Places<'a> {
     pub ghost counted: { number ≡ count_below (length shards.items) (given_in shards.items) },
 }
 
-impl<'a> Places<'a> {
+impl<'a> ShardsByIndex<'a> {
     // Makes `count` places with no shard, or fails with `OutOfMemory`.
-    fn new(alloc: Global, count: usize) -> Result<Places<'a>, Error>
+    fn new(alloc: Global, count: usize) -> Result<ShardsByIndex<'a>, Error>
         ensures { MatchResult result
             (λ places. (length places.shards.items ≡ count)
             × (given_in places.shards.items ≡ nothing))
             (λ e. e ≡ Error.OutOfMemory) }
     {
         let shards: Vec<Option<&'a [u8]>> = vec![in alloc; None; count]?;
-        Ok(Places { shards, number: 0 })
+        Ok(ShardsByIndex { shards, number: 0 })
     }
 
     // Puts a shard into a place that has none.
@@ -59,9 +59,9 @@ pub struct ReceivedShards<'a> {
     /// The size of a shard, in bytes.
     pub(crate) shard_bytes: usize,
     /// The received originals.
-    pub(crate) originals: Places<'a>,
+    pub(crate) originals: ShardsByIndex<'a>,
     /// The received recovery shards.
-    pub(crate) recovery: Places<'a>,
+    pub(crate) recovery: ShardsByIndex<'a>,
     pub ghost set_up: { let c =
         default_of counts.original_count counts.recovery_count shard_bytes in
         start_outcome (decoder_rows default_rate c.original_count c.recovery_count) c ≡ Ok tt },
@@ -100,8 +100,8 @@ impl<'a> ReceivedShards<'a> {
         Ok(ReceivedShards {
             counts,
             shard_bytes,
-            originals: Places::new(alloc, counts.original_count)?,
-            recovery: Places::new(alloc, counts.recovery_count)?,
+            originals: ShardsByIndex::new(alloc, counts.original_count)?,
+            recovery: ShardsByIndex::new(alloc, counts.recovery_count)?,
         })
     }
 

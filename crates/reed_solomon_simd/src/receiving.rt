@@ -88,9 +88,9 @@ pub fn received_in_slices<'a>(
         (result_map_both received_state (λ e. e) result) }
 {
     let shard_bytes = size_in_slices(original, recovery);
-    let own = original.iter().map(|item| *item);
-    let other = recovery.iter().map(|item| *item);
-    received_of_size(alloc, counts, shard_bytes, own, other)
+    let lent_originals = original.iter().map(|item| *item);
+    let lent_recovery = recovery.iter().map(|item| *item);
+    received_of_size(alloc, counts, shard_bytes, lent_originals, lent_recovery)
 }
 
 /// Returns all received shards. `shard_bytes` is the size of the first recovery shard, or if there is none, that of the
@@ -103,17 +103,17 @@ pub fn received_of_size<'a, O, R>(
     alloc: Global,
     counts: DefaultRateCounts,
     shard_bytes: Option<usize>,
-    own: O,
-    other: R,
+    original: O,
+    recovery: R,
 ) -> Result<ReceivedShards<'a>, Error>
 where
     O: Iterator<Item = (usize, &'a [u8])> + Drop,
     R: Iterator<Item = (usize, &'a [u8])> + Drop,
-    requires can { O.can_next own }
-    requires ends { IsFinite (O.remaining own) }
-    requires can_other { R.can_next other }
-    requires other_ends { IsFinite (R.remaining other) }
-    ensures { (calls : Calls O.next_gives own) × (further : Calls R.next_gives other)
+    requires can { O.can_next original }
+    requires ends { IsFinite (O.remaining original) }
+    requires can_recovery { R.can_next recovery }
+    requires recovery_ends { IsFinite (R.remaining recovery) }
+    ensures { (calls : Calls O.next_gives original) × (further : Calls R.next_gives recovery)
         × ((originals recoveries : Items)
         → BeginsWithItems originals calls → BeginsWithItems recoveries further
         → shard_bytes ≡ received_size originals recoveries
@@ -128,13 +128,12 @@ where
         });
     };
     let mut received: ReceivedShards<'a> = ReceivedShards::new(alloc, counts, shard_bytes)?;
-    add_originals(&mut received, own)?;
-    add_recovery(&mut received, other)?;
+    add_originals(&mut received, original)?;
+    add_recovery(&mut received, recovery)?;
     Ok(received)
 }
 
-// Returns the size of the first recovery shard, or of the first original if there is no recovery shard, or `None` if
-// there is no shard.
+// The first recovery shard says the size, as in `decode`. Without one, the first original does.
 fn size_in_slices(original: &[(usize, &[u8])], recovery: &[(usize, &[u8])]) -> Option<usize>
     ensures { result ≡ first_size
         (map (λ item. (item.0, item.1.now)) recovery.now

@@ -11,7 +11,6 @@ ghost use Rattle.reed_solomon_simd.specs.Reconstructed.{ReconstructsInto, Recons
 ghost use Rattle.reed_solomon_simd.specs.Rooms.{bytes_in, loans_of};
 
 use crate::Error;
-use crate::apart::Apart;
 use crate::lent_originals::empty_vectors;
 use crate::pieces::Pieces;
 use crate::received_shards::ReceivedShards;
@@ -19,6 +18,7 @@ use crate::receiving::received_in_slices;
 use crate::reconstruct_error::ReconstructError;
 use crate::restoring::fill_rooms;
 use crate::rooms::{LentRooms, Rooms, check_rooms};
+use crate::separate_store::SeparateStore;
 use crate::shard_index::ShardIndex;
 use crate::strip_rebuilder::make_listed;
 use crate::verifying::error_without_results;
@@ -205,8 +205,8 @@ fn rebuild_lent<E: Engine, P: Pieces>(
     rebuild_apart(alloc, &engine, received, wanted, 0, &mut lent)
 }
 
-// Writes wanted shards into rooms that share no memory with the received shards, in order. Fails with `OutOfMemory`, and
-// with `InconsistentShards` if no message agrees with all received shards.
+// Writes wanted shards into rooms that share no memory with the received shards, in order. Fails with `OutOfMemory`,
+// and with `InconsistentShards` if no message agrees with all received shards.
 fn rebuild_apart<E: Engine, P: Pieces, R: Rooms>(
     alloc: Global,
     engine: &E,
@@ -235,7 +235,7 @@ fn rebuild_apart<E: Engine, P: Pieces, R: Rooms>(
     ensures places { R.places rooms.new ≡ R.places rooms.old }
     ensures loan { R.loan rooms.new ≡ R.loan rooms.old }
 {
-    let mut store = Apart {
+    let mut store = SeparateStore {
         pieces: received,
         rooms,
     };

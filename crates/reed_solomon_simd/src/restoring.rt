@@ -12,11 +12,11 @@ ghost use Rattle.reed_solomon_simd.specs.ReceivedState.{received_state};
 ghost use Rattle.reed_solomon_simd.specs.Rooms.{bytes_in, loans_of};
 
 use crate::RoomError;
-use crate::apart::Apart;
 use crate::lent_originals::empty_vectors;
 use crate::pieces::Pieces;
 use crate::received_shards::ReceivedShards;
 use crate::rooms::{LentRooms, Rooms, check_rooms};
+use crate::separate_store::SeparateStore;
 use crate::store::Store;
 use crate::strip_decoder::make_missing;
 use crate::verifying::error_without_results;
@@ -86,7 +86,7 @@ fn restore_apart<E: Engine, P: Pieces, R: Rooms>(
     ensures places { R.places rooms.new ≡ R.places rooms.old }
     ensures loan { R.loan rooms.new ≡ R.loan rooms.old }
 {
-    let mut store = Apart {
+    let mut store = SeparateStore {
         pieces: received,
         rooms,
     };

@@ -20,7 +20,6 @@ impl ShardIndex {
     ghost use Rattle.std.specs.Prelude.{◌≡◌};
     ghost use Rattle.reed_solomon_simd.specs.ShardNames.{is_recovery};
 
-    // Returns whether this is a recovery shard.
     pub(crate) fn is_recovery(&self) -> bool
         ensures { result ≡ is_recovery self.now }
     {

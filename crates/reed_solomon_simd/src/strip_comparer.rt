@@ -16,11 +16,11 @@ ghost use Rattle.rs_rate.specs.objects.ResultView.{recovery_shards};
 
 use crate::pieces::Pieces;
 use crate::shard_index::ShardIndex;
-use crate::strip_encoder::STRIP_BYTES;
+use crate::strip_bytes::ENCODE_STRIP_BYTES;
 use rs_field::engine::{Engine, Steps};
 use rs_field::error::Error;
 use rs_rate::EncoderResult;
-use rs_rate::rate::rounds::{encode_round, lent_recovery};
+use rs_rate::rate::split_rounds::{encode_round, lent_recovery};
 use rs_rate::rate::{DefaultRateEncoder, RateEncoder};
 use std::alloc::Global;
 
@@ -47,7 +47,7 @@ pub fn check_by_encoding<E: Engine, P: Pieces>(
 {
     let counts = received.counts();
     let shard_bytes = received.shard_bytes();
-    let width = STRIP_BYTES.min(shard_bytes);
+    let width = ENCODE_STRIP_BYTES.min(shard_bytes);
     let mut encoder = DefaultRateEncoder::with_counts(alloc, counts, width, engine, None)?;
     let mut start = 0;
     while start < shard_bytes {
@@ -67,8 +67,7 @@ pub fn check_by_encoding<E: Engine, P: Pieces>(
     Ok(())
 }
 
-// Encodes one strip of the originals, and returns whether this strip of each received recovery shard is what was
-// encoded. This never fails.
+// All originals are there, so the recovery shards are known: the strip is encoded and compared. This never fails.
 fn agree_in_strip<E: Engine, P: Pieces>(
     encoder: &mut DefaultRateEncoder<E>,
     received: &P,
@@ -116,7 +115,6 @@ fn add_received_originals<E: Engine, P: Pieces>(
     Ok(())
 }
 
-// Returns whether a strip of each received recovery shard is the encoded recovery shard with the same index.
 fn are_encoded<P: Pieces>(
     encoded: &EncoderResult<'_>,
     received: &P,
@@ -142,7 +140,6 @@ fn are_encoded<P: Pieces>(
     true
 }
 
-// Returns whether a piece is the encoded recovery shard with this index.
 fn is_encoded(encoded: &EncoderResult<'_>, index: usize, piece: &[u8]) -> bool
     requires inside { index < length (recovery_shards encoded.now) }
     ensures { IsTrue result ↔ (shard_at (recovery_shards encoded.now) index ≡ piece.now) }

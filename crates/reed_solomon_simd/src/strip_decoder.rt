@@ -8,17 +8,18 @@ ghost use Rattle.rs_field.specs.code.OneCall.{Items};
 ghost use Rattle.rs_field.specs.code.Pieces.{ArePut, room_length};
 ghost use Rattle.rs_field.specs.code.PieceStates.{shards_listed};
 ghost use Rattle.rs_rate.specs.objects.ResultView.{restored_originals};
-ghost use Rattle.reed_solomon_simd.specs.Making.{CanMake, AreRooms, Makes, MakesMissing, missing_names};
+ghost use Rattle.reed_solomon_simd.specs.Making.{AreRooms, MakesMissing, missing_names};
 
 use crate::rooms::Rooms;
 use crate::store::Store;
-use crate::strip_rounds::{STRIP_BYTES, decode_pieces};
+use crate::strip_bytes::DECODE_STRIP_BYTES;
+use crate::strip_rounds::decode_pieces;
 use crate::strip_summer::{are_sums_used, sum_missing};
 use crate::strips::{Way, make_strips};
 use rs_field::engine::Engine;
 use rs_field::error::Error;
 use rs_rate::DecoderResult;
-use rs_rate::rate::rounds::lent_originals;
+use rs_rate::rate::split_rounds::lent_originals;
 use rs_rate::rate::strips::StripDecoder;
 use std::alloc::Global;
 
@@ -71,10 +72,10 @@ fn restore_by_rounds<E: Engine, S: Store>(
     ensures places { S.places store.new ≡ S.places store.old }
     ensures loan { S.loan store.new ≡ S.loan store.old }
 {
-    let width = STRIP_BYTES.min(store.shard_bytes());
+    let width = DECODE_STRIP_BYTES.min(store.shard_bytes());
     let decoder = StripDecoder::with_counts(alloc, store.counts(), width, (), None)?;
     let mut way = Restore { engine, decoder };
-    make_strips(STRIP_BYTES, &mut way, store)
+    make_strips(DECODE_STRIP_BYTES, &mut way, store)
 }
 
 /// Rounds of a decoder, which make the missing originals.

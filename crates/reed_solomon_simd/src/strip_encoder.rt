@@ -16,15 +16,13 @@ ghost use Rattle.rs_rate.specs.objects.ResultView.{recovery_shards};
 
 use crate::originals::Originals;
 use crate::rooms::Rooms;
+use crate::strip_bytes::ENCODE_STRIP_BYTES;
 use rs_field::engine::{Engine, Steps};
 use rs_field::error::Error;
 use rs_rate::EncoderResult;
-use rs_rate::rate::rounds::{encode_round, lent_recovery};
+use rs_rate::rate::split_rounds::{encode_round, lent_recovery};
 use rs_rate::rate::{DefaultRateCounts, DefaultRateEncoder, RateEncoder};
 use std::alloc::Global;
-
-/// The number of bytes of each shard that are encoded at a time.
-pub(crate) const STRIP_BYTES: usize = 4096;
 
 /// Writes the recovery shards of originals of one size into rooms.
 ///
@@ -78,7 +76,13 @@ pub fn strip_encoder<E: Engine>(
         (min 4096 shard_bytes))) }
     ensures refused { IfErr result (λ e. e ≡ Error.OutOfMemory) }
 {
-    DefaultRateEncoder::with_counts(alloc, counts, STRIP_BYTES.min(shard_bytes), engine, None)
+    DefaultRateEncoder::with_counts(
+        alloc,
+        counts,
+        ENCODE_STRIP_BYTES.min(shard_bytes),
+        engine,
+        None,
+    )
 }
 
 /// Writes the recovery shards of originals of one size into rooms, with an encoder from [`strip_encoder`].
@@ -112,7 +116,7 @@ pub fn encode_strips_with<E: Engine, O: Originals, R: Rooms>(
     ensures places { R.places rooms.new ≡ R.places rooms.old }
     ensures loan { R.loan rooms.new ≡ R.loan rooms.old }
 {
-    let width = STRIP_BYTES.min(shard_bytes);
+    let width = ENCODE_STRIP_BYTES.min(shard_bytes);
     let mut start = 0;
     while start < shard_bytes {
         let left = shard_bytes - start;

@@ -26,14 +26,15 @@ use crate::pieces::Pieces;
 use crate::rooms::Rooms;
 use crate::shard_index::ShardIndex;
 use crate::store::Store;
-use crate::strip_rounds::{STRIP_BYTES, decode_pieces};
+use crate::strip_bytes::DECODE_STRIP_BYTES;
+use crate::strip_rounds::decode_pieces;
 use crate::strip_summer::{are_sums_used, sum_listed};
 use crate::strips::{Way, make_strips};
 use rs_field::engine::{Engine, Steps};
 use rs_field::error::Error;
 use rs_rate::DecoderResult;
 use rs_rate::rate::DefaultRateCounts;
-use rs_rate::rate::rounds::lent_originals;
+use rs_rate::rate::split_rounds::lent_originals;
 use rs_rate::rate::strips::{StripDecoder, StripEncoder};
 use std::alloc::Global;
 
@@ -86,7 +87,7 @@ fn rebuild_by_rounds<E: Engine, S: Store>(
     ensures loan { S.loan store.new ≡ S.loan store.old }
 {
     let counts = store.counts();
-    let width = STRIP_BYTES.min(store.shard_bytes());
+    let width = DECODE_STRIP_BYTES.min(store.shard_bytes());
     let decoder = StripDecoder::with_counts(alloc, counts, width, (), None)?;
     let encoder = encoder_if_wanted(alloc, counts, width, wanted)?;
     let mut way = Rebuild {
@@ -95,7 +96,7 @@ fn rebuild_by_rounds<E: Engine, S: Store>(
         decoder,
         encoder,
     };
-    make_strips(STRIP_BYTES, &mut way, store)
+    make_strips(DECODE_STRIP_BYTES, &mut way, store)
 }
 
 // Makes an encoder for strips of `width` bytes if a recovery shard is wanted. Fails with `OutOfMemory`.

@@ -1,4 +1,4 @@
-//! Rounds over the strips of shards: a decoder or an encoder has room for one strip of each shard.
+//! Rounds over the strips of shards: a decoder has room for one strip of each shard.
 ghost use Rattle.std.specs.Prelude.{◌≡◌, ◌-◌, ◌<◌, ◌≤◌, length, Ok, IfOk, IfErr};
 ghost use Rattle.rs_field.specs.code.Counts.{default_rate};
 ghost use Rattle.rs_field.specs.code.Decoder.{IsDecoder, enough_given, Restored, NoneAgrees};
@@ -13,9 +13,6 @@ use crate::shard_index::ShardIndex;
 use rs_field::engine::{Engine, Steps};
 use rs_field::error::Error;
 use rs_rate::rate::strips::StripDecoder;
-
-/// The number of bytes of each shard that are decoded or summed at a time.
-pub(crate) const STRIP_BYTES: usize = 2048;
 
 // Decodes one strip of the received shards. The restored pieces of the missing originals are then in the decoder.
 // Returns their number.

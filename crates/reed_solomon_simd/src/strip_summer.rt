@@ -4,17 +4,16 @@ ghost use Rattle.std.specs.Prelude.{◌≡◌, ◌⊎◌, ◌↔◌, ℕ, ◌+�
 ghost use Rattle.std.specs.Prelude.{length, Ok, Some, None, MatchOption, IsTrue, OnOk, IfOk, IfErr, option_copied};
 ghost use Rattle.rs_field.specs.code.Column.{Shard};
 ghost use Rattle.rs_field.specs.code.Counts.{default_rate};
-ghost use Rattle.rs_field.specs.code.Decoder.{IsDecoder, enough_given, originals_given, recovery_given};
-ghost use Rattle.rs_field.specs.code.Decoder.{IsConsistent, NoneAgrees};
+ghost use Rattle.rs_field.specs.code.Decoder.{IsDecoder, originals_given, recovery_given, IsConsistent};
 ghost use Rattle.rs_field.specs.code.Frame.{row_count};
 ghost use Rattle.rs_field.specs.code.Pieces.{ArePut};
-ghost use Rattle.rs_field.specs.code.PieceStates.{state_of_pieces, HoldRestored};
+ghost use Rattle.rs_field.specs.code.PieceStates.{state_of_pieces};
 ghost use Rattle.rs_field.specs.rows.Layout.{row_len};
 ghost use Rattle.rs_field.specs.rows.MarkedRows.{is_marked};
 ghost use Rattle.rs_rate.specs.rows.ShardRows.{shard_in_order};
 ghost use Rattle.rs_rate.specs.passes.Sums.{sum_word};
 ghost use Rattle.rs_rate.specs.values.SumCosts.{AreSumsCheaper};
-ghost use Rattle.reed_solomon_simd.specs.Base.{row_of, MarkBase, CanSum};
+ghost use Rattle.reed_solomon_simd.specs.Base.{row_of, MarksReceived, CanSum};
 ghost use Rattle.rs_field.specs.code.Frame.{frame_at};
 ghost use Rattle.rs_field.specs.code.DirectLaws.{shard_in_row};
 ghost use Rattle.reed_solomon_simd.specs.Base.{base_sum, IsBaseSum, AgreesInRow};
@@ -24,14 +23,16 @@ ghost use Rattle.reed_solomon_simd.specs.Reconstructed.{AreReconstructed, CanBeR
 use crate::pieces::Pieces;
 use crate::shard_index::ShardIndex;
 use crate::store::Store;
-use crate::strip_rounds::STRIP_BYTES;
+use crate::strip_bytes::DECODE_STRIP_BYTES;
 use crate::strips::{Way, make_strips};
 use crate::wanted_shards::no_marks;
 use rs_field::engine::layout::row_len;
 use rs_field::engine::{Engine, Steps};
 use rs_field::error::Error;
 use rs_field::frame::Frame;
-use rs_rate::rate::sums::{SumBase, add_times, clear_sum, finish_sum, summed_piece};
+use rs_rate::rate::sums::{
+    SumBase, add_times, clear_sum, finish_sum, list_base, locate_base, summed_piece,
+};
 use rs_rate::rate::{DefaultRateCounts, are_sums_cheaper};
 use std::alloc::Global;
 
@@ -46,23 +47,16 @@ pub(crate) fn are_sums_used(counts: DefaultRateCounts, wanted: usize, surplus: u
         && are_sums_cheaper(counts.frame, counts.original_count, wanted + surplus)
 }
 
-// Marks the rows of the base: the first received shards, as many as there are originals. Fails with
-// `OutOfMemory`.
-fn mark_base<P: Pieces>(alloc: Global, received: &P) -> Result<Vec<bool>, Error>
-    requires set_up { IsDecoder default_rate (P.received received.now) }
-    requires enough { enough_given (P.received received.now) ≡ Ok tt }
-    ensures base { IfOk result (λ marks. MarkBase (P.received received.now) marks.items) }
+// Returns a mark for each row: whether a shard was received in it. Fails with `OutOfMemory`.
+fn received_marks<P: Pieces>(alloc: Global, received: &P) -> Result<Vec<bool>, Error>
+    requires { IsDecoder default_rate (P.received received.now) }
+    ensures marks { IfOk result (λ marks. MarksReceived (P.received received.now) marks.items) }
     ensures refused { IfErr result (λ e. e ≡ Error.OutOfMemory) }
 {
-    let counts = received.counts();
-    let row_count = counts.frame.row_count();
+    let row_count = received.counts().frame.row_count();
     let mut marks = no_marks(alloc, row_count)?;
-    let mut found = 0;
     for row in 0..row_count {
-        if piece_in_row(received, row, 0, 0).is_some() {
-            marks[row] = found < counts.original_count;
-            found += 1;
-        }
+        marks[row] = piece_in_row(received, row, 0, 0).is_some();
     }
     Ok(marks)
 }
@@ -98,8 +92,8 @@ fn index_of(row: usize, from: usize, count: usize) -> Option<usize>
     }
 }
 
-/// Writes the missing originals into the rooms of a store, in order of index, by direct sums. `missing` is the number of
-/// missing originals, and `surplus` is the number of received shards beyond the number of originals.
+/// Writes the missing originals into the rooms of a store, in order of index, by direct sums. `missing` is the number
+/// of missing originals, and `surplus` is the number of received shards beyond the number of originals.
 ///
 /// # Errors
 ///
@@ -158,10 +152,10 @@ fn missing_originals<P: Pieces>(
 /// - [`Error::OutOfMemory`] if the marks or the factors cannot be allocated.
 /// - For each strip in order: [`Error::InconsistentShards`] if no message agrees with all received shards, and then
 ///   [`Error::OutOfMemory`] if a room cannot grow. The rooms may then hold some strips.
-pub(crate) fn sum_listed<E: Engine, S: Store>(
+pub(crate) fn sum_listed<'a, E: Engine, S: Store>(
     alloc: Global,
-    engine: &E,
-    wanted: &[ShardIndex],
+    engine: &'a E,
+    wanted: &'a [ShardIndex],
     surplus: usize,
     store: &mut S,
 ) -> Result<(), Error>
@@ -176,27 +170,46 @@ pub(crate) fn sum_listed<E: Engine, S: Store>(
     ensures places { S.places store.new ≡ S.places store.old }
     ensures loan { S.loan store.new ≡ S.loan store.old }
 {
-    let marks = mark_base(alloc, &*store)?;
-    let base = SumBase::new(alloc, engine, &mut Steps::new(), store.counts(), marks)?;
+    let frame = store.counts().frame;
+    let received = received_marks(alloc, &*store)?;
+    let mut rows = vec![in alloc; 0; store.counts().original_count]?;
+    let end = list_base(&mut rows, &received);
+    let marks = &received[..end];
+    let mut locator = vec![in alloc; 0; frame.row_count()]?;
+    let mut logs = vec![in alloc; 0; frame.row_count()]?;
+    locate_base(
+        engine,
+        &mut Steps::new(),
+        frame,
+        marks,
+        &mut locator,
+        &mut logs,
+    );
+    let base = SumBase {
+        marks,
+        rows: &rows,
+        locator: &locator,
+        logs: &logs,
+    };
     let mut way = Sums {
         engine,
         base,
         wanted,
         surplus,
     };
-    make_strips(STRIP_BYTES, &mut way, store)
+    make_strips(DECODE_STRIP_BYTES, &mut way, store)
 }
 
 /// Direct sums over a base of the received shards, which make listed shards.
 #[derive(Drop)]
-struct Sums<'a, E: Engine> {
+struct Sums<'a, 'b, E: Engine> {
     engine: &'a E,
-    base: SumBase,
+    base: SumBase<'b>,
     wanted: &'a [ShardIndex],
     surplus: usize,
 }
 
-impl<'a, E: Engine> Way for Sums<'a, E> {
+impl<'a, 'b, E: Engine> Way for Sums<'a, 'b, E> {
     ghost use Rattle.reed_solomon_simd.specs.Base.{AreSumsReady};
 
     ghost wanted = { λ x _. x.wanted.now };
@@ -205,12 +218,12 @@ impl<'a, E: Engine> Way for Sums<'a, E> {
 
     fn strip<S: Store>(&mut self, start: usize, end: usize, store: &mut S) -> Result<(), Error> {
         let len = row_len(end - start);
-        let mut sum = [[0; 64]; STRIP_BYTES / 64];
+        let mut sum = [[0; 64]; DECODE_STRIP_BYTES / 64];
         let sum = &mut sum[..len];
-        if self.surplus > 0 && !agree_in_strip(self.engine, &self.base, &*store, start, end, sum) {
+        if self.surplus > 0 && !self.agree_in_strip(&*store, start, end, sum) {
             return Err(inconsistent(&*store, self.surplus));
         }
-        put_sums(self.engine, &self.base, self.wanted, start, end, sum, store)
+        self.put_sums(start, end, sum, store)
     }
 }
 
@@ -237,92 +250,133 @@ fn inconsistent<P: Pieces>(received: &P, surplus: usize) -> Error
     }
 }
 
-// Returns whether some message agrees with a strip of all received shards: each shard outside of the base is the direct
-// sum.
-fn agree_in_strip<E: Engine, P: Pieces>(
-    engine: &E,
-    base: &SumBase,
-    received: &P,
-    start: usize,
-    end: usize,
-    sum: &mut [[u8; 64]],
-) -> bool
-    requires ready { CanSum (P.received received.now) base.now start end }
-    requires room { length sum.old ≡ row_len (end - start) }
-    ensures { IsTrue result
-        ↔ IsConsistent (state_of_pieces start end (P.received received.now)) }
-{
-    for row in 0..base.marks.len() {
-        if !agrees_in_row(engine, base, received, row, start, end, sum) {
-            return false;
+impl<'a, 'b, E: Engine> Sums<'a, 'b, E> {
+    // Returns whether some message agrees with a strip of all received shards: each shard outside of the base is the
+    // direct sum.
+    fn agree_in_strip<P: Pieces>(
+        &self,
+        received: &P,
+        start: usize,
+        end: usize,
+        sum: &mut [[u8; 64]],
+    ) -> bool
+        requires ready { CanSum (P.received received.now) self.now.base start end }
+        requires room { length sum.old ≡ row_len (end - start) }
+        ensures { IsTrue result
+            ↔ IsConsistent (state_of_pieces start end (P.received received.now)) }
+    {
+        for row in self.base.marks.len()..self.base.locator.len() {
+            if !self.agrees_in_row(received, row, start, end, sum) {
+                return false;
+            }
+        }
+        true
+    }
+
+    // Returns whether a strip of the shard that was received in a row outside of the base, if there is one, is the
+    // direct sum.
+    fn agrees_in_row<P: Pieces>(
+        &self,
+        received: &P,
+        row: usize,
+        start: usize,
+        end: usize,
+        sum: &mut [[u8; 64]],
+    ) -> bool
+        requires ready { CanSum (P.received received.now) self.now.base start end }
+        requires row { row < row_count (frame_at (P.received received.now).configuration) }
+        requires outside { is_marked self.now.base.marks.now row ≡ false }
+        requires room { length sum.old ≡ row_len (end - start) }
+        ensures { IsTrue result ↔ AgreesInRow self.now.base.marks.now
+            (state_of_pieces start end (P.received received.now)) row }
+    {
+        let Some(piece) = piece_in_row(received, row, start, end) else {
+            return true;
+        };
+        self.sum_piece(received, row, start, end, sum);
+        summed_piece(sum, end - start) == piece
+    }
+
+    // Writes a strip of each wanted shard into its room, after the first `start` bytes.
+    fn put_sums<S: Store>(
+        &self,
+        start: usize,
+        end: usize,
+        sum: &mut [[u8; 64]],
+        store: &mut S,
+    ) -> Result<(), Error>
+        requires ready { CanSum (S.received store.old) self.now.base start end }
+        requires consistent { IsConsistent (state_of_pieces start end (S.received store.old)) }
+        requires room { length sum.old ≡ row_len (end - start) }
+        requires can { All (CanBeRebuilt (S.received store.old)) self.now.wanted.now }
+        requires rooms { AreRooms S.grows start (S.received store.old).configuration.shard_bytes
+            (length self.now.wanted.now) (S.held store.old) }
+        ensures put { OnOk result ((made : List Shard)
+            × AreReconstructed (state_of_pieces start end (S.received store.old))
+            self.now.wanted.now made
+            × ArePut start end made (S.held store.old) (S.held store.new)) }
+        ensures refused { IfErr result (λ e. (S.grows ≡ true) × (e ≡ Error.OutOfMemory)) }
+        ensures places { S.places store.new ≡ S.places store.old }
+        ensures loan { S.loan store.new ≡ S.loan store.old }
+    {
+        let frame = store.counts().frame;
+        for room in 0..self.wanted.len() {
+            let row = row_of(frame, self.wanted[room]);
+            self.sum_piece(&*store, row, start, end, sum);
+            store.put(room, start, summed_piece(sum, end - start))?;
+        }
+        Ok(())
+    }
+
+    // Sets a sum to the direct sum over a strip of the base, for a row outside of the base.
+    fn sum_piece<P: Pieces>(
+        &self,
+        received: &P,
+        row: usize,
+        start: usize,
+        end: usize,
+        sum: &mut [[u8; 64]],
+    )
+        requires ready { CanSum (P.received received.now) self.now.base start end }
+        requires row { row < row_count (frame_at (P.received received.now).configuration) }
+        requires outside { is_marked self.now.base.marks.now row ≡ false }
+        requires room { length sum.old ≡ row_len (end - start) }
+        ensures { IsBaseSum self.now.base.marks.now
+            (state_of_pieces start end (P.received received.now)) row
+            (shard_in_order sum.new (end - start) 0) }
+    {
+        clear_sum(sum);
+        self.add_base(received, row, start, end, sum);
+        finish_sum(sum, end - start);
+    }
+
+    // Adds the direct sum over a strip of the base, for a row outside of the base, to a sum whose words are 0.
+    fn add_base<P: Pieces>(
+        &self,
+        received: &P,
+        row: usize,
+        start: usize,
+        end: usize,
+        sum: &mut [[u8; 64]],
+    )
+        requires ready { CanSum (P.received received.now) self.now.base start end }
+        requires row { row < row_count (frame_at (P.received received.now).configuration) }
+        requires outside { is_marked self.now.base.marks.now row ≡ false }
+        requires room { length sum.old ≡ row_len (end - start) }
+        requires zeros { (j : ℕ) → j < (end - start) / 2 → sum_word sum.old j ≡ 0 }
+        ensures { (j : ℕ) → j < (end - start) / 2
+            → sum_word sum.new j
+            ≡ base_sum self.now.base.marks.now
+            (state_of_pieces start end (P.received received.now)) j row }
+    {
+        for index in 0..self.base.rows.len() {
+            let from = usize::from(self.base.rows[index]);
+            if let Some(piece) = piece_in_row(received, from, start, end) {
+                let log_m = self.base.factor(from, row);
+                add_times(self.engine, &mut Steps::new(), sum, piece, log_m);
+            }
         }
     }
-    true
-}
-
-// Returns whether a strip of the shard that was received in a row, if there is one outside of the base, is the direct
-// sum.
-fn agrees_in_row<E: Engine, P: Pieces>(
-    engine: &E,
-    base: &SumBase,
-    received: &P,
-    row: usize,
-    start: usize,
-    end: usize,
-    sum: &mut [[u8; 64]],
-) -> bool
-    requires ready { CanSum (P.received received.now) base.now start end }
-    requires row { row < row_count (frame_at (P.received received.now).configuration) }
-    requires room { length sum.old ≡ row_len (end - start) }
-    ensures { IsTrue result ↔ AgreesInRow base.now.marks.items
-        (state_of_pieces start end (P.received received.now)) row }
-{
-    if base.marks[row] {
-        return true;
-    }
-    let Some(piece) = piece_in_row(received, row, start, end) else {
-        return true;
-    };
-    sum_piece(engine, base, received, row, start, end, sum);
-    is_equal(summed_piece(sum, end - start), piece)
-}
-
-// Returns whether two pieces are equal.
-fn is_equal(one: &[u8], other: &[u8]) -> bool
-    ensures { IsTrue result ↔ (one.now ≡ other.now) }
-{
-    one == other
-}
-
-// Writes a strip of each wanted shard into its room, after the first `start` bytes.
-fn put_sums<E: Engine, S: Store>(
-    engine: &E,
-    base: &SumBase,
-    wanted: &[ShardIndex],
-    start: usize,
-    end: usize,
-    sum: &mut [[u8; 64]],
-    store: &mut S,
-) -> Result<(), Error>
-    requires ready { CanSum (S.received store.old) base.now start end }
-    requires consistent { IsConsistent (state_of_pieces start end (S.received store.old)) }
-    requires room { length sum.old ≡ row_len (end - start) }
-    requires can { All (CanBeRebuilt (S.received store.old)) wanted.now }
-    requires rooms { AreRooms S.grows start (S.received store.old).configuration.shard_bytes
-        (length wanted.now) (S.held store.old) }
-    ensures put { OnOk result ((made : List Shard)
-        × AreReconstructed (state_of_pieces start end (S.received store.old)) wanted.now made
-        × ArePut start end made (S.held store.old) (S.held store.new)) }
-    ensures refused { IfErr result (λ e. (S.grows ≡ true) × (e ≡ Error.OutOfMemory)) }
-    ensures places { S.places store.new ≡ S.places store.old }
-    ensures loan { S.loan store.new ≡ S.loan store.old }
-{
-    for room in 0..wanted.len() {
-        let row = row_of(base.counts.frame, wanted[room]);
-        sum_piece(engine, base, &*store, row, start, end, sum);
-        store.put(room, start, summed_piece(sum, end - start))?;
-    }
-    Ok(())
 }
 
 // Returns the row of a shard.
@@ -333,57 +387,5 @@ fn row_of(frame: Frame, shard: ShardIndex) -> usize
     match shard {
         ShardIndex::Original(index) => frame.original_row(index),
         ShardIndex::Recovery(index) => frame.recovery_row(index),
-    }
-}
-
-// Sets a sum to the direct sum over a strip of the base, for a row outside of the base.
-fn sum_piece<E: Engine, P: Pieces>(
-    engine: &E,
-    base: &SumBase,
-    received: &P,
-    row: usize,
-    start: usize,
-    end: usize,
-    sum: &mut [[u8; 64]],
-)
-    requires ready { CanSum (P.received received.now) base.now start end }
-    requires row { row < row_count (frame_at (P.received received.now).configuration) }
-    requires outside { is_marked base.now.marks.items row ≡ false }
-    requires room { length sum.old ≡ row_len (end - start) }
-    ensures { IsBaseSum base.now.marks.items
-        (state_of_pieces start end (P.received received.now)) row
-        (shard_in_order sum.new (end - start) 0) }
-{
-    clear_sum(sum);
-    add_base(engine, base, received, row, start, end, sum);
-    finish_sum(sum, end - start);
-}
-
-// Adds the direct sum over a strip of the base, for a row outside of the base, to a sum whose words are 0.
-fn add_base<E: Engine, P: Pieces>(
-    engine: &E,
-    base: &SumBase,
-    received: &P,
-    row: usize,
-    start: usize,
-    end: usize,
-    sum: &mut [[u8; 64]],
-)
-    requires ready { CanSum (P.received received.now) base.now start end }
-    requires row { row < row_count (frame_at (P.received received.now).configuration) }
-    requires outside { is_marked base.now.marks.items row ≡ false }
-    requires room { length sum.old ≡ row_len (end - start) }
-    requires zeros { (j : ℕ) → j < (end - start) / 2 → sum_word sum.old j ≡ 0 }
-    ensures { (j : ℕ) → j < (end - start) / 2
-        → sum_word sum.new j
-        ≡ base_sum base.now.marks.items
-        (state_of_pieces start end (P.received received.now)) j row }
-{
-    for index in 0..base.rows.len() {
-        let from = base.rows[index];
-        if let Some(piece) = piece_in_row(received, from, start, end) {
-            let log_m = base.factor(from, row);
-            add_times(engine, &mut Steps::new(), sum, piece, log_m);
-        }
     }
 }

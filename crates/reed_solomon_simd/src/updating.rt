@@ -7,15 +7,13 @@ ghost use Rattle.reed_solomon_simd.specs.Updated.{UpdatesInto, IsChanged, IsChan
 ghost use Rattle.reed_solomon_simd.specs.Updated.{change_outcome};
 
 use crate::rooms::check_rooms;
+use crate::strip_bytes::DECODE_STRIP_BYTES;
 use crate::{Error, RoomError};
 use rs_field::bytes::are_bytes;
 use rs_field::engine::{Engine, GfElement, Steps};
 use rs_rate::rate::DefaultRateCounts;
 use rs_rate::rate::changes::{add_change, change_factors};
 use std::alloc::Global;
-
-// The number of bytes of a strip.
-const STRIP_BYTES: usize = 2048;
 
 /// Updates recovery shards after one original has changed. The other originals are not needed.
 ///
@@ -124,7 +122,7 @@ fn add_to_all<E: Engine>(
 {
     let mut start = 0;
     while start < old.len() {
-        let end = start + STRIP_BYTES.min(old.len() - start);
+        let end = start + DECODE_STRIP_BYTES.min(old.len() - start);
         add_strip(engine, steps, recovery, old, new, start, end, factors);
         start = end;
     }
@@ -155,7 +153,7 @@ fn add_strip<E: Engine>(
         → IsChangedStrip start end old.now new.now (slice_index factors.now i)
         (shard_at (bytes_in recovery.old) i) (shard_at (bytes_in recovery.new) i) }
 {
-    let mut room = [0; STRIP_BYTES];
+    let mut room = [0; DECODE_STRIP_BYTES];
     let change = &mut room[..end - start];
     put_change(change, &old[start..end], &new[start..end]);
     for i in 0..recovery.len() {
@@ -175,7 +173,6 @@ fn add_to_strip<E: Engine>(
 )
     requires inside { start + length change.now ≤ length shard.old }
     requires even { length change.now % 2 ≡ 0 }
-    requires few { length change.now ≤ 2048 }
     requires factor { log_m < 65535 }
     ensures { AddsToStrip start (start + length change.now) change.now log_m shard.old shard.new }
 {

@@ -5,9 +5,9 @@ ghost use Rattle.rs_field.specs.code.Decoder.{IsDecoder, originals_given, recove
 ghost use Rattle.reed_solomon_simd.specs.Verified.{OneVerifies};
 
 use crate::Error;
-use crate::apart::Apart;
 use crate::pieces::Pieces;
 use crate::receiving::received_in_slices;
+use crate::separate_store::SeparateStore;
 use crate::strip_comparer::check_by_encoding;
 use crate::strip_rebuilder::make_listed;
 use rs_field::engine::Engine;
@@ -114,7 +114,7 @@ pub fn check_consistent<E: Engine, P: Pieces>(
         return check_by_encoding(alloc, engine, surplus, received);
     }
     let mut rooms: Vec<Vec<u8>> = Vec::new(alloc);
-    let mut store = Apart {
+    let mut store = SeparateStore {
         pieces: received,
         rooms: &mut rooms,
     };

@@ -33,7 +33,6 @@ pub fn check_wanted(
     mark_all(received, wanted, &mut originals, &mut recovery)
 }
 
-// Returns `count` marks that are not set, or fails with `OutOfMemory`.
 pub(crate) fn no_marks(alloc: Global, count: usize) -> Result<Vec<bool>, Error>
     ensures { MatchResult result (λ marks. marks.items ≡ replicate count false)
         (λ e. e ≡ Error.OutOfMemory) }

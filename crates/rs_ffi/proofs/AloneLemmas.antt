@@ -1,10 +1,10 @@
 -- Lemmas about indexes that are noted as bits of words.
-use Rattle.std.proofs.Common.{rules, ◌≡◌, ◌≢◌, ℕ, ◌*◌, ◌/◌, ◌%◌, ◌^◌, ◌<◌, ◌≤◌, ◌||◌, false, List, [], ◌∷◌, length}
+use Rattle.std.proofs.Common.{rules, ◌≡◌, ◌≢◌, ℕ, ◌*◌, ◌/◌, ◌%◌, ◌^◌, ◌<◌, ◌≤◌, ◌||◌, List, [], ◌∷◌, length}
 use Rattle.std.proofs.Common.{drop, if◌then◌else◌, nat_eq, nat_lt, get_or, set, replicate, bit_or, w64, Result, Ok, Err}
-use Rattle.std.proofs.Common.{MatchResult, inl, inr, refl, sym, ap, subst, ◌∙◌, arith}
+use Rattle.std.proofs.Common.{inl, inr, sym, ap, ◌∙◌, arith}
 use Rattle.std.specs.Int.{bit_at}
 use Rattle.std.specs.List.{list_any}
-use Rattle.std.proofs.lemmas.Bool.{cases_eq, eq-eqb, ne_eqb, lt-leb}
+use Rattle.std.proofs.lemmas.Bool.{cases_eq, eq-eqb, ne_eqb}
 use Rattle.std.proofs.lemmas.List.{get_or-set_other, get_or-set_same, get_or-replicate, length-replicate, drop_all}
 use Rattle.std.proofs.Math.ListN.{get_or-eq_default}
 use Rattle.std.proofs.lemmas.Nat.Bits.{bit_at_set_same, bit_at_set_other}
@@ -22,14 +22,6 @@ note_outcome-none n i = search (rules, get_or-replicate, get_or-eq_default, leng
 module _ (k index : ℕ) (indexes words : List ℕ) (inside : index < k) (few : k ≤ 65536) (size : length words ≡ 1024)
     (are : AreNoted indexes words)
     (free : bit_at (get_or words (index / 64) 0) (index % 64) ≢ 1) where
-  -- If the bit of an index is not 1, the index was not noted before.
-  is-new : list_any (nat_eq index) indexes ≡ false
-  is-new = search rules
-
-  -- If the index is below k and its bit is not 1, noting the index succeeds.
-  pub note_outcome-next : note_outcome k indexes index ≡ Ok (index ∷ indexes)
-  note_outcome-next = rw (lt-leb k index inside, is-new) refl
-
   -- After the bit of the index was set, the words note the index as well.
   pub note_outcome-more : AreNoted (index ∷ indexes)
       (set words (index / 64) (bit_or (get_or words (index / 64) 0) (1 * 2 ^ (index % 64) % 2 ^ 64)))
@@ -64,21 +56,6 @@ module _ (k index : ℕ) (indexes words : List ℕ) (inside : index < k) (few : 
       other : (i ≡ index → ⊥)
           → bit_at (get_or words (i / 64) 0) (i % 64) ≡ (if list_any (nat_eq i) (index ∷ indexes) then 1 else 0)
       other apart = are i ∙ sym (ap (λ b. if b || list_any (nat_eq i) indexes then 1 else 0) (ne_eqb i index apart))
-
--- an outcome of noting agrees with a result and with the new words
-abbrev pub Leads : Result (List ℕ) Error → List ℕ → Result (Unit {0}) Error → Type 0
-Leads outcome new result = MatchResult outcome (λ all. (result ≡ Ok tt) × AreNoted all new) (λ e. result ≡ Err e)
-
--- the outcome of noting this index agrees with a result and with the new words
-abbrev pub Notes : ℕ → List ℕ → ℕ → List ℕ → Result (Unit {0}) Error → Type 0
-Notes k indexes index new result = Leads (note_outcome k indexes index) new result
-
--- If noting an index succeeds and its bit is set, the outcome agrees with the result and with the new words.
-pub notes : (k index : ℕ) (indexes new : List ℕ) (result : Result (Unit {0}) Error)
-    → note_outcome k indexes index ≡ Ok (index ∷ indexes) → result ≡ Ok tt → AreNoted (index ∷ indexes) new
-    → Notes k indexes index new result
-notes k index indexes new result is done are =
-    subst (λ (o : Result (List ℕ) Error). Leads o new result) (sym is) (done, are)
 
 -- the outcome of noting the indexes of shards, if some indexes were noted before
 abbrev pub noting : ℕ → List ℕ → List RsShard → Result (List ℕ) Error

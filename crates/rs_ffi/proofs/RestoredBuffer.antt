@@ -15,12 +15,12 @@ use Rattle.rs_field.specs.code.Frame.{decoder_rows}
 use Rattle.rs_field.specs.code.PieceStates.{shards_listed, HoldRestored}
 use Rattle.rs_field.proofs.code_lemmas.Listed.{items_from-zero, items_from-suc}
 use Rattle.rs_field.proofs.code_lemmas.ListedMaps.{lists-same}
-use Rattle.rs_field.proofs.code_lemmas.RestoredBelow.{missing-past}
+use Rattle.rs_field.proofs.code_lemmas.MissingShards.{missing-past}
 use Rattle.rs_rate.specs.objects.Giving.{IsDecoding}
 use Rattle.rs_rate.proofs.objects_lemmas.OneCall.{decoding-refused}
 use Rattle.reed_solomon_simd.proofs.RestoringLemmas.{decoding-answered, decoding-few, decoding-none-agrees}
 use Rattle.reed_solomon_simd.proofs.RestoringLemmas.{decoding-restored}
-use Rattle.rs_ffi.specs.Buffers.{lost_indexes, marked_shards, marked_map, marked_state, shard_place, with_restored}
+use Rattle.rs_ffi.specs.Buffers.{lost_indexes, marked_map, shard_place, with_restored}
 use Rattle.rs_ffi.specs.declared.marked_buffers.MarkedBuffers.{MarkedBuffers}
 use Rattle.rs_ffi.specs.MarkedState.{besides_rooms, rooms_in}
 use Rattle.rs_ffi.proofs.DecodeLemmas.{with-nothing}

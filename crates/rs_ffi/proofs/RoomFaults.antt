@@ -15,57 +15,58 @@ use Rattle.rs_ffi.specs.Arrays.{EncodesArrays, DecodesArrays, Fills, rooms_fit, 
 use Rattle.rs_ffi.specs.Places.{placed}
 
 -- a result of a call over these shards and rooms, with its error replaced by its fault
-abbrev pub told : List Shard → List (List ℕ) → Result (Unit {0}) RoomError → Result (Unit {0}) Fault
-told given all (Ok u) = Ok tt
-told given all (Err e) = Err (placed given all e)
+abbrev pub placed_answer : List Shard → List (List ℕ) → Result (Unit {0}) RoomError → Result (Unit {0}) Fault
+placed_answer given all (Ok u) = Ok tt
+placed_answer given all (Err e) = Err (placed given all e)
 
-lengths-told : (given : List Shard) (all : List (List ℕ)) (shards : List Shard) (rooms : List (List ℕ))
-    → lengths_fit all shards rooms ≡ told given all (fit_lengths shards rooms)
-lengths-told given all [] rooms = refl
-lengths-told given all (shard ∷ shards) [] = refl
-lengths-told given all (shard ∷ shards) (room ∷ rooms) =
-    by_test (lengths-told given all shards rooms) (length room == length shard)
+lengths-placed : (given : List Shard) (all : List (List ℕ)) (shards : List Shard) (rooms : List (List ℕ))
+    → lengths_fit all shards rooms ≡ placed_answer given all (fit_lengths shards rooms)
+lengths-placed given all [] rooms = refl
+lengths-placed given all (shard ∷ shards) [] = refl
+lengths-placed given all (shard ∷ shards) (room ∷ rooms) =
+    by_test (lengths-placed given all shards rooms) (length room == length shard)
   where
-    by_test : lengths_fit all shards rooms ≡ told given all (fit_lengths shards rooms) → (same : Bool)
+    by_test : lengths_fit all shards rooms ≡ placed_answer given all (fit_lengths shards rooms) → (same : Bool)
         → cond same (lengths_fit all shards rooms)
         (Err (placed given all (wrong_length (length shard) (length room))))
-        ≡ told given all (cond same (fit_lengths shards rooms) (Err (wrong_length (length shard) (length room))))
+        ≡ placed_answer given all
+        (cond same (fit_lengths shards rooms) (Err (wrong_length (length shard) (length room))))
     by_test others true = others
     by_test others false = refl
 
-fit-told : (given shards : List Shard) (rooms : List (List ℕ))
-    → rooms_fit shards rooms ≡ told given rooms (fit_rooms shards rooms)
-fit-told given shards rooms = search (rules, lengths-told)
+fit-placed : (given shards : List Shard) (rooms : List (List ℕ))
+    → rooms_fit shards rooms ≡ placed_answer given rooms (fit_rooms shards rooms)
+fit-placed given shards rooms = search (rules, lengths-placed)
 
-fills-told : (given shards : List Shard) (old new : List (List ℕ)) (answer : Result (Unit {0}) RoomError)
-    → fills_rooms shards old new answer → Fills shards old new (told given old answer)
-fills-told given shards old new answer fills =
+fills-placed : (given shards : List Shard) (old new : List (List ℕ)) (answer : Result (Unit {0}) RoomError)
+    → fills_rooms shards old new answer → Fills shards old new (placed_answer given old answer)
+fills-placed given shards old new answer fills =
     subst (λ (o : Result (Unit {0}) Fault).
-    MatchResult o (λ _. (told given old answer ≡ Ok tt) × (new ≡ shards))
-    (λ fault. (told given old answer ≡ Err fault) × (new ≡ old)))
-    (sym (fit-told given shards old)) (by_outcome (fit_rooms shards old) fills)
+    MatchResult o (λ _. (placed_answer given old answer ≡ Ok tt) × (new ≡ shards))
+    (λ fault. (placed_answer given old answer ≡ Err fault) × (new ≡ old)))
+    (sym (fit-placed given shards old)) (by_outcome (fit_rooms shards old) fills)
   where
     by_outcome : (o : Result (Unit {0}) RoomError)
         → MatchResult o (λ _. (answer ≡ Ok tt) × (new ≡ shards)) (λ e. (answer ≡ Err e) × (new ≡ old))
-        → MatchResult (told given old o) (λ _. (told given old answer ≡ Ok tt) × (new ≡ shards))
-        (λ fault. (told given old answer ≡ Err fault) × (new ≡ old))
-    by_outcome (Ok u) does = (ap (told given old) does.0, does.1)
-    by_outcome (Err e) does = (ap (told given old) does.0, does.1)
+        → MatchResult (placed_answer given old o) (λ _. (placed_answer given old answer ≡ Ok tt) × (new ≡ shards))
+        (λ fault. (placed_answer given old answer ≡ Err fault) × (new ≡ old))
+    by_outcome (Ok u) does = (ap (placed_answer given old) does.0, does.1)
+    by_outcome (Err e) does = (ap (placed_answer given old) does.0, does.1)
 
 -- A result of `encode_into`, with its error replaced by its fault, is a result of an encode over arrays.
-pub encodes-told : (k r : ℕ) (originals : List Shard) (old new : List (List ℕ)) (answer : Result (Unit {0}) RoomError)
+pub encodes-placed : (k r : ℕ) (originals : List Shard) (old new : List (List ℕ)) (answer : Result (Unit {0}) RoomError)
     (other : Result (Unit {0}) Fault)
-    → other ≡ told originals old answer → EncodesInto k r originals old new answer
+    → other ≡ placed_answer originals old answer → EncodesInto k r originals old new answer
     → EncodesArrays k r originals old new other
-encodes-told k r originals old new answer other is encodes = search (rules, fills-told)
+encodes-placed k r originals old new answer other is encodes = search (rules, fills-placed)
 
 -- A result of `decode_into`, with its error replaced by its fault, is a result of a decode over arrays.
-pub decodes-told : (k r : ℕ) (originals recovery : Items) (old new : List (List ℕ))
+pub decodes-placed : (k r : ℕ) (originals recovery : Items) (old new : List (List ℕ))
     (answer : Result (Unit {0}) RoomError) (other : Result (Unit {0}) Fault)
-    → other ≡ told (shards_in originals ++ shards_in recovery) old answer
+    → other ≡ placed_answer (shards_in originals ++ shards_in recovery) old answer
     → DecodesInto k r originals recovery old new answer
     → DecodesArrays k r originals recovery old new other
-decodes-told k r originals recovery old new answer other is decodes = search (rules, fills-told)
+decodes-placed k r originals recovery old new answer other is decodes = search (rules, fills-placed)
 
 -- If an encode fails, the rooms are unchanged.
 pub encodes-kept : (k r : ℕ) (originals : List Shard) (old new : List (List ℕ)) (e : RoomError)

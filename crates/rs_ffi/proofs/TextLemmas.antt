@@ -48,16 +48,16 @@ pub longer : (text piece : List ℕ) {at end : ℕ} → length text ≡ at → e
 longer text piece sized is = length-append text piece ∙ ap (λ n. n + length piece) sized ∙ sym is
 
 -- Empty words at the end of a text change nothing.
-pub ended : (text old : List ℕ) {new : List ℕ} {told : ℕ} → WritesText (text ++ []) old new told
-    → WritesText text old new told
-ended text old {new = new} {told = told} writes =
-    subst (λ whole. WritesText whole old new told) (append-nil text) writes
+pub ended : (text old : List ℕ) {new : List ℕ} {returned : ℕ} → WritesText (text ++ []) old new returned
+    → WritesText text old new returned
+ended text old {new = new} {returned = returned} writes =
+    subst (λ whole. WritesText whole old new returned) (append-nil text) writes
 
 -- If the text of a value is written with empty words at its end, the text of an equal value is written.
-pub ended-at : {I : Type 0} (text : I → List ℕ) (old : List ℕ) {given known : I} {new : List ℕ} {told : ℕ}
-    → given ≡ known → WritesText (text known ++ []) old new told → WritesText (text given) old new told
-ended-at text old {known = known} {new = new} {told = told} is writes =
-    subst (λ i. WritesText (text i) old new told) (sym is) (ended (text known) old writes)
+pub ended-at : {I : Type 0} (text : I → List ℕ) (old : List ℕ) {given known : I} {new : List ℕ} {returned : ℕ}
+    → given ≡ known → WritesText (text known ++ []) old new returned → WritesText (text given) old new returned
+ended-at text old {known = known} {new = new} {returned = returned} is writes =
+    subst (λ i. WritesText (text i) old new returned) (sym is) (ended (text known) old writes)
 
 -- Writing a text into a room does not change the length of the room.
 pub length-over : (text old : List ℕ) → length (text_over text old) ≡ length old

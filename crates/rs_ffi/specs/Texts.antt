@@ -81,4 +81,4 @@ text_over text room = take (length room) text ++ drop (length text) room
 
 -- the call returns the length of the text, and the room holds as much of the text as fits
 abbrev pub WritesText : List ℕ → List ℕ → List ℕ → ℕ → Type 0
-WritesText text old new told = (told ≡ length text) × (new ≡ text_over text old)
+WritesText text old new returned = (returned ≡ length text) × (new ≡ text_over text old)

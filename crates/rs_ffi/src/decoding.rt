@@ -16,9 +16,9 @@ ghost use Rattle.rs_ffi.specs.Arrays.{items_of, DecodesArrays, KeepsRooms, bytes
 use crate::alone::check_alone;
 use crate::buffers::check_length;
 use crate::fault::Fault;
+use crate::fault_places::placed_fault;
 use crate::layouts::RsShard;
 use crate::marked_buffers::{MarkedBuffers, indexes_of_lost};
-use crate::places::placed_fault;
 use reed_solomon_simd::RoomError;
 use reed_solomon_simd::received_shards::surplus_of;
 use reed_solomon_simd::receiving::received_shards;

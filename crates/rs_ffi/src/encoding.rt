@@ -10,8 +10,8 @@ ghost use Rattle.rs_ffi.specs.Arrays.{shards_of, EncodesArrays, KeepsRooms, byte
 use crate::buffer_rooms::BufferRooms;
 use crate::buffers::check_length;
 use crate::fault::Fault;
+use crate::fault_places::placed_fault;
 use crate::layouts::BufferShards;
-use crate::places::placed_fault;
 use reed_solomon_simd::strip_encoder::encode_strips;
 use reed_solomon_simd::{Error, encode_into};
 use rs_field::bytes::are_bytes;

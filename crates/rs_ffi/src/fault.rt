@@ -1,4 +1,5 @@
 //! The reasons why a call from C fails, and their numbers.
+use crate::layouts::named;
 use reed_solomon_simd::ShardIndex;
 use rs_field::error::Error;
 
@@ -87,6 +88,7 @@ impl RsFault {
     ghost use Rattle.std.specs.Prelude.{◌≡◌, Err};
     ghost use Rattle.reed_solomon_simd.specs.ShardNames.{index_of};
     ghost use Rattle.rs_ffi.specs.Faults.{fault_of, kind_of, numbers, numbers_of};
+    ghost use Rattle.rs_ffi.specs.Texts.{shard_refusal_with, refusal_with, wanted_fault_with, fault_with};
 
     // Makes a fault of its number and three values.
     fn new(number: u32, first: usize, second: usize, third: usize) -> RsFault
@@ -203,6 +205,105 @@ impl RsFault {
                 original_received_count,
                 recovery_received_count,
             } => (original_received_count, recovery_received_count, 0),
+        }
+    }
+
+    // Reads what `RsFault::of` wrote. The place of a shard of a wrong size is left out: the text of a fault does not
+    // have it.
+    pub(crate) fn read(self) -> Option<Fault>
+        ensures { result ≡ fault_with self }
+    {
+        let (first, second) = (self.first, self.second);
+        if self.number >= 16 {
+            return self.read_wanted();
+        }
+        match self.number {
+            13 => Some(Fault::WrongLength {
+                wanted: first,
+                got: second,
+                place: self.third,
+            }),
+            14 => Some(Fault::WrongNumberOfRooms {
+                wanted: first,
+                got: second,
+            }),
+            15 => Some(Fault::TablesNotMade),
+            _ => match self.read_refusal() {
+                Some(error) => Some(Fault::Refused(error)),
+                None => None,
+            },
+        }
+    }
+
+    fn read_wanted(self) -> Option<Fault>
+        ensures { result ≡ wanted_fault_with self }
+    {
+        match self.number {
+            16 => Some(Fault::WantedIndexTooLarge {
+                wanted: named(self.third, self.second),
+                count: self.first,
+            }),
+            17 => Some(Fault::WantedTwice {
+                wanted: named(self.second, self.first),
+            }),
+            18 => Some(Fault::WantedReceived {
+                wanted: named(self.second, self.first),
+            }),
+            _ => None,
+        }
+    }
+
+    fn read_refusal(self) -> Option<Error>
+        ensures { result ≡ refusal_with self }
+    {
+        let (first, second) = (self.first, self.second);
+        match self.number {
+            1 => Some(Error::OutOfMemory),
+            2 => Some(Error::UnsupportedShardCount {
+                original_count: first,
+                recovery_count: second,
+            }),
+            3 => Some(Error::InvalidShardSize { shard_bytes: first }),
+            4 => Some(Error::DifferentShardSize {
+                shard_bytes: first,
+                got: second,
+            }),
+            5 => Some(Error::TooFewOriginalShards {
+                original_count: first,
+                original_received_count: second,
+            }),
+            6 => Some(Error::TooManyOriginalShards {
+                original_count: first,
+            }),
+            7 => Some(Error::NotEnoughShards {
+                original_count: first,
+                original_received_count: second,
+                recovery_received_count: self.third,
+            }),
+            _ => self.read_shard_refusal(),
+        }
+    }
+
+    fn read_shard_refusal(self) -> Option<Error>
+        ensures { result ≡ shard_refusal_with self }
+    {
+        let (first, second) = (self.first, self.second);
+        match self.number {
+            8 => Some(Error::InvalidOriginalShardIndex {
+                original_count: first,
+                index: second,
+            }),
+            9 => Some(Error::InvalidRecoveryShardIndex {
+                recovery_count: first,
+                index: second,
+            }),
+            10 => Some(Error::DuplicateOriginalShardIndex { index: first }),
+            11 => Some(Error::DuplicateRecoveryShardIndex { index: first }),
+            12 => Some(Error::InconsistentShards {
+                original_received_count: first,
+                recovery_received_count: second,
+            }),
+            _ => None,
         }
     }
 }

@@ -29,9 +29,9 @@ pub fn received_in_arrays<'a>(
         (result_map_both received_state (λ e. e) result) }
 {
     let shard_bytes = size_in_arrays(originals, recovery);
-    let own = originals.iter().map(|shard| (shard.index, shard.bytes));
-    let other = recovery.iter().map(|shard| (shard.index, shard.bytes));
-    received_of_size(alloc, counts, shard_bytes, own, other)
+    let lent_originals = originals.iter().map(|shard| (shard.index, shard.bytes));
+    let lent_recovery = recovery.iter().map(|shard| (shard.index, shard.bytes));
+    received_of_size(alloc, counts, shard_bytes, lent_originals, lent_recovery)
 }
 
 fn size_in_arrays(originals: &[RsShard<'_>], recovery: &[RsShard<'_>]) -> Option<usize>

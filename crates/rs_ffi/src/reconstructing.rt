@@ -5,8 +5,8 @@ ghost use Rattle.reed_solomon_simd.specs.Rooms.{loans_of};
 ghost use Rattle.rs_ffi.specs.Arrays.{items_of, bytes_in, wanted_of, ReconstructsArrays, KeepsRooms};
 
 use crate::fault::Fault;
+use crate::fault_places::placed_reconstruct_fault;
 use crate::layouts::{RsShard, RsWanted, named};
-use crate::places::placed_reconstruct_fault;
 use crate::receiving::received_in_arrays;
 use reed_solomon_simd::reconstructing::reconstruct_received;
 use reed_solomon_simd::{ReconstructError, ShardIndex};

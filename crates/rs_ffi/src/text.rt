@@ -2,111 +2,12 @@
 ghost use Rattle.std.specs.Prelude.{◌≡◌};
 ghost use Rattle.rs_field.specs.code.Texts.{text_of as refusal_text};
 ghost use Rattle.rs_ffi.specs.FaultTexts.{text_of};
-ghost use Rattle.rs_ffi.specs.Texts.{shard_refusal_with, refusal_with, wanted_fault_with, fault_with, text_with};
-ghost use Rattle.rs_ffi.specs.Texts.{WritesText};
+ghost use Rattle.rs_ffi.specs.Texts.{fault_with, text_with, WritesText};
 
 use crate::fault::{Fault, RsFault};
-use crate::layouts::named;
 use crate::writing::{write_one, write_three, write_two, write_words};
 use reed_solomon_simd::ShardIndex;
 use rs_field::error::Error;
-
-fn read(fault: RsFault) -> Option<Fault>
-    ensures { result ≡ fault_with fault }
-{
-    let (first, second) = (fault.first, fault.second);
-    if fault.number >= 16 {
-        return read_wanted(fault);
-    }
-    match fault.number {
-        13 => Some(Fault::WrongLength {
-            wanted: first,
-            got: second,
-            place: fault.third,
-        }),
-        14 => Some(Fault::WrongNumberOfRooms {
-            wanted: first,
-            got: second,
-        }),
-        15 => Some(Fault::TablesNotMade),
-        _ => match read_refusal(fault) {
-            Some(error) => Some(Fault::Refused(error)),
-            None => None,
-        },
-    }
-}
-
-fn read_wanted(fault: RsFault) -> Option<Fault>
-    ensures { result ≡ wanted_fault_with fault }
-{
-    match fault.number {
-        16 => Some(Fault::WantedIndexTooLarge {
-            wanted: named(fault.third, fault.second),
-            count: fault.first,
-        }),
-        17 => Some(Fault::WantedTwice {
-            wanted: named(fault.second, fault.first),
-        }),
-        18 => Some(Fault::WantedReceived {
-            wanted: named(fault.second, fault.first),
-        }),
-        _ => None,
-    }
-}
-
-fn read_refusal(fault: RsFault) -> Option<Error>
-    ensures { result ≡ refusal_with fault }
-{
-    let (first, second) = (fault.first, fault.second);
-    match fault.number {
-        1 => Some(Error::OutOfMemory),
-        2 => Some(Error::UnsupportedShardCount {
-            original_count: first,
-            recovery_count: second,
-        }),
-        3 => Some(Error::InvalidShardSize { shard_bytes: first }),
-        4 => Some(Error::DifferentShardSize {
-            shard_bytes: first,
-            got: second,
-        }),
-        5 => Some(Error::TooFewOriginalShards {
-            original_count: first,
-            original_received_count: second,
-        }),
-        6 => Some(Error::TooManyOriginalShards {
-            original_count: first,
-        }),
-        7 => Some(Error::NotEnoughShards {
-            original_count: first,
-            original_received_count: second,
-            recovery_received_count: fault.third,
-        }),
-        _ => read_shard_refusal(fault),
-    }
-}
-
-fn read_shard_refusal(fault: RsFault) -> Option<Error>
-    ensures { result ≡ shard_refusal_with fault }
-{
-    let (first, second) = (fault.first, fault.second);
-    match fault.number {
-        8 => Some(Error::InvalidOriginalShardIndex {
-            original_count: first,
-            index: second,
-        }),
-        9 => Some(Error::InvalidRecoveryShardIndex {
-            recovery_count: first,
-            index: second,
-        }),
-        10 => Some(Error::DuplicateOriginalShardIndex { index: first }),
-        11 => Some(Error::DuplicateRecoveryShardIndex { index: first }),
-        12 => Some(Error::InconsistentShards {
-            original_received_count: first,
-            recovery_received_count: second,
-        }),
-        _ => None,
-    }
-}
 
 // Writes the text of an error of the library, as much of it as fits, and returns the length of the whole text.
 fn write_refusal(error: Error, room: &mut [u8]) -> usize
@@ -299,7 +200,7 @@ fn write_received(wanted: ShardIndex, room: &mut [u8]) -> usize
 pub fn write_text(fault: RsFault, room: &mut [u8]) -> usize
     ensures { WritesText (text_with (fault_with fault)) room.old room.new result }
 {
-    match read(fault) {
+    match fault.read() {
         Some(fault) => write_fault(fault, room),
         None => 0,
     }

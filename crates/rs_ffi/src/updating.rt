@@ -2,7 +2,7 @@
 ghost use Rattle.rs_ffi.specs.Arrays.{bytes_in, UpdatesArrays, KeepsRooms};
 
 use crate::fault::Fault;
-use crate::places::placed_fault;
+use crate::fault_places::placed_fault;
 use reed_solomon_simd::update_into;
 use rs_field::engine::Engine;
 use std::alloc::Global;

@@ -3,8 +3,8 @@ ghost use Rattle.rs_ffi.specs.Arrays.{items_of, VerifiesArrays};
 ghost use Rattle.reed_solomon_simd.specs.Verified.{OneVerifies};
 
 use crate::fault::Fault;
+use crate::fault_places::placed_fault;
 use crate::layouts::RsShard;
-use crate::places::placed_fault;
 use crate::receiving::received_in_arrays;
 use reed_solomon_simd::RoomError;
 use reed_solomon_simd::verifying::check_consistent;

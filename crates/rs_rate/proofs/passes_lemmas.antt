@@ -13,3 +13,4 @@ pub mod DecodeAnswer
 pub mod DirectRows
 pub mod SumLemmas
 pub mod ChangeLemmas
+pub mod InPlace

@@ -2,3 +2,4 @@
 pub mod Coding
 pub mod Decoding
 pub mod Sums
+pub mod BaseSum

@@ -5,6 +5,7 @@ pub mod decoding;
 pub mod direct;
 pub mod encoding;
 pub mod high_encoding;
+pub mod locators;
 pub mod low_encoding;
-pub mod restoring;
+pub mod restoring_rows;
 pub mod sums;

@@ -189,27 +189,7 @@ decoding-nothing k r originals (first ∷ rest) (inl same) = let one =
 
 module _ (k r : ℕ) (originals recovery : Items) (s : DecoderState)
     (is : IsDecoding k r originals recovery (Ok (Some s))) where
-  -- If a decoder was made, there is a first recovery shard, and the decoder was set up with its size and has all
-  -- shards.
-  pub decoding-led : (first : ℕ × Shard) × (rest : Items) × (recovery ≡ first ∷ rest)
-      × (decoding_outcome k r originals first rest ≡ Ok s)
-  decoding-led = search rules
-
   -- The result of the decoder is a result of one call.
   pub decoding-answers : (result : Result Shards Error) → DecodeAnswers s result
       → OneDecodeAnswers k r originals recovery result
   decoding-answers result answers = search rules
-
-  -- The collected result of the decoder, or `OutOfMemory`, is a result of one call.
-  pub decoding-collected : (restored : Shards) (result : Result Shards Error) → DecodeAnswers s (Ok restored)
-      → MatchResult result (λ shards. shards ≡ restored) (λ e. e ≡ OutOfMemory)
-      → OneDecodeAnswers k r originals recovery result
-  decoding-collected restored (Ok out) answers same =
-      decoding-answers (Ok out) (subst (λ l. DecodeAnswers s (Ok l)) (sym same) answers)
-  decoding-collected restored (Err e) answers short =
-      let led = decoding-led in
-      let one = first-ok _ (start_outcome (decoder_rows default_rate k r) (default_of k r (length led.0.1))) s
-      (sym led.3) in
-      let opened = start_outcome-valid (decoder_rows default_rate k r) (default_of k r (length led.0.1))
-      (subst (λ (o : Result (Unit {0}) Error). IsOk o) (sym one.1) refl) in
-      subst (λ items. OneDecodeAnswers k r originals items (Err e)) (sym led.2) (inr (opened, ap Err short))

@@ -1,8 +1,8 @@
 -- What direct sums over a base say of the given shards: whether some message agrees with all of them, and what its
 -- missing originals are.
-use Rattle.std.proofs.Common.{rules, ◌≡◌, ℕ, ◌+◌, ◌/◌, ◌<◌, List, Bool, true, false, sym, ap, ap₂, ◌∙◌, arith, refl}
-use Rattle.std.proofs.Common.{true≢false}
-use Rattle.std.specs.Prelude.{slice_index, Some, is_some, not, ◌&&◌, ◌↔◌}
+use Rattle.std.proofs.Common.{rules, ◌≡◌, ℕ, ◌+◌, ◌/◌, ◌<◌, List, Bool, true, false, sym, ap, ◌∙◌, arith, refl}
+use Rattle.std.proofs.Common.{length}
+use Rattle.std.specs.Prelude.{slice_index, Some, is_some, ◌↔◌}
 use Rattle.rs_field.specs.code.Column.{Shard, shard_at, column}
 use Rattle.rs_field.specs.code.Configuration.{Configuration as AsDefined}
 use Rattle.rs_field.specs.code.Decoder.{IsAgreeing, IsConsistent}
@@ -34,7 +34,7 @@ module _ (s : AsDefined) (g : FilledRows s.rate (with_frame s)) {base : List Boo
 
   -- The direct sum over the base at a row of column j.
   abbrev sum : ℕ → ℕ → ℕ
-  sum j = direct_sum (row_count (frame_at s)) (is_marked base) (λ x. slice_index locator x) (words_before g j)
+  sum j = direct_sum (length locator) (is_marked base) (λ x. slice_index locator x) (words_before g j)
 
   -- A shard of the base is a given shard.
   row_of_base : (p : ℕ) (shard : Shard) → base_rows p ≡ Some shard → shards_in g p ≡ Some shard
@@ -84,6 +84,8 @@ module _ (s : AsDefined) (g : FilledRows s.rate (with_frame s)) {base : List Boo
       let shard : Shard = shard_laid_out g.chunks s.shard_bytes x in
       let given = row-given s base_filled x ∙ marked-at base (shard_laid_out g.chunks s.shard_bytes) x true is in
       word-given (state_before base_filled) j x shard given ∙ sym (row_words s base_filled j x shard hj given).1)
+      ∙ ap (λ n. direct_sum n (is_marked base) (λ x. slice_index locator x) (words_before g j) p)
+      (sym is_locator.entries)
 
   -- Some message agrees with all given shards if and only if each given row outside the base is equal to its sums.
   pub consistent_by_rows : IsConsistent (state_before g)
@@ -92,8 +94,7 @@ module _ (s : AsDefined) (g : FilledRows s.rate (with_frame s)) {base : List Boo
       let both = consistent_by_sums (are_given s g) (part_of (frame_at s).originals_from s.original_count)
       (part_of (frame_at s).recovery_from s.recovery_count) (rows_located s base_filled is_locator)
       g.configured.even base_count in (
-        λ consistent p j hp outside hj.
-            let (mark, none) = only_first (is_marked g.marks p) (is_marked base p) outside in
+        λ consistent p j hp mark none hj.
             let shard : Shard = shard_laid_out g.chunks s.shard_bytes p in
             let here = row-given s g p ∙ marked-at g.marks (shard_laid_out g.chunks s.shard_bytes) p true mark in
             (row_words s g j p shard hj here).1
@@ -101,14 +102,9 @@ module _ (s : AsDefined) (g : FilledRows s.rate (with_frame s)) {base : List Boo
         λ equal. both.1 (λ p j shard here none hj.
             let (mark, word) = row_words s g j p shard hj here in
             sum_in_rows j p hj
-            ∙ sym (equal p j (given-below (are_given s g) p shard here) (ap₂ (λ a b. a && not b) mark none) hj)
+            ∙ sym (equal p j (given-below (are_given s g) p shard here) mark none hj)
             ∙ word),
       )
-    where
-      only_first : (a b : Bool) → (a && not b) ≡ true → (a ≡ true) × (b ≡ false)
-      only_first true false is = (refl, refl)
-      only_first true true is = absurd (true≢false (sym is))
-      only_first false b is = absurd (true≢false (sym is))
 
   -- The sum at the row of a missing original is the word of the original of a message that agrees.
   pub summed_original : (message : List Shard) (i j : ℕ) → IsAgreeing (state_before g) message → i < s.original_count

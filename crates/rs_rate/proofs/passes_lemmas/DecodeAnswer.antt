@@ -26,7 +26,7 @@ use Rattle.rs_field.proofs.code_lemmas.Entries.{all_some}
 use Rattle.rs_field.proofs.code_lemmas.Given.{count_below-suc}
 use Rattle.rs_field.proofs.code_lemmas.GivenRows.{erased_in, row_count_of, erasures}
 use Rattle.rs_field.proofs.code_lemmas.MadeShards.{has_recovery}
-use Rattle.rs_field.proofs.code_lemmas.RestoredBelow.{missing-past}
+use Rattle.rs_field.proofs.code_lemmas.MissingShards.{missing-past}
 use Rattle.rs_rate.specs.declared.values.configuration.Configuration.{Configuration}
 use Rattle.rs_rate.specs.values.Configured.{configuration_at, with_frame}
 use Rattle.rs_rate.specs.values.SetUp.{IsSetUp}
@@ -253,10 +253,10 @@ module _ {rate : Rate} {c : Configuration} {g : FilledRows rate c} (left : Decod
       }
 
 -- The result is a success if some message agrees, and `InconsistentShards` if none agrees.
-pub told_answer : {T : Type 0} {rate : Rate} {c : Configuration} (g : FilledRows rate c) (left : DecodedRows g)
+pub answer_by_check : {T : Type 0} {rate : Rate} {c : Configuration} (g : FilledRows rate c) (left : DecodedRows g)
     (agrees : Bool) (answer : Result T Error) → AnswersOver g left agrees
     → (agrees ≡ true → (done : T) × (answer ≡ Ok done))
     → (agrees ≡ false → answer ≡ Err (InconsistentShards g.originals g.recovery))
     → MatchResult answer (λ _. Restored (state_before g) (restored_after g left)) (NoneAgrees (state_before g))
-told_answer g left true answer over done failed = rw (done refl).1 over
-told_answer g left false answer over done failed = rw (failed refl) over
+answer_by_check g left true answer over done failed = rw (done refl).1 over
+answer_by_check g left false answer over done failed = rw (failed refl) over

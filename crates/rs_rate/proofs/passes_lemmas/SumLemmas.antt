@@ -1,12 +1,14 @@
 -- Direct sums over a base: the list of its rows, the factors, and the words of a sum.
 use Rattle.std.proofs.Common.{rules, ◌≡◌, ℕ, ◌+◌, ◌-◌, ◌*◌, ◌/◌, ◌%◌, ◌<◌, ◌≤◌, Bool, true, false, cond, List, [], ◌∷◌}
 use Rattle.std.proofs.Common.{◌++◌, take, drop, replicate, length, bit_xor, sym, ap, ap₂, ◌∙◌, arith, inl, inr, add-one}
-use Rattle.std.proofs.Common.{get_or}
+use Rattle.std.proofs.Common.{get_or, subst}
+use Rattle.std.proofs.lemmas.Nat.{xor_lt}
 use Rattle.std.specs.Prelude.{slice_index}
 use Rattle.std.specs.Int.Bits.{xor_zero_r}
 use Rattle.std.proofs.Math.Seq.{get_or-append_seam, take-append_seam}
 use Rattle.std.proofs.lemmas.Bool.{cases_lt}
 use Rattle.std.proofs.lemmas.List.{get_or_append_left, get_or-append_right, length-append, get_or-replicate}
+use Rattle.std.proofs.lemmas.List.{get_or-take, get_or_past, length-take}
 use Rattle.rs_field.specs.code.DirectLaws.{locator_at}
 use Rattle.rs_field.specs.code.Frame.{row_count}
 use Rattle.rs_field.specs.code.Given.{Shards}
@@ -15,16 +17,20 @@ use Rattle.rs_field.specs.rows.Layout.{row_len}
 use Rattle.rs_field.specs.code.Column.{column}
 use Rattle.rs_field.specs.rows.MarkedRows.{is_marked}
 use Rattle.rs_field.specs.rows.Rows.{Chunks, chunk, symbol}
-use Rattle.rs_field.specs.words.DirectSum.{direct_factor}
+use Rattle.rs_field.specs.words.DirectSum.{direct_factor, direct_sum}
 use Rattle.rs_field.specs.words.Field.{product, power, log}
 use Rattle.rs_field.specs.words.Tables.{times_factor}
 use Rattle.rs_field.specs.words.Transform.{sum_below}
-use Rattle.rs_field.proofs.words_lemmas.Combination.{sum_below-suc, sum_below-same, sum_below-zero}
+use Rattle.rs_field.proofs.words_lemmas.Combination.{sum_below-suc, sum_below-same, sum_below-zero, sum_below-add}
+use Rattle.rs_rate.specs.declared.passes.sums.SumBase.{SumBase}
+use Rattle.rs_rate.specs.passes.BaseSum.{base_sum}
 use Rattle.rs_rate.specs.passes.Decoding.{IsLocatorOf}
+use Rattle.rs_rate.specs.rows.Marks.{how_many}
+use Rattle.rs_rate.proofs.rows_lemmas.HowMany.{how_many-zero, how_many-one, how_many-gap, how_many-same}
 use Rattle.rs_rate.proofs.passes_lemmas.Erased.{locator-given}
 use Rattle.rs_rate.specs.values.ChunkCounts.{chunk_count}
 use Rattle.rs_rate.specs.rows.ShardRows.{shard_laid_out}
-use Rattle.rs_rate.specs.passes.Sums.{AreMarksOf, ListsMarked, sum_word}
+use Rattle.rs_rate.specs.passes.Sums.{AreMarksOf, ListsMarked, MakeFactors, sum_word}
 use Rattle.rs_rate.proofs.rows_lemmas.ShardRowsLemmas.{column-put}
 
 -- One row has the chunks of a shard.
@@ -73,7 +79,7 @@ unfolding term
 term-at marks f x b is = ap (λ (c : Bool). cond c (f x) 0) is
 
 pub listed-none : (marks : List Bool) → ListsMarked marks 0 []
-listed-none marks = search (rules, sum_below-zero)
+listed-none marks = search (rules, sum_below-zero, how_many-zero)
 
 -- A marked row is listed next.
 pub listed-more : (marks : List Bool) (n : ℕ) (rows : List ℕ) → is_marked marks n ≡ true → ListsMarked marks n rows
@@ -83,6 +89,13 @@ listed-more marks n rows is before =
     let long : length (rows ++ n ∷ []) ≡ length rows + 1 = length-append rows (n ∷ []) in
     let last : get_or (rows ++ n ∷ []) (length rows) 0 ≡ n = get_or-append_seam rows n [] 0 in
     record {
+      count = omega (
+        arith,
+        long,
+        before.count,
+        ap (λ m. how_many m (is_marked marks)) (add-one n),
+        how_many-one n (is_marked marks) is,
+      );
       entries = λ i h. elim (cases_lt i (length rows)) [
         | inl earlier ↦
             let here = before.entries i earlier in
@@ -106,17 +119,64 @@ listed-more marks n rows is before =
 -- A row that is not marked is not listed.
 pub listed-passed : (marks : List Bool) (n : ℕ) (rows : List ℕ) → is_marked marks n ≡ false → ListsMarked marks n rows
     → ListsMarked marks (n + 1) rows
+unfolding how_many sum_below
+listed-passed marks n rows is before = search (rules, add-one, xor_zero_r)
+
+-- A list of the marked rows below n is the list of the rows that the first n marks mark.
+pub listed-first : (marks : List Bool) (n w : ℕ) (rows : List ℕ) → n ≤ w → ListsMarked marks n rows
+    → ListsMarked (take n marks) w rows
 unfolding term
-listed-passed marks n rows is before = record {
-  entries = λ i h. let here = before.entries i h in (omega (arith, here.0), here.1);
+listed-first marks n w rows fit lists = record {
+  count = lists.count
+      ∙ sym (how_many-gap n (w - n) w (is_marked (take n marks)) (omega arith) (λ x from to. past x from)
+      ∙ how_many-same n (is_marked (take n marks)) (is_marked marks) same);
+  entries = λ i h. let here = lists.entries i h in
+      (omega (arith, here.0), same (slice_index rows i) here.0 ∙ here.1);
   sums = λ f.
-      before.sums f
-      ∙ sym (xor_zero_r (sum_below n (term marks f)))
-      ∙ ap (bit_xor (sum_below n (term marks f))) (sym (term-at marks f n false is))
-      ∙ sym (sum_below-suc n (term marks f)) ∙ ap (λ m. sum_below m (term marks f)) (sym (add-one n));
+      lists.sums f
+      ∙ sum_below-same n (term marks f) (term (take n marks) f)
+      (λ x h. sym (term-at (take n marks) f x (is_marked marks x) (same x h)))
+      ∙ sym (xor_zero_r (sum_below n (term (take n marks) f)))
+      ∙ ap (bit_xor (sum_below n (term (take n marks) f)))
+      (sym (sum_below-zero (w - n) (λ i. term (take n marks) f (n + i))
+      (λ i h. term-at (take n marks) f (n + i) false (past (n + i) (omega arith)))))
+      ∙ sym (sum_below-add n (w - n) (term (take n marks) f))
+      ∙ ap (λ (m : ℕ). sum_below m (term (take n marks) f)) (let e : n + (w - n) ≡ w = omega arith in e);
 }
+  where
+    same : (x : ℕ) → x < n → is_marked (take n marks) x ≡ is_marked marks x
+    same x h = get_or-take n marks x false h
+
+    past : (x : ℕ) → n ≤ x → is_marked (take n marks) x ≡ false
+    past x h = get_or_past (take n marks) x false (omega (arith, length-take n marks))
+
+-- ---- the sum over a base
+
+-- The word of row x times its factor in the word of row y.
+abbrev pub base_term : SumBase → (ℕ → ℕ) → ℕ → ℕ → ℕ
+base_term base words y x =
+    product (words x) (power (direct_factor (λ z. slice_index base.locator.now z) x y))
+
+-- The direct sum is the sum of the terms of the rows of the base.
+pub base_sum-listed : (base : SumBase) (words : ℕ → ℕ) (y : ℕ)
+    → sum_below (length base.rows.now) (λ i. base_term base words y (slice_index base.rows.now i))
+    ≡ base_sum base words y
+unfolding direct_sum
+base_sum-listed base words y = base.listed.sums (base_term base words y)
 
 -- ---- the factors
+
+-- A locator and logarithms of as many rows make factors.
+pub factors_made : {frame : Frame} {marks : List Bool} {locator : List ℕ} (logs : List ℕ)
+    → IsLocatorOf frame marks locator → length logs ≡ row_count frame
+    → ((z : ℕ) → 0 < z → z < length logs → slice_index logs z % 65535 ≡ log z) → MakeFactors locator logs
+factors_made {frame} logs is long known = record {
+  within = λ x y hx hy.
+      subst (λ (n : ℕ). bit_xor x y < n) (sym long)
+      (xor_lt frame.exponent x y (omega (arith, hx, is.entries)) (omega (arith, hy, is.entries)));
+  located = is.are_words;
+  known = known;
+}
 
 -- The factor depends on the locator modulo 65535.
 factor-mod : (a b c m n : ℕ) → a < 65536 → b < 65536 → a % 65535 ≡ m → b % 65535 ≡ n

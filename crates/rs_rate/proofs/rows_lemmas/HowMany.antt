@@ -1,7 +1,7 @@
 -- How many numbers have a property, and how many rows of a decoder hold given shards.
 use Rattle.std.proofs.Common.{◌≡◌, ℕ, zero, suc, ◌+◌, ◌-◌, ◌<◌, ◌≤◌, ◌⊎◌, Bool, true, false, cond, refl, sym, ap, ap₂}
-use Rattle.std.proofs.Common.{◌∙◌, arith, inl, inr, add-zero, add-suc, true≢false}
-use Rattle.std.specs.Prelude.{is_some, not, ◌&&◌}
+use Rattle.std.proofs.Common.{◌∙◌, arith, inl, inr, add-one, add-zero, add-suc}
+use Rattle.std.specs.Prelude.{is_some, not}
 use Rattle.std.proofs.lemmas.Bool.{cases_lt}
 use Rattle.rs_field.specs.code.Frame.{original_row, recovery_row, row_count}
 use Rattle.rs_field.specs.declared.code.frame.Frame.{Frame}
@@ -27,6 +27,13 @@ how_many-one n has is = how_many-suc n has ∙ ap (λ b. how_many n has + cond b
 pub how_many-none : (n : ℕ) (has : ℕ → Bool) → has n ≡ false → how_many (suc n) has ≡ how_many n has
 how_many-none n has is =
     how_many-suc n has ∙ ap (λ b. how_many n has + cond b 1 0) is ∙ add-zero (how_many n has)
+
+-- The same for n + 1.
+pub how_many-next : (n : ℕ) (has : ℕ → Bool) → has n ≡ true → how_many (n + 1) has ≡ how_many n has + 1
+how_many-next n has is = ap (λ m. how_many m has) (add-one n) ∙ how_many-one n has is
+
+pub how_many-passed : (n : ℕ) (has : ℕ → Bool) → has n ≡ false → how_many (n + 1) has ≡ how_many n has
+how_many-passed n has is = ap (λ m. how_many m has) (add-one n) ∙ how_many-none n has is
 
 pub how_many-same : (n : ℕ) (has too : ℕ → Bool) → ((i : ℕ) → i < n → has i ≡ too i) → how_many n has ≡ how_many n too
 how_many-same zero has too same = how_many-zero has ∙ sym (how_many-zero too)
@@ -63,29 +70,6 @@ how_many-rises m (suc n) has le = elim (cases_lt m (suc n)) [
   | inr past ↦ let same : m ≡ suc n = omega arith in rw same (omega arith)
 ]
 
--- The numbers with one property but not with a narrower one, and those with the narrower one, are those with the
--- first property.
-pub how_many-rest : (n : ℕ) (has narrow : ℕ → Bool) → ((i : ℕ) → narrow i ≡ true → has i ≡ true)
-    → how_many n (λ i. has i && not (narrow i)) + how_many n narrow ≡ how_many n has
-how_many-rest zero has narrow part =
-    omega (arith, how_many-zero (λ i. has i && not (narrow i)), how_many-zero narrow, how_many-zero has)
-how_many-rest (suc n) has narrow part =
-    omega (
-      arith,
-      how_many-rest n has narrow part,
-      how_many-suc n (λ i. has i && not (narrow i)),
-      how_many-suc n narrow,
-      how_many-suc n has,
-      one_of_both (has n) (narrow n) (part n),
-    )
-  where
-    one_of_both : (wide narrow : Bool) → (narrow ≡ true → wide ≡ true)
-        → cond (wide && not narrow) 1 0 + cond narrow 1 0 ≡ cond wide 1 0
-    one_of_both true true part = refl
-    one_of_both true false part = refl
-    one_of_both false true part = absurd (true≢false (sym (part refl)))
-    one_of_both false false part = refl
-
 -- The number of entries that have a shard.
 pub count_below-many : (n : ℕ) (given : Shards) → how_many n (λ i. is_some (given i)) ≡ count_below n given
 count_below-many zero given = how_many-zero (λ i. is_some (given i)) ∙ sym (count_below-zero given)
@@ -108,7 +92,7 @@ how_many-add a (suc n) has =
     )
 
 -- Numbers without the property add nothing.
-how_many-gap : (a n b : ℕ) (has : ℕ → Bool) → a + n ≡ b → ((x : ℕ) → a ≤ x → x < b → has x ≡ false)
+pub how_many-gap : (a n b : ℕ) (has : ℕ → Bool) → a + n ≡ b → ((x : ℕ) → a ≤ x → x < b → has x ≡ false)
     → how_many b has ≡ how_many a has
 how_many-gap a zero b has end none = ap (λ m. how_many m has) (sym end ∙ add-zero a)
 how_many-gap a (suc n) b has end none =

@@ -1,6 +1,6 @@
 -- The relation of the words in a decoder's rows to the words of the missing originals.
-use Rattle.std.specs.Prelude.{◌≡◌, ℕ, ◌+◌, ◌-◌, ◌*◌, ◌/◌, ◌%◌, ◌<◌, ◌≤◌, ◌↔◌, ◌⊎◌, ◌&&◌, not, if◌then◌else◌}
-use Rattle.std.specs.Prelude.{Bool, true, false, List, slice_index}
+use Rattle.std.specs.Prelude.{◌≡◌, ℕ, ◌+◌, ◌-◌, ◌*◌, ◌/◌, ◌%◌, ◌<◌, ◌≤◌, ◌↔◌, ◌⊎◌, if◌then◌else◌}
+use Rattle.std.specs.Prelude.{Bool, true, false, List, length, slice_index}
 use Rattle.rs_field.specs.words.StepBounds.{transform_steps}
 use Rattle.rs_field.specs.words.Derivative.{IsDerivativeAdded}
 use Rattle.rs_field.specs.words.DirectSum.{direct_sum}
@@ -20,8 +20,10 @@ use Rattle.rs_rate.specs.rows.Marks.{how_many, erasure}
 use Rattle.rs_rate.specs.values.Configured.{rows_to_decode}
 use Rattle.rs_rate.specs.rows.ShardRows.{word_in, shard_in_order}
 
--- the entries are words, and modulo 65535 they are the locator of the rows that are erased by a frame and marks
+-- there is an entry for each row; the entries are words, and modulo 65535 they are the locator of the rows that are
+-- erased by a frame and marks
 pub record IsLocatorOf (frame : Frame) (marks : List Bool) (locator : List ℕ) : Type 0 where
+  pub entries : length locator ≡ row_count frame
   pub are_words : (x : ℕ) → slice_index locator x < 65536
   pub values : IsLocatorBelow (row_count frame) (erasure frame marks) (λ x. slice_index locator x)
 
@@ -85,16 +87,12 @@ pub record IsBaseOf (c : Configuration) (marks base : List Bool) : Type 0 where
   pub given : (p : ℕ) → is_marked base p ≡ true → is_marked marks p ≡ true
   pub counted : how_many (rows_to_decode c) (is_marked base) ≡ c.original_count
 
--- whether row p is given and not in the base
-abbrev pub is_outside : List Bool → List Bool → ℕ → Bool
-is_outside marks base p = is_marked marks p && not (is_marked base p)
-
 -- each given row outside the base has the direct sums over the rows of the base as its words
 abbrev pub AreEqualToSums : Configuration → List Bool → List Bool → List ℕ → (ℕ → ℕ → ℕ → ℕ) → Type 0
 AreEqualToSums c marks base locator words =
-    (p j : ℕ) → p < rows_to_decode c → is_outside marks base p ≡ true → j < c.shard_bytes / 2
+    (p j : ℕ) → p < rows_to_decode c → is_marked marks p ≡ true → is_marked base p ≡ false → j < c.shard_bytes / 2
     → words (j / 32) (j % 32) p
-    ≡ direct_sum (rows_to_decode c) (is_marked base) (λ x. slice_index locator x) (words (j / 32) (j % 32)) p
+    ≡ direct_sum (length locator) (is_marked base) (λ x. slice_index locator x) (words (j / 32) (j % 32)) p
 
 -- `agrees` says whether the given rows outside the base are equal to their direct sums, and if they are, each missing
 -- original has its direct sums in its row
@@ -104,7 +102,7 @@ pub record SumsWords (c : Configuration) (marks base : List Bool) (locator : Lis
   pub summed : agrees ≡ true → (k s i : ℕ) → k < row_len c.shard_bytes → s < 32 → i < c.original_count
       → let p = original_row c.frame i in
       is_marked marks p ≡ false
-      → new k s p ≡ direct_sum (rows_to_decode c) (is_marked base) (λ x. slice_index locator x) (old k s) p
+      → new k s p ≡ direct_sum (length locator) (is_marked base) (λ x. slice_index locator x) (old k s) p
 
 -- the missing words are restored from a polynomial through all given words, or they are direct sums over a base
 abbrev pub FindsWords : Configuration → List Bool → ℕ → (ℕ → ℕ → ℕ → ℕ) → (ℕ → ℕ → ℕ → ℕ) → Bool → Type 0

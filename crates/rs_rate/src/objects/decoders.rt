@@ -4,7 +4,7 @@ ghost use Rattle.rs_rate.specs.rows.DecoderView.{decoder_state};
 
 use crate::objects::decoder_result::DecoderResult;
 use crate::objects::rates::RateOf;
-use crate::objects::rounds::{Decoder, decode_round, lent_originals};
+use crate::objects::split_rounds::{Decoder, decode_round, lent_originals};
 use crate::objects::traits::RateDecoder;
 use crate::rows::decoder_work::DecoderWork;
 use crate::values::configuration::Configuration;

@@ -4,7 +4,7 @@ ghost use Rattle.rs_rate.specs.rows.EncoderView.{encoder_state};
 
 use crate::objects::encoder_result::EncoderResult;
 use crate::objects::rates::RateOf;
-use crate::objects::rounds::{Encoder, encode_round, lent_recovery};
+use crate::objects::split_rounds::{Encoder, encode_round, lent_recovery};
 use crate::objects::traits::RateEncoder;
 use crate::rows::encoder_work::EncoderWork;
 use crate::values::configuration::Configuration;

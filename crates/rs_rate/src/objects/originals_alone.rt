@@ -82,7 +82,6 @@ fn note(given: &mut [bool], index: usize) -> Result<(), Error>
     Ok(())
 }
 
-// Returns the number of noted indexes.
 fn count_noted(given: &[bool]) -> usize
     ensures { result ≡ count_by (λ note_outcome. note_outcome) given.now }
 {

@@ -16,7 +16,7 @@ pub struct RateObject<E: Drop, C: RateMarker, R: ObjectRows> {
     pub(crate) engine: E,
     /// The rows.
     pub(crate) rows: R,
-    code: PhantomData<C>,
+    marker: PhantomData<C>,
     pub ghost set_up: { IsSetUp C.rate (R.configuration_of rows) },
 }
 
@@ -61,7 +61,7 @@ impl<E: Drop, C: RateMarker, R: ObjectRows + Drop> RateObject<E, C, R> {
         Ok(RateObject {
             engine,
             rows,
-            code: PhantomData,
+            marker: PhantomData,
         })
     }
 

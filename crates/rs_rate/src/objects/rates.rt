@@ -1,6 +1,6 @@
 //! The rates over an engine.
 
-use crate::objects::rounds::{Decoder, Encoder};
+use crate::objects::split_rounds::{Decoder, Encoder};
 use crate::objects::traits::Rate;
 use crate::values::rate_marker::{DefaultRateMarker, HighRateMarker, LowRateMarker, RateMarker};
 use rs_field::engine::Engine;
@@ -19,7 +19,7 @@ pub type DefaultRate<E> = RateOf<E, DefaultRateMarker>;
 #[derive(Drop)]
 pub struct RateOf<E: Engine, C: RateMarker> {
     engine: PhantomData<E>,
-    code: PhantomData<C>,
+    marker: PhantomData<C>,
 }
 
 impl<E: Engine, C: RateMarker + Drop> Rate<E> for RateOf<E, C> {

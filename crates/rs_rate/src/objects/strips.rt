@@ -30,7 +30,8 @@ impl<C: RateMarker> RateObject<(), C, EncoderRows> {
     ghost use Rattle.rs_field.specs.code.Encoder.{with_shard};
     ghost use Rattle.rs_field.specs.code.Outcome.{answer_of, state_after};
 
-    /// Sets an encoder without originals up for shards of this size, which is not larger than its own. This never fails.
+    /// Sets an encoder without originals up for shards of this size, which is not larger than its own. This never
+    /// fails.
     pub fn narrow(&mut self, shard_bytes: usize) -> Result<(), Error>
         requires shorter { shard_bytes ≤ self.old.rows.configuration.shard_bytes }
         requires some { 0 < shard_bytes }

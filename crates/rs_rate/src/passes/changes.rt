@@ -1,26 +1,24 @@
 //! How a change of one original changes the recovery shards: each word of a recovery shard changes by the change of the
 //! original's word times a factor.
-ghost use Rattle.std.specs.Prelude.{◌≡◌, ◌≢◌, ℕ, ◌/◌, ◌%◌, ◌<◌, ◌≤◌, ◌⊎◌, true, false, length, vec_len};
+ghost use Rattle.std.specs.Prelude.{◌≡◌, ◌≢◌, ℕ, ◌*◌, ◌/◌, ◌%◌, ◌<◌, ◌≤◌, ◌⊎◌, true, false, length, vec_len};
 ghost use Rattle.std.specs.Prelude.{slice_index, bit_xor, IfOk, IfErr};
 ghost use Rattle.rs_field.specs.code.Column.{column};
 ghost use Rattle.rs_field.specs.code.Counts.{default_rate};
 ghost use Rattle.rs_field.specs.code.Frame.{original_row, recovery_row, row_count};
 ghost use Rattle.rs_field.specs.code.OneChange.{AreChangeFactors};
-ghost use Rattle.rs_field.specs.rows.Layout.{row_len};
 ghost use Rattle.rs_field.specs.rows.MarkedRows.{is_marked};
+ghost use Rattle.rs_field.specs.rows.Rows.{byte_symbol, chunk, symbol};
 ghost use Rattle.rs_field.specs.words.DirectSum.{direct_factor};
 ghost use Rattle.rs_field.specs.words.Field.{product, power};
+ghost use Rattle.rs_field.specs.words.Tables.{times_factor};
+ghost use Rattle.rs_rate.specs.passes.Sums.{MakeFactors};
 
-use crate::passes::sums::{SumBase, add_times, finish_sum, summed_piece};
+use crate::passes::sums::{add_times, factor_of, finish_sum, locate_base, summed_piece};
 use crate::rows::shard_rows::insert_at;
 use crate::values::supported_counts::DefaultRateCounts;
-use rs_field::engine::layout::row_len;
 use rs_field::engine::{Engine, GfElement, Steps};
 use rs_field::error::Error;
 use std::alloc::Global;
-
-/// The most bytes of a piece that [`add_change`] takes.
-const MOST_BYTES: usize = 2048;
 
 /// Returns a logarithm for each recovery shard. If the original with this index changes, each word of recovery shard i
 /// changes by the change of the original's word times the generator to the power of logarithm i.
@@ -42,9 +40,11 @@ pub fn change_factors<E: Engine>(
     ensures refused { IfErr result (λ e. e ≡ Error.OutOfMemory) }
 {
     let marks = original_marks(alloc, counts)?;
-    let base = SumBase::new(alloc, engine, steps, counts, marks)?;
-    let row = counts.frame.original_row(index);
-    recovery_factors(alloc, &base, row)
+    let frame = counts.frame;
+    let mut locator = vec![in alloc; 0; frame.row_count()]?;
+    let mut logs = vec![in alloc; 0; frame.row_count()]?;
+    locate_base(engine, steps, frame, &marks, &mut locator, &mut logs);
+    recovery_factors(alloc, counts, &locator, &logs, frame.original_row(index))
 }
 
 // Returns marks of all rows of a decoder of these counts, of which those of the originals are set.
@@ -65,28 +65,34 @@ fn original_marks(alloc: Global, counts: DefaultRateCounts) -> Result<Vec<bool>,
 }
 
 // Returns, for each recovery shard, the logarithm of the factor of row x in its row.
-fn recovery_factors(alloc: Global, base: &SumBase, x: usize) -> Result<Vec<GfElement>, Error>
-    requires from { x < row_count base.now.counts.frame }
-    requires apart { (i : ℕ) → i < base.now.counts.recovery_count
-        → x ≢ recovery_row base.now.counts.frame i }
-    ensures count { IfOk result
-        (λ factors. length factors.items ≡ base.now.counts.recovery_count) }
-    ensures factors { IfOk result (λ factors. (i : ℕ) → i < base.now.counts.recovery_count
+fn recovery_factors(
+    alloc: Global,
+    counts: DefaultRateCounts,
+    locator: &[GfElement],
+    logs: &[GfElement],
+    x: usize,
+) -> Result<Vec<GfElement>, Error>
+    requires made { MakeFactors locator.now logs.now }
+    requires entries { length locator.now ≡ row_count counts.frame }
+    requires from { x < row_count counts.frame }
+    requires apart { (i : ℕ) → i < counts.recovery_count → x ≢ recovery_row counts.frame i }
+    ensures count { IfOk result (λ factors. length factors.items ≡ counts.recovery_count) }
+    ensures factors { IfOk result (λ factors. (i : ℕ) → i < counts.recovery_count
         → slice_index factors.items i
-        ≡ direct_factor (λ z. slice_index base.now.locator.items z) x
-        (recovery_row base.now.counts.frame i)) }
+        ≡ direct_factor (λ z. slice_index locator.now z) x
+        (recovery_row counts.frame i)) }
     ensures refused { IfErr result (λ e. e ≡ Error.OutOfMemory) }
 {
-    let counts = base.counts;
     let mut factors = Vec::with_capacity(alloc, counts.recovery_count)?;
     for i in 0..counts.recovery_count {
-        factors.push(base.factor(x, counts.frame.recovery_row(i)))?;
+        let log_m = factor_of(locator, logs, x, counts.frame.recovery_row(i));
+        factors.push(log_m)?;
     }
     Ok(factors)
 }
 
-/// Adds a piece of a change, times a factor, to the same piece of a recovery shard. Both pieces have the same even
-/// number of bytes, at most 2048. `log_m` is the logarithm of the factor, below 65535.
+/// Adds a piece of a change, times a factor, to the same piece of a recovery shard, in place. Both pieces have the same
+/// even number of bytes. `log_m` is the logarithm of the factor, below 65535.
 pub fn add_change<E: Engine>(
     engine: &E,
     steps: &mut Steps,
@@ -96,38 +102,60 @@ pub fn add_change<E: Engine>(
 )
     requires same { length change.now ≡ length piece.old }
     requires even { length piece.old % 2 ≡ 0 }
-    requires few { length piece.old ≤ 2048 }
     requires factor { log_m < 65535 }
     ensures length { length piece.new ≡ length piece.old }
     ensures words { (j : ℕ) → j < length piece.old / 2
         → column j piece.new
         ≡ bit_xor (column j piece.old) (product (column j change.now) (power log_m)) }
 {
-    let len = row_len(piece.len());
-    let mut row = [[0; 64]; MOST_BYTES / 64];
-    add_in_row(engine, steps, &mut row[..len], piece, change, log_m);
+    let (chunks, rest) = change.as_chunks::<64>();
+    let (whole, tail) = piece.split_at_mut(chunks.len() * 64);
+    add_to_chunks(engine, steps, whole, chunks, log_m);
+    add_to_tail(engine, steps, tail, rest, log_m);
 }
 
-// Adds a piece of a change, times a factor, to a piece of a recovery shard. `row` is memory for this piece.
-fn add_in_row<E: Engine>(
+// Adds the chunks of a change, times a factor, to the same chunks of a recovery shard, in place.
+fn add_to_chunks<E: Engine>(
     engine: &E,
     steps: &mut Steps,
-    row: &mut [[u8; 64]],
-    piece: &mut [u8],
+    whole: &mut [u8],
+    chunks: &[[u8; 64]],
+    log_m: GfElement,
+)
+    requires same { length whole.old ≡ length chunks.now * 64 }
+    ensures length { length whole.new ≡ length whole.old }
+    ensures sums { (k s : ℕ) → k < length chunks.now → s < 32
+        → byte_symbol whole.new k s
+        ≡ bit_xor (byte_symbol whole.old k s) (times_factor log_m (symbol (chunk chunks.now k) s)) }
+{
+    if !chunks.is_empty() {
+        engine.mul_add_bytes(steps, whole, chunks, log_m);
+    }
+}
+
+// Adds the tail of a change, which is less than a chunk, times a factor, to the tail of a recovery shard.
+fn add_to_tail<E: Engine>(
+    engine: &E,
+    steps: &mut Steps,
+    tail: &mut [u8],
     change: &[u8],
     log_m: GfElement,
 )
-    requires row { length row.old ≡ row_len (length piece.old) }
-    requires same { length change.now ≡ length piece.old }
-    requires even { length piece.old % 2 ≡ 0 }
+    requires same { length change.now ≡ length tail.old }
+    requires short { length tail.old < 64 }
+    requires even { length tail.old % 2 ≡ 0 }
     requires factor { log_m < 65535 }
-    ensures length { length piece.new ≡ length piece.old }
-    ensures words { (j : ℕ) → j < length piece.old / 2
-        → column j piece.new
-        ≡ bit_xor (column j piece.old) (product (column j change.now) (power log_m)) }
+    ensures length { length tail.new ≡ length tail.old }
+    ensures words { (j : ℕ) → j < length tail.old / 2
+        → column j tail.new
+        ≡ bit_xor (column j tail.old) (product (column j change.now) (power log_m)) }
 {
-    insert_at(row, piece, 0);
-    add_times(engine, steps, row, change, log_m);
-    finish_sum(row, piece.len());
-    piece.copy_from_slice(summed_piece(row, piece.len()));
+    if tail.is_empty() {
+        return;
+    }
+    let mut row = [[0; 64]];
+    insert_at(&mut row, tail, 0);
+    add_times(engine, steps, &mut row, change, log_m);
+    finish_sum(&mut row, tail.len());
+    tail.copy_from_slice(summed_piece(&row, tail.len()));
 }

@@ -1,8 +1,8 @@
 //! The decoding of a round, for every rate: the locator of the erased rows, the rows over the chunks, the tails, and
 //! the round's end.
-ghost use Rattle.std.specs.Prelude.{◌≡◌, ℕ, ◌+◌, ◌-◌, ◌*◌, ◌/◌, ◌%◌, ◌^◌, ◌<◌, ◌≤◌, ◌⊎◌, ◌&&◌, if◌then◌else◌};
-ghost use Rattle.std.specs.Prelude.{true, length, slice_index, IfNone, IfOk, IfSome, MatchResult};
-ghost use Rattle.rs_field.specs.words.StepBounds.{CountsUpTo, LocatorCounts};
+ghost use Rattle.std.specs.Prelude.{◌≡◌, ℕ, ◌+◌, ◌<◌, ◌≤◌};
+ghost use Rattle.std.specs.Prelude.{true, length, IfNone, IfOk, IfSome, MatchResult};
+ghost use Rattle.rs_field.specs.words.StepBounds.{CountsUpTo};
 ghost use Rattle.rs_field.specs.code.Bounds.{DecodeCounts};
 ghost use Rattle.rs_field.specs.code.Counts.{Rate};
 ghost use Rattle.rs_field.specs.code.Decoder.{fresh_decoder, Restored, NoneAgrees};
@@ -11,25 +11,25 @@ ghost use Rattle.rs_rate.specs.rows.DecoderRoom.{memory_room};
 ghost use Rattle.rs_field.specs.code.Frame.{original_row, row_count};
 ghost use Rattle.rs_rate.specs.values.Configured.{configuration_at, IsConfigured, rows_to_decode};
 ghost use Rattle.rs_rate.specs.rows.DecoderView.{decoder_state, restored_by_rows, restored_from};
-ghost use Rattle.rs_rate.specs.passes.Decoding.{AreRowsOf, IsLocatorOf, find_steps, FindsWords, RestoresShards};
+ghost use Rattle.rs_rate.specs.passes.Decoding.{AreRowsOf, find_steps, FindsWords, RestoresShards};
 ghost use Rattle.rs_rate.specs.rows.Marks.{CanBeRestored};
 ghost use Rattle.rs_field.specs.rows.View.{word, SameExtent};
-ghost use Rattle.rs_rate.specs.rows.Marks.{erasure, given_marks, restored_marks, mark_count, WantsMissing};
+ghost use Rattle.rs_rate.specs.rows.Marks.{given_marks, restored_marks, mark_count, WantsMissing};
 ghost use Rattle.rs_rate.specs.values.SetUp.{IsSetUp};
 ghost use Rattle.rs_rate.specs.values.ChunkCounts.{chunk_count};
 ghost use Rattle.rs_rate.specs.rows.ShardRows.{shard_laid_out, shard_in_order};
 
-use crate::passes::direct::{Logarithms, MOST_ROWS, are_sums_used, mark_base, sum_rows};
-use crate::passes::restoring::restore_rows;
-use crate::rows::decoder_work::{DecoderMemory, DecoderRows};
+use crate::passes::direct::{MOST_ROWS, are_sums_used, sum_rows};
+use crate::passes::locators::make_locator;
+use crate::passes::restoring_rows::restore_rows;
+use crate::passes::sums::{SumBase, list_base};
+use crate::rows::decoder_work::DecoderRows;
 use crate::rows::marks::Marks;
 use crate::rows::shard_rows::{move_tail, rows_are_bytes};
 use crate::values::configuration::{Configuration, Tally};
-use rs_field::bytes::are_words;
 use rs_field::engine::layout::row_len;
 use rs_field::engine::{Engine, GfElement, ShardsRefMut, Steps};
 use rs_field::error::Error;
-use rs_field::frame::Frame;
 
 // Restores the missing originals and returns their number, or fails if no message agrees with all given shards. The
 // round ends.
@@ -112,39 +112,6 @@ fn restore<E: Engine>(
     agrees
 }
 
-// Computes the locator of the erased rows, at all rows.
-pub(crate) fn make_locator<E: Engine>(
-    engine: &E,
-    steps: &mut Steps,
-    entries: &mut [GfElement],
-    given: &[bool],
-    frame: Frame,
-)
-    requires few { frame.exponent ≤ 16 }
-    requires entries { length entries.old ≡ row_count frame }
-    requires marked { row_count frame ≤ length given.now }
-    ensures locator { IsLocatorOf frame given.now entries.new }
-    ensures counts { LocatorCounts steps.old steps.new }
-{
-    mark_erased(entries, given, frame);
-    engine.locate(steps, entries);
-    are_words(entries);
-}
-
-// Sets the entries of the erased rows to 1 and all other entries to 0. A row is erased if it is not known to be zero
-// and its shard is not given.
-fn mark_erased(entries: &mut [GfElement], given: &[bool], frame: Frame)
-    requires marked { length entries.old ≤ length given.now }
-    ensures rows { (row : ℕ) → row < length entries.old
-        → slice_index entries.new row ≡ erasure frame given.now row }
-    ensures length { length entries.new ≡ length entries.old }
-{
-    for row in 0..entries.len() {
-        let is_zero = frame.zeros_from <= row && row < frame.zeros_to;
-        entries[row] = if is_zero || given[row] { 0 } else { 1 };
-    }
-}
-
 // Restores the words of the missing originals if some message agrees with all given shards, and returns whether one
 // does. Afterwards the marks are those of restored originals.
 fn find_words<E: Engine>(
@@ -205,23 +172,18 @@ fn find_by_sums<E: Engine>(
     if !engine.logarithms(logs) {
         return None;
     }
-    let mut base = [false; MOST_ROWS];
-    let base = &mut base[..row_count];
-    mark_base(base, marks.given(), configuration.original_count);
-    make_locator(engine, steps, entries, base, configuration.frame);
-    let logarithms = Logarithms {
+    let mut base_rows = [0; MOST_ROWS];
+    let base_rows = &mut base_rows[..configuration.original_count];
+    let given = marks.given();
+    let marked = &given[..list_base(base_rows, given)];
+    make_locator(engine, steps, entries, marked, configuration.frame);
+    let base = SumBase {
+        marks: marked,
+        rows: base_rows,
         locator: entries,
         logs,
     };
-    let agrees = sum_rows(
-        engine,
-        steps,
-        rows,
-        marks.given(),
-        base,
-        &logarithms,
-        configuration,
-    );
+    let agrees = sum_rows(engine, steps, rows, given, &base, configuration);
     marks.want_missing(configuration);
     Some(agrees)
 }

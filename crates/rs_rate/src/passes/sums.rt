@@ -1,122 +1,112 @@
 //! Direct sums over a base: k received shards determine each other shard of their message. Each of its words is the sum
 //! of their words, each times a factor.
-ghost use Rattle.std.specs.Prelude.{◌≡◌, ◌≢◌, ℕ, ◌*◌, ◌/◌, ◌%◌, ◌<◌, ◌≤◌, length, slice_index};
-ghost use Rattle.std.specs.Prelude.{bit_xor, IfOk, IfErr};
+//!
+//! The factors come from Lagrange's formula for the polynomial of a column times the locator of the erased rows. The
+//! points of the rows are all words below a power of two, so the formula needs no weights. At an erased row, the
+//! derivative of this product is the missing word times the derivative of the locator.
+ghost use Rattle.std.specs.Prelude.{◌≡◌, ◌≢◌, ℕ, ◌*◌, ◌/◌, ◌%◌, ◌<◌, ◌≤◌, length, slice_index, take};
+ghost use Rattle.std.specs.Prelude.{bit_xor};
 ghost use Rattle.rs_field.specs.code.Column.{IsShard, column};
-ghost use Rattle.rs_field.specs.code.DirectLaws.{locator_at};
 ghost use Rattle.rs_field.specs.code.Frame.{row_count};
-ghost use Rattle.rs_field.specs.code.Given.{Shards};
 ghost use Rattle.rs_field.specs.rows.Layout.{row_len};
+ghost use Rattle.rs_field.specs.rows.MarkedRows.{is_marked};
 ghost use Rattle.rs_field.specs.words.DirectSum.{direct_factor};
 ghost use Rattle.rs_field.specs.words.Field.{product, power, log};
 ghost use Rattle.rs_rate.specs.passes.Decoding.{IsLocatorOf};
+ghost use Rattle.rs_rate.specs.rows.Marks.{how_many};
 ghost use Rattle.rs_rate.specs.rows.ShardRows.{shard_in_order};
-ghost use Rattle.rs_rate.specs.passes.Sums.{AreMarksOf, ListsMarked, sum_word};
+ghost use Rattle.rs_rate.specs.passes.Sums.{ListsMarked, MakeFactors, sum_word};
 
-use crate::passes::decoding::make_locator;
-use crate::passes::direct::Logarithms;
+use crate::passes::locators::make_locator;
 use crate::rows::shard_rows::{insert_at, move_tail, rows_are_bytes, shard_at};
-use crate::values::supported_counts::DefaultRateCounts;
-use rs_field::engine::{Engine, GfElement, Steps};
-use rs_field::error::Error;
+use rs_field::engine::{Engine, GF_MODULUS, GfElement, Steps};
 use rs_field::frame::Frame;
-use std::alloc::Global;
 
-/// The base of direct sums: received shards by their rows, and what the factors of their words are made of.
+/// The base of direct sums: given shards, by their rows, and what the factors of their words are made of.
 #[derive(Drop)]
-pub struct SumBase {
-    /// The counts of the message.
-    pub counts: DefaultRateCounts,
-    /// For each row, whether its shard is in the base.
-    pub marks: Vec<bool>,
+pub struct SumBase<'a> {
+    /// For each row up to the last one of the base, whether its shard is in the base.
+    pub marks: &'a [bool],
     /// The rows of the base, from the lowest one on.
-    pub rows: Vec<usize>,
+    pub rows: &'a [GfElement],
     /// The locator of the rows outside of the base, at each row.
-    locator: Vec<GfElement>,
+    pub locator: &'a [GfElement],
     /// The logarithm of each word except for the word 0, modulo 65535.
-    logs: Vec<GfElement>,
-    pub ghost listed: { ListsMarked marks.items (row_count counts.frame) rows.items },
-    pub ghost entries: { length locator.items ≡ row_count counts.frame },
-    pub ghost located: { IsLocatorOf counts.frame marks.items locator.items },
-    pub ghost log_entries: { length logs.items ≡ row_count counts.frame },
-    pub ghost known: { (z : ℕ) → 0 < z → z < length logs.items
-        → slice_index logs.items z % 65535 ≡ log z },
+    pub logs: &'a [GfElement],
+    pub ghost listed: { ListsMarked marks.now (length locator.now) rows.now },
+    pub ghost made: { MakeFactors locator.now logs.now },
 }
 
-impl SumBase {
-    /// Makes the base with the shards whose rows are marked. There is a mark for each row of a decoder of these counts.
-    ///
-    /// # Errors
-    ///
-    /// [`Error::OutOfMemory`] if the list of rows or the logarithms cannot be allocated.
-    pub fn new<E: Engine>(
-        alloc: Global,
-        engine: &E,
-        steps: &mut Steps,
-        counts: DefaultRateCounts,
-        marks: Vec<bool>,
-    ) -> Result<SumBase, Error>
-        requires { length marks.items ≡ row_count counts.frame }
-        ensures made { IfOk result
-            (λ base. (base.counts ≡ counts) × (base.marks.items ≡ marks.items)) }
-        ensures refused { IfErr result (λ e. e ≡ Error.OutOfMemory) }
-    {
-        let frame = counts.frame;
-        let rows = marked_rows(alloc, marks.as_slice(), counts.original_count)?;
-        let mut locator = vec![in alloc; 0; frame.row_count()]?;
-        let mut logs = vec![in alloc; 0; frame.row_count()]?;
-        make_locator(
-            engine,
-            steps,
-            locator.as_mut_slice(),
-            marks.as_slice(),
-            frame,
-        );
-        locate_zero(engine, steps, logs.as_mut_slice(), frame);
-        Ok(SumBase {
-            counts,
-            marks,
-            rows,
-            locator,
-            logs,
-        })
-    }
-
+impl SumBase<'_> {
     /// Returns the logarithm, below 65535, of the factor that a word of row x has in the word of row y. Row x is in the
     /// base, and row y is another row.
     pub fn factor(&self, x: usize, y: usize) -> GfElement
-        requires first { x < row_count self.now.counts.frame }
-        requires second { y < row_count self.now.counts.frame }
         requires apart { x ≢ y }
-        ensures located { result
-            ≡ direct_factor (λ z. slice_index self.now.locator.items z) x y }
-        ensures given { (originals recovery : Shards)
-            → AreMarksOf self.now.counts.frame self.now.counts.original_count
-            self.now.counts.recovery_count originals recovery self.now.marks.items
-            → result ≡ direct_factor
-            (locator_at self.now.counts.frame self.now.counts.original_count
-            self.now.counts.recovery_count originals recovery) x y }
+        requires first { x < length self.now.locator.now }
+        requires second { y < length self.now.locator.now }
+        ensures { result ≡ direct_factor (λ z. slice_index self.now.locator.now z) x y }
     {
-        let logarithms = Logarithms {
-            locator: self.locator.as_slice(),
-            logs: self.logs.as_slice(),
-        };
-        logarithms.factor(x, y)
+        factor_of(self.locator, self.logs, x, y)
     }
 }
 
-// Returns the marked rows, from the lowest one on. The list begins with memory for `count` rows.
-fn marked_rows(alloc: Global, marks: &[bool], count: usize) -> Result<Vec<usize>, Error>
-    ensures made { IfOk result (λ rows. ListsMarked marks.now (length marks.now) rows.items) }
-    ensures refused { IfErr result (λ e. e ≡ Error.OutOfMemory) }
+// Returns the logarithm of the factor that a word of row x has in the word of row y, of the locator of the rows outside
+// of a base and of the logarithms of words.
+pub(crate) fn factor_of(locator: &[GfElement], logs: &[GfElement], x: usize, y: usize) -> GfElement
+    requires made { MakeFactors locator.now logs.now }
+    requires apart { x ≢ y }
+    requires first { x < length locator.now }
+    requires second { y < length locator.now }
+    ensures { result ≡ direct_factor (λ z. slice_index locator.now z) x y }
 {
-    let mut rows = Vec::with_capacity(alloc, count)?;
-    for row in 0..marks.len() {
-        if marks[row] {
-            rows.push(row)?;
+    let sum = u32::from(locator[x])
+        + u32::from(GF_MODULUS - logs[x ^ y])
+        + u32::from(GF_MODULUS - locator[y]);
+    (sum % u32::from(GF_MODULUS)) as GfElement
+}
+
+/// Computes what the factors of a base are made of: the locator of the rows outside of the base, and the logarithms of
+/// words. `marks` has the marks of the rows of the base, and no row after them is in the base. All logarithms are 0
+/// before.
+pub fn locate_base<E: Engine>(
+    engine: &E,
+    steps: &mut Steps,
+    frame: Frame,
+    marks: &[bool],
+    locator: &mut [GfElement],
+    logs: &mut [GfElement],
+)
+    requires few { frame.exponent ≤ 16 }
+    requires entries { length locator.old ≡ row_count frame }
+    requires log_entries { length logs.old ≡ row_count frame }
+    requires zeros { (z : ℕ) → slice_index logs.old z ≡ 0 }
+    ensures located { IsLocatorOf frame marks.now locator.new }
+    ensures made { MakeFactors locator.new logs.new }
+{
+    make_locator(engine, steps, locator, marks, frame);
+    locate_zero(engine, steps, logs, frame);
+}
+
+/// Lists the rows of a base in `rows`, from the lowest one on: the first given rows, as many as `rows` has entries.
+/// Returns the row after the last one of the base.
+pub fn list_base(rows: &mut [GfElement], given: &[bool]) -> usize
+    requires few { length given.now ≤ 65536 }
+    requires enough { length rows.old ≤ how_many (length given.now) (is_marked given.now) }
+    ensures end { result ≤ length given.now }
+    ensures counted { how_many result (is_marked given.now) ≡ length rows.old }
+    ensures listed { ListsMarked (take result given.now) (length given.now) rows.new }
+{
+    let mut count = 0;
+    for row in 0..given.len() {
+        if count == rows.len() {
+            return row;
+        }
+        if given[row] {
+            rows[count] = row as GfElement;
+            count += 1;
         }
     }
-    Ok(rows)
+    given.len()
 }
 
 // Sets each entry except for entry 0 to the logarithm of its index, modulo 65535: the locator of point 0 at the other

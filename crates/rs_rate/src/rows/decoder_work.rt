@@ -84,7 +84,6 @@ impl Default for DecoderWork {
 impl DecoderMemory {
     ghost use Rattle.rs_rate.specs.rows.DecoderRoom.{HasRoom, Grows, memory_room, decoder_chunks, work_room, IsLaidOut};
 
-    // Returns the memory that another object passes on, if there is any.
     fn of(work: Option<DecoderWork>) -> Option<DecoderMemory>
         ensures { IfSome work (λ w. w.memory ≡ result) }
     {
@@ -116,8 +115,7 @@ impl DecoderMemory {
         })
     }
 
-    // Returns memory that is laid out for a configuration, without given shards. If there is a `work`, its memory is
-    // used.
+    // Uses the memory of the `work` if there is one, and allocates otherwise. No shard is given afterwards.
     #[inline(always)]
     fn laid_out(
         alloc: Global,
@@ -241,7 +239,7 @@ impl DecoderMemory {
     {
         are_bytes(shard);
         insert_at(self.chunks.as_mut_slice(), shard, row);
-        self.marks.give(row);
+        self.marks.mark_given(row);
     }
 }
 
@@ -375,7 +373,6 @@ impl DecoderRows {
         Ok(())
     }
 
-    // Returns the numbers on which a decode of the rows depends.
     pub(crate) fn tally(&self) -> Tally
         requires { self.now.configuration.original_count
             ≤ self.now.originals_given + self.now.recovery_given }
@@ -408,7 +405,6 @@ impl DecoderRows {
         Ok(())
     }
 
-    // Returns the restored original with this index, or `None` if it was added or there is none.
     pub(crate) fn restored_original(&self, index: usize) -> Option<&[u8]>
         ensures { option_copied result ≡ restored_by_rows self.now index }
     {
@@ -426,7 +422,6 @@ impl DecoderRows {
         ))
     }
 
-    // Returns the first restored original from an index on, with its index.
     pub(crate) fn next_restored(&self, from: usize) -> Option<(usize, &[u8])>
         ensures { MatchOption result (restored_from self.now from ≡ [])
             (λ item. (item.0 < self.now.configuration.original_count)

@@ -188,7 +188,6 @@ impl EncoderRows {
         Ok(())
     }
 
-    // Returns the recovery shard with this index, or `None` if there is none.
     pub(crate) fn recovery(&self, index: usize) -> Option<&[u8]>
         ensures { MatchOption result (self.now.configuration.recovery_count ≤ index)
             (λ shard. (index < self.now.configuration.recovery_count)

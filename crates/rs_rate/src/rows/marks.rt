@@ -30,7 +30,6 @@ pub struct Marks {
 }
 
 impl Marks {
-    // Returns the marks of `rows` rows without a given shard, or fails with `OutOfMemory`.
     pub(crate) fn new(alloc: Global, rows: usize) -> Result<Marks, Error>
         ensures empty { IfOk result (λ marks. (p : ℕ) → is_marked (given_marks marks) p ≡ false) }
         ensures length { IfOk result (λ marks. mark_count marks ≡ rows) }
@@ -67,7 +66,6 @@ impl Marks {
         self.shards = MarkedShards::Given;
     }
 
-    // Returns whether row `row` holds a given shard.
     pub(crate) fn is_given(&self, row: usize) -> bool
         requires { row < mark_count self.now }
         ensures { result ≡ is_marked (given_marks self.now) row }
@@ -78,7 +76,7 @@ impl Marks {
         }
     }
 
-    // Returns whether row `row` holds a restored original, or will hold one after the decode.
+    // The rows of missing originals are marked before they are restored, so such a row may not hold its original yet.
     pub(crate) fn is_restored(&self, row: usize) -> bool
         requires { row < mark_count self.now }
         ensures { result ≡ is_marked (restored_marks self.now) row }
@@ -89,7 +87,6 @@ impl Marks {
         }
     }
 
-    // Returns the marks of given shards. The marked rows must be those of given shards.
     pub(crate) fn given(&self) -> &[bool]
         requires { self.now.shards ≡ MarkedShards.Given }
         ensures marks { result.now ≡ given_marks self.now }
@@ -98,7 +95,6 @@ impl Marks {
         self.rows.as_slice()
     }
 
-    // Returns the marks of restored originals. The marked rows must be those of restored originals.
     pub(crate) fn restored(&self) -> &[bool]
         requires { self.now.shards ≡ MarkedShards.Restored }
         ensures marks { result.now ≡ restored_marks self.now }
@@ -121,7 +117,7 @@ impl Marks {
     }
 
     // Makes the marks those of given shards. If they were those of restored originals, no row is marked afterwards.
-    fn tell_given(&mut self)
+    fn begin_given(&mut self)
         ensures shards { self.new.shards ≡ MarkedShards.Given }
         ensures same { (p : ℕ)
             → is_marked self.new.rows.items p ≡ is_marked (given_marks self.old) p }
@@ -136,7 +132,7 @@ impl Marks {
 
     // Marks row `row` as holding a given shard. The first given shard of a round clears the marks that the last round
     // left.
-    pub(crate) fn give(&mut self, row: usize)
+    pub(crate) fn mark_given(&mut self, row: usize)
         requires { row < mark_count self.old }
         ensures here { is_marked (given_marks self.new) row ≡ true }
         ensures others { (p : ℕ) → p ≢ row
@@ -144,11 +140,10 @@ impl Marks {
         ensures length { mark_count self.new ≡ mark_count self.old }
         ensures room { mark_room self.new ≡ mark_room self.old }
     {
-        self.tell_given();
+        self.begin_given();
         self.set(row, true);
     }
 
-    // Returns whether row `row` is the row of an original that is not given.
     fn is_missing(&self, configuration: Configuration, row: usize) -> bool
         requires marked { row < mark_count self.now }
         requires fits { original_row configuration.frame configuration.original_count < 2 ^ 64 }

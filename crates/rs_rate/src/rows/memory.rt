@@ -6,7 +6,6 @@ ghost use Rattle.rs_rate.specs.rows.Memory.{room_of};
 use rs_field::error::Error;
 use std::alloc::Global;
 
-// Returns the vector that another object passes on, or a new vector without memory.
 pub(crate) fn vec_of<T>(alloc: Global, memory: Option<Vec<T>>) -> Vec<T>
     ensures { room_of memory ≤ vec_capacity result }
 {

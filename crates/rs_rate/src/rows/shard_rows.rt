@@ -25,7 +25,7 @@ pub(crate) fn insert_at(chunks: &mut [[u8; 64]], shard: &[u8], index: usize)
     insert(&mut chunks[start..start + len], shard);
 }
 
-// Returns the shard in row `index`, whose tail must have been moved.
+// The tail of the row must have been moved: only then do the bytes of the shard lie in order.
 #[tactic(auto, using(crate::proofs::rows_lemmas::ShardRowsLemmas::row_end))]
 pub(crate) fn shard_at(chunks: &[[u8; 64]], shard_bytes: usize, index: usize) -> &[u8]
     requires { chunk_count (index + 1) shard_bytes ≤ length chunks.now }

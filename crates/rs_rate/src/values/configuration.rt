@@ -38,7 +38,7 @@ pub(crate) struct Tally {
 }
 
 impl Configuration {
-    // Returns the configuration of a rate for supported counts, or fails with `InvalidShardSize`.
+    // The counts were checked when `counts` was made, so only the size is checked here.
     #[inline(always)]
     pub(crate) fn new<C: RateMarker>(
         counts: SupportedCounts<C>,
@@ -59,8 +59,7 @@ impl Configuration {
         })
     }
 
-    // Returns the configuration of a rate for these counts and this size. Fails with `UnsupportedShardCount` or
-    // `InvalidShardSize`, in this order.
+    // Checks the counts first, and then the size: this is the order of errors of every object.
     #[inline(always)]
     pub(crate) fn at<C: RateMarker>(
         original_count: usize,
@@ -74,7 +73,7 @@ impl Configuration {
         Configuration::new(counts, shard_bytes)
     }
 
-    // Returns the number of rows of a block.
+    // The shards that come first in the frame have one block, so the others begin where it ends.
     pub(crate) fn block_rows(self) -> usize
         ensures { result ≡ block_of self }
     {
@@ -85,8 +84,8 @@ impl Configuration {
         }
     }
 
-    // Returns the number of rows of an encoder: the recovery shards at the low rate, or the originals at the high rate,
-    // rounded up to whole blocks.
+    // At the low rate the originals fit into one block, and an encoder has rows for the blocks of recovery shards. At
+    // the high rate it is the other way round.
     pub(crate) fn encoder_rows(self) -> usize
         requires { IsConfigured self }
         ensures { result ≡ rows_to_encode self }
@@ -138,7 +137,7 @@ pub fn check_decoder_rows<C: RateMarker>(
     Ok(())
 }
 
-// Returns the number of chunks of n rows, or fails with `OutOfMemory` if their size in bytes does not fit a `usize`.
+// Fails with `OutOfMemory` before anything is allocated: no allocator can give more bytes than a `usize` counts.
 pub(crate) fn chunk_count(row_count: usize, shard_bytes: usize) -> Result<usize, Error>
     ensures { MatchResult result
         (λ n. (n ≡ chunk_count row_count shard_bytes) × (n * 64 < 2 ^ 64))

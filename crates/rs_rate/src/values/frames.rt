@@ -9,7 +9,6 @@ ghost use Rattle.rs_rate.specs.values.SumCosts.{AreSumsCheaper};
 use rs_field::engine::GF_ORDER;
 use rs_field::frame::Frame;
 
-// Returns the least power of two that is not below n.
 fn power_of_two(n: usize) -> usize
     requires { n ≤ 65536 }
     ensures value { result ≡ next_power n }
@@ -19,7 +18,6 @@ fn power_of_two(n: usize) -> usize
     n.next_power_of_two()
 }
 
-// Returns the exponent of the least power of two that is not below n.
 fn exponent_of(n: usize) -> usize
     requires { n ≤ 65536 }
     ensures { result ≡ exponent_of n }
@@ -27,8 +25,7 @@ fn exponent_of(n: usize) -> usize
     power_of_two(n).trailing_zeros() as usize
 }
 
-// Returns the least multiple of a power of two that is not below n. It needs no division: one division takes as long as
-// the other steps that set up an encoder of few short rows.
+// It needs no division: one division takes as long as the other steps that set up an encoder of few short rows.
 pub(crate) fn next_multiple_of_power(n: usize, power: usize) -> usize
     requires power { (d : ℕ) × (power ≡ 2 ^ d) }
     requires fits { n + power ≤ 65536 }
@@ -41,7 +38,7 @@ pub(crate) fn next_multiple_of_power(n: usize, power: usize) -> usize
     last - (last & mask)
 }
 
-// Returns whether both counts are at least 1 and at most 65536, the number of elements of the field.
+// Each shard needs a point of its own, and the field has 65536 of them.
 fn are_in_field(original_count: usize, recovery_count: usize) -> bool
     ensures { IsTrue result
         ↔ (0 < original_count) × (original_count ≤ 65536) × (0 < recovery_count)
@@ -52,7 +49,7 @@ fn are_in_field(original_count: usize, recovery_count: usize) -> bool
     originals_fit && recovery_fits
 }
 
-// Returns the frame of the low rate, whose blocks have `block_rows` rows.
+// The caller has the power already: `block_rows` is not computed again.
 fn with_low_blocks(original_count: usize, recovery_count: usize, block_rows: usize) -> Frame
     requires block { block_rows ≡ next_power original_count }
     requires fits { block_rows + recovery_count ≤ 65536 }
@@ -68,7 +65,7 @@ fn with_low_blocks(original_count: usize, recovery_count: usize, block_rows: usi
     }
 }
 
-// Returns the frame of the high rate, whose blocks have `block_rows` rows.
+// The caller has the power already: `block_rows` is not computed again.
 fn with_high_blocks(original_count: usize, recovery_count: usize, block_rows: usize) -> Frame
     requires block { block_rows ≡ next_power recovery_count }
     requires fits { block_rows + original_count ≤ 65536 }
@@ -84,7 +81,7 @@ fn with_high_blocks(original_count: usize, recovery_count: usize, block_rows: us
     }
 }
 
-// Returns the frame of the low rate: the rows of a block are the power of the number of originals.
+// A block holds the originals, so its rows are the number of originals, rounded up to a power of two.
 pub(crate) fn low_frame(original_count: usize, recovery_count: usize) -> Option<Frame>
     ensures { result ≡ frame_if low_rate original_count recovery_count }
 {
@@ -98,7 +95,7 @@ pub(crate) fn low_frame(original_count: usize, recovery_count: usize) -> Option<
     Some(with_low_blocks(original_count, recovery_count, block_rows))
 }
 
-// Returns the frame of the high rate: the rows of a block are the power of the number of recovery shards.
+// A block holds the recovery shards, so its rows are their number, rounded up to a power of two.
 pub(crate) fn high_frame(original_count: usize, recovery_count: usize) -> Option<Frame>
     ensures { result ≡ frame_if high_rate original_count recovery_count }
 {
@@ -112,8 +109,8 @@ pub(crate) fn high_frame(original_count: usize, recovery_count: usize) -> Option
     Some(with_high_blocks(original_count, recovery_count, block_rows))
 }
 
-// Returns whether the default rate is the low rate for these counts: its blocks are smaller than those of the high
-// rate, or the blocks are equal and there are more originals than recovery shards.
+// The low rate is chosen if its blocks are smaller than those of the high rate, or if they are equal and there are more
+// originals than recovery shards. The Rust crate chooses in this way, and the bytes depend on it.
 fn default_is_low(original_count: usize, recovery_count: usize) -> bool
     requires originals { original_count ≤ 65536 }
     requires recovery { recovery_count ≤ 65536 }
@@ -125,7 +122,6 @@ fn default_is_low(original_count: usize, recovery_count: usize) -> bool
         || (original_power == recovery_power && recovery_count < original_count)
 }
 
-// Returns the frame of the default rate, which is the low or the high rate for these counts.
 pub(crate) fn default_frame(original_count: usize, recovery_count: usize) -> Option<Frame>
     ensures { result ≡ frame_if default_rate original_count recovery_count }
 {

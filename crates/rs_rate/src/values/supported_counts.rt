@@ -28,7 +28,7 @@ pub struct SupportedCounts<C: RateMarker> {
     pub recovery_count: usize,
     /// The frame of the rate for these counts.
     pub frame: Frame,
-    code: PhantomData<C>,
+    marker: PhantomData<C>,
     pub ghost supported: { supports C.rate original_count recovery_count ≡ true },
     pub ghost framed: { frame ≡ frame_of C.rate original_count recovery_count },
 }
@@ -56,7 +56,7 @@ impl<C: RateMarker> SupportedCounts<C> {
             original_count,
             recovery_count,
             frame,
-            code: PhantomData,
+            marker: PhantomData,
         })
     }
 }

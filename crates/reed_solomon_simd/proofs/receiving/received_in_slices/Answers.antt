@@ -12,8 +12,8 @@ lent items = map (λ item. (item.0, item.1.now)) items
 pub returns : goal.returns
 returns c =
     let own = YieldsList-from_map_by _ (λ item. (item.0, item.1.now)) (λ item. (item.0, item.1.now))
-    (YieldsList-from_slice c.args.original.now cc) c.map-own.ensures.closure (λ x r q k. search rules) in
+    (YieldsList-from_slice c.args.original.now cc) c.map-lent_originals.ensures.closure (λ x r q k. search rules) in
     let other = YieldsList-from_map_by _ (λ item. (item.0, item.1.now)) (λ item. (item.0, item.1.now))
-    (YieldsList-from_slice c.args.recovery.now cc) c.map-other.ensures.closure (λ x r q k. search rules) in
+    (YieldsList-from_slice c.args.recovery.now cc) c.map-lent_recovery.ensures.closure (λ x r q k. search rules) in
     always-both (λ item. (item.0, item.1.now)) (λ item. (item.0, item.1.now)) _ c.received_of_size.ensures
     (lent c.args.original.now) (lent c.args.recovery.now) own.runs other.runs c.size_in_slices-shard_bytes.ensures

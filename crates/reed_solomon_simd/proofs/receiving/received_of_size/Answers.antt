@@ -14,7 +14,7 @@ returns-in_err-received g c = search (rules, no-calls)
 pub returns-in_err-add_originals : goal.returns-in_err-add_originals
 returns-in_err-add_originals g c = (
   c.in_err-add_originals.ensures.0,
-  no-calls c.args.other,
+  no-calls c.args.recovery,
   λ originals recoveries begins further sized.
       let led = receiving-given c.args.counts.original_count c.args.counts.recovery_count originals recoveries
       c.in-Some.shard_bytes (rw c.in-Some.is at sized) (received_state c.in_ok-received.received)

@@ -1,4 +1,4 @@
-use Rattle.std.proofs.Common.{rules, ◌≡◌, false}
+use Rattle.std.proofs.Common.{rules}
 use Rattle.reed_solomon_simd.specs.Reconstructed.{AreReconstructed}
 use Rattle.reed_solomon_simd.proofs.Making.{made-ok, made-refused, made-untouched}
 use Rattle.reed_solomon_simd.proofs.reconstructing.rebuild_apart.Goals as goal

@@ -1,4 +1,4 @@
-use Rattle.std.proofs.Common.{rules, ◌≡◌, false}
+use Rattle.std.proofs.Common.{rules}
 use Rattle.rs_field.specs.code.PieceStates.{HoldRestored}
 use Rattle.reed_solomon_simd.proofs.Making.{made-ok, made-refused, made-untouched}
 use Rattle.reed_solomon_simd.proofs.restoring.restore_apart.Goals as goal

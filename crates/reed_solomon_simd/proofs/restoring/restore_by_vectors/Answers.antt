@@ -2,7 +2,7 @@ use Rattle.std.proofs.Common.{rules, ◌≡◌, List, length, map, Ok, Err, ap, 
 use Rattle.std.proofs.lemmas.List.{length-map}
 use Rattle.rs_field.specs.code.Column.{Shard}
 use Rattle.rs_field.specs.code.Decoder.{DecoderState}
-use Rattle.rs_field.proofs.code_lemmas.RestoredBelow.{held-number, held-sized}
+use Rattle.rs_field.proofs.code_lemmas.MissingShards.{held-number, held-sized}
 use Rattle.reed_solomon_simd.specs.ReceivedState.{received_state}
 use Rattle.reed_solomon_simd.specs.Rooms.{bytes_in}
 use Rattle.reed_solomon_simd.proofs.RoomFits.{vectors-sized}

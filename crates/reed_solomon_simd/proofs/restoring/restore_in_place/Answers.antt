@@ -3,7 +3,7 @@ use Rattle.std.proofs.lemmas.List.{length-map}
 use Rattle.rs_field.specs.code.Column.{Shard}
 use Rattle.rs_field.specs.code.Decoder.{DecoderState}
 use Rattle.rs_field.specs.code.PieceStates.{HoldRestored}
-use Rattle.rs_field.proofs.code_lemmas.RestoredBelow.{held-number, held-sized}
+use Rattle.rs_field.proofs.code_lemmas.MissingShards.{held-number, held-sized}
 use Rattle.reed_solomon_simd.proofs.Making.{made-ok, made-refused, made-kept}
 use Rattle.reed_solomon_simd.proofs.RoomFits.{vectors-sized}
 use Rattle.reed_solomon_simd.proofs.RestoringLemmas.{put-whole, was-done-if}

@@ -1,5 +1,4 @@
-use Rattle.std.proofs.Common.{rules, ◌≡◌, ◌-◌, Err, ap, sym, ◌∙◌, arith}
-use Rattle.rs_field.specs.code.Configuration.{Configuration}
+use Rattle.std.proofs.Common.{rules, ◌≡◌, ◌-◌, Err, ap, ◌∙◌, arith}
 use Rattle.rs_field.specs.code.Counts.{default_rate}
 use Rattle.rs_field.specs.code.Decoder.{DecoderState, fresh_decoder}
 use Rattle.rs_field.specs.code.PieceStates.{state_of_pieces}

@@ -1,7 +1,6 @@
-use Rattle.std.proofs.Common.{rules, ◌≡◌, ℕ, ◌+◌, ◌-◌, ◌≤◌, Err, List, min, refl, sym, ap, ◌∙◌, subst, arith}
+use Rattle.std.proofs.Common.{rules, ◌≡◌, ◌+◌, ◌-◌, Err, min, refl, sym, ap, ◌∙◌, subst, arith}
 use Rattle.rs_field.specs.code.Decoder.{DecoderState}
 use Rattle.rs_field.specs.code.Pieces.{IsStrip}
-use Rattle.reed_solomon_simd.specs.declared.shard_index.ShardIndex.{ShardIndex}
 use Rattle.reed_solomon_simd.proofs.ConsistentStrips.{checked-none}
 use Rattle.reed_solomon_simd.proofs.Making.{still-can, still-rooms, made-further, refused-all}
 use Rattle.reed_solomon_simd.proofs.RebuiltStrips.{rebuilt-all}

@@ -3,7 +3,7 @@ use Rattle.std.proofs.lemmas.List.{append-nil}
 use Rattle.rs_field.specs.code.Column.{Shard}
 use Rattle.rs_ffi.specs.Arrays.{shards_of, bytes_in}
 use Rattle.rs_ffi.specs.Places.{placed}
-use Rattle.rs_ffi.proofs.RoomFaults.{encodes-told, encodes-kept, keeps-rooms, told}
+use Rattle.rs_ffi.proofs.RoomFaults.{encodes-placed, encodes-kept, keeps-rooms, placed_answer}
 use Rattle.rs_ffi.proofs.encoding.encode_arrays.Goals as goal
 
 pub returns-in-Err-clause-answer : goal.returns-in-Err-clause-answer
@@ -17,9 +17,9 @@ returns-in-Err-clause-answer g c =
     encodes-kept k r shards old new c.in-Err.error c.encode_into-answer.result c.in-Err.is answers in
     let is : c.placed_fault.result ≡ placed (shards_of c.args.originals.now ++ [])
     (bytes_in c.encode_into-answer.new.recovery) c.in-Err.error = c.placed_fault.ensures in
-    encodes-told k r shards old new c.encode_into-answer.result (Err c.placed_fault.result)
+    encodes-placed k r shards old new c.encode_into-answer.result (Err c.placed_fault.result)
     (ap Err (is ∙ ap₂ (λ (l rooms : List Shard). placed l rooms c.in-Err.error) (append-nil shards) same)
-    ∙ sym (ap (told shards old) c.in-Err.is)) answers
+    ∙ sym (ap (placed_answer shards old) c.in-Err.is)) answers
 
 pub returns-in-Err-clause-kept : goal.returns-in-Err-clause-kept
 returns-in-Err-clause-kept g c = keeps-rooms c.args.recovery.now _ c.encode_into-answer.ensures.kept
@@ -28,8 +28,9 @@ pub returns-clause-answer : goal.returns-clause-answer
 returns-clause-answer g c =
     let shards : List Shard = shards_of c.args.originals.now in
     let old : List Shard = bytes_in c.args.recovery.now in
-    encodes-told c.args.original_count c.args.recovery_count shards old (bytes_in c.encode_into-answer.new.recovery)
-    c.encode_into-answer.result (Ok tt) (sym (ap (told shards old) c.in_default.is)) c.encode_into-answer.ensures.answer
+    encodes-placed c.args.original_count c.args.recovery_count shards old (bytes_in c.encode_into-answer.new.recovery)
+    c.encode_into-answer.result (Ok tt) (sym (ap (placed_answer shards old) c.in_default.is))
+    c.encode_into-answer.ensures.answer
 
 pub returns-clause-kept : goal.returns-clause-kept
 returns-clause-kept g c = keeps-rooms c.args.recovery.now _ c.encode_into-answer.ensures.kept

@@ -1,9 +1,9 @@
-use Rattle.std.proofs.Common.{ℕ, subst, sym, inr, arith}
+use Rattle.std.proofs.Common.{ℕ, subst, inr, arith}
 use Rattle.std.proofs.lemmas.Result.{on_ok_weaker}
 use Rattle.rs_field.specs.code.Decoder.{DecoderState}
 use Rattle.rs_field.specs.code.Given.{Shards, Lists}
 use Rattle.rs_field.specs.code.PieceStates.{shards_listed}
-use Rattle.rs_field.proofs.code_lemmas.RestoredBelow.{pieces-number, pieces-sized}
+use Rattle.rs_field.proofs.code_lemmas.MissingShards.{pieces-number, pieces-sized}
 use Rattle.rs_rate.specs.rows.DecoderView.{restored_by_rows}
 use Rattle.reed_solomon_simd.proofs.MissingLemmas.{names-all, restored-named}
 use Rattle.reed_solomon_simd.proofs.RoundLemmas.{decode-shorter, matched, ok-anyway}

@@ -1,4 +1,4 @@
-use Rattle.std.proofs.Common.{◌≡◌, ℕ, List, map, Some, sym, ap, ◌∙◌, inr}
+use Rattle.std.proofs.Common.{◌≡◌, List, map, Some, sym, ap, ◌∙◌, inr}
 use Rattle.std.specs.Option.{option_map}
 use Rattle.std.proofs.lemmas.Result.{on_ok_weaker}
 use Rattle.rs_field.specs.code.Code.{AreRecovery}

@@ -1,5 +1,5 @@
 use Rattle.std.proofs.Common.{rules}
-use Rattle.rs_field.proofs.code_lemmas.RestoredBelow.{count-pieces}
+use Rattle.rs_field.proofs.code_lemmas.MissingShards.{count-pieces}
 use Rattle.reed_solomon_simd.proofs.ConsistentStrips.{exact-consistent, consistent-cut}
 use Rattle.reed_solomon_simd.proofs.strip_summer.SumsWay.strip.Goals as goal
 
@@ -11,22 +11,10 @@ put_sums-requires-clause-consistent g c = search (rules, consistent-cut, exact-c
 
 pub agree_in_strip-requires-clause-ready : goal.agree_in_strip-requires-clause-ready
 agree_in_strip-requires-clause-ready g c =
-    let (n, most, base) = c.requires.ready in
-    record {
-      set_up = c.requires.can.set_up;
-      originals = base.originals;
-      recovery = base.recovery;
-      marked = base.marked;
-      strip = c.requires.strip;
-    }
+    let (n, most, held) = c.requires.ready in
+    record { set_up = c.requires.can.set_up; based = held.based; strip = c.requires.strip }
 
 pub put_sums-requires-clause-ready : goal.put_sums-requires-clause-ready
 put_sums-requires-clause-ready g c =
-    let (n, most, base) = c.requires.ready in
-    record {
-      set_up = c.requires.can.set_up;
-      originals = base.originals;
-      recovery = base.recovery;
-      marked = base.marked;
-      strip = c.requires.strip;
-    }
+    let (n, most, held) = c.requires.ready in
+    record { set_up = c.requires.can.set_up; based = held.based; strip = c.requires.strip }

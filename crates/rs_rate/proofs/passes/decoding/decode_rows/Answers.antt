@@ -7,7 +7,7 @@ use Rattle.rs_rate.specs.passes.Decoding.{RestoresShards}
 use Rattle.rs_rate.proofs.passes_lemmas.SumLemmas.{written-back}
 use Rattle.rs_rate.specs.rows.Marks.{given_marks, restored_marks, WantsMissing}
 use Rattle.rs_rate.proofs.passes_lemmas.DecodedColumns.{FilledRows, DecodedRows}
-use Rattle.rs_rate.proofs.passes_lemmas.DecodeAnswer.{AnswersOver, decode_answers, complete_answers, told_answer}
+use Rattle.rs_rate.proofs.passes_lemmas.DecodeAnswer.{AnswersOver, decode_answers, complete_answers, answer_by_check}
 use Rattle.rs_rate.proofs.rows_lemmas.ResultLemmas.{length-restored}
 use Rattle.rs_rate.proofs.rows_lemmas.StateLemmas.{valid-supported}
 use Rattle.rs_rate.proofs.rows_lemmas.RowMaps.{hold_nothing, none-marked, none_told, nothing-given}
@@ -80,7 +80,7 @@ returns-clause-answer g c = λ rate is.
                 (original_row own.frame i) (omega (arith, inside, count, old.configured.own_rows)));
           })
     ] in
-    told_answer rows left c.restore-agrees.result c.if-agrees.answer over
+    answer_by_check rows left c.restore-agrees.result c.if-agrees.answer over
     (λ yes. elim c.if-agrees.branch [
       | then-agrees w ↦ (c.tally-tally.result.missing, w.answer-is)
       | else-agrees w ↦ absurd (true≢false (sym yes ∙ w.if-agrees.false))

@@ -1,30 +1,24 @@
-use Rattle.std.proofs.Common.{ℕ, subst, ◌∙◌}
-use Rattle.std.specs.Prelude.{slice_index}
-use Rattle.rs_field.specs.rows.MarkedRows.{is_marked}
-use Rattle.rs_rate.specs.values.Configured.{rows_to_decode}
-use Rattle.rs_rate.proofs.passes_lemmas.DirectRows.{RowSummed, one_more_summed}
+use Rattle.rs_rate.proofs.passes_lemmas.DirectRows.{outside_base, none_summed, one_more_kept, one_more_summed}
+use Rattle.rs_rate.proofs.passes.direct.sum_missing.Goals.{then-not-given-y, else-not-given-y}
 use Rattle.rs_rate.proofs.passes.direct.sum_missing.Goals as goal
+
+pub loop-i-init : goal.loop-i-init
+loop-i-init g c =
+    none_summed c.args.base.now c.args.given.now c.args.configuration.frame c.args.rows.now c.args.steps.now
+    c.requires.rows.fits
 
 pub loop-i-preserved : goal.loop-i-preserved
 loop-i-preserved g c =
-    let given = is_marked c.args.given.now in
-    let base = is_marked c.args.base.now in
-    let locator : ℕ → ℕ = λ z. slice_index c.args.logarithms.now.locator.now z in
-    let mid = c.loop-i.rows in
-    let new = c.sum_if_missing.new.rows in
-    let before = c.loop-i.steps in
-    let after = c.sum_if_missing.new.steps in
-    let ensures = c.sum_if_missing.ensures in
-    one_more_summed given base locator (rows_to_decode c.args.configuration) c.args.configuration.frame c.loop-i.i
-    c.args.rows.now mid new c.args.steps.now before after c.requires.base c.loop-i.invariant
-    (subst (λ (n : ℕ). RowSummed given base locator (rows_to_decode c.args.configuration) n mid new before after)
-    c.original_row-row.ensures
-    (subst (λ (n : ℕ). RowSummed given base locator n c.original_row-row.result mid new before after)
-    (c.loop-i.invariant.extent.count ∙ c.requires.rows.count)
-    (record {
-      extent = ensures.extent;
-      kept = ensures.kept;
-      others = ensures.others;
-      summed = ensures.sums;
-      counts = ensures.counts;
-    })))
+    let base = c.args.base.now in
+    let given = c.args.given.now in
+    let frame = c.args.configuration.frame in
+    elim c.if-not-given-y.branch [
+      | then-not-given-y w ↦
+          let ensures = w.set_to_sum.ensures in
+          rw (w.rows-is, w.steps-is) (one_more_summed base given frame c.original_row-y.ensures c.loop-i.invariant
+          w.if-not-given-y.true (outside_base c.original_row-y.result c.requires.first w.if-not-given-y.true)
+          ensures.extent ensures.others ensures.sums ensures.counts)
+      | else-not-given-y w ↦
+          rw (w.rows-is, w.steps-is) (one_more_kept base given frame c.original_row-y.ensures c.loop-i.invariant
+          w.if-not-given-y.false)
+    ]

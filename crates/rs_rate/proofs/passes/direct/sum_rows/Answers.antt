@@ -1,32 +1,49 @@
-use Rattle.std.proofs.Common.{rules, ◌≡◌, ℕ, ◌/◌, ◌%◌, ◌<◌, true, sym, ◌∙◌, true≢false}
-use Rattle.std.specs.Prelude.{slice_index, ◌↔◌}
+use Rattle.std.proofs.Common.{rules, ◌≡◌, ℕ, ◌+◌, ◌*◌, true, length, sym, ap, ◌∙◌, arith}
+use Rattle.std.proofs.Common.{true≢false}
+use Rattle.std.proofs.Math.Nat.{mul-le-mul_right}
+use Rattle.std.specs.Prelude.{◌↔◌}
 use Rattle.rs_field.specs.rows.MarkedRows.{is_marked}
 use Rattle.rs_field.specs.rows.View.{word}
-use Rattle.rs_field.specs.words.DirectSum.{direct_sum}
+use Rattle.rs_field.specs.words.StepBounds.{CountsUpTo}
+use Rattle.rs_field.proofs.words_lemmas.Counting.{counts_then, counts_within}
 use Rattle.rs_field.proofs.words_lemmas.DirectSum.{direct_sum-same}
 use Rattle.rs_rate.specs.values.Configured.{rows_to_decode}
-use Rattle.rs_rate.specs.passes.Decoding.{is_outside}
+use Rattle.rs_rate.specs.passes.Decoding.{AreEqualToSums}
+use Rattle.rs_rate.specs.rows.Marks.{how_many}
+use Rattle.rs_rate.proofs.passes.direct.sum_rows.Given.{Over}
+use Rattle.rs_rate.proofs.passes.direct.sum_rows.Goals.{After-are_equal_to_sums-agrees}
 use Rattle.rs_rate.proofs.passes.direct.sum_rows.Goals as goal
 
--- The test of all rows, in the number of rows of a configuration.
-all_rows : (n w size : ℕ) (equal : ℕ → ℕ → ℕ → Type 0) (outside : ℕ → Type 0) (agrees : Type 0) → n ≡ w
-    → ((p j : ℕ) → p < n → outside p → j < size / 2 → equal n p j) ↔ agrees
-    → ((p j : ℕ) → p < w → outside p → j < size / 2 → equal w p j) ↔ agrees
-all_rows n w size equal outside agrees same both = search rules
+checked : (g : Over) (c : After-are_equal_to_sums-agrees g)
+    → AreEqualToSums c.args.configuration c.args.given.now c.args.base.now.marks.now c.args.base.now.locator.now
+    (word c.args.rows.now) ↔ (c.are_equal_to_sums-agrees.result ≡ true)
+checked g c = search rules
+
+tested : (g : Over) (c : After-are_equal_to_sums-agrees g) (surplus : ℕ) → length c.args.base.now.rows.now + surplus
+    ≡ how_many (rows_to_decode c.args.configuration) (is_marked c.args.given.now)
+    → CountsUpTo (surplus * (1 + 3 * length c.args.base.now.rows.now)) 0 0 c.args.steps.now
+    c.are_equal_to_sums-agrees.new.steps
+tested g c surplus total =
+    c.are_equal_to_sums-agrees.ensures.counts surplus
+    (total ∙ sym (ap (λ n. how_many n (is_marked c.args.given.now)) c.requires.rows.count))
 
 pub returns-then-agrees-clause-words : goal.returns-then-agrees-clause-words
-returns-then-agrees-clause-words g c = search (rules, all_rows, direct_sum-same)
+returns-then-agrees-clause-words g c =
+    let all = checked g (goal.at.returns-then-agrees-clause-words g c).After-are_equal_to_sums-agrees in
+    search (rules, direct_sum-same)
 
 pub returns-else-agrees-clause-words : goal.returns-else-agrees-clause-words
 returns-else-agrees-clause-words g c =
-    let own = c.args.configuration in
-    let old = c.args.rows.now in
-    let base = is_marked c.args.base.now in
-    let locator : ℕ → ℕ = λ x. slice_index c.args.logarithms.now.locator.now x in
-    record {
-      checked = all_rows old.shard_count (rows_to_decode own) own.shard_bytes
-          (λ n p j. word old (j / 32) (j % 32) p ≡ direct_sum n base locator (word old (j / 32) (j % 32)) p)
-          (λ p. is_outside c.args.given.now c.args.base.now p ≡ true) (c.are_equal_to_sums-agrees.result ≡ true)
-          c.requires.rows.count c.are_equal_to_sums-agrees.ensures.equal;
-      summed = λ agreed. absurd (true≢false (sym agreed ∙ c.if-agrees.false));
-    }
+    let all = checked g (goal.at.returns-else-agrees-clause-words g c).After-are_equal_to_sums-agrees in
+    search (rules, true≢false)
+
+pub returns-then-agrees-clause-counts : goal.returns-then-agrees-clause-counts
+returns-then-agrees-clause-counts g c surplus total =
+    let before = tested g (goal.at.returns-then-agrees-clause-counts g c).After-are_equal_to_sums-agrees surplus
+    total in
+    search (rules, counts_then)
+
+pub returns-else-agrees-clause-counts : goal.returns-else-agrees-clause-counts
+returns-else-agrees-clause-counts g c surplus total =
+    counts_within (mul-le-mul_right (1 + 3 * length c.args.base.now.rows.now) (omega arith))
+    (tested g (goal.at.returns-else-agrees-clause-counts g c).After-are_equal_to_sums-agrees surplus total)

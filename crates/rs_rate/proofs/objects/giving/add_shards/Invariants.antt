@@ -1,8 +1,0 @@
-use Rattle.rs_field.specs.code.Encoder.{with_shard}
-use Rattle.rs_rate.proofs.objects_lemmas.Giving.{LeadsOn}
-use Rattle.rs_rate.proofs.objects.giving.add_shards.Given as goal
-
-abbrev pub invariant-loop-shard : goal.invariant-loop-shard
-invariant-loop-shard g l =
-    LeadsOn g.I.Iterator.next_gives (λ shard. shard.now) with_shard l.fn.shards
-    (g.X.RateEncoder.state l.initial.encoder) l.shard-iterator (g.X.RateEncoder.state l.encoder)

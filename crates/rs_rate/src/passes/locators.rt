@@ -1,0 +1,42 @@
+//! The locator of the erased rows of a decoder.
+ghost use Rattle.std.specs.Prelude.{◌≡◌, ℕ, ◌<◌, ◌≤◌, length, slice_index};
+ghost use Rattle.rs_field.specs.code.Frame.{row_count};
+ghost use Rattle.rs_field.specs.words.StepBounds.{LocatorCounts};
+ghost use Rattle.rs_rate.specs.passes.Decoding.{IsLocatorOf};
+ghost use Rattle.rs_rate.specs.rows.Marks.{erasure};
+
+use rs_field::bytes::are_words;
+use rs_field::engine::{Engine, GfElement, Steps};
+use rs_field::frame::Frame;
+
+// Computes the locator of the erased rows, at all rows. No row after the marks in `given` is given.
+pub(crate) fn make_locator<E: Engine>(
+    engine: &E,
+    steps: &mut Steps,
+    entries: &mut [GfElement],
+    given: &[bool],
+    frame: Frame,
+)
+    requires few { frame.exponent ≤ 16 }
+    requires entries { length entries.old ≡ row_count frame }
+    ensures locator { IsLocatorOf frame given.now entries.new }
+    ensures counts { LocatorCounts steps.old steps.new }
+{
+    mark_erased(entries, given, frame);
+    engine.locate(steps, entries);
+    are_words(entries);
+}
+
+// Sets the entries of the erased rows to 1 and all other entries to 0. A row is erased if it is not known to be zero
+// and its shard is not given. No row after the marks in `given` is given.
+fn mark_erased(entries: &mut [GfElement], given: &[bool], frame: Frame)
+    ensures rows { (row : ℕ) → row < length entries.old
+        → slice_index entries.new row ≡ erasure frame given.now row }
+    ensures length { length entries.new ≡ length entries.old }
+{
+    for row in 0..entries.len() {
+        let is_zero = frame.zeros_from <= row && row < frame.zeros_to;
+        let is_given = row < given.len() && given[row];
+        entries[row] = if is_zero || is_given { 0 } else { 1 };
+    }
+}
