@@ -14,7 +14,7 @@ fn main(rt: HostRuntime) -> ExitCode {
     let status = match read_words(&rt) {
         Ok(words) => run(rt.alloc(), words.as_slice(), &mut out, &mut err),
         Err(fault) => {
-            let _ = fault.tell(rt.alloc(), &mut err);
+            let _ = fault.report(rt.alloc(), &mut err);
             fault.status()
         }
     };

@@ -21,7 +21,7 @@ use Rattle.rs_cli.specs.CommandLine.{GivenItems}
 use Rattle.rs_cli.specs.Printed.{ListsShards, concatenation, RestoresLines, OrLacksMemory}
 use Rattle.rs_cli.specs.Printed.{Refuses}
 use Rattle.rs_cli.specs.Printed.{HasFault}
-use Rattle.rs_cli.specs.Told.{status_of, IsReportedAs}
+use Rattle.rs_cli.specs.Reported.{status_of, IsReportedAs}
 use Rattle.rs_cli.proofs.ListedLemmas.{lists-sorted}
 
 compared_equal : (x y : ℕ) → is_eq (nat_cmp x y) ≡ nat_eq x y
@@ -54,9 +54,9 @@ restores-lines k r given restored (Ok texts) answered lines = (restored, answere
 restores-lines k r given restored (Err e) answered lacking = inr lacking
 
 -- If the status is 1, the program reports an error that is the one for these words.
-pub refusal-told : (words : List (List ℕ)) (fault told : Fault) → status_of fault ≡ 1 → HasFault words fault
-    → IsReportedAs fault told
-    → (e : Error) × Refuses words e × (told ≡ Refused e)
-refusal-told words Usage told one bad same = absurd (let two : 2 ≡ 1 = one in omega arith)
-refusal-told words (Refused e) told one refused (inl same) = (e, refused, same)
-refusal-told words (Refused e) told one refused (inr lacking) = (OutOfMemory, inr refl, lacking)
+pub refusal-reported : (words : List (List ℕ)) (fault reported : Fault) → status_of fault ≡ 1 → HasFault words fault
+    → IsReportedAs fault reported
+    → (e : Error) × Refuses words e × (reported ≡ Refused e)
+refusal-reported words Usage reported one bad same = absurd (let two : 2 ≡ 1 = one in omega arith)
+refusal-reported words (Refused e) reported one refused (inl same) = (e, refused, same)
+refusal-reported words (Refused e) reported one refused (inr lacking) = (OutOfMemory, inr refl, lacking)

@@ -7,7 +7,7 @@ use Rattle.std.proofs.Math.Seq.{take-add}
 use Rattle.std.proofs.lemmas.Grind.{flat_map-append}
 use Rattle.std.proofs.lemmas.List.{take_all, drop_more, take-append-drop, take-append-le}
 use Rattle.std.specs.List.{flat_map}
-use Rattle.rs_cli.specs.Told.{CutShort}
+use Rattle.rs_cli.specs.Reported.{CutShort}
 
 -- If a text is appended and then another text, both texts one after the other are appended.
 pub appends-appends : (a b c : Option (List ℕ)) (xs ys : List ℕ) → Appends a b xs → Appends b c ys

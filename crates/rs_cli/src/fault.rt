@@ -18,7 +18,7 @@ pub enum Fault {
 impl Fault {
     ghost use Rattle.std.specs.Prelude.{◌≡◌, IsTrue};
     ghost use Rattle.std.specs.Io.KnownBytes.{Appends};
-    ghost use Rattle.rs_cli.specs.Told.{fault_message, status_of, IsReportedAs, Writes};
+    ghost use Rattle.rs_cli.specs.Reported.{fault_message, status_of, IsReportedAs, Writes};
 
     /// Returns the exit status of the program for this fault: 2 for `Usage`, and 1 for every error.
     pub fn status(&self) -> u8
@@ -32,11 +32,11 @@ impl Fault {
 
     /// Writes the message of the fault to `err`, or the message of `OutOfMemory` if the text of an error cannot be
     /// allocated. Returns whether the whole message was written.
-    pub fn tell<X: Write>(&self, alloc: Global, err: &mut Stream<X>) -> bool
-        ensures { (told : Fault) × IsReportedAs self.now told
-            × Writes X.contents err.old err.new (fault_message told)
+    pub fn report<X: Write>(&self, alloc: Global, err: &mut Stream<X>) -> bool
+        ensures { (reported : Fault) × IsReportedAs self.now reported
+            × Writes X.contents err.old err.new (fault_message reported)
             × (IsTrue result → Appends (X.contents err.old.writer) (X.contents err.new.writer)
-            (fault_message told)) }
+            (fault_message reported)) }
     {
         match self {
             Fault::Usage => write_text(err, "usage\n"),

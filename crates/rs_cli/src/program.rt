@@ -6,7 +6,7 @@ ghost use Rattle.std.specs.String.{string_bytes};
 ghost use Rattle.rs_cli.specs.CommandLine.{request_of};
 ghost use Rattle.rs_cli.specs.Coding.{CodesAsAsked};
 ghost use Rattle.rs_cli.specs.Printed.{concatenation, Prints, Refuses, HasFault};
-ghost use Rattle.rs_cli.specs.Told.{fault_message, Writes, IsCutShort};
+ghost use Rattle.rs_cli.specs.Reported.{fault_message, Writes, IsCutShort};
 ghost use Rattle.rs_cli.specs.declared.fault.Fault.TheVariants.{Usage, Refused};
 
 use crate::coding::Lines;
@@ -74,7 +74,7 @@ pub fn run<O: Write, X: Write>(
         Ok(lines) if write_texts(out, lines.texts()) => 0,
         Ok(_) => 1,
         Err(fault) => {
-            let _ = fault.tell(alloc, err);
+            let _ = fault.report(alloc, err);
             fault.status()
         }
     }

@@ -2,7 +2,7 @@
 ghost use Rattle.std.specs.Prelude.{◌≡◌, false, IsTrue, flat_map};
 ghost use Rattle.std.specs.Io.KnownBytes.{Appends};
 ghost use Rattle.std.specs.String.{string_bytes};
-ghost use Rattle.rs_cli.specs.Told.{Writes, IsCutShort};
+ghost use Rattle.rs_cli.specs.Reported.{Writes, IsCutShort};
 
 use crate::stream::Stream;
 use std::io::Write;

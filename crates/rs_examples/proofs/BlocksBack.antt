@@ -23,7 +23,7 @@ use Rattle.reed_solomon_simd.specs.Configuration.{validation_outcome}
 use Rattle.reed_solomon_simd.specs.OneCall.{default_of}
 use Rattle.reed_solomon_simd.specs.Given.{Shards}
 use Rattle.reed_solomon_simd.proofs.SetUp.{valid-even}
-use Rattle.rs_rate.proofs.rows_lemmas.StateLemmas.{valid-supported}
+use Rattle.reed_solomon_simd.proofs.StateLemmas.{valid-supported}
 use Rattle.rs_volumes.specs.declared.creating.Shape.{Shape}
 use Rattle.rs_volumes.specs.declared.restoring.Plan.{Plan}
 use Rattle.rs_volumes.specs.Creating.{IsCreated}

@@ -1,11 +1,10 @@
 -- Listed shards are added one after another: the outcome after each shard.
 use Rattle.std.proofs.Common.{rules, ◌≡◌, refl, ℕ, ◌+◌, ◌<◌, Bool, true, false, List, ◌∷◌, length, map, drop, get_or}
-use Rattle.std.proofs.Common.{Result, Ok, Err, ap, Vec, drop-cons}
+use Rattle.std.proofs.Common.{Result, Ok, Err, Vec, drop-cons}
 use Rattle.std.specs.List.{enumerate_from, filter}
 use Rattle.reed_solomon_simd.specs.declared.Error.{Error}
 use Rattle.reed_solomon_simd.specs.Column.{Shard}
 use Rattle.reed_solomon_simd.specs.OneCall.{one_by_one}
-use Rattle.reed_solomon_simd.specs.Outcome.{result_and_then}
 
 -- The shards of the vectors from number n on.
 abbrev pub shards_from : {Y : Type 0} → ℕ → List (Vec ℕ Y) → List Shard
@@ -14,12 +13,6 @@ shards_from n vectors = map (λ vector. vector.items) (drop n vectors)
 pub shards_from-next : {Y : Type 0} (n : ℕ) (vectors : List (Vec ℕ Y)) (d : Vec ℕ Y) → n < length vectors
     → shards_from n vectors ≡ (get_or vectors n d).items ∷ shards_from (n + 1) vectors
 shards_from-next n vectors d inside = search (rules, drop-cons)
-
-module _ {S T : Type 0} (add : S → T → Result S Error) where
-  -- If an item is added without an error, the outcome is the outcome of adding the other items to the next state.
-  pub taken-next : (s next : S) (item : T) (items : List T) → add s item ≡ Ok next
-      → one_by_one add s (item ∷ items) ≡ one_by_one add next items
-  taken-next s next item items is = ap (result_and_then (λ t. one_by_one add t items)) is
 
 module _ {S : Type 0} (add : S → ℕ × Shard → Result S Error) (kept : ℕ × Shard → Bool) where
   -- The outcome of adding the shards from number n on, without the shards that are not kept.

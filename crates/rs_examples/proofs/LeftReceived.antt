@@ -17,7 +17,7 @@ use Rattle.reed_solomon_simd.specs.RoundTrip.{AreCoded, AreLeft, enough_left}
 use Rattle.reed_solomon_simd.specs.Verified.{received_size, receiving_outcome}
 use Rattle.reed_solomon_simd.proofs.Entries.{AreFree, entered_all, count-nothing, count-entered_all, among-entered_all}
 use Rattle.reed_solomon_simd.proofs.OneRoundTrip.{left_with, all_taken}
-use Rattle.rs_rate.proofs.rows_lemmas.StateLemmas.{valid-supported}
+use Rattle.reed_solomon_simd.proofs.StateLemmas.{valid-supported}
 
 -- Success unless there are too few shards.
 abbrev pub unless_few : ℕ → ℕ → ℕ → Bool → Result (Unit {0}) Error

@@ -30,7 +30,7 @@ use Rattle.reed_solomon_simd.proofs.Left.{kept-left}
 use Rattle.reed_solomon_simd.proofs.SetUp.{valid-even}
 use Rattle.rs_field.proofs.code_lemmas.SupportedCounts.{default_fits}
 use Rattle.rs_field.proofs.code_lemmas.Unique.{recovery_unique}
-use Rattle.rs_rate.proofs.rows_lemmas.StateLemmas.{valid-supported}
+use Rattle.reed_solomon_simd.proofs.StateLemmas.{valid-supported}
 use Rattle.rs_examples.specs.Losing.{is_lost, left_of, left_below, lost_at, ListsLost}
 use Rattle.rs_examples.proofs.LeftCount.{left-number}
 use Rattle.rs_examples.proofs.LostIndexes.{lost-wanted, lost-mapped, named_at}

@@ -16,7 +16,7 @@ use Rattle.reed_solomon_simd.proofs.CallerLemmas.{valid-some}
 use Rattle.reed_solomon_simd.proofs.SetUp.{valid-even}
 use Rattle.reed_solomon_simd.proofs.VerifyingLemmas.{received-configured}
 use Rattle.rs_field.proofs.code_lemmas.Changes.{changes_noticed}
-use Rattle.rs_rate.proofs.rows_lemmas.StateLemmas.{valid-supported}
+use Rattle.reed_solomon_simd.proofs.StateLemmas.{valid-supported}
 use Rattle.rs_examples.specs.Losing.{changed_count}
 use Rattle.rs_examples.proofs.LeftReceived.{unless_few, left_state, left_agrees, left_enough, received-left}
 

@@ -87,8 +87,7 @@ fn damage_blocks(stored: &mut Blocks, damage: &[Damage]) -> Result<(), AllocErro
     Ok(())
 }
 
-// Returns the numbers below `count` of the blocks that are not lost, where block `number` has the index `first` +
-// `number`. Fails if memory cannot be allocated.
+// `lost` names blocks by their index: block `number` has the index `first` + `number`.
 fn left_numbers(
     alloc: Global,
     first: usize,

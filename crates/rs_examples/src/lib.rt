@@ -2,6 +2,7 @@
 //! rows, updates of recovery shards, and every public path.
 #![tactic(auto)]
 
+pub mod adding;
 pub mod block_round_trip;
 pub mod blocks;
 pub mod callers;

@@ -85,7 +85,6 @@ pub fn reconstruction_of_a_message(
     Ok(back)
 }
 
-// Returns the first `total` bytes of the originals, after the lost ones were restored.
 fn put_together(
     alloc: Global,
     originals: &[Vec<u8>],

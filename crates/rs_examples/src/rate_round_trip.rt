@@ -7,11 +7,11 @@ ghost use Rattle.reed_solomon_simd.specs.OneCall.{with_shards, with_originals, w
 ghost use Rattle.reed_solomon_simd.specs.ResultView.{recovery_shards};
 ghost use Rattle.rs_examples.specs.Losing.{lost_at, left_of, left_below};
 
+use crate::adding::{add_originals, add_recovery, add_shards};
 use crate::walking::restored_copies;
 use reed_solomon_simd::engine::{Engine, Steps};
 use reed_solomon_simd::rate::{Rate, RateDecoder, RateEncoder};
 use reed_solomon_simd::{EncoderResult, Error};
-use rs_rate::rate::giving::{add_originals, add_recovery, add_shards};
 use std::alloc::Global;
 
 /// Encodes the originals with an encoder of a rate, drops the originals and the recovery shards with the indexes in

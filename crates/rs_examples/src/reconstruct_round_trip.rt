@@ -50,7 +50,6 @@ pub fn round_trip_by_reconstruct(
     Ok(restored)
 }
 
-// Returns the shards that are not lost, with their indexes. Fails if the list cannot be allocated.
 pub(crate) fn left_shards<'a>(
     alloc: Global,
     shards: &'a [Vec<u8>],
@@ -67,7 +66,7 @@ pub(crate) fn left_shards<'a>(
         .collect(alloc)
 }
 
-// Returns the lost indexes below `count`, each of them once. Fails if the list cannot be allocated.
+// `lost` can name an index twice, or one that no original has. `reconstruct` accepts neither.
 fn lost_indexes(alloc: Global, count: usize, lost: &[usize]) -> Result<Vec<usize>, AllocError>
     ensures { IfOk result (λ indexes. ListsLost count lost.now indexes.items) }
 {
@@ -80,7 +79,6 @@ fn lost_indexes(alloc: Global, count: usize, lost: &[usize]) -> Result<Vec<usize
     Ok(indexes)
 }
 
-// Returns the names of the originals with these indexes. Fails if the list cannot be allocated.
 fn names(alloc: Global, indexes: &[usize]) -> Result<Vec<ShardIndex>, AllocError>
     ensures { IfOk result (λ names. names.items ≡ map (λ i. ShardIndex.Original i) indexes.now) }
 {
@@ -90,7 +88,6 @@ fn names(alloc: Global, indexes: &[usize]) -> Result<Vec<ShardIndex>, AllocError
         .collect(alloc)
 }
 
-// Returns a map of shards with their indexes as keys. Fails if the map cannot be allocated.
 fn by_index(
     alloc: Global,
     indexes: Vec<usize>,

@@ -1,8 +1,8 @@
 use Rattle.std.proofs.Common.{◌≡◌, ◌∙◌, inl, inr, refl}
 use Rattle.reed_solomon_simd.specs.declared.Error.TheVariants.{OutOfMemory}
 use Rattle.rs_cli.specs.declared.fault.Fault.TheVariants.{Refused}
-use Rattle.rs_cli.specs.Told.{fault_message}
-use Rattle.rs_cli.proofs.fault.Fault.tell.Goals as goal
+use Rattle.rs_cli.specs.Reported.{fault_message}
+use Rattle.rs_cli.proofs.fault.Fault.report.Goals as goal
 
 pub returns-in-Ok : goal.returns-in-Ok
 returns-in-Ok g c =

@@ -19,8 +19,8 @@ status_of (Refused e) = 1
 
 -- the fault that the program reports is the fault itself, or `OutOfMemory` instead of an error
 abbrev pub IsReportedAs : Fault → Fault → Type 0
-IsReportedAs Usage told = told ≡ Usage
-IsReportedAs (Refused e) told = (told ≡ Refused e) ⊎ (told ≡ Refused OutOfMemory)
+IsReportedAs Usage reported = reported ≡ Usage
+IsReportedAs (Refused e) reported = (reported ≡ Refused e) ⊎ (reported ≡ Refused OutOfMemory)
 
 -- only a first part of a text is appended to the bytes that a writer holds
 abbrev pub CutShort : Option (List ℕ) → Option (List ℕ) → List ℕ → Type 0
