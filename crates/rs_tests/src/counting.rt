@@ -122,6 +122,15 @@ pub struct FourCalls<'t> {
     counting: Counting<'t>,
 }
 
+impl<'t> FourCalls<'t> {
+    /// Makes the engine over these tables.
+    pub fn new(tables: &'t Tables) -> FourCalls<'t> {
+        FourCalls {
+            counting: Counting::new(tables, true),
+        }
+    }
+}
+
 impl Engine for FourCalls<'_> {
     fn fft(
         &self,
@@ -343,9 +352,7 @@ fn check_sums<'t, A: Rate<Counting<'t>>, B: Rate<FourCalls<'t>>>(
     let engine = Counting::new(tables, true);
     let engine = after_decode::<_, A>(alloc, 4, original, recovery, engine).expect(rt, "an engine");
     assert_eq!(rt; engine.calls.get(), [0, 0, 0, 1, sums]);
-    let engine = FourCalls {
-        counting: Counting::new(tables, true),
-    };
+    let engine = FourCalls::new(tables);
     let engine = after_decode::<_, B>(alloc, 4, original, recovery, engine).expect(rt, "an engine");
     assert_eq!(rt; engine.counting.calls.get(), [0, 0, products, 1, 0]);
 }

@@ -26,6 +26,8 @@ mod stripes;
 #[cfg(test)]
 mod tables;
 #[cfg(test)]
+mod updating;
+#[cfg(test)]
 mod verifying;
 #[cfg(test)]
 mod volumes;
