@@ -50,9 +50,14 @@ static size_t coded_bytes(struct shape shape, size_t shard_bytes) {
            row_bytes(shape.decoder_rows, shard_bytes, 2048);
 }
 
-/* A call that sums shards has no rows. It requests marks and factors twice for each row, and a list of originals. */
+/* What the factors of sums are made of: a mark and two numbers for each row. */
+static size_t factor_bytes(struct shape shape) {
+    return block_bytes(shape.decoder_rows, 1) + 2 * block_bytes(shape.decoder_rows, 2);
+}
+
+/* A call that sums shards has no rows. It requests what the factors are made of, and a list of the rows that it sums. */
 static size_t summed_bytes(struct shape shape, size_t original_count) {
-    return block_bytes(shape.decoder_rows, 1) + 2 * block_bytes(shape.decoder_rows, 2) + block_bytes(original_count, 8);
+    return factor_bytes(shape) + block_bytes(original_count, 2);
 }
 
 /* Whether there are calls with these counts, this size, and this number of restored shards, whose memory can be
@@ -95,13 +100,12 @@ size_t rs_reconstruct_work_bytes(size_t original_count, size_t recovery_count, s
            restored_bytes(restored, shard_bytes) + UNIT - 1;
 }
 
-/* rs_update requests what sums need, and the factors of the recovery shards. Before that, it can request a copy of the
-   rooms. */
+/* rs_update requests what factors are made of, and the factors of the recovery shards. Before that, it can request a
+   copy of the rooms. */
 size_t rs_update_work_bytes(size_t original_count, size_t recovery_count) {
     if (!rs_supports_inside(original_count, recovery_count)) return 0;
     struct shape shape = shape_of(original_count, recovery_count);
-    return greatest(summed_bytes(shape, original_count) + block_bytes(recovery_count, 2),
-                    block_bytes(recovery_count, 16)) +
+    return greatest(factor_bytes(shape) + block_bytes(recovery_count, 2), block_bytes(recovery_count, 16)) +
            UNIT - 1;
 }
 

@@ -294,12 +294,13 @@ static void numbers(void) {
                 size_t encode = rows[i][2] * block_of(1, size < 4096 ? size : 4096),
                        strip = block_of(1, size < 2048 ? size : 2048);
                 size_t coded = block_of(rows[i][3], 1) + block_of(rows[i][3], 2) + rows[i][3] * strip;
-                size_t summed = block_of(rows[i][3], 1) + 2 * block_of(rows[i][3], 2) + block_of(k, 8);
+                size_t factors = block_of(rows[i][3], 1) + 2 * block_of(rows[i][3], 2);
+                size_t summed = factors + block_of(k, 2);
                 size_t summed_decode = summed + block_of(k < r ? k : r, 16),
                        vectors = restored * (64 + block_of(1, size));
                 size_t decode = lists + (coded < summed_decode ? summed_decode : coded) + vectors;
                 size_t rebuilt = block_of(rows[i][3], 1) + coded + rows[i][2] * strip;
-                size_t update = summed + block_of(r, 2);
+                size_t update = factors + block_of(r, 2);
                 if (rs_work_bytes(k, r, size, restored) != 63 + (encode < decode ? decode : encode))
                     wrong("another number");
                 if (rs_verify_work_bytes(k, r, size) != 63 + lists + (encode < coded ? coded : encode))

@@ -23,7 +23,7 @@ enum {
     RECONSTRUCT = 9,
     VERIFY = 3,
     VERIFY_FEWER = 6,
-    UPDATE = 5
+    UPDATE = 4
 };
 /* With a surplus shard, a decode restores to vectors first: the list of them, and each vector. */
 enum { LIST = 1 };
