@@ -106,12 +106,6 @@ module _ (fields : List Field) {i : ℕ} {field : Field} (h : i < length fields)
   unfolding known_fields
   unknown_at unknown = ap known_fields cut_field ∙ rw (le-ltb _ _ unknown) refl
 
-  pub bytes_at : length (flat_map field_spelling (fields_of (drop i fields)))
-      ≡ 8 + length field.bytes.items + length (flat_map field_spelling (fields_of (drop (i + 1) fields)))
-  bytes_at =
-      ap (λ (fs : List SetField). length (flat_map field_spelling fs)) cut_field
-      ∙ bytes-cons (field_of field) (fields_of (drop (i + 1) fields))
-
 pub known_past : (fields : List Field) (i : ℕ) → length fields ≤ i → known_fields (fields_of (drop i fields)) ≡ true
 unfolding known_fields
 known_past fields i h = rw (drop_all i fields h) refl

@@ -1,7 +1,7 @@
 -- A set that is created piece by piece.
 use Rattle.std.proofs.Common.{rules, ◌≡◌, ℕ, zero, suc, ◌+◌, ◌-◌, ◌<◌, ◌≤◌, ◌⊎◌, List, [], ◌++◌, length, take, Some}
 use Rattle.std.proofs.Common.{refl, sym, ap, ◌∙◌, inl, inr, arith}
-use Rattle.std.specs.Prelude.{Option}
+use Rattle.std.specs.Prelude.{Option, Bool, Result, Ok, Err, IfOk}
 use Rattle.std.specs.declared.io.Error.{Error}
 use Rattle.std.proofs.lemmas.Grind.{common_steps}
 use Rattle.std.specs.List.{flat_map}
@@ -17,13 +17,14 @@ use Rattle.rs_field.proofs.code_lemmas.Pieces.{strips-join}
 use Rattle.rs_volumes.specs.declared.coding_error.CodingError.{CodingError}
 use Rattle.rs_volumes.specs.declared.coding_error.CodingError.TheVariants as errors
 use Rattle.rs_volumes.specs.declared.creating.Shape.{Shape}
-use Rattle.rs_volumes.specs.Creating.{CreatingFails, IsCreated, MakesPiece, PieceFails}
-use Rattle.rs_volumes.specs.Hashing.{AreHashed, joined, empty_blocks}
-use Rattle.rs_volumes.proofs.Hashes.{length-joined, shard_at-joined}
+use Rattle.rs_volumes.specs.Creating.{CreatingFails, IsCreated, IsCreatedExcept, MakesPiece, PieceFails}
+use Rattle.rs_volumes.specs.Hashing.{AreHashed, joined, emptied, empty_blocks}
+use Rattle.rs_volumes.proofs.Hashes.{length-joined, shard_at-joined, joined-emptied, emptied-empty, emptied-none}
 use Rattle.rs_volumes.proofs.Strips.{take-further, shards-joined, IsCodedTo, coded-none, coded-more}
 
--- the first `start` bytes of each block were read, coded, hashed and written
-pub record IsCreatedTo (shape : Shape) (start : ℕ) (known before now : Shards)
+-- the first `start` bytes of each block were read, coded, hashed and written; nothing of a marked original block was
+-- hashed
+pub record IsCreatedTo (marks : List Bool) (shape : Shape) (start : ℕ) (known before now : Shards)
     (hashers recovery_hashers : List Sha256) : Type 0 where
   pub originals : List Shard
   pub recovery : List Shard
@@ -32,7 +33,7 @@ pub record IsCreatedTo (shape : Shape) (start : ℕ) (known before now : Shards)
   pub coded : IsCodedTo shape.original_count shape.recovery_count shape.block_bytes start originals recovery
   pub read : (i : ℕ) (block : Shard) → i < shape.original_count → known i ≡ Some block
       → shard_at originals i ≡ take start block
-  pub hashed : AreHashed hashers originals
+  pub hashed : AreHashed hashers (emptied marks originals)
   pub recovery_hashed : AreHashed recovery_hashers recovery
   pub written : (i : ℕ) → i < shape.original_count + shape.recovery_count → before i ≡ Some []
       → now i ≡ Some (shard_at (originals ++ recovery) i)
@@ -58,11 +59,11 @@ empty_block : (k r i : ℕ) → shard_at (empty_blocks k ++ empty_blocks r) i �
 empty_block k r i = search (rules, split_at, shard_at-empty)
 
 -- Before the first piece, nothing was read, coded, hashed or written.
-pub created_none : {shape : Shape} {known before : Shards} {hashers recovery_hashers : List Sha256}
+pub created_none : {marks : List Bool} {shape : Shape} {known before : Shards} {hashers recovery_hashers : List Sha256}
     → AreHashed hashers (empty_blocks shape.original_count)
     → AreHashed recovery_hashers (empty_blocks shape.recovery_count)
-    → IsCreatedTo shape 0 known before before hashers recovery_hashers
-created_none {shape = shape} one two =
+    → IsCreatedTo marks shape 0 known before before hashers recovery_hashers
+created_none {marks = marks} {shape = shape} one two =
     let k : ℕ = shape.original_count in
     let r : ℕ = shape.recovery_count in
     record {
@@ -72,7 +73,7 @@ created_none {shape = shape} one two =
       made = empty_shards r;
       coded = coded-none k r shape.block_bytes (empty_blocks k) (empty_blocks r);
       read = λ i block lt is. shard_at-empty k i;
-      hashed = one;
+      hashed = rw (sym (emptied-empty marks k)) at one;
       recovery_hashed = two;
       written = λ i lt is. is ∙ ap Some (sym (empty_block k r i));
     }
@@ -94,12 +95,13 @@ joined_block : (k r : ℕ) (xs ys ps qs : List Shard) (i : ℕ) → length xs �
 joined_block k r xs ys ps qs i a b c d lt =
     search (rules, split_at, length-joined, get_or-append, shard_at-joined, get_or-append_right)
 
-module _ {shape : Shape} {start end : ℕ} {known before now after : Shards} {h h' r r' : List Sha256} where
+module _ {marks : List Bool} {shape : Shape} {start end : ℕ} {known before now after : Shards}
+    {h h' r r' : List Sha256} where
   -- If the first `start` bytes of each block were read, coded, hashed and written, and then the piece from `start` to
   -- `end`, this holds for the first `end` bytes.
   pub created_more : IsStrip start end shape.block_bytes
-      → IsCreatedTo shape start known before now h r → MakesPiece shape start end known now after h h' r r'
-      → IsCreatedTo shape end known before after h' r'
+      → IsCreatedTo marks shape start known before now h r → MakesPiece marks shape start end known now after h h' r r'
+      → IsCreatedTo marks shape end known before after h' r'
   created_more strip old new =
       let sum : start + (end - start) ≡ end = omega (arith, strip.order) in
       record {
@@ -113,7 +115,8 @@ module _ {shape : Shape} {start end : ℕ} {known before now after : Shards} {h 
             let two : i < length new.pieces = omega (arith, lt, new.shards.length_is) in
             shard_at-joined old.originals new.pieces i one two
             ∙ rw (old.read i block lt is, new.read i block lt is) (take-further start end block strip.order);
-        hashed = new.hashed old.originals old.hashed;
+        hashed = rw (joined-emptied marks old.originals new.pieces) at
+            (new.hashed (emptied marks old.originals) old.hashed);
         recovery_hashed = new.recovery_hashed old.recovery old.recovery_hashed;
         written = λ i lt is.
             new.put i (shard_at (old.originals ++ old.recovery) i) lt (old.written i lt is)
@@ -123,11 +126,11 @@ module _ {shape : Shape} {start end : ℕ} {known before now after : Shards} {h 
             new.made i old.shards.length_is old.made.length_is new.shards.length_is new.coded.shards.length_is lt));
       }
 
-module _ {shape : Shape} (reads writes : Option Shard → ℕ → Error → Type 0) {start end : ℕ}
+module _ {marks : List Bool} {shape : Shape} (reads writes : Option Shard → ℕ → Error → Type 0) {start end : ℕ}
     {known before now : Shards} {h r : List Sha256} where
   -- If the next piece of each block fails, the creation fails so.
   pub creating_fails : (e : CodingError) → start < end → IsStrip start end shape.block_bytes
-      → IsCreatedTo shape start known before now h r → PieceFails shape reads writes start end known now e
+      → IsCreatedTo marks shape start known before now h r → PieceFails shape reads writes start end known now e
       → CreatingFails shape reads writes known before e
   creating_fails errors.Memory order strip old fails = tt
   creating_fails (errors.Read i e) order strip old fails = (fails.0, (end, strip.inside, fails.1))
@@ -158,13 +161,14 @@ module _ {shape : Shape} (reads writes : Option Shard → ℕ → Error → Type
   creating_fails (errors.Missing n) order strip old fails = fails
   creating_fails (errors.Digest i) order strip old fails = fails
 
-module _ {shape : Shape} {start : ℕ} {known before now : Shards} {h r : List Sha256} {digests : List ℕ} where
+module _ {marks : List Bool} {shape : Shape} {start : ℕ} {known before now : Shards} {h r : List Sha256}
+    {digests : List ℕ} where
   -- If all bytes of each block were read, coded, hashed and written, the set is created.
   pub created_all : start ≡ shape.block_bytes
-      → IsCreatedTo shape start known before now h r
+      → IsCreatedTo marks shape start known before now h r
       → ((blocks : List Shard) → AreHashed h blocks → (others : List Shard) → AreHashed r others
       → digests ≡ flat_map sha256 blocks ++ flat_map sha256 others)
-      → IsCreated shape known before now digests
+      → IsCreatedExcept marks shape known before now digests
   created_all ends done hashed =
       let shards = rw ends at done.shards in
       record {
@@ -176,6 +180,27 @@ module _ {shape : Shape} {start : ℕ} {known before now : Shards} {h r : List S
             (λ byte lt. let is = done.coded.strips byte (rw ends lt) in
             (is.0, is.1, is.2, is.3, is.4, is.6));
         read = λ i block lt is len. done.read i block lt is ∙ take_all start block (omega (arith, ends, len));
-        digests_are = hashed done.originals done.hashed done.recovery done.recovery_hashed;
+        digests_are = hashed (emptied marks done.originals) done.hashed done.recovery done.recovery_hashed;
         written = done.written;
       }
+
+-- Without marks, the digests of all blocks are computed.
+pub created_whole : {shape : Shape} {known before now : Shards} {digests : List ℕ}
+    → IsCreatedExcept [] shape known before now digests → IsCreated shape known before now digests
+created_whole {digests = digests} done =
+    record {
+      originals = done.originals;
+      recovery = done.recovery;
+      shards = done.shards;
+      coded = done.coded;
+      read = done.read;
+      digests_are = done.digests_are
+          ∙ ap (λ (bs : List Shard). flat_map sha256 bs ++ flat_map sha256 done.recovery)
+          (emptied-none done.originals);
+      written = done.written;
+    }
+
+-- What follows of each value follows of the value of a result.
+pub of_value : {T E : Type 0} {P Q : T → Type 0} (r : Result T E) → ((v : T) → P v → Q v) → IfOk r P → IfOk r Q
+of_value (Ok v) more is = more v is
+of_value (Err e) more is = tt

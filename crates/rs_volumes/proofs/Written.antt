@@ -3,9 +3,9 @@ use Rattle.std.proofs.Common.{rules, ◌≡◌, ◌≢◌, ℕ, ◌+◌, ◌<◌
 use Rattle.std.proofs.Common.{get_or, take, refl, sym, ap, subst, ◌∙◌, inl, inr, append_assoc, arith}
 use Rattle.std.specs.Prelude.{if◌then◌else◌}
 use Rattle.std.specs.Global.{Vec}
-use Rattle.std.proofs.lemmas.Bool.{ne_eqb, cases_lt}
+use Rattle.std.proofs.lemmas.Bool.{ne_eqb}
 use Rattle.std.proofs.lemmas.Bool.Decides.{eqb_tells}
-use Rattle.std.proofs.lemmas.List.{append-nil, map-append, take_more, get_or_past}
+use Rattle.std.proofs.lemmas.List.{append-nil, map-append, take_more}
 use Rattle.rs_field.specs.code.Column.{Shard}
 use Rattle.rs_field.specs.code.OneCall.{Items}
 use Rattle.rs_volumes.specs.Holding.{Adds}
@@ -94,13 +94,3 @@ module _ (wanted : List Bool) (piece : ℕ → Shard) {n : ℕ} {held now : ℕ 
         ];
         rest = λ i le. others i (omega arith) ∙ so_far.rest i (omega arith);
       }
-
-  -- all wanted blocks got their pieces
-  pub got_all : length wanted ≤ n → Gets wanted piece held now
-  got_all all i is =
-      elim (cases_lt i n) [
-        | inl below ↦ so_far.done i below is
-        | inr past ↦
-            let none : get_or wanted i false ≡ false = get_or_past wanted i false (omega (arith, past, all)) in
-            absurd (let no : ⊥ = cc in no)
-      ]

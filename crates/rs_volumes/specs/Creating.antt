@@ -1,5 +1,5 @@
 -- What the creation of a set guarantees.
-use Rattle.std.specs.Prelude.{◌≡◌, ℕ, ◌+◌, ◌-◌, ◌<◌, List, [], ◌++◌, length, All, Option, Some, Err}
+use Rattle.std.specs.Prelude.{◌≡◌, ℕ, ◌+◌, ◌-◌, ◌<◌, Bool, List, [], ◌++◌, length, All, Option, Some, Err}
 use Rattle.std.specs.declared.io.Error.{Error}
 use Rattle.std.specs.List.{between, flat_map}
 use Rattle.sha2.specs.Sha256.{sha256}
@@ -14,7 +14,7 @@ use Rattle.rs_volumes.specs.declared.coding_error.CodingError.{CodingError}
 use Rattle.rs_volumes.specs.declared.coding_error.CodingError.TheVariants as errors
 use Rattle.rs_volumes.specs.declared.creating.Shape.{Shape}
 use Rattle.rs_volumes.specs.Failing.{FailsToRead, FailsToWrite}
-use Rattle.rs_volumes.specs.Hashing.{AreHashed, joined}
+use Rattle.rs_volumes.specs.Hashing.{AreHashed, joined, emptied}
 
 -- a set was created from the blocks that were read: there are k original blocks, r recovery blocks of these, and the
 -- digest of each block
@@ -30,6 +30,19 @@ pub record IsCreated (shape : Shape) (known before after : Shards) (digests : Li
   -- if the sink is known to hold nothing of a block before, it is known to hold the whole block afterwards
   pub written : (i : ℕ) → i < shape.original_count + shape.recovery_count → before i ≡ Some []
       → after i ≡ Some (shard_at (originals ++ recovery) i)
+
+-- a set was created as `IsCreated` says, but the digest of an original block that is marked is that of no bytes
+pub record IsCreatedExcept (marks : List Bool) (shape : Shape) (known before after : Shards) (digests : List ℕ) : Type 0
+  where
+    pub originals : List Shard
+    pub recovery : List Shard
+    pub shards : AreShards shape.original_count shape.block_bytes originals
+    pub coded : AreRecovery (default_of shape.original_count shape.recovery_count shape.block_bytes) originals recovery
+    pub read : (i : ℕ) (block : Shard) → i < shape.original_count → known i ≡ Some block
+        → length block ≡ shape.block_bytes → shard_at originals i ≡ block
+    pub digests_are : digests ≡ flat_map sha256 (emptied marks originals) ++ flat_map sha256 recovery
+    pub written : (i : ℕ) → i < shape.original_count + shape.recovery_count → before i ≡ Some []
+        → after i ≡ Some (shard_at (originals ++ recovery) i)
 
 -- the pieces of the blocks below `count` that a source returned: the bytes from `start` on, up to but without `end`
 pub record ArePieces (count start end : ℕ) (known : Shards) (pieces : List Shard) : Type 0 where
@@ -73,8 +86,9 @@ PieceFails shape reads writes start end known before (errors.Code e) =
 PieceFails shape reads writes start end known before (errors.Missing n) = ⊥
 PieceFails shape reads writes start end known before (errors.Digest i) = ⊥
 
--- a piece of each block was read, coded, hashed and written: the bytes from `start` on, up to but without `end`
-pub record MakesPiece (shape : Shape) (start end : ℕ) (known before after : Shards)
+-- a piece of each block was read, coded, hashed and written: the bytes from `start` on, up to but without `end`; nothing
+-- of a marked original block was hashed
+pub record MakesPiece (marks : List Bool) (shape : Shape) (start end : ℕ) (known before after : Shards)
     (hashers new_hashers recovery_hashers new_recovery_hashers : List Sha256) : Type 0 where
   pub pieces : List Shard
   pub made : List Shard
@@ -82,7 +96,8 @@ pub record MakesPiece (shape : Shape) (start end : ℕ) (known before after : Sh
   pub coded : AreRecovery (default_of shape.original_count shape.recovery_count (end - start)) pieces made
   pub read : (i : ℕ) (block : Shard) → i < shape.original_count → known i ≡ Some block
       → shard_at pieces i ≡ between start end block
-  pub hashed : (blocks : List Shard) → AreHashed hashers blocks → AreHashed new_hashers (joined blocks pieces)
+  pub hashed : (blocks : List Shard) → AreHashed hashers blocks → AreHashed new_hashers
+      (joined blocks (emptied marks pieces))
   pub recovery_hashed : (blocks : List Shard) → AreHashed recovery_hashers blocks
       → AreHashed new_recovery_hashers (joined blocks made)
   pub put : (i : ℕ) (block : Shard) → i < shape.original_count + shape.recovery_count → before i ≡ Some block

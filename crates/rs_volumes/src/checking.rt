@@ -136,7 +136,6 @@ pub fn unit_of(description: &Description) -> u64
     }
 }
 
-// Returns whether an entry of this kind has bytes.
 #[tactic(auto, unfolding(crate::specs::Sound::is_file))]
 fn is_file(kind: Kind) -> bool
     ensures { result ≡ is_file kind }
@@ -148,7 +147,7 @@ fn is_file(kind: Kind) -> bool
     }
 }
 
-// Returns whether an entry of this kind may have this target.
+// Exactly the links have a target. No path has a zero byte.
 #[tactic(auto, unfolding(crate::specs::Sound::allows_target))]
 fn allows_target(kind: Kind, target: &[u8]) -> bool
     ensures { result ≡ allows_target kind target.now }
@@ -209,7 +208,7 @@ fn check_entries(entries: &[Entry]) -> Result<(), Fault>
     Ok(())
 }
 
-// Returns whether this program may read the fields: each kind is below 2^31.
+// A field whose kind is 2^31 or more must be known to the reader, and this program knows none.
 fn has_known_fields(fields: &[Field]) -> bool
     ensures { result ≡ known_fields (fields_of fields.now) }
 {
@@ -221,8 +220,7 @@ fn has_known_fields(fields: &[Field]) -> bool
     true
 }
 
-// Returns whether blocks of this size are larger than data of `end` bytes. Blocks of at most 4096 bytes never are, and
-// the end of the data is rounded up to a multiple of 4096.
+// Blocks of at most 4096 bytes are never too large, and the end of the data is rounded up to a multiple of 4096.
 #[tactic(auto, unfolding(crate::specs::Sound::is_large))]
 fn is_large(block_bytes: u64, end: u64) -> bool
     requires { end < 2 ^ 62 }
@@ -303,8 +301,7 @@ pub fn fits(description: &Description) -> bool
     has_short_names(entries) && has_short_fields(description.fields.as_slice())
 }
 
-// Returns whether the permission bits of each entry are below 2^16, and its name and target are shorter than 2^16
-// bytes.
+// A description has 16 bits for each of these three numbers.
 fn has_short_names(entries: &[Entry]) -> bool
     ensures { IsTrue result ↔ All HasShortNames entries.now }
 {
@@ -316,7 +313,7 @@ fn has_short_names(entries: &[Entry]) -> bool
     true
 }
 
-// Returns whether the fields have fewer than 2^32 bytes in all.
+// A description has 32 bits for this number. The loop counts down, so no sum can overflow.
 fn has_short_fields(fields: &[Field]) -> bool
     ensures { IsTrue result ↔ (length (flat_map field_spelling (fields_of fields.now)) < 2 ^ 32) }
 {

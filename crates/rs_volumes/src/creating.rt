@@ -2,7 +2,7 @@
 ghost use Rattle.std.specs.Prelude.{◌≡◌, ℕ, ◌+◌, ◌-◌, ◌<◌, ◌≤◌, ◌%◌, ◌^◌, ◌++◌, ◌⊎◌, Some, IfOk, IfErr, OnOk, length};
 ghost use Rattle.std.specs.Prelude.{map};
 ghost use Rattle.rs_field.specs.code.Column.{Shard, shard_at};
-ghost use Rattle.rs_volumes.specs.Creating.{ArePieces, CreatingFails, IsCreated, MakesPiece, PieceFails};
+ghost use Rattle.rs_volumes.specs.Creating.{ArePieces, CreatingFails, IsCreated, IsCreatedExcept, MakesPiece, PieceFails};
 ghost use Rattle.rs_volumes.specs.Failing.{ReadingFails, WritingFails};
 
 use crate::coding_error::CodingError;
@@ -24,9 +24,21 @@ pub struct Shape {
     pub block_bytes: usize,
 }
 
-// One hasher for each original block and for each recovery block.
+/// How many bytes of each block are coded at a time, and which digests are not computed.
+#[derive(Clone, Copy)]
+pub struct Work<'a> {
+    /// The number of bytes of each block that are coded at a time.
+    pub piece_bytes: usize,
+    /// For each original block, whether its digest is known, so that it is not computed. If the list is too short, the
+    /// digests of the other blocks are computed.
+    pub known: &'a [bool],
+}
+
+// One hasher for each original block and for each recovery block. Nothing is added to the hasher of an original block
+// that is marked.
 #[derive(Drop)]
-struct Hashers {
+struct Hashers<'a> {
+    marks: &'a [bool],
     originals: Vec<Sha256>,
     recovery: Vec<Sha256>,
 }
@@ -67,7 +79,39 @@ pub fn create<S: BlockSource, W: BlockSink>(
     ensures others { (i : ℕ) → shape.original_count + shape.recovery_count ≤ i
         → W.written sink.new i ≡ W.written sink.old i }
 {
+    let work = Work {
+        piece_bytes,
+        known: &[],
+    };
+    create_except(alloc, shape, work, engine, source, sink)
+}
+
+/// Does what [`create`] does, `work.piece_bytes` bytes of each block at a time, and does not compute the digests of the
+/// original blocks that `work.known` marks. Instead of each of these digests it returns the SHA-256 of no bytes.
+///
+/// # Errors
+///
+/// Fails for a reason of [`create`].
+pub fn create_except<S: BlockSource, W: BlockSink>(
+    alloc: Global,
+    shape: Shape,
+    work: Work<'_>,
+    engine: DefaultEngine<'_>,
+    source: &mut S,
+    sink: &mut W,
+) -> Result<Vec<u8>, CodingError>
+    requires some { 0 < work.piece_bytes }
+    requires chunks { work.piece_bytes % 64 ≡ 0 }
+    ensures created { IfOk result (λ digests. IsCreatedExcept work.entry.known.now shape
+        (S.blocks source.old) (W.written sink.old) (W.written sink.new) digests.items) }
+    ensures fails { IfErr result (CreatingFails shape S.read_may_fail W.write_may_fail
+        (S.blocks source.old) (W.written sink.old)) }
+    ensures others { (i : ℕ) → shape.original_count + shape.recovery_count ≤ i
+        → W.written sink.new i ≡ W.written sink.old i }
+{
+    let piece_bytes = work.piece_bytes;
     let mut hashers = Hashers {
+        marks: work.known,
         originals: new_hashers(alloc, shape.original_count)?,
         recovery: new_hashers(alloc, shape.recovery_count)?,
     };
@@ -92,16 +136,17 @@ fn create_piece<S: BlockSource, W: BlockSink>(
     engine: DefaultEngine<'_>,
     source: &mut S,
     sink: &mut W,
-    hashers: &mut Hashers,
+    hashers: &mut Hashers<'_>,
 ) -> Result<(), CodingError>
     requires order { start < end }
     requires originals { length hashers.old.originals.items ≡ shape.original_count }
     requires recovery { length hashers.old.recovery.items ≡ shape.recovery_count }
+    ensures marks { hashers.new.marks.now ≡ hashers.old.marks.now }
     ensures originals { length hashers.new.originals.items ≡ shape.original_count }
     ensures recovery { length hashers.new.recovery.items ≡ shape.recovery_count }
     ensures kept { OnOk result (S.blocks source.new ≡ S.blocks source.old) }
-    ensures made { OnOk result (MakesPiece shape start end (S.blocks source.old)
-        (W.written sink.old) (W.written sink.new) hashers.old.originals.items
+    ensures made { OnOk result (MakesPiece hashers.old.marks.now shape start end
+        (S.blocks source.old) (W.written sink.old) (W.written sink.new) hashers.old.originals.items
         hashers.new.originals.items hashers.old.recovery.items hashers.new.recovery.items) }
     ensures fails { IfErr result (PieceFails shape S.read_may_fail W.write_may_fail start end
         (S.blocks source.old) (W.written sink.old)) }
@@ -116,8 +161,8 @@ fn create_piece<S: BlockSource, W: BlockSink>(
         pieces.as_slice(),
         engine,
     )?;
-    absorb(&mut hashers.originals, pieces.as_slice());
-    absorb(&mut hashers.recovery, made.as_slice());
+    absorb(&mut hashers.originals, hashers.marks, pieces.as_slice());
+    absorb(&mut hashers.recovery, &[], made.as_slice());
     put_pieces(sink, 0, start, pieces.as_slice())?;
     put_pieces(sink, shape.original_count, start, made.as_slice())?;
     Ok(())

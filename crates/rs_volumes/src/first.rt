@@ -143,7 +143,6 @@ fn description_of(alloc: Global, bytes: &[u8]) -> Result<Description, ReadError>
     })
 }
 
-// Returns whether bytes are UTF-8.
 fn is_text(bytes: &[u8]) -> bool
     ensures { result ≡ is_utf8 bytes.now }
 {
@@ -153,7 +152,7 @@ fn is_text(bytes: &[u8]) -> bool
     }
 }
 
-// Returns whether a name is allowed: it is allowed in version 2, and is UTF-8.
+// Version 1 allows the names of version 2 that are UTF-8.
 #[tactic(auto, unfolding(crate::specs::First::is_first_name))]
 fn is_first_name(name: &[u8]) -> bool
     ensures { result ≡ is_first_name name.now }
@@ -161,7 +160,7 @@ fn is_first_name(name: &[u8]) -> bool
     is_name(name) && is_text(name)
 }
 
-// Returns whether the name `one` comes before the name `other` in the order of their bytes.
+// In version 1, `/` has its place among the other bytes. In version 2 it is the smallest one (`is_before`).
 #[tactic(auto, using(crate::proofs::FirstLemmas::steps_in_order))]
 fn comes_before(one: &[u8], other: &[u8]) -> bool
     ensures { result ≡ comes_before one.now other.now }
@@ -198,7 +197,7 @@ fn check_files(files: &[Entry]) -> Result<(), Fault>
     Ok(())
 }
 
-// Returns whether the files have exactly `count` blocks.
+// The loop counts down, so no sum can overflow.
 fn fills(block_bytes: u64, count: u64, files: &[Entry]) -> bool
     requires block { 0 < block_bytes }
     requires block_fits { block_bytes < 2 ^ 63 }

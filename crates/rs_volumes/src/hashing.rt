@@ -1,10 +1,10 @@
 //! Computes the digests of many blocks, which are added piece by piece.
 ghost use Rattle.std.specs.Prelude.{◌≡◌, ◌≢◌, ℕ, ◌<◌, ◌++◌, slice_index_or, List, IfOk, OnOk, length, map, flat_map};
-ghost use Rattle.rs_field.specs.code.Column.{Shard};
+ghost use Rattle.rs_field.specs.code.Column.{Shard, shard_at};
 ghost use Rattle.sha2.specs.Hashers.{Holds256};
 ghost use Rattle.sha2.specs.Sha256.{sha256};
 ghost use Rattle.sha2.specs.declared.Sha256.{Sha256 as Hasher};
-ghost use Rattle.rs_volumes.specs.Hashing.{AreHashed, joined, empty_blocks};
+ghost use Rattle.rs_volumes.specs.Hashing.{AreHashed, joined, emptied, empty_blocks};
 
 use sha2::{Digest, Sha256};
 use std::alloc::{AllocError, Global};
@@ -24,16 +24,30 @@ pub fn new_hashers(alloc: Global, count: usize) -> Result<Vec<Sha256>, AllocErro
     Ok(hashers)
 }
 
-/// Adds the next piece of each block to the hasher of this block.
-pub fn absorb(hashers: &mut Vec<Sha256>, pieces: &[Vec<u8>])
+/// Adds the next piece of each block to the hasher of this block. Nothing is added for the blocks that `marks` marks. If
+/// the list is too short, the other blocks are not marked.
+pub fn absorb(hashers: &mut Vec<Sha256>, marks: &[bool], pieces: &[Vec<u8>])
     requires { length hashers.old.items ≡ length pieces.now }
     ensures hashed { (blocks : List Shard) → AreHashed hashers.old.items blocks
-        → AreHashed hashers.new.items (joined blocks (map (λ piece. piece.items) pieces.now)) }
+        → AreHashed hashers.new.items
+        (joined blocks (emptied marks.now (map (λ piece. piece.items) pieces.now))) }
     ensures number { length hashers.new.items ≡ length hashers.old.items }
 {
     for index in 0..pieces.len() {
-        hashers[index].update(pieces[index].as_slice());
+        hashers[index].update(unmarked_piece(marks, pieces, index));
     }
+}
+
+// Returns the piece with an index, or no bytes if the index is marked.
+fn unmarked_piece<'a>(marks: &[bool], pieces: &'a [Vec<u8>], index: usize) -> &'a [u8]
+    requires { index < length pieces.now }
+    ensures { result.now ≡ shard_at (emptied marks.now (map (λ piece. piece.items) pieces.now)) index }
+{
+    let piece = pieces[index].as_slice();
+    if index >= marks.len() {
+        return piece;
+    }
+    if marks[index] { &[] } else { piece }
 }
 
 /// Appends the digest of each block to `digests`. Then each hasher starts a new block.

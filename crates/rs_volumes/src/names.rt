@@ -2,7 +2,7 @@
 ghost use Rattle.std.specs.Prelude.{◌≡◌, [], false};
 ghost use Rattle.rs_volumes.specs.Names.{is_part, has_parts, rank, is_before, is_folder_of};
 
-// Returns whether a part of a name is allowed between two slashes: it is not empty, `.` or `..`.
+// The other parts could lead out of the folder into which files are restored.
 #[tactic(auto, unfolding(crate::specs::Names::is_part))]
 fn is_part(part: &[u8]) -> bool
     ensures { result ≡ is_part part.now }
@@ -30,7 +30,7 @@ pub fn has_parts(name: &[u8]) -> bool
     is_part(&name[start..])
 }
 
-// Returns the place of a byte in the order of bytes: `/` is the smallest one.
+// `/` is the smallest byte, so the entries of a folder come right after the folder.
 #[tactic(auto, unfolding(crate::specs::Names::rank))]
 fn rank(byte: u8) -> u16
     ensures { result ≡ rank byte }

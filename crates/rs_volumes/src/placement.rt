@@ -33,7 +33,6 @@ struct Extent {
     end: u64,
 }
 
-// Returns the place of the bytes of a file that lie in a block.
 #[tactic(auto, unfolding(crate::specs::Places::place_in))]
 fn place_in(block_bytes: u64, extent: &Extent, block: u64) -> Place
     requires fits { block * block_bytes + block_bytes < 2 ^ 64 }

@@ -34,7 +34,7 @@ pub struct RecordHead {
     pub set: [u8; 32],
 }
 
-// Returns the check of the bytes before it: the first 8 bytes of their SHA-256.
+// The check at the end of a record is the first 8 bytes of the SHA-256 of what is before it.
 #[tactic(auto, unfolding(crate::specs::Records::check_of))]
 fn check_of(front: &[u8]) -> [u8; 8]
     ensures { result ≡ check_of front.now }

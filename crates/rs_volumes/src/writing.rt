@@ -10,7 +10,6 @@ use crate::description::{Description, Entry, Field, Kind};
 use crate::opening::{Opening, put_opening};
 use std::alloc::{AllocError, Global};
 
-// Returns the number of a kind.
 #[tactic(auto, unfolding(crate::specs::Description::kind_number))]
 fn number_of(kind: Kind) -> u16
     ensures { result ≡ kind_number kind }
@@ -80,7 +79,6 @@ fn put_field(out: &mut Vec<u8>, field: &Field) -> Result<(), AllocError>
     Ok(())
 }
 
-// Returns the bytes of fields, one after another.
 fn bytes_of(alloc: Global, fields: &[Field]) -> Result<Vec<u8>, AllocError>
     requires { All (λ field. length field.bytes.items < 2 ^ 32) fields.now }
     ensures { IfOk result (λ v. v.items ≡ flat_map field_spelling (fields_of fields.now)) }

@@ -3,6 +3,7 @@ use Rattle.std.specs.Prelude.{map}
 use Rattle.std.specs.Global.{Vec}
 use Rattle.rs_field.specs.code.Column.{Shard}
 use Rattle.rs_volumes.proofs.Coded.{coded_sized, puts_from, put_both}
+use Rattle.rs_volumes.proofs.Hashes.{emptied-none}
 use Rattle.rs_volumes.proofs.creating.create_piece.Goals as goal
 
 pub returns-clause-made : goal.returns-clause-made
@@ -23,6 +24,7 @@ returns-clause-made g c =
       coded = both.1;
       read = c.in_ok-pieces.ensures.are.bytes;
       hashed = λ blocks is. rw c.as_slice-2.ensures.value at (c.absorb.ensures.hashed blocks is);
-      recovery_hashed = λ blocks is. rw c.as_slice-3.ensures.value at (c.absorb-2.ensures.hashed blocks is);
+      recovery_hashed = λ blocks is. rw (emptied-none made) at
+          (rw c.as_slice-3.ensures.value at (c.absorb-2.ensures.hashed blocks is));
       put = put_both both.0.length_is both.1.shards.length_is first second;
     }
