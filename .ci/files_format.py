@@ -10,7 +10,7 @@ import shutil
 import subprocess
 
 import files_writer
-from files_common import PROGRAM, RANDOM, TOP, Folder, flipped, info, left_of, read, run, spans, write, wrong
+from files_common import PROGRAM, RANDOM, TOP, Folder, flipped, info, left_of, printed, read, run, spans, write, wrong
 from files_writer import FOLDER, LINK, Item, Made
 
 HAS_PROGRAM = os.environ.get("RS_READERS") != "python"
@@ -322,6 +322,29 @@ def all_entries():
                 shutil.rmtree(at("new"))
 
 
+def longest_name():
+    """A name of 65,535 bytes, the longest one in a description, is read. No file system has room for it, so its file is named as one that cannot be
+    restored, and the others are restored."""
+    if not HAS_PROGRAM:
+        return
+    name = b"/".join([b"d" * 255] * 256)[:65_535]
+    items = sorted_items(Item(name, b"long"), Item(b"a", RANDOM.randbytes(200)), Item(b"z", b""))
+    for version in (1, 2):
+        with Folder() as at:
+            write(at("set.rsv"), Made(items, 64, 9, version=version).volume())
+            if [file["name"].encode() for file in info(at("set.rsv"))["files"]] != [b"a", name, b"z"] or len(name) != 65_535:
+                wrong(f"info of a name of 65,535 bytes in version {version}")
+            found = json.loads(printed("verify", at("set.rsv"), "--json", status=1)[0])
+            if {(file["name"].encode(), file["state"]) for file in found["files"]} != {(b"a", "missing"), (name, "missing"), (b"z", "missing")}:
+                wrong(f"verify of a name of 65,535 bytes in version {version}")
+            for words, folder in ((("restore", at("set.rsv"), "--to", at("new")), "new"), (("repair", at("set.rsv")), "")):
+                found = json.loads(printed(*words, "--json", status=4)[0])
+                if [file["name"].encode() for file in found["failed"]] != [name] or {file["name"] for file in found["restored"]} != {"a", "z"}:
+                    wrong(f"{words[0]} of a name of 65,535 bytes in version {version}: {found}")
+                if read(at(folder, "a")) != items[0].data or read(at(folder, "z")) != b"" or len(os.listdir(at(folder))) != (2 if folder else 4):
+                    wrong(f"{words[0]} of a name of 65,535 bytes in version {version} leaves {os.listdir(at(folder))}")
+
+
 def sets_by_rules():
     """Yields a name, options of `Made` and whether the set keeps all rules of version 2."""
     two = [Item(b"a", bytes(100)), Item(b"b", b"x")]
@@ -585,4 +608,4 @@ def mutants():
         wrong(f"{sum(found)} of {count} changed volumes were restored whole: these are no good mutants")
 
 
-TESTS = (flipped_bits, moved_bytes, damaged_places, whole_copies, joined_volumes, all_entries, rules, no_zeros, first_version, first_lengths, first_repaired, mutants)
+TESTS = (flipped_bits, moved_bytes, damaged_places, whole_copies, joined_volumes, all_entries, longest_name, rules, no_zeros, first_version, first_lengths, first_repaired, mutants)

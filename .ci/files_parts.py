@@ -5,6 +5,7 @@ import json
 import os
 import resource
 import struct
+import signal
 import subprocess
 import time
 
@@ -130,8 +131,32 @@ def leftovers():
                 wrong(f"{words[0]} with the part of a volume")
 
 
+def collided(at, whole):
+    """Begins a run that writes the volume `a.rsv`, stops it as soon as the part of the volume is there, and begins another run, which must fail.
+    Returns whether the first run was stopped in time. Then it ends with the volume `whole`."""
+    first = subprocess.Popen([PROGRAM, "create", at("a"), "-q", "--force"], stderr=subprocess.PIPE)
+    while first.poll() is None and not os.path.exists(at("a.rsv") + PART):
+        pass
+    if first.returncode is None:
+        first.send_signal(signal.SIGSTOP)
+        os.waitid(os.P_PID, first.pid, os.WEXITED | os.WSTOPPED | os.WNOWAIT)
+    is_met = os.path.exists(at("a.rsv") + PART)
+    if is_met:
+        error = printed("create", at("a"), "-q", "--force", status=4)[1]
+        if not error.startswith(f"rs_files: {at('a.rsv')}{PART}: another rs_files is writing this "):
+            wrong(f"a run that begins while another one writes the volume: {error}")
+        if read(at("a.rsv")) != whole or not os.path.exists(at("a.rsv") + PART):
+            wrong("a run that begins while another one writes the volume changes it")
+    if first.returncode is None:
+        first.send_signal(signal.SIGCONT)
+    if first.communicate()[1] or first.returncode or tree(at()) != {"a": read(at("a")), "a.rsv": whole}:
+        wrong(f"a run that was stopped does not make the volume: {first.returncode}")
+    return is_met
+
+
 def two_runs():
-    """Two runs that write the same volume at once: one of them succeeds, or both do one after the other. The one that fails says why."""
+    """Two runs that write the same volume at once: one of them succeeds, or both do one after the other. The one that fails says why. A run that
+    begins while another one is stopped in the middle fails always, and the other one then makes the volume."""
     with Folder() as at:
         write(at("a"), RANDOM.randbytes(2_000_000))
         run("create", at("a"), "-q")
@@ -144,6 +169,13 @@ def two_runs():
                     wrong(f"one of several runs at once: {status} {error}")
             if all(status for _, status in ends) or tree(at()) != {"a": read(at("a")), "a.rsv": whole}:
                 wrong(f"several runs at once: {ends} {sorted(tree(at()))}")
+        collisions = 0
+        for _ in range(100):
+            collisions += collided(at, whole)
+            if collisions == 3:
+                break
+        else:
+            wrong(f"only {collisions} of 100 runs were stopped while they wrote a volume")
 
 
 def folders_synced():

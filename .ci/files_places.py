@@ -321,15 +321,9 @@ def spread_volumes():
             wrong("verify of whole volumes, with -q or --json")
         # The last volume has the blocks 3, 7, 11 and 15, of which the blocks from 14 on are recovery blocks.
         words = "3 of 14 original blocks and 1 of 5 recovery blocks are not in these volumes: restore can still make all files\n"
-        # Lost blocks are also searched in other files of the folder, so these volumes are put elsewhere.
-        os.mkdir(at("far"))
-        os.rename(volumes[3], at("far", "4"))
         if printed("verify", *volumes[:3], status=1) != (words, ""):
             wrong(f"verify of three volumes: {printed('verify', *volumes[:3], status=1)}")
-        os.rename(volumes[2], at("far", "3"))
         out, error = printed("verify", *volumes[:2], status=3)
-        os.rename(at("far", "3"), volumes[2])
-        os.rename(at("far", "4"), volumes[3])
         if out or "cannot be restored without" not in error:
             wrong(f"verify of two volumes: {out} {error}")
         whole = read(volumes[1])
@@ -365,7 +359,7 @@ def damaged_blocks():
             for place in places:
                 damaged[place] ^= 1
             wanted = f"{volumes[1]}: the volume has {number}\n{words}"
-            for command, status, more in (("repair", 0, f"written again: {volumes[1]}\n"), ("verify", 1, "")):
+            for command, status, more in (("repair", 0, f"written again: {volumes[1]}\nkept: {volumes[1]}.damaged\n"), ("verify", 1, "")):
                 write(volumes[1], bytes(damaged))
                 found = printed(command, *volumes, "--folder", at(), status=status)
                 if found != (wanted + more, ""):

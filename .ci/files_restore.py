@@ -4,8 +4,9 @@ import json
 import os
 import re
 import shutil
+import subprocess
 
-from files_common import RANDOM, TOP, Folder, info, preloaded, printed, read, run, tree, write, wrong
+from files_common import PROGRAM, RANDOM, TOP, Folder, info, preloaded, printed, read, run, tree, write, wrong
 from files_writer import Item, Made
 
 CREATE = ("--block", "512", "-q")
@@ -242,13 +243,17 @@ def quick():
         state = os.stat(at("set", "a"))
         write(at("set", "a"), rotated(files["a"]))
         os.utime(at("set", "a"), ns=(state.st_atime_ns, state.st_mtime_ns))
-        log = {name: os.stat(at("set", name)).st_atime_ns for name in files}
-        run("verify", at("set.rsv"), "--quick")
-        unreadable = preloaded("change_reads", READ_NAME="/set/b", READ_FROM=0, READ_TO=1000)
-        if unreadable is not None and printed("verify", at("set.rsv"), "--quick", "-q", env=unreadable) != ("", ""):
-            wrong("verify --quick reads a file")
-        if {name: os.stat(at("set", name)).st_atime_ns for name in files} != log:
-            wrong("verify --quick reads a file")
+        for name, data in (*files.items(), ("a", rotated(files["a"]))):
+            # The first read of a file would append a byte to it.
+            growing = preloaded("change_reads", READ_NAME="/set/" + name, READ_GROWS=1)
+            if growing is not None and (printed("verify", at("set.rsv"), "--quick", "-q", env=growing) != ("", "") or os.path.getsize(at("set", name)) != len(data)):
+                wrong(f"verify --quick reads the file {name}")
+        for path in (at("set", "b.rs_files.part"), at("set.rsv.rs_files.part2")):
+            write(path, b"")
+            warned = printed("verify", at("set.rsv"), "--quick", "-q")[1]
+            if not warned.startswith(f"rs_files: {path}: warning: an rs_files that was killed left this file") or warned.count("\n") != 1:
+                wrong(f"verify --quick does not name the part {path}: {warned!r}")
+            os.remove(path)
         state = os.stat(at("set", "b"))
         os.utime(at("set", "b"), ns=(state.st_atime_ns, state.st_mtime_ns + 1))
         os.remove(at("set", "link"))
@@ -264,6 +269,60 @@ def quick():
             wrong(f"verify --quick says {out!r}")
         run("verify", at("set.rsv"), "--quick", "--only", "set/a")
         run("verify", at("set.rsv"), "--quick", "--search", at(), status=2)
+
+
+def nothing_to_do():
+    """`restore` of a set that is whole says that nothing was written, and writes nothing."""
+    with Folder() as at:
+        made(at, {"a": RANDOM.randbytes(900), "b": RANDOM.randbytes(900)}, "-r", "100%")
+        for more in ((), ("--only", "set/a")):
+            out, error = printed("restore", at("set.rsv"), "--to", at("new"), *more)
+            if out.splitlines()[-1] != f"nothing was written into {at('new')}, because nothing is damaged or missing" or error or os.path.exists(at("new")):
+                wrong(f"restore of a whole set {more} says {(out, error)}")
+        if printed("restore", at("set.rsv"), "--to", at("new"), "-q") != ("", "") or object_of("restore", at("set.rsv"), "--to", at("new"))["restored"]:
+            wrong("restore of a whole set with -q or --json")
+        write(at("set", "b"), b"")
+        if "nothing was written" in printed("restore", at("set.rsv"), "--to", at("new"))[0] or not os.path.exists(at("new", "set", "b")):
+            wrong("restore of a damaged file says that nothing was written")
+
+
+def left_out():
+    """Names that are not UTF-8, and links with such targets, are in the list `left_out` of --json, with what else was left out."""
+    with Folder() as at:
+        write(at("set", "a"), b"1")
+        os.mkfifo(at("set", "pipe"))
+        write(os.fsencode(at("set", "deep")) + b"/\xff", b"2")
+        write(os.fsencode(at("set", "deep")) + b"/\xfe", b"2")
+        os.symlink(b"\xff", os.fsencode(at("set", "link")))
+        named = [{"path": at("set", "deep"), "reason": "2 names in this folder left out, because this is not UTF-8"},
+                 {"path": at("set", "link"), "reason": "the target of this symbolic link is not UTF-8: it is left out"},
+                 {"path": at("set", "pipe"), "reason": "this is a pipe, a socket or a device"}]
+        for words in (("create", at("set")), ("update", at("set.rsv")), ("split", at("set"), "-n", "2", "-o", at("parts"))):
+            for more, status in (((), 4), (("--skip-names",), 0)):
+                force = ("--force",) if more and words[0] != "update" else ()
+                found = object_of(*words, *more, *force, status=status)
+                if sorted(found["left_out"], key=lambda left: left["path"]) != named or found["files"] != 1:
+                    wrong(f"{words} --json of names that are not UTF-8: {found}")
+        out, error = printed("update", at("set.rsv"), status=4)
+        if any((f"left out: {left['path']}: " in out) != (left is named[2]) or (f"rs_files: {left['path']}: {left['reason']}\n" in error) != (left is not named[2]) for left in named):
+            wrong(f"names that are not UTF-8 are printed wrongly: {(out, error)}")
+
+
+def closed_early():
+    """A program that ends before it has read all of what `info` prints is no error, and nothing is printed."""
+    with Folder() as at:
+        items = [Item(b"%050d" % number) for number in range(5000)]
+        write(at("many.rsv"), Made(items, 512, 0).volume())
+        for more in ((), ("--json",)):
+            told = subprocess.Popen([PROGRAM, "info", at("many.rsv"), *more], stdout=subprocess.PIPE, stderr=subprocess.PIPE)
+            begun = told.stdout.read(100)
+            told.stdout.close()
+            error = told.stderr.read()
+            if told.wait() or error or len(begun) != 100:
+                wrong(f"info {more} whose reader ends: {told.returncode} {error!r}")
+            told.stderr.close()
+            if len(printed("info", at("many.rsv"), *more)[0]) < 5000 * 50:
+                wrong("info of many files does not print all")
 
 
 def objects():
@@ -352,6 +411,87 @@ def lists_and_hints():
             wrong("update with a folder that is not there")
 
 
+def cut_lists():
+    """`update`, `repair` and `restore` print the first 20 names of each list, and say how many more there are. --json has all."""
+    names = [f"{number:03}" for number in range(60)]
+    with Folder() as at:
+        made(at, {name: RANDOM.randbytes(10) for name in names}, "-r", "100%")
+        volume = read(at("set.rsv"))
+        for name in names[:47]:
+            os.remove(at("set", name))
+        more = "and 27 more restored: --json lists all\nrestored 47 files\n"
+        for words in (("restore", at("set.rsv"), "--to", at("new")), ("repair", at("set.rsv"))):
+            out = printed(*words)[0]
+            if [line for line in out.splitlines() if line.startswith("restored: ")] != [f"restored: set/{name}" for name in names[:20]] or more not in out:
+                wrong(f"{words[0]} of many files says {out!r}")
+        for name in names[:47]:
+            os.remove(at("set", name))
+        found = object_of("repair", at("set.rsv"))
+        if [file["name"] for file in found["restored"]] != [f"set/{name}" for name in names[:47]]:
+            wrong(f"repair --json cuts a list: {found}")
+        for command in ("text", "json"):
+            write(at("set.rsv"), volume)
+            for number, name in enumerate(names):
+                if number < 21:
+                    write(at("set", name), b"other")
+                elif number < 43 and os.path.exists(at("set", name)):
+                    os.remove(at("set", name))
+                write(at("set", f"new{number}"), b"n")
+            if command == "json":
+                found = object_of("update", at("set.rsv"))
+                if [len(found[key]) for key in ("edited", "removed", "new", "rotten")] != [21, 22, 60, 0]:
+                    wrong(f"update --json cuts a list: {found}")
+                continue
+            out = printed("update", at("set.rsv"))[0]
+            for word, count in (("edited", 21), ("removed", 22), ("new", 60)):
+                if sum(line.startswith(word + ": ") for line in out.splitlines()) != 20 or f"and {count - 20} more {word}: --json lists all\n" not in out:
+                    wrong(f"update of many files says {out!r}")
+
+
+def next_steps():
+    """What the program says to do fits the set: `update` for a volume of create, and not `split`. `repair` names the damaged volume that it kept,
+    and with --only no other file that was moved. `split` names the volumes that an older run has left."""
+    with Folder() as at:
+        made(at, {name: RANDOM.randbytes(3000) for name in ("a", "b", "c")}, "-r", "100%")
+        volume = read(at("set.rsv"))
+        write(at("other.rsv"), b"no volume")
+        out = printed("verify", at("set.rsv"), at("other.rsv"), status=1)[0]
+        if "make it again with update, or with create --force\n" not in out or "split" in out:
+            wrong(f"verify of a volume of create and of no volume says {out!r}")
+        write(at("set.rsv"), volume[:-700] + bytes(64) + volume[-636:])
+        if f"written again: {at('set.rsv')}\nkept: {at('set.rsv')}.damaged\n" not in printed("repair", at("set.rsv"))[0]:
+            wrong("repair does not name the damaged volume that it kept")
+        os.rename(at("set", "a"), at("set", "x"))
+        os.remove(at("set", "b"))
+        for words in (("verify", at("set.rsv")), ("restore", at("set.rsv"), "--to", at("new")), ("repair", at("set.rsv"))):
+            status = int(words[0] == "verify")
+            if "moved: " in printed(*words, "--only", "set/b", status=status)[0]:
+                wrong(f"{words[0]} --only names a file that it is not about")
+            os.path.exists(at("set", "b")) and os.remove(at("set", "b"))
+            shutil.rmtree(at("new"), ignore_errors=True)
+            if object_of(*words, "--only", "set/b", status=status)["moved"]:
+                wrong(f"{words[0]} --only --json names a file that it is not about")
+            os.path.exists(at("set", "b")) and os.remove(at("set", "b"))
+            shutil.rmtree(at("new"), ignore_errors=True)
+        if f"moved: set/a is at {at('set', 'x')}\n" not in printed("repair", at("set.rsv"), "--only", "set/a")[0]:
+            wrong("repair --only does not name the file that was moved")
+        split = ("split", at("set"), "-o", at("parts"), "--force", "-n")
+        if "an older split" in run(*split, "5"):
+            wrong("split names older volumes where there are none")
+        error = printed(*split, "3", "-q")[1]
+        old = [at("parts", f"volume000{number}.rsv") for number in (4, 5)]
+        if error != "".join(f"rs_files: {path}: warning: an older split made this volume, and the new ones do not belong to it: delete it\n" for path in old):
+            wrong(f"split with fewer volumes says {error!r}")
+        if not all(os.path.exists(path) for path in old):
+            wrong("split with fewer volumes deletes volumes")
+        paths = sorted(at("parts", name) for name in os.listdir(at("parts")))
+        if "If an older split has left it, delete it" not in printed("verify", *paths, status=4)[1]:
+            wrong("verify of volumes of two splits does not say what to do")
+        for path in old:
+            os.remove(path)
+        run("verify", *paths[:3], "-q")
+
+
 def said_by_create():
     """`create` warns once if its largest file is larger than what the recovery blocks can restore, and names what it leaves out. The version is
     that of the product, and help texts have examples."""
@@ -382,6 +522,8 @@ def said_by_create():
     needed = {"split": ("--output", "--volumes"), "restore": ("--to",)}
     for command in ("create", "split", "update", "verify", "repair", "restore", "info"):
         text = printed(command, "--help")[0]
+        if command == "repair" and any(f" {status}: " not in text.replace("\n", " ") for status in (0, 1, 3, 4) if status):
+            wrong("the help text of repair lacks a status")
         if f"\n  rs_files {command} " not in text.split("Example")[1]:
             wrong(f"the help text of {command} has no example")
         if any(f"{option} <" not in text.split("\n")[2] for option in needed.get(command, ())):
@@ -390,4 +532,4 @@ def said_by_create():
             wrong(f"the help text of {command} has an option that means nothing, or lacks one")
 
 
-TESTS = (one_command, restored_parts, repaired_parts_of_sets, unlike_digests, named, quick, objects, lists_and_hints, said_by_create)
+TESTS = (one_command, restored_parts, repaired_parts_of_sets, unlike_digests, named, quick, nothing_to_do, left_out, closed_early, objects, lists_and_hints, cut_lists, next_steps, said_by_create)

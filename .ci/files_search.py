@@ -5,7 +5,7 @@ import json
 import os
 import shutil
 
-from files_common import RANDOM, Folder, printed, read, run, tree, write, wrong
+from files_common import RANDOM, Folder, printed, read, run, sparse, tree, write, wrong
 from files_update import changes_in, damaged, rot
 from files_writer import TEXT, Item, Made, laid_out
 
@@ -125,6 +125,68 @@ def renamed_set():
         made.repair("renamed set")
 
 
+def many_moved():
+    """Of many files that were moved, 20 are printed, after the hint on --folder, and --json has all."""
+    with Folder() as at:
+        names = [f"{number:02}" for number in range(27)]
+        Protected(at, {name: RANDOM.randbytes(300) for name in names}, recovery=2)
+        os.rename(at("set"), at("photos"))
+        for lost, command, status in ((0, "verify", 1), (9, "verify", 3), (9, "repair", 3)):
+            for name in names[:lost]:
+                write(at("photos", name), b"other")
+            lines = printed(command, at("set.rsv"), status=status)[0].splitlines()
+            first = [number for number, line in enumerate(lines) if line.startswith("moved: ")]
+            if not lines[0].startswith(f"no file was found in {at()}: ") or first != [*range(1, 1 + min(20, 27 - lost))]:
+                wrong(f"{command} of many files that were moved prints {lines}")
+            if ("and 7 more: --json lists all" in lines) != (not lost):
+                wrong(f"{command} of many files that were moved does not say how many more there are: {lines}")
+            found = json.loads(printed(command, at("set.rsv"), "--json", status=status)[0])
+            if [file["name"] for file in found["moved"]] != ["set/" + name for name in names[lost:]]:
+                wrong(f"{command} --json of many files that were moved: {found['moved']}")
+
+
+def announced():
+    """A search that goes through many files, or through every byte of much data, is announced, and not with -q. A short one is not."""
+    long, much = "looking for lost files in many files below", "looking for lost blocks at every byte of the files below"
+    with Folder() as at, Folder() as far:
+        Protected(at)
+        write(at("set", "a"), b"other")
+        if printed("verify", at("set.rsv"), status=3)[1].count("\n") != 1:
+            wrong("a short search is announced")
+        sparse(far("large"), 1 << 30)
+        words = ("verify", at("set.rsv"), "--search", far())
+        error = printed(*words, status=3)[1]
+        if f"rs_files: {much} {at()}: this takes a while\nrs_files: {much} {far()}: this takes a while\n" not in error or long in error:
+            wrong(f"a search through 1 GiB says {error!r}")
+        os.remove(far("large"))
+        for number in range(10_000):
+            write(far("d", f"{number:05}"), b"")
+        error = printed(*words, status=3)[1]
+        if f"rs_files: {long} {far()}: this takes a while\n" not in error or much in error or long in printed(*words, "-q", status=3)[1]:
+            wrong(f"a search through 10,000 files says {error!r}")
+
+
+def one_size():
+    """The search for many files of one size takes no more than in proportion to their number, and each of them is found."""
+    def spent(count):
+        with Folder() as at:
+            for number in range(count):
+                write(at("set", f"{number:06}"), number.to_bytes(4, "little") + bytes(60))
+            run("create", at("set"), "-q")
+            os.rename(at("set"), at("new"))
+            before = os.times()
+            found = json.loads(printed("verify", at("set.rsv"), "--json", status=1)[0])
+            if len(found["moved"]) != count:
+                wrong(f"{len(found['moved'])} of {count} files of one size are found")
+            after = os.times()
+            return after.children_user - before.children_user
+
+    spent(100)
+    few, many = spent(3000), spent(30_000)
+    if many > 25 * few + 1:
+        wrong(f"a search for 30,000 files of one size takes {many:.1f} s, and one for 3000 files {few:.1f} s")
+
+
 def exchanged_files():
     """A file moved, and another file of the set took its old name. Also two files that exchanged their names."""
     with Folder() as above:
@@ -175,6 +237,26 @@ def shifted_far():
         write(at("set", "archive"), RANDOM.randbytes(3_000_000) + made.files["large"])
         os.remove(at("set", "large"))
         made.check("blocks behind 3 MB of other bytes", {})
+
+
+def overlapping_blocks():
+    """In a file with few bytes that are not zero, and in a file that equals another one, bytes of some blocks overlap with those of others. All
+    blocks are found after a byte was inserted at the front."""
+    sparse_bytes = bytearray(1_000_000)
+    for place in range(0, len(sparse_bytes), 5000):
+        sparse_bytes[place] = 1 + RANDOM.randrange(20)
+    twice = RANDOM.randbytes(30_000)
+    with Folder() as above:
+        at = Folder(above.path)
+        made = Protected(at, {"disk.img": bytes(sparse_bytes), "text": b"text"}, block=4096, recovery=8)
+        write(at("set", "disk.img"), b"!" + sparse_bytes)
+        made.check("a byte in front of many zeros", {})
+        at = Folder(above.path)
+        made = Protected(at, {"x": twice, "y": twice}, block=512, recovery=2)
+        write(at("set", "z"), b"!" + twice)
+        os.remove(at("set", "x"))
+        os.remove(at("set", "y"))
+        made.check("two equal files, and a byte in front of one", {})
 
 
 def searched_folders():
@@ -289,4 +371,4 @@ def first_version_updated():
         run("verify", at("set.rsv"))
 
 
-TESTS = (moved_files, moved_to_entries, renamed_set, exchanged_files, shifted_blocks, shifted_far, searched_folders, equal_blocks, wrong_digests, first_version_moved, first_version_updated)
+TESTS = (moved_files, moved_to_entries, renamed_set, many_moved, announced, one_size, exchanged_files, shifted_blocks, shifted_far, overlapping_blocks, searched_folders, equal_blocks, wrong_digests, first_version_moved, first_version_updated)

@@ -2,9 +2,10 @@
 bytes changed while its length and its times did not is rotten: no new volume may protect its wrong bytes."""
 import json
 import os
+import shutil
 
-from files_common import RANDOM, Folder, info, printed, read, run, spans, tree, write, wrong
-from files_writer import TEXT
+from files_common import RANDOM, Folder, info, preloaded, printed, read, run, spans, tree, write, wrong
+from files_writer import TEXT, Item, Made
 
 FILES = {"a": 6000, "b": 3000, "deep/c": 700, "empty": 0}
 CREATE = ("--block", "512", "-r", "20%", "-q")
@@ -112,7 +113,7 @@ def rotten():
             rot(at("set", "deep", "c"))
             before = tree(at())
             both = ["a", "deep/c"]
-            for more, named in (((), both), (("--accept", "set/a"), both[1:]), (("--accept", "set/b", "--accept", "a"), both)):
+            for more, named in (((), both), (("--accept", "set/a"), both[1:]), (("--accept", "set/b", "--accept", "set/empty"), both)):
                 _, errors = printed(*words, *more, status=3, cwd=at())
                 if [line for line in errors.splitlines() if "rotten: " in line] != [f"rs_files: rotten: set/{name}" for name in named]:
                     wrong(f"{words} with {more} names the files {errors!r}")
@@ -125,6 +126,224 @@ def rotten():
                 write(at("set", "a"), before["set/a"])
             run(*words, "--accept", "set/a", "--accept", "set/deep/c", "-q", cwd=at())
             run("verify", *(["set.rsv"] if words[0] != "split" else [f"parts/volume000{number}.rsv" for number in (1, 2, 3)]), cwd=at())
+
+
+def moved(at, old, new):
+    """Renames a file of the set. It keeps its bytes and its times."""
+    os.makedirs(os.path.dirname(at("set", new)), exist_ok=True)
+    os.rename(at("set", old), at("set", new))
+
+
+def rotten_moved():
+    """A file that was moved, and whose bytes changed while its length and its times did not, is named with its old name. The old volume stays,
+    and restores it. --accept protects the new bytes if it has the new name."""
+    for words in (("update", "set.rsv"), ("create", "set", "-o", "set.rsv", "--force")):
+        for old, new in (("a", "new/place"), ("deep/c", "c"), ("a", "b")):
+            with Folder() as at:
+                files = written(at)
+                run("create", at("set"), "-o", at("set.rsv"), "--block", "512", "-r", "100%", "-q")
+                moved(at, old, new)
+                rot(at("set", new))
+                wrong_bytes, before = read(at("set", new)), tree(at())
+                for more in ((), ("--accept", "set/" + ("empty" if new != "empty" else "a"))):
+                    out, errors = printed(*words, *more, status=3, cwd=at())
+                    if [line for line in errors.splitlines() if "rotten: " in line] != [f"rs_files: rotten: set/{new} (was set/{old})"] or tree(at()) != before:
+                        wrong(f"{words} {more} of a file that was moved from {old} to {new} and is rotten: {errors!r}")
+                    if f"removed: set/{old}" not in changes_in(out) or f"new: set/{new}" in changes_in(out):
+                        wrong(f"{words} of a file that was moved from {old} to {new} and is rotten prints {out!r}")
+                found = json.loads(printed(*words, "--json", status=3, cwd=at())[0])
+                if found["rotten"] != [{"name": "set/" + new, "was": "set/" + old}] or found["volumes"]:
+                    wrong(f"{words} --json of a file that was moved and is rotten: {found}")
+                run("repair", "set.rsv", "--only", "set/" + old, "-q", cwd=at())
+                if read(at("set", old)) != files[old] or read(at("set", new)) != wrong_bytes:
+                    wrong(f"the old volume does not restore {old}")
+                # While the wrong bytes are there, the old file beside them changes nothing.
+                out, errors = printed(*words, status=3, cwd=at())
+                named = [line for line in errors.splitlines() if "rotten: " in line]
+                if named != [f"rs_files: rotten: set/{new} (was set/{old})"] or "delete the file with the new name" not in errors:
+                    wrong(f"{words} after {old} was restored beside the rotten {new}: {errors!r}")
+                if changes_in(out) or read(at("set.rsv")) != before["set.rsv"]:
+                    wrong(f"{words} after {old} was restored beside the rotten {new} prints {out!r}, or replaced the volume")
+                os.remove(at("set", old))
+                run(*words, "--accept", "set/" + new, "-q", cwd=at())
+                run("verify", "set.rsv", "-q", cwd=at())
+
+
+def rotten_copies():
+    """A copy of a file with the times of this file, and other bytes, is rotten, under a new name and under that of another file. It is not
+    edited then. What the program says to do ends this: restore the old file, and delete the other one or move the restored file onto it."""
+    for new in ("deep/new", "b"):
+        for is_deleted in (True, False):
+            with Folder() as at:
+                files = written(at)
+                run("create", at("set"), "-o", at("set.rsv"), "--block", "512", "-r", "100%", "-q")
+                shutil.copy2(at("set", "a"), at("set", new))
+                if changes_in(run("update", at("set.rsv"))) != [f"edited: set/{new}" if new in files else f"new: set/{new}"]:
+                    wrong(f"update of a copy with the name {new}")
+                write(at("set", new), files.get(new, b"first"))
+                run("update", at("set.rsv"), "-q")
+                shutil.copy2(at("set", "a"), at("set", new))
+                rot(at("set", new))
+                before = tree(at())
+                out, errors = printed("update", at("set.rsv"), status=3)
+                if f"rs_files: rotten: set/{new} (was set/a)\n" not in errors or changes_in(out) or tree(at()) != before:
+                    wrong(f"update of a rotten copy with the name {new}: {out!r} {errors!r}")
+                if "no new volume was made, and the old one was kept" not in errors:
+                    wrong(f"update of a rotten copy does not say what became of the volume: {errors!r}")
+                os.remove(at("set", "a"))
+                run("repair", at("set.rsv"), "--only", "set/a", "-q")
+                printed("update", at("set.rsv"), status=3)
+                if is_deleted:
+                    os.remove(at("set", new))
+                else:
+                    os.replace(at("set", "a"), at("set", new))
+                run("update", at("set.rsv"), "-q")
+                run("verify", at("set.rsv"), "-q")
+                if read(at("set", "a" if is_deleted else new)) != files["a"]:
+                    wrong("a rotten copy is protected, or a file is lost")
+    # The damaged file that a repair kept has this length and this time too, and stops nothing.
+    with Folder() as at:
+        written(at)
+        run("create", at("set"), "-o", at("set.rsv"), *CREATE)
+        rot(at("set", "deep", "c"))
+        run("repair", at("set.rsv"), "-q")
+        if changes_in(run("update", at("set.rsv"))) != ["new: set/deep/c.damaged"]:
+            wrong("update beside a damaged file that repair kept")
+
+
+def moved_whole():
+    """Files that were moved with their bytes are not rotten, whatever other files have their length and their time, and neither are copies of
+    files. A moved file with another time is not rotten either, also if the times differ by a nanosecond."""
+    with Folder() as at:
+        time = 1_700_000_000 * 10 ** 9
+        files = {f"f{number}": RANDOM.randbytes(3000) for number in range(6)}
+        for name, data in files.items():
+            write(at("set", name), data)
+            os.utime(at("set", name), ns=(time, time))
+        run("create", at("set"), "-o", at("set.rsv"), *CREATE)
+        moved(at, "f2", "deep/f2")
+        for name, own in (("f3", time + 1), ("f4", time - 10 ** 9)):
+            moved(at, name, "deep/" + name)
+            rot(at("set", "deep", name))
+            os.utime(at("set", "deep", name), ns=(own, own))
+        write(at("set", "copy"), files["f5"])
+        os.utime(at("set", "copy"), ns=(time, time))
+        run("update", at("set.rsv"), "-q")
+        run("verify", at("set.rsv"), "-q")
+        # A file that is rotten beside others with its length and its time is named with one that was found nowhere.
+        for name in ("f0", "f1", "f5"):
+            moved(at, name, "later/" + name)
+        rot(at("set", "later", "f1"))
+        if "rotten: set/later/f1 (was set/f1)\n" not in printed("update", at("set.rsv"), status=3)[1]:
+            wrong("a rotten file among files with its length and its time")
+        # Nothing is missing any more, so a further file with this length and this time is new.
+        write(at("set", "later", "f1"), files["f1"])
+        os.utime(at("set", "later", "f1"), ns=(time, time))
+        write(at("set", "other"), RANDOM.randbytes(3000))
+        os.utime(at("set", "other"), ns=(time, time))
+        if "new: set/other" not in changes_in(run("update", at("set.rsv"))):
+            wrong("a new file with the length and the time of files that were moved")
+
+
+def moved_first():
+    """A volume of version 1 has no digests of files: a file that was moved counts as removed and new."""
+    with Folder() as at:
+        data = RANDOM.randbytes(3000)
+        write(at("set", "a"), data)
+        seconds = os.stat(at("set", "a")).st_mtime_ns // 10 ** 9
+        os.utime(at("set", "a"), ns=(seconds * 10 ** 9, seconds * 10 ** 9))
+        write(at("set", "b"), b"b")
+        write(at("set.rsv"), Made([Item(b"set/a", data, seconds=seconds), Item(b"set/b", b"b")], 512, 3, version=1).volume())
+        moved(at, "a", "c")
+        rot(at("set", "c"))
+        if changes_in(run("update", at("set.rsv"))) != ["new: set/c", "removed: set/a"]:
+            wrong("update of a volume of version 1 and a file that was moved")
+
+
+def taken_over():
+    """`update` takes over the digests of blocks that the old volume has at the same places, and computes those of all others: if a file reads as
+    other bytes after it was compared, its old blocks keep their digests. Without an old volume, all digests are those of the bytes."""
+    with Folder() as at:
+        size, block = 40_960, 4096
+        files = {name: RANDOM.randbytes(size) for name in ("a", "b", "c")}
+        for name, data in files.items():
+            write(at("d", name), data)
+        made = ("--block", str(block), "-r", "3", "-q")
+        run("create", at("d"), *made)
+        old = read(at("d.rsv"))
+        for name, more, others in (("a", (), 0), ("b", (), 0), ("c", (), 0), ("a", ("bb",), 0), ("b", ("bb",), 0), ("c", ("bb",), 10), ("b", ("a0",), 10)):
+            write(at("d.rsv"), old)
+            for new in more:
+                write(at("d", new), RANDOM.randbytes(size))
+            changing = preloaded("change_reads", READ_NAME=f"/d/{name}", READ_AFTER=size)
+            if changing is None:
+                return
+            run("update", at("d.rsv"), *made, env=changing)
+            found = json.loads(run("verify", at("d.rsv"), "--json", status=(0, 1, 3)))
+            if found["lost_blocks"] != others:
+                wrong(f"update of {name} with the new files {more} computes the digests of {found['lost_blocks']} of its blocks instead of {others}")
+            for new in more:
+                os.remove(at("d", new))
+        # With another size of blocks, no block is at the same place.
+        write(at("d.rsv"), old)
+        run("update", at("d.rsv"), "--block", "8192", "-r", "3", "-q", env=preloaded("change_reads", READ_NAME="/d/a", READ_AFTER=size))
+        if json.loads(run("verify", at("d.rsv"), "--json", status=3))["lost_blocks"] != 5:
+            wrong("update with another size of blocks takes over digests")
+
+
+def kept_blocks():
+    """`update` keeps a size of blocks that was given, also if the files grow, and chooses the default size again if it was the default. It takes
+    the default too if the files have too many blocks of the old size. `--block` changes the size."""
+    with Folder() as at:
+        for given, sizes in ((("--block", "16K"), (16384, 16384)), ((), (4096, 8192)), (("--block", "4096"), (4096, 8192)), (("--block", "12K"), (12288, 12288))):
+            write(at("set", "a"), RANDOM.randbytes(20_000))
+            run("create", at("set"), *given, "-q", "--force")
+            run("update", at("set.rsv"), "-q")
+            if info(at("set.rsv"))["block_bytes"] != sizes[0]:
+                wrong(f"update of a volume with {given} makes blocks of another size")
+            write(at("set", "a"), RANDOM.randbytes(9_000_000))
+            run("update", at("set.rsv"), "-q")
+            if info(at("set.rsv"))["block_bytes"] != sizes[1]:
+                wrong(f"update of larger files with {given} makes blocks of {info(at('set.rsv'))['block_bytes']} bytes")
+            run("update", at("set.rsv"), "--block", "64K", "-q")
+            if info(at("set.rsv"))["block_bytes"] != 65536:
+                wrong("update does not take the size of blocks that is given")
+            os.remove(at("set.rsv"))
+        write(at("set", "a"), RANDOM.randbytes(2000))
+        run("create", at("set"), "--block", "2", "-q")
+        write(at("set", "a"), RANDOM.randbytes(200_000))
+        run("update", at("set.rsv"), "-q")
+        if info(at("set.rsv"))["block_bytes"] != 4096:
+            wrong("update of files that have too many blocks of the old size")
+
+
+def accepted_names():
+    """A name after --accept that no file of the set has is refused, and nothing is changed."""
+    with Folder() as at:
+        written(at)
+        for words in (("create", at("set")), ("update", at("set.rsv")), ("split", at("set"), "-n", "2", "-o", at("parts"))):
+            before = tree(at())
+            for name in ("a", "set", "set/none", "set/deep", "/set/a"):
+                error = printed(*words, "--accept", "set/a", "--accept", name, status=4)[1]
+                if error != f"rs_files: {name}: no file of the set has this name, which follows --accept\n" or tree(at()) != before:
+                    wrong(f"{words} --accept {name}: {error!r}")
+            run(*words, "--accept", "set/a", "-q")
+
+
+def nothing_there():
+    """If nothing of the set is in its folder, because the folder of the set was renamed or the volume was moved, `update` says what to do."""
+    with Folder() as at, Folder() as far:
+        written(at)
+        run("create", at("set"), "-o", at("set.rsv"), *CREATE)
+        volume = read(at("set.rsv"))
+        write(far("set.rsv"), volume)
+        os.rename(at("set"), at("photos"))
+        for folder in (at, far):
+            error = printed("update", folder("set.rsv"), status=4)[1]
+            if not error.startswith(f"rs_files: {folder()}: nothing of the set is in this folder: ") or "--folder" not in error or read(folder("set.rsv")) != volume:
+                wrong(f"update of a set that is not there: {error!r}")
+        os.rename(at("photos"), at("set"))
+        run("update", far("set.rsv"), "--folder", at(), "-q")
 
 
 def edited_and_rotten():
@@ -269,6 +488,54 @@ def repaired_parts():
                 wrong(f"verify after the repair of volumes of split: {found}")
 
 
+def foreign_bytes():
+    """A volume with other bytes in front of it, which are most of the file, is written again by `repair`, as `verify` says, and kept."""
+    with Folder() as at:
+        written(at)
+        run("create", at("set"), "-o", at("set.rsv"), *CREATE)
+        volume = read(at("set.rsv"))
+        for bad in (RANDOM.randbytes(10 * len(volume)) + volume, RANDOM.randbytes(3 * len(volume)) + volume + RANDOM.randbytes(5 * len(volume))):
+            write(at("set.rsv"), bad)
+            if "repair writes damaged volumes again" not in printed("verify", at("set.rsv"), status=1)[0]:
+                wrong("verify of a volume with other bytes in front")
+            if f"written again: {at('set.rsv')}\n" not in run("repair", at("set.rsv")):
+                wrong("repair of a volume with other bytes in front does not write it again")
+            if (read(at("set.rsv")), read(at("set.rsv.damaged"))) != (volume, bad):
+                wrong("repair of a volume with other bytes in front writes other bytes, or does not keep the damaged ones")
+            os.remove(at("set.rsv.damaged"))
+            run("verify", at("set.rsv"), "-q")
+
+
+def failed_rewrites():
+    """If a damaged volume cannot be written again, `repair` leaves nothing behind: no part, and no second name of the damaged volume. Volumes
+    that have their names stay, and are named."""
+    with Folder() as at:
+        written(at)
+        os.mkdir(at("parts"))
+        run("split", at("set"), "-n", "3", "-o", at("parts"), "--block", "512", "-q")
+        whole = tree(at("parts"))
+        paths = [at("parts", name) for name in sorted(whole)]
+        for path in paths[:2]:
+            write(path, damaged(read(path), 900, 200))
+        before = tree(at("parts"))
+        first, second = ("volume0001.rsv", "volume0002.rsv")
+        failures = ({"FAIL_RENAME": first + ".rs_files.part2"}, {"FAIL_RENAME": first + ".rs_files.part2", "FAIL_LINK": 1}, {"FAIL_SYNC": second + ".rs_files.part2"},
+                    {"FAIL_WRITE": second + ".rs_files.part2", "FAIL_FROM": 0})
+        for failure in failures:
+            failing = preloaded("fail_calls", **failure)
+            if failing is None:
+                return
+            run("repair", *paths, "--folder", at(), status=4, env=failing)
+            if tree(at("parts")) != before:
+                wrong(f"repair of volumes with {failure} leaves {sorted(tree(at('parts')))}")
+        out = printed("repair", *paths, "--folder", at(), status=4, env=preloaded("fail_calls", FAIL_RENAME=second + ".rs_files.part2"))[0]
+        now = tree(at("parts"))
+        if f"written again: {paths[0]}\n" not in out or paths[1] in out.split("written again: ")[1]:
+            wrong(f"repair of volumes of which the second cannot get its name says {out!r}")
+        if now != {**before, first: whole[first], first + ".damaged": before[first]}:
+            wrong(f"repair of volumes of which the second cannot get its name leaves {sorted(now)}")
+
+
 def unwritten_volumes():
     """If a damaged volume cannot be written again, because nothing says which volume of the set it is, `repair` ends with 1, as `verify` does.
     It writes the other damaged volumes, and does not change this one."""
@@ -287,6 +554,9 @@ def unwritten_volumes():
             write(paths[2], damaged(whole["volume0003.rsv"], 900, 200))
             run("verify", *paths, "--folder", at(), status=1)
             run("repair", *paths, "--folder", at(), "-q", status=1)
+            out = printed("verify", *paths, "--folder", at(), status=1)[0]
+            if "repair writes damaged volumes again" in out or "make them again with split --force" not in out:
+                wrong(f"verify promises that repair writes a volume that it cannot write: {out!r}")
             now = tree(at("parts"))
             if now.pop("volume0002.rsv", None) != bad or now.pop("volume0003.rsv.damaged", None) is None or \
                     now != {name: data for name, data in whole.items() if name != "volume0002.rsv"}:
@@ -295,4 +565,5 @@ def unwritten_volumes():
             run("verify", *paths, "--folder", at(), status=1)
 
 
-TESTS = (updated, shares, rotten, edited_and_rotten, refused_updates, repaired_volumes, kept_volumes, repaired_parts, unwritten_volumes)
+TESTS = (updated, shares, rotten, rotten_moved, rotten_copies, moved_whole, moved_first, taken_over, kept_blocks, accepted_names, nothing_there, edited_and_rotten,
+         refused_updates, repaired_volumes, kept_volumes, repaired_parts, foreign_bytes, failed_rewrites, unwritten_volumes)

@@ -129,7 +129,8 @@ pub fn cut_data(data_bytes: u64, block: Option<u64>, recovery: Recovery) -> Resu
         Some(cut) => {
             let needed = cut.block_bytes;
             Err(Failure::of(format_args!(
-                "blocks of {block} bytes are too small for these files and this many recovery blocks: use --block {needed} or a larger number"
+                "blocks of {block} bytes are too small for these files and this many recovery blocks: \
+                 use --block {needed} or a larger number"
             )))
         }
         None => Err(too_much(data_bytes, recovery)),
@@ -140,16 +141,19 @@ pub fn cut_data(data_bytes: u64, block: Option<u64>, recovery: Recovery) -> Resu
 fn too_much(data_bytes: u64, recovery: Recovery) -> Failure {
     if cut_small(data_bytes, MOST_BLOCKS, recovery).is_some() {
         return Failure::of(format_args!(
-            "the files are too large for {BLOCKS} blocks, the largest number by default: use --block 1024G, or make several sets of fewer files"
+            "the files are too large for {BLOCKS} blocks, the largest number by default: use --block \
+             1024G, or make several sets of fewer files"
         ));
     }
     if data_bytes.div_ceil(MOST_PAGES * PAGE) < MOST_BLOCKS {
         return Failure::of(
-            "no block size allows this many recovery blocks: ask for fewer with -r, or make several sets of fewer files",
+            "no block size allows this many recovery blocks: ask for fewer with -r, or make several sets \
+             of fewer files",
         );
     }
     Failure::of(
-        "the files have more than 65535 blocks, even with the largest blocks of 2^40 bytes: make several sets of fewer files",
+        "the files have more than 65535 blocks, even with the largest blocks of 2^40 bytes: make \
+         several sets of fewer files",
     )
 }
 

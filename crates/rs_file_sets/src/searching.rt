@@ -4,7 +4,7 @@ use crate::scanning::Scan;
 use rs_folders::failure::Result;
 use rs_folders::hashing::{CHUNK, hash_at};
 use rs_folders::identity::{Identity, identity_of, open_regular};
-use rs_folders::names::{folder_to_open, path_in};
+use rs_folders::names::{Shown, folder_to_open, path_in};
 use rs_folders::progress::Progress;
 use rs_folders::runs::places_in;
 use rs_folders::source::{FileBlocks, Holders, Origin, read_at};
@@ -14,12 +14,18 @@ use rs_volumes::digest::is_digest;
 use rs_volumes::pieces::BlockSource;
 use sha2::{Digest, Sha256};
 use std::alloc::{AllocError, Global};
+use std::collections::BTreeMap;
 use std::io::{Read, Seek};
 use std::rt::Runtime;
 use std::{fs, io};
 
 /// After how many blocks of a file that have the sum of a lost block, but not its digest, the file is left.
 const TRIES: u32 = 1000;
+
+/// A search below folders with this many files, or at every byte of this many bytes, is announced.
+const MANY_FILES: usize = 10_000;
+
+const MANY_BYTES: u64 = 1 << 30;
 
 /// What was found elsewhere.
 #[derive(Drop)]
@@ -36,8 +42,6 @@ struct Candidate {
     path: String,
     identity: Identity,
     size: u64,
-    // Its SHA-256, if it was computed and the file could be read.
-    digest: Option<[u8; 32]>,
 }
 
 // A search for the lost blocks of a set.
@@ -49,6 +53,12 @@ struct Search<'a, R: Runtime> {
     buffer: Vec<u8>,
     // The files below the folders that are searched, in order of their sizes.
     candidates: Vec<Candidate>,
+    // The indexes of the candidates that were hashed, by their digests. For each size, the first ones were.
+    hashed: BTreeMap<[u8; 32], usize>,
+    // For a size, the index of the first candidate of this size that was not hashed.
+    next: BTreeMap<u64, usize>,
+    // Whether a long search is announced.
+    is_told: bool,
     found: Elsewhere,
 }
 
@@ -57,7 +67,8 @@ struct Search<'a, R: Runtime> {
 ///
 /// In this order, the function looks for files that have the length and the digest of a file that is not whole, for
 /// blocks with the digest of a lost block, and, if more blocks are lost than recovery blocks are left, for lost blocks
-/// at any byte of the files that are not whole files of the set. A block is believed only if it has its digest.
+/// at any byte of the files that are not whole files of the set. A block is believed only if it has its digest. If
+/// `is_told` is set, the function prints a message before it looks through many files.
 ///
 /// # Errors
 ///
@@ -68,6 +79,7 @@ pub fn find_elsewhere<R: Runtime>(
     folders: &[&str],
     to: &Option<String>,
     scan: &mut Scan,
+    is_told: bool,
 ) -> Result<Elsewhere> {
     let mut search = Search {
         rt,
@@ -75,6 +87,9 @@ pub fn find_elsewhere<R: Runtime>(
         scan,
         buffer: vec![in alloc; 0u8; CHUNK]?,
         candidates: Vec::new(alloc),
+        hashed: BTreeMap::new(alloc),
+        next: BTreeMap::new(alloc),
+        is_told,
         found: Elsewhere {
             files: Vec::new(alloc),
             blocks: 0,
@@ -87,7 +102,7 @@ pub fn find_elsewhere<R: Runtime>(
             search.check_blocks()?;
         }
         search.find_equal_blocks()?;
-        search.find_anywhere()?;
+        search.find_anywhere(folders)?;
     }
     let after = search.lost()?.len();
     let Search { mut found, .. } = search;
@@ -117,8 +132,8 @@ impl<'a, R: Runtime> Search<'a, R> {
             .unwrap_or(State::Missing)
     }
 
-    // Returns whether a path of the scan is that of a volume or of a whole file. Links and empty folders of the set do not
-    // count: a file can have been moved into such a folder, or to the place to which such a link leads.
+    // Returns whether a path of the scan is that of a volume or of a whole file. Links and empty folders of the set do
+    // not count: a file can have been moved into such a folder, or to the place to which such a link leads.
     fn is_known(&self, index: usize) -> bool {
         match self.scan.description().entries.get(index) {
             Some(entry) => matches!(entry.kind, Kind::File) && self.state(index) == State::Whole,
@@ -154,13 +169,28 @@ impl<'a, R: Runtime> Search<'a, R> {
             waiting.push(String::from_str(self.alloc, *folder)?)?;
         }
         for _ in 0..u64::MAX {
-            match waiting.pop() {
-                None => break,
-                Some(folder) => self.list(folder.as_str(), known.as_slice(), &mut waiting)?,
+            let Some(folder) = waiting.pop() else {
+                break;
+            };
+            let before = self.candidates.len();
+            self.list(folder.as_str(), known.as_slice(), &mut waiting)?;
+            if before < MANY_FILES && self.candidates.len() >= MANY_FILES {
+                self.tell_long(folders, "looking for lost files in many files")?;
             }
         }
         self.candidates
             .sort_by(|one, other| one.size.cmp(&other.size))?;
+        Ok(())
+    }
+
+    // Prints that a search takes a while, and below which folders it looks.
+    fn tell_long(&self, folders: &[&str], what: &'static str) -> io::Result<()> {
+        if self.is_told {
+            for folder in folders {
+                let folder = Shown(*folder);
+                eprintln!(self.rt; "rs_files: {what} below {folder}: this takes a while")?;
+            }
+        }
         Ok(())
     }
 
@@ -193,7 +223,6 @@ impl<'a, R: Runtime> Search<'a, R> {
                     path,
                     identity,
                     size: metadata.len(),
-                    digest: None,
                 })?;
             }
         }
@@ -204,20 +233,14 @@ impl<'a, R: Runtime> Search<'a, R> {
     // A file with its digest takes its place as the source of its blocks. Returns whether one was found.
     fn find_files(&mut self) -> Result<bool> {
         let whole = self.whole_files()?;
+        let sought = self.sought()?;
         let mut has_found = false;
-        for index in 0..self.scan.states.len() {
-            let Some(entry) = self.scan.description().entries.get(index) else {
-                break;
-            };
-            let (size, digest) = (entry.size, entry.digest);
-            let is_sought = entry.kind == Kind::File && size > 0 && digest != [0; 32];
-            if !is_sought || self.state(index) == State::Whole {
-                continue;
-            }
-            let copy = whole.binary_search_by(|(own, _)| own.cmp(&digest));
+        for (index, size, digest) in &sought {
+            let (index, size) = (*index, *size);
+            let copy = whole.binary_search_by(|(own, _)| own.cmp(digest));
             let path = match copy {
                 Ok(at) => self.path_of_copy(whole.get(at).copied())?,
-                Err(_) => self.file_with(index, size, &digest)?,
+                Err(_) => self.file_with(index, size, digest, is_alone(sought.as_slice(), size))?,
             };
             if let (Some(path), Some(own)) = (path, self.scan.paths.get_mut(index)) {
                 *own = path;
@@ -225,6 +248,19 @@ impl<'a, R: Runtime> Search<'a, R> {
             }
         }
         Ok(has_found)
+    }
+
+    // Returns the files of the set that are not whole: for each, its index, size and digest, in order of the sizes.
+    fn sought(&self) -> Result<Vec<(usize, u64, [u8; 32])>, AllocError> {
+        let mut sought = Vec::new(self.alloc);
+        for (index, entry) in self.scan.description().entries.iter().enumerate() {
+            let has_digest = entry.kind == Kind::File && entry.size > 0 && entry.digest != [0; 32];
+            if has_digest && self.state(index) != State::Whole {
+                sought.push((index, entry.size, entry.digest))?;
+            }
+        }
+        sought.sort_by(|one, other| one.1.cmp(&other.1))?;
+        Ok(sought)
     }
 
     // Returns the whole files of the set with their digests, in order of these.
@@ -250,39 +286,67 @@ impl<'a, R: Runtime> Search<'a, R> {
         }
     }
 
-    // Returns the path of a candidate with the length and the digest of an entry, which was renamed or moved.
+    // Returns the path of a candidate with the length and the digest of an entry, which was renamed or moved. No
+    // candidate is hashed twice. `is_alone` says that no other file of this length is looked for.
     fn file_with(
         &mut self,
         index: usize,
         size: u64,
         digest: &[u8; 32],
+        is_alone: bool,
     ) -> Result<Option<String>, AllocError> {
-        // The file with the name of the entry is known to have other bytes.
-        let own = match self.scan.paths.get(index) {
-            Some(path) => identity_of(self.rt, path.as_str()),
-            None => None,
+        if self.hashed.get(digest).is_none() {
+            // The file with the name of the entry is known to have other bytes.
+            let own = match self.scan.paths.get(index) {
+                Some(path) if is_alone => identity_of(self.rt, path.as_str()),
+                _ => None,
+            };
+            self.hash_until(size, digest, own)?;
+        }
+        let Some(at) = self.hashed.get(digest) else {
+            return Ok(None);
         };
-        let from = self
-            .candidates
-            .partition_point(|candidate| candidate.size < size);
-        let to = self
-            .candidates
-            .partition_point(|candidate| candidate.size <= size);
-        for candidate in self.candidates.iter_mut().take(to).skip(from) {
+        match self.candidates.get(*at) {
+            Some(candidate) => {
+                self.found.files.push(index)?;
+                Ok(Some(candidate.path.clone()?))
+            }
+            None => Ok(None),
+        }
+    }
+
+    // Hashes candidates with a length that were not hashed before, until one has a digest. The file `own` is left out.
+    fn hash_until(
+        &mut self,
+        size: u64,
+        digest: &[u8; 32],
+        own: Option<Identity>,
+    ) -> Result<(), AllocError> {
+        let candidates = self.candidates.as_slice();
+        let first = candidates.partition_point(|candidate| candidate.size < size);
+        let from = self.next.get(&size).copied().unwrap_or(first);
+        let to = candidates.partition_point(|candidate| candidate.size <= size);
+        for at in from..to {
+            let Some(candidate) = self.candidates.get(at) else {
+                break;
+            };
             if own == Some(candidate.identity) {
                 continue;
             }
-            if candidate.digest.is_none() {
-                if let Ok(mut file) = open_regular(self.rt, candidate.path.as_str(), false) {
-                    candidate.digest = hash_at(&mut file, 0, size, &mut self.buffer).ok();
-                }
-            }
-            if candidate.digest == Some(*digest) {
-                self.found.files.push(index)?;
-                return Ok(Some(candidate.path.clone()?));
+            let Ok(mut file) = open_regular(self.rt, candidate.path.as_str(), false) else {
+                continue;
+            };
+            let Ok(found) = hash_at(&mut file, 0, size, &mut self.buffer) else {
+                continue;
+            };
+            self.hashed.insert(found, at)?;
+            self.next.insert(size, at.saturating_add(1))?;
+            if found == *digest {
+                return Ok(());
             }
         }
-        Ok(None)
+        self.next.insert(size, to)?;
+        Ok(())
     }
 
     // Compares the lost blocks with their digests again, now that files were found elsewhere.
@@ -382,7 +446,7 @@ impl<'a, R: Runtime> Search<'a, R> {
     }
 
     // Looks for the blocks that are still lost at any byte of the candidates, unless enough recovery blocks are left.
-    fn find_anywhere(&mut self) -> Result<()> {
+    fn find_anywhere(&mut self, folders: &[&str]) -> Result<()> {
         let counts = self.scan.counts();
         if counts.lost <= counts.recovery {
             return Ok(());
@@ -393,13 +457,25 @@ impl<'a, R: Runtime> Search<'a, R> {
         if bytes.is_empty() {
             return Ok(());
         }
+        let total = self
+            .candidates
+            .iter()
+            .fold(0u64, |sum, own| sum.saturating_add(own.size));
+        if total >= MANY_BYTES {
+            self.tell_long(
+                folders,
+                "looking for lost blocks at every byte of the files",
+            )?;
+        }
         for index in 0..self.candidates.len() {
             self.find_in(index, &mut sums)?;
         }
         Ok(())
     }
 
-    // Looks for blocks in a candidate. If one is found, its path is added to those of the scan.
+    // Looks for blocks in a candidate. If one is found, its path is added to those of the scan. The search goes on one
+    // byte after a block: in data with many zeros, or if files are equal, other blocks can overlap with it. A block
+    // that was found is looked for no more, so a run of zeros is hashed once.
     fn find_in(&mut self, index: usize, sums: &mut Sums) -> Result<()> {
         let Some(candidate) = self.candidates.get(index) else {
             return Ok(());
@@ -423,12 +499,11 @@ impl<'a, R: Runtime> Search<'a, R> {
             }
             if blocks.is_empty() {
                 tries -= 1;
-                windows.pass(1);
             } else {
                 has_found = true;
                 sums.take(self.alloc, blocks.as_slice())?;
-                windows.pass(block_bytes);
             }
+            windows.pass();
         }
         if has_found {
             if let Some(candidate) = self.candidates.get(index) {
@@ -456,6 +531,13 @@ impl<'a, R: Runtime> Search<'a, R> {
         }
         Ok(blocks)
     }
+}
+
+// Returns whether only one of the files that are looked for, which are in order of their sizes, has this size.
+fn is_alone(sought: &[(usize, u64, [u8; 32])], size: u64) -> bool {
+    let from = sought.partition_point(|(_, own, _)| *own < size);
+    let to = sought.partition_point(|(_, own, _)| *own <= size);
+    to.saturating_sub(from) == 1
 }
 
 // The windows of a file that have as many bytes as a block, one at each byte.
@@ -489,10 +571,10 @@ impl<F: Read + Seek + Drop> Windows<F> {
         })
     }
 
-    // Moves the window by some bytes. By one byte its sum moves with it, and otherwise it is computed again.
-    fn pass(&mut self, bytes: u64) {
-        if bytes != 1 || self.slide_one().is_err() {
-            self.at = self.at.saturating_add(bytes);
+    // Moves the window by one byte. At the end of the file, or if it cannot be read, the window has no sum.
+    fn pass(&mut self) {
+        if self.slide_one().is_err() {
+            self.at = self.at.saturating_add(1);
             self.is_summed = false;
         }
     }

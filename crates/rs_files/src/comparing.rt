@@ -4,12 +4,16 @@ use crate::log::Log;
 use crate::settings::Request;
 use rs_file_sets::one_entry::has_time;
 use rs_file_sets::scanning::{Scan, scan_paths};
-use rs_folders::failure::{Result, warn};
-use rs_folders::identity::exists;
-use rs_folders::names::{Name, order_of};
+use rs_folders::failure::{Failure, Result, warn};
+use rs_folders::hashing::{CHUNK, hash_at};
+use rs_folders::identity::{exists, open_regular};
+use rs_folders::names::{Name, order_of, paths_of};
+use rs_folders::runs::places_in;
+use rs_folders::source::Origin;
 use rs_folders::walking::Found;
 use rs_volume_files::scanner::State;
 use rs_volumes::description::{Description, Entry, Kind, Version};
+use rs_volumes::placement::Place;
 use std::alloc::{AllocError, Global};
 use std::fs;
 use std::rt::{Files, Runtime};
@@ -25,6 +29,91 @@ enum Change {
     Edited,
     /// Nothing has its name.
     Removed,
+    /// Another file of the old set was moved to its name, and is rotten.
+    Replaced,
+}
+
+/// What is known from old volumes of the files as they are now.
+#[derive(Drop)]
+pub struct Known {
+    /// The digest of each file, if it is known. The list can be too short.
+    pub files: Vec<Option<[u8; 32]>>,
+    /// The old set, if it was read.
+    old: Option<Scan>,
+}
+
+impl Known {
+    /// Returns that nothing is known.
+    pub fn nothing(alloc: Global) -> Known {
+        Known {
+            files: Vec::new(alloc),
+            old: None,
+        }
+    }
+
+    /// Returns for each original block of a new set whether its digest is known: the block with its index in the old
+    /// set has the same bytes of the same files, and has its digest. `places` are the places of the new blocks. For a
+    /// file with a mark in `linked`, nothing is known.
+    ///
+    /// # Errors
+    ///
+    /// [`AllocError`] if memory cannot be allocated.
+    pub fn blocks(
+        &self,
+        alloc: Global,
+        new: &Description,
+        places: &[Place],
+        linked: &[bool],
+    ) -> Result<Vec<bool>, AllocError> {
+        let mut known = Vec::new(alloc);
+        let Some(old) = &self.old else {
+            return Ok(known);
+        };
+        if old.description().block_bytes != new.block_bytes {
+            return Ok(known);
+        }
+        for block in 0..new.original_count as usize {
+            let was = places_in(old.places.as_slice(), block);
+            let is = places_in(places, block);
+            let is_whole = matches!(old.origins.get(block), Some(Some(Origin::Files)));
+            let mut pairs = was.iter().zip(is);
+            let is_same = was.len() == is.len()
+                && pairs.all(|(was, is)| is_same_place(old.description(), was, new, is, linked));
+            known.push(is_whole && is_same)?;
+        }
+        Ok(known)
+    }
+
+    /// Puts the digests of the blocks that are known into the list of the digests of all blocks.
+    pub fn take_over(&self, known: &[bool], digests: &mut Vec<u8>) {
+        let Some(old) = &self.old else {
+            return;
+        };
+        let was = old.description().digests.as_slice().chunks_exact(32);
+        let is = digests.chunks_exact_mut(32);
+        for ((was, is), is_known) in was.zip(is).zip(known) {
+            if *is_known {
+                is.copy_from_slice(was);
+            }
+        }
+    }
+}
+
+// Returns whether a place in an old set and a place in a new set are the same bytes of one file.
+fn is_same_place(
+    old: &Description,
+    was: &Place,
+    new: &Description,
+    is: &Place,
+    linked: &[bool],
+) -> bool {
+    let (Some(old), Some(own)) = (old.entries.get(was.file), new.entries.get(is.file)) else {
+        return false;
+    };
+    let is_linked = linked.get(is.file).copied().unwrap_or(true);
+    old.name.as_slice() == own.name.as_slice()
+        && !is_linked
+        && (was.offset, was.at, was.bytes) == (is.offset, is.at, is.bytes)
 }
 
 // Returns how an entry has changed, which is at a path now and has a state.
@@ -47,6 +136,17 @@ fn change_of<R: Files>(
     }
 }
 
+// Returns how each entry of an old set has changed.
+fn changes_of<R: Files>(rt: &R, alloc: Global, old: &Scan) -> Result<Vec<Change>, AllocError> {
+    let description = old.description();
+    let mut changes = Vec::new(alloc);
+    let paths = old.paths.iter().zip(old.states.as_slice());
+    for (entry, (path, state)) in description.entries.iter().zip(paths) {
+        changes.push(change_of(rt, entry, path.as_str(), *state, description.version))?;
+    }
+    Ok(changes)
+}
+
 // Returns whether a name was accepted on the command line.
 fn is_accepted(request: &Request, name: &[u8]) -> bool {
     request
@@ -55,20 +155,18 @@ fn is_accepted(request: &Request, name: &[u8]) -> bool {
         .any(|accepted| accepted.as_str().as_bytes() == name)
 }
 
-// Prints what has changed in a set that was scanned. Returns the number of rotten files that were not accepted.
-fn tell_changes<R: Files + Print + Eprint>(
+// Prints how the entries of an old set have changed. Returns the number of rotten files that were not accepted.
+fn tell_changes<R: Print + Eprint>(
     rt: &R,
     request: &Request,
-    old: &Scan,
+    old: &Description,
+    changes: &[Change],
     log: &mut Log,
 ) -> Result<u64> {
-    let description = old.description();
     let mut rotten = 0u64;
-    let paths = old.paths.iter().zip(old.states.as_slice());
-    for (entry, (path, state)) in description.entries.iter().zip(paths) {
-        let change = change_of(rt, entry, path.as_str(), *state, description.version);
+    for (entry, change) in old.entries.iter().zip(changes) {
         let list = match change {
-            Change::None => continue,
+            Change::None | Change::Replaced => continue,
             Change::Rotten if !is_accepted(request, entry.name.as_slice()) => "rotten",
             Change::Rotten | Change::Edited => "edited",
             Change::Removed => "removed",
@@ -85,25 +183,46 @@ fn tell_changes<R: Files + Print + Eprint>(
     Ok(rotten)
 }
 
-// Prints which entries are new.
-fn tell_new<R: Print>(
+// Prints which entries are new, and which files are rotten that were moved: `origins` has for each entry the index of
+// the old entry from which it was moved and whose bytes it does not have. Returns the number of those that were not
+// accepted.
+fn tell_new<R: Print + Eprint>(
     rt: &R,
-    alloc: Global,
+    request: &Request,
     old: &Description,
     found: &Found,
+    origins: &[Option<usize>],
     log: &mut Log,
-) -> Result<()> {
-    let mut names = Vec::new(alloc);
-    for entry in &old.entries {
-        names.push(entry.name.as_slice())?;
-    }
-    names.sort()?;
-    for entry in &found.entries {
-        if names.binary_search(&entry.name.as_slice()).is_err() {
-            log.note(rt, "new", entry.name.as_slice())?;
+) -> Result<u64> {
+    let mut rotten = 0u64;
+    for (entry, origin) in found.entries.iter().zip(origins) {
+        let name = entry.name.as_slice();
+        let was = match origin {
+            Some(index) if !is_accepted(request, name) => old.entries.get(*index),
+            _ => None,
+        };
+        if let Some(was) = was {
+            let (shown, old) = (Name(name), Name(was.name.as_slice()));
+            eprintln!(rt; "rs_files: rotten: {shown} (was {old})")?;
+            log.add_moved("rotten", name, was.name.as_slice())?;
+            rotten = rotten.saturating_add(1);
+        } else if index_in(old, name).is_none() {
+            log.note(rt, "new", name)?;
         }
     }
-    Ok(())
+    Ok(rotten)
+}
+
+// Returns the index of the entry of a set with this name.
+fn index_in(set: &Description, name: &[u8]) -> Option<usize> {
+    let found = set
+        .entries
+        .as_slice()
+        .binary_search_by(|entry| match set.version {
+            Version::First => entry.name.as_slice().cmp(name),
+            Version::Second => order_of(entry.name.as_slice(), name),
+        });
+    found.ok()
 }
 
 // Returns those of the paths at which something exists.
@@ -143,8 +262,7 @@ fn digest_in(old: &Scan, entry: &Entry) -> Option<[u8; 32]> {
     if set.version != Version::Second || entry.kind != Kind::File {
         return None;
     }
-    let order = |other: &Entry| order_of(other.name.as_slice(), entry.name.as_slice());
-    let index = set.entries.as_slice().binary_search_by(order).ok()?;
+    let index = index_in(set, entry.name.as_slice())?;
     let other = set.entries.get(index)?;
     let is_whole = matches!(old.states.get(index), Some(State::Whole));
     if is_whole && other.kind == Kind::File && other.size == entry.size {
@@ -154,10 +272,249 @@ fn digest_in(old: &Scan, entry: &Entry) -> Option<[u8; 32]> {
     }
 }
 
+// The length of a file, and the seconds and nanoseconds of the time of its last change.
+type Stamp = (u64, u64, u32);
+
+// Returns the stamp of a file that has bytes, or `None` for another entry.
+fn stamp_of(entry: &Entry) -> Option<Stamp> {
+    if entry.kind == Kind::File && entry.size > 0 {
+        Some((entry.size, entry.seconds, entry.nanoseconds))
+    } else {
+        None
+    }
+}
+
+// A file of an old set that can have been moved or copied.
+#[derive(Clone, Copy)]
+struct OldFile {
+    stamp: Stamp,
+    digest: [u8; 32],
+    // Its index in the old set.
+    index: usize,
+    // Whether something still has its name, or a file with its bytes was found under another name.
+    is_found: bool,
+}
+
+// Returns the files of an old set that can have been moved or copied, in order of their stamps and digests: those under
+// whose names nothing is any more, and those whose time is no whole second. Many files can have the same whole second,
+// for example those from one archive, so there a file with the time of another is not taken for this one.
+// Version 1 has no digests of files and no nanoseconds, so there are none.
+fn old_files(
+    alloc: Global,
+    old: &Description,
+    changes: &[Change],
+) -> Result<Vec<OldFile>, AllocError> {
+    let mut files = Vec::new(alloc);
+    if old.version == Version::First {
+        return Ok(files);
+    }
+    for (index, (entry, change)) in old.entries.iter().zip(changes).enumerate() {
+        let is_gone = *change == Change::Removed;
+        if let (true, Some(stamp)) = (is_gone || entry.nanoseconds != 0, stamp_of(entry)) {
+            files.push(OldFile {
+                stamp,
+                digest: entry.digest,
+                index,
+                is_found: !is_gone,
+            })?;
+        }
+    }
+    files.sort_by(|one, other| (one.stamp, one.digest).cmp(&(other.stamp, other.digest)))?;
+    Ok(files)
+}
+
+// Returns the digests of all files of a set, in order.
+fn digests_of(alloc: Global, set: &Description) -> Result<Vec<[u8; 32]>, AllocError> {
+    let mut digests = Vec::new(alloc);
+    for entry in &set.entries {
+        if entry.kind == Kind::File {
+            digests.push(entry.digest)?;
+        }
+    }
+    digests.sort()?;
+    Ok(digests)
+}
+
+// Looks for files that were moved or copied, and whose bytes changed since: those under a new name, or under that of
+// another file, whose length and time are those of an old file, and whose bytes no file of the old set had. The old
+// file can be there again, because it was restored. Sets the digests of the files that are compared in `known`. Returns
+// for each entry that was found the index of the old entry whose bytes it does not have, if it is such a file.
+fn moved_rotten<R: Files>(
+    rt: &R,
+    alloc: Global,
+    old: &Description,
+    changes: &[Change],
+    found: &Found,
+    known: &mut [Option<[u8; 32]>],
+) -> Result<Vec<Option<usize>>> {
+    let mut files = old_files(alloc, old, changes)?;
+    let digests = digests_of(alloc, old)?;
+    let paths = paths_of(alloc, found.folder.as_str(), found.entries.as_slice())?;
+    let mut buffer = vec![in alloc; 0u8; CHUNK]?;
+    let mut wrong = Vec::new(alloc);
+    for (index, (entry, path)) in found.entries.iter().zip(paths.as_slice()).enumerate() {
+        if !is_moved(old, entry, files.as_slice()) {
+            continue;
+        }
+        let follows = found.linked.get(index).copied().unwrap_or(false);
+        let own = digest_at(rt, path.as_str(), follows, entry.size, &mut buffer);
+        if let (Some(own), Some(place)) = (own, known.get_mut(index)) {
+            *place = Some(own);
+            mark_found(files.as_mut_slice(), entry, &own);
+            if digests.binary_search(&own).is_err() {
+                wrong.push(index)?;
+            }
+        }
+    }
+    let mut origins = vec![in alloc; None; found.entries.len()]?;
+    for index in &wrong {
+        if let (Some(entry), Some(origin)) = (found.entries.get(*index), origins.get_mut(*index)) {
+            *origin = origin_of(old, files.as_slice(), entry);
+        }
+    }
+    Ok(origins)
+}
+
+// Returns the index of the old file that a file probably was whose bytes no old file had: an old file with its stamp
+// that was not found. If all of these were found and the time is no whole second, the first one of them, unless the
+// file is one that `repair` kept.
+fn origin_of(old: &Description, files: &[OldFile], entry: &Entry) -> Option<usize> {
+    let same = with_stamp(files, entry);
+    let lost = same.iter().find(|file| !file.is_found);
+    let is_kept = same
+        .iter()
+        .any(|file| is_kept_for(old, file.index, entry.name.as_slice()));
+    let any = if entry.nanoseconds != 0 && !is_kept {
+        same.first()
+    } else {
+        None
+    };
+    lost.or(any).map(|file| file.index)
+}
+
+// Returns whether a name is one under which `repair` keeps a damaged file: that of an old entry with `.damaged`.
+fn is_kept_for(old: &Description, index: usize, name: &[u8]) -> bool {
+    let Some(entry) = old.entries.get(index) else {
+        return false;
+    };
+    match name.strip_prefix(entry.name.as_slice()) {
+        Some(rest) => rest.starts_with(b".damaged"),
+        None => false,
+    }
+}
+
+// Marks the entries of an old set under whose names there are rotten files now that were moved there. `origins` has for
+// each entry that was found the old entry from which it was moved, if it is such a file.
+fn mark_replaced(
+    request: &Request,
+    old: &Description,
+    found: &Found,
+    origins: &[Option<usize>],
+    changes: &mut [Change],
+) {
+    for (entry, origin) in found.entries.iter().zip(origins) {
+        let name = entry.name.as_slice();
+        if origin.is_some() && !is_accepted(request, name) {
+            if let Some(change) = index_in(old, name).and_then(|index| changes.get_mut(index)) {
+                *change = Change::Replaced;
+            }
+        }
+    }
+}
+
+// Returns the old files with the stamp of an entry.
+fn with_stamp<'a>(files: &'a [OldFile], entry: &Entry) -> &'a [OldFile] {
+    let Some(stamp) = stamp_of(entry) else {
+        return &[];
+    };
+    let from = files.partition_point(|file| file.stamp < stamp);
+    let to = files.partition_point(|file| file.stamp <= stamp);
+    files.get(from..to).unwrap_or(&[])
+}
+
+// Returns whether an entry can be a file that was moved or copied: one of the old files has its stamp, and the old set
+// has no file with its name and its stamp.
+fn is_moved(old: &Description, entry: &Entry, files: &[OldFile]) -> bool {
+    if with_stamp(files, entry).is_empty() {
+        return false;
+    }
+    match index_in(old, entry.name.as_slice()).and_then(|index| old.entries.get(index)) {
+        Some(same) => stamp_of(same) != stamp_of(entry),
+        None => true,
+    }
+}
+
+// Marks the old files with the stamp of an entry and with a digest as found.
+fn mark_found(files: &mut [OldFile], entry: &Entry, digest: &[u8; 32]) {
+    let Some(stamp) = stamp_of(entry) else {
+        return;
+    };
+    let from = files.partition_point(|file| (file.stamp, file.digest) < (stamp, *digest));
+    let to = files.partition_point(|file| (file.stamp, file.digest) <= (stamp, *digest));
+    for file in files.iter_mut().take(to).skip(from) {
+        file.is_found = true;
+    }
+}
+
+// Returns the digest of a file, or `None` if it cannot be read.
+fn digest_at<R: Files>(
+    rt: &R,
+    path: &str,
+    follows: bool,
+    size: u64,
+    buffer: &mut [u8],
+) -> Option<[u8; 32]> {
+    let mut file = open_regular(rt, path, follows).ok()?;
+    hash_at(&mut file, 0, size, buffer).ok()
+}
+
+/// Checks that each name after `--accept` is that of an entry.
+///
+/// # Errors
+///
+/// Fails for the first name that is not.
+pub fn check_accepted(alloc: Global, request: &Request, found: &Found) -> Result<()> {
+    for name in &request.accept {
+        let bytes = name.as_str().as_bytes();
+        let entries = found.entries.as_slice();
+        let same = entries.binary_search_by(|entry| order_of(entry.name.as_slice(), bytes));
+        if same.is_err() {
+            let reason = "no file of the set has this name, which follows --accept";
+            return Err(Failure::at(alloc, name.as_str(), reason));
+        }
+    }
+    Ok(())
+}
+
+// Compares the files of a request with the old volumes at `outputs`. Returns `None` if there are none, or if none can be
+// read: then the function prints why.
+fn old_set<R: Runtime>(
+    rt: &R,
+    alloc: Global,
+    request: &Request,
+    outputs: &[String],
+    found: &Found,
+) -> Result<Option<Scan>> {
+    let old = existing(rt, alloc, outputs)?;
+    let Some(first) = old.first() else {
+        return Ok(None);
+    };
+    let folder = Some(found.folder.as_str());
+    let shown = request.progress;
+    match scan_paths(rt, alloc, old.as_slice(), request.memory, shown, folder) {
+        Ok(scan) => Ok(Some(scan)),
+        Err(failure) => {
+            let reason = format_args!("the files were not compared with this volume: {failure}");
+            warn(rt, first.as_str(), reason);
+            Ok(None)
+        }
+    }
+}
+
 /// Compares the files of a request with the old volumes at `outputs`, which new volumes replace, and prints what has
 /// changed. Returns `None` if the new volumes must not be made: the bytes of a file have changed while its length and
-/// its time have not, and the request does not accept this. Otherwise returns for each entry the digest of the file, if
-/// it is known from the old volumes. The list can be too short.
+/// its time have not, also if it was moved, and the request does not accept this. Otherwise returns what is known from
+/// the old volumes.
 ///
 /// If no old volume can be read, nothing is compared, and the function prints why.
 ///
@@ -171,34 +528,51 @@ pub fn may_replace<R: Runtime>(
     outputs: &[String],
     found: &Found,
     log: &mut Log,
-) -> Result<Option<Vec<Option<[u8; 32]>>>> {
-    let old = existing(rt, alloc, outputs)?;
-    let Some(first) = old.first() else {
-        return Ok(Some(Vec::new(alloc)));
+) -> Result<Option<Known>> {
+    let Some(old) = old_set(rt, alloc, request, outputs, found)? else {
+        return Ok(Some(Known::nothing(alloc)));
     };
-    let folder = Some(found.folder.as_str());
-    let old = match scan_paths(
+    let (set, mut changes) = (old.description(), changes_of(rt, alloc, &old)?);
+    let mut files = known_digests(alloc, &old, found)?;
+    let moves = moved_rotten(
         rt,
         alloc,
-        old.as_slice(),
-        request.memory,
-        request.progress,
-        folder,
-    ) {
-        Ok(scan) => scan,
-        Err(failure) => {
-            let reason = format_args!("the files were not compared with this volume: {failure}");
-            warn(rt, first.as_str(), reason);
-            return Ok(Some(Vec::new(alloc)));
-        }
-    };
-    let rotten = tell_changes(rt, request, &old, log)?;
-    tell_new(rt, alloc, old.description(), found, log)?;
-    if rotten > 0 {
-        eprintln!(rt;
-            "rs_files: the bytes of these files changed, but not their times: restore each with repair --only NAME, or accept it with --accept NAME"
-        )?;
+        set,
+        changes.as_slice(),
+        found,
+        files.as_mut_slice(),
+    )?;
+    mark_replaced(
+        request,
+        set,
+        found,
+        moves.as_slice(),
+        changes.as_mut_slice(),
+    );
+    let rotten = tell_changes(rt, request, set, changes.as_slice(), log)?;
+    let moved = tell_new(rt, request, set, found, moves.as_slice(), log)?;
+    log.end_lists(rt)?;
+    if rotten > 0 || moved > 0 {
+        tell_rotten(rt, moved > 0)?;
         return Ok(None);
     }
-    Ok(Some(known_digests(alloc, &old, found)?))
+    Ok(Some(Known {
+        files,
+        old: Some(old),
+    }))
+}
+
+// Prints what to do about rotten files. `has_moved` says whether one of them was moved.
+fn tell_rotten<R: Eprint>(rt: &R, has_moved: bool) -> Result<()> {
+    eprintln!(rt;
+        "rs_files: the bytes of these files changed, but not their times: no new volume was made, and \
+         the old one was kept. Restore each file with repair --only NAME, or accept it with --accept NAME"
+    )?;
+    if has_moved {
+        eprintln!(rt;
+            "rs_files: repair --only restores a file that was moved under its old name, the one \
+             after `was`. Then delete the file with the new name, or move the restored one onto it"
+        )?;
+    }
+    Ok(())
 }

@@ -1,5 +1,5 @@
 //! `create`: makes a volume with the recovery blocks of files.
-use crate::comparing::may_replace;
+use crate::comparing::{Known, check_accepted, may_replace};
 use crate::log::{Lines, Log};
 use crate::settings::{NO_OUTPUT, Request, STATUS_FAILED, STATUS_LOST, STATUS_WHOLE, VERSION};
 use reed_solomon_simd::engine::tables::Tables;
@@ -18,7 +18,7 @@ use rs_volume_files::assembly::LARGEST_DESCRIPTION;
 use rs_volume_files::volume_sink::{VolumeSink, Volumes, check_output, check_parts, part_of};
 use rs_volumes::checking::{UNIT, data_end, fits};
 use rs_volumes::coding_error::CodingError;
-use rs_volumes::creating::create as create_blocks;
+use rs_volumes::creating::{Work, create_except};
 use rs_volumes::description::{CREATOR, Description, Entry, Field, Kind, Version};
 use rs_volumes::digest::digest_of;
 use rs_volumes::placement::places_of;
@@ -95,8 +95,8 @@ struct Making<'a, R: Files + Clock + Eprint> {
     // The path of each entry, and whether the path is a symbolic link to a file.
     paths: Vec<String>,
     linked: Vec<bool>,
-    // The digests of the files that are known from old volumes. This list can be shorter than the list of entries.
-    known: Vec<Option<[u8; 32]>>,
+    // What is known from old volumes.
+    known: Known,
 }
 
 impl<'a, R: Files + Clock + Eprint> Making<'a, R> {
@@ -122,14 +122,14 @@ impl<'a, R: Files + Clock + Eprint> Making<'a, R> {
             paths: paths_of(alloc, folder.as_str(), entries.as_slice())?,
             description: description_of(alloc, entries, cut, volumes.min(1000) as u32)?,
             linked,
-            known: Vec::new(alloc),
+            known: Known::nothing(alloc),
         })
     }
 
     // Returns the digest of the file with this index, if it is known from old volumes. The file was compared with it
     // after its length and its time were read, and `check_unchanged` compares these once more.
     fn known_digest(&self, index: usize) -> Option<[u8; 32]> {
-        self.known.get(index).copied().flatten()
+        self.known.files.get(index).copied().flatten()
     }
 
     // Returns the number of bytes of the description with all digests and sums. Fails if it is larger than 1 GiB: no
@@ -143,7 +143,8 @@ impl<'a, R: Files + Clock + Eprint> Making<'a, R> {
             .saturating_add(32 * recovery);
         if bytes > LARGEST_DESCRIPTION {
             return Err(Failure::of(
-                "the names of the files are too long for one description of at most 1 GiB: make several sets of fewer files",
+                "the names of the files are too long for one description of at most 1 GiB: make \
+                 several sets of fewer files",
             ));
         }
         Ok(bytes)
@@ -222,7 +223,7 @@ impl<'a, R: Files + Clock + Eprint> Making<'a, R> {
     }
 
     // Makes the recovery blocks, and writes blocks into the sink. Sets the digests and the sums of all blocks. A set
-    // without blocks has none.
+    // without blocks has none. Digests that are known from old volumes are not computed again.
     fn code(&mut self, progress: Progress, sink: &mut VolumeSink<'_, R>) -> Result<()> {
         let shape = shape_of(&self.description);
         if shape.original_count == 0 {
@@ -240,22 +241,25 @@ impl<'a, R: Files + Clock + Eprint> Making<'a, R> {
         let mut source = SummedBlocks::new(blocks, shape.original_count)?;
         let tables = Tables::new(self.alloc)?;
         let engine = DefaultEngine::new(&tables, EngineKind::Ssse3);
-        let piece = piece_bytes(&shape, self.request.memory);
-        let outcome = create_blocks(self.alloc, shape, piece, engine, &mut source, sink);
+        let linked = self.linked.as_slice();
+        let known = self
+            .known
+            .blocks(self.alloc, &self.description, places.as_slice(), linked)?;
+        let work = Work {
+            piece_bytes: piece_bytes(&shape, self.request.memory),
+            known: known.as_slice(),
+        };
+        let outcome = create_except(self.alloc, shape, work, engine, &mut source, sink);
         source.blocks.end();
         match outcome {
-            Ok(digests) => {
+            Ok(mut digests) => {
+                self.known.take_over(known.as_slice(), &mut digests);
                 self.description.digests = digests;
                 self.description.sums = source.sums()?;
                 Ok(())
             }
             Err(error) => {
-                if is_full(&error) {
-                    let missing = Counted(sink.missing(), "byte");
-                    let _ = eprintln!(self.rt;
-                        "rs_files: the disk has no room for {missing} of the new volumes"
-                    );
-                }
+                tell_full(self.rt, sink, &error);
                 let (read, written) = (source.blocks.path_of(&error), sink.path_of(&error));
                 Err(failure_of(self.alloc, read, written, error))
             }
@@ -297,6 +301,14 @@ impl<'a, R: Files + Clock + Eprint> Making<'a, R> {
     }
 }
 
+// Prints for how many bytes of new volumes the disk has no room, if it is full.
+fn tell_full<R: Files + Eprint>(rt: &R, sink: &VolumeSink<'_, R>, error: &CodingError) {
+    if is_full(error) {
+        let missing = Counted(sink.missing(), "byte");
+        let _ = eprintln!(rt; "rs_files: the disk has no room for {missing} of the new volumes");
+    }
+}
+
 // Returns whether a block could not be written because the disk is full.
 fn is_full(error: &CodingError) -> bool {
     match error {
@@ -328,6 +340,9 @@ fn check_file<R: Files>(rt: &R, alloc: Global, path: &str, entry: &Entry) -> Res
 pub struct Task<'a> {
     /// The request of the command line.
     pub request: &'a Request,
+    /// The block size of the set that is made again, if it was given. It is kept if the request names none, and if the
+    /// files do not have too many blocks of this size.
+    pub old_block: Option<u64>,
     /// The paths of the files and folders.
     pub files: &'a [String],
     /// The number of recovery blocks.
@@ -364,10 +379,10 @@ fn made_of(alloc: Global, request: &Request, found: &Found, cut: Cut) -> Result<
         entries,
         cut,
         largest: (largest.0, format!(in alloc; "{}", Name(largest.1))?),
-        status: if found.has_left_out && !request.skip_names {
-            STATUS_FAILED
-        } else {
+        status: if found.unreadable.is_empty() || request.skip_names {
             STATUS_WHOLE
+        } else {
+            STATUS_FAILED
         },
     })
 }
@@ -385,6 +400,7 @@ const LISTS: [&str; 6] = ["volumes", "left_out", "edited", "new", "removed", "ro
 /// - for a reason of [`check_parts`],
 /// - for each volume, for a reason of [`check_output`],
 /// - for a reason of [`find`],
+/// - for a reason of [`check_accepted`],
 /// - for a reason of [`may_replace`],
 /// - for a reason of [`cut_data`],
 /// - if there are 2^32 entries or more, or a name has 65536 bytes or more,
@@ -435,11 +451,15 @@ fn make_volumes<R: Runtime>(
     }
     let found = find(rt, alloc, task.files, task.outputs)?;
     tell_left_out(rt, &found, log)?;
+    check_accepted(alloc, request, &found)?;
     let Some(known) = may_replace(rt, alloc, request, task.outputs, &found, log)? else {
         return Ok(None);
     };
     let data_bytes = data_end(UNIT, found.entries.as_slice()).unwrap_or(u64::MAX);
-    let cut = cut_data(data_bytes, request.block_bytes, task.recovery)?;
+    let cut = match cut_data(data_bytes, task.old_block, task.recovery) {
+        Ok(cut) if request.block_bytes.is_none() => cut,
+        _ => cut_data(data_bytes, request.block_bytes, task.recovery)?,
+    };
     let made = made_of(alloc, request, &found, cut)?;
     let mut making = Making::new(rt, alloc, request, found, cut, task.outputs.len())?;
     making.known = known;
@@ -451,14 +471,16 @@ fn make_volumes<R: Runtime>(
     Ok(Some(made))
 }
 
-// Prints what was left out, and why.
+// Prints what was left out, and why. What is not UTF-8 was printed before.
 fn tell_left_out<R: Print>(rt: &R, found: &Found, log: &mut Log) -> Result<()> {
+    for left in found.unreadable.iter().chain(found.left_out.iter()) {
+        let reason = Some(("reason", left.reason.as_str()));
+        log.add("left_out", ("path", left.path.as_str()), reason)?;
+    }
     let mut lines = Lines::new();
     for left in &found.left_out {
-        let path = left.path.as_str();
-        log.add("left_out", ("path", path), Some(("reason", left.reason)))?;
         if log.is_told() && lines.next() {
-            let (path, reason) = (Shown(path), left.reason);
+            let (path, reason) = (Shown(left.path.as_str()), left.reason.as_str());
             println!(rt; "left out: {path}: {reason}")?;
         }
     }
@@ -474,6 +496,7 @@ pub fn create<R: Runtime>(rt: &R, alloc: Global, request: &Request) -> Result<u8
     let outputs = [output_of(alloc, request)?];
     let task = Task {
         request,
+        old_block: None,
         files: request.paths.as_slice(),
         recovery: request.recovery.unwrap_or(Recovery::Percent(10)),
         outputs: &outputs,
@@ -496,7 +519,8 @@ fn tell<R: Print + Eprint>(rt: &R, task: Task<'_>, made: &Made) -> io::Result<()
     let (size, name) = (made.largest.0, made.largest.1.as_str());
     if size > most {
         eprintln!(rt;
-            "rs_files: {name}: warning: this file has {size} bytes, and the recovery blocks can restore {most}: if it is lost, it cannot be restored. Choose more with -r"
+            "rs_files: {name}: warning: this file has {size} bytes, and the recovery blocks can restore \
+             {most}: if it is lost, it cannot be restored. Choose more with -r"
         )?;
     }
     Ok(())

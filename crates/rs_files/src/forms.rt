@@ -139,7 +139,8 @@ const SPLIT: Form = Form {
     name: "split",
     paths: FILES,
     about: "Spread the files over volumes",
-    after: "Example:\n  rs_files split photos -n 5 --lose 2 -o parts      writes parts/volume0001.rsv to parts/volume0005.rsv",
+    after: "Example:\n  rs_files split photos -n 5 --lose 2 -o parts      \
+            writes parts/volume0001.rsv to parts/volume0005.rsv",
     options: &[
         Choice(
             "output",
@@ -182,7 +183,12 @@ const UPDATE: Form = Form {
             One("COUNT"),
             "Make this many recovery blocks, e.g. 20% of the blocks or 300 [default: the share of before]",
         ),
-        BLOCK,
+        Choice(
+            "block",
+            None,
+            One("BYTES"),
+            "Cut the files into blocks of this size, e.g. 64K [default: the size that was given before]",
+        ),
         ACCEPT,
         SKIP_NAMES,
         FOLDER,
@@ -197,7 +203,8 @@ const VERIFY: Form = Form {
     name: "verify",
     paths: VOLUMES,
     about: "Look for damage",
-    after: "Status 0: all is whole. 1: damage that can be repaired. 3: damage that cannot be repaired.\n\nExamples:\n  rs_files verify photos.rsv\n  rs_files verify photos.rsv --only photos/2024",
+    after: "Status 0: all is whole. 1: damage that can be repaired. 3: damage that cannot be repaired.\n\n\
+            Examples:\n  rs_files verify photos.rsv\n  rs_files verify photos.rsv --only photos/2024",
     options: &[
         FOLDER,
         SEARCH,
@@ -219,7 +226,10 @@ const REPAIR: Form = Form {
     name: "repair",
     paths: VOLUMES,
     about: "Restore damaged and missing files in their folder",
-    after: "Status 0: all is whole now. 3: files cannot be restored. All others are restored.\n\nExamples:\n  rs_files repair photos.rsv\n  rs_files repair photos.rsv --only photos/2024/beach.jpg",
+    after: "Status 0: all is whole now. 1: the files are whole, but a damaged volume cannot be written again.\n\
+            3: blocks are lacking for some files. 4: another error, for example a file that cannot be written.\n\
+            All other files are restored.\n\n\
+            Examples:\n  rs_files repair photos.rsv\n  rs_files repair photos.rsv --only photos/2024/beach.jpg",
     options: &[FOLDER, SEARCH, ONLY, MEMORY, JSON, PROGRESS, QUIET],
 };
 
@@ -227,7 +237,10 @@ const RESTORE: Form = Form {
     name: "restore",
     paths: VOLUMES,
     about: "Restore files into another folder",
-    after: "Volumes of split give all files. A volume of create gives those that are damaged or missing.\n\nStatus 0: all these files are restored. 3: files cannot be restored. All others are restored.\n\nExamples:\n  rs_files restore parts/*.rsv --to restored\n  rs_files restore photos.rsv --to restored --only photos/2024",
+    after: "Volumes of split give all files. A volume of create gives those that are damaged or missing.\n\n\
+            Status 0: all these files are restored. 3: files cannot be restored. All others are restored.\n\n\
+            Examples:\n  rs_files restore parts/*.rsv --to restored\n  \
+            rs_files restore photos.rsv --to restored --only photos/2024",
     options: &[
         Choice(
             "to",

@@ -12,6 +12,7 @@ use rs_volumes::record::BLOCK;
 use serde_json::Value;
 use std::alloc::{AllocError, Global};
 use std::io;
+use std::io::ErrorKind;
 use std::rt::Files;
 
 // Returns the name and the version of the program that made a set, if the description has them.
@@ -26,7 +27,12 @@ fn creator_of(description: &Description) -> Option<&[u8]> {
 
 // Prints what a volume with this number of blocks describes as JSON. There can be many entries, so each of them is
 // printed by itself.
-fn tell_json<R: Print>(rt: &R, alloc: Global, description: &Description, here: u64) -> Result<()> {
+fn tell_json<R: Print>(
+    rt: &R,
+    alloc: Global,
+    description: &Description,
+    here: u64,
+) -> io::Result<()> {
     let object = numbers_json(alloc, description, here)?;
     let front = object.as_str().strip_suffix('}').unwrap_or("");
     print!(rt; "{front},\"files\":[")?;
@@ -36,7 +42,7 @@ fn tell_json<R: Print>(rt: &R, alloc: Global, description: &Description, here: u
         print!(rt; "{separator}{text}")?;
         separator = ",";
     }
-    Ok(println!(rt; "]}}")?)
+    println!(rt; "]}}")
 }
 
 // Returns what a volume with this number of blocks describes, without the entries, as the text of a JSON object.
@@ -113,22 +119,31 @@ fn blocks_in<R: Files>(rt: &R, alloc: Global, set: &Set, path: &str, form: Form)
     Ok(count)
 }
 
-// Opens a volume, and prints what it describes.
+// Opens a volume, and prints what it describes. Returns whether somebody still reads what is printed.
 fn tell_volume<R: Files + Print>(
     rt: &R,
     alloc: Global,
     path: &str,
     request: &Request,
-) -> Result<()> {
+) -> Result<bool> {
     let (set, form) = open_volume(rt, alloc, path, request.memory)?;
     let here = blocks_in(rt, alloc, &set, path, form)?;
-    if request.json {
-        return tell_json(rt, alloc, &set.description, here);
+    let told = if request.json {
+        tell_json(rt, alloc, &set.description, here)
+    } else {
+        tell(rt, path, &set.description, here)
+    };
+    match told {
+        Err(error) if error.kind() == ErrorKind::BrokenPipe => Ok(false),
+        told => {
+            told?;
+            Ok(true)
+        }
     }
-    Ok(tell(rt, path, &set.description, here)?)
 }
 
-/// Runs `info`: prints what each volume describes. Returns the exit status.
+/// Runs `info`: prints what each volume describes. Returns the exit status. If the program that reads this ends before,
+/// as `head` does, the function prints nothing more, and this is no error.
 ///
 /// # Errors
 ///
@@ -139,7 +154,9 @@ pub fn info<R: Files + Print>(rt: &R, alloc: Global, request: &Request) -> Resul
         return Err(Failure::of("no volume is given"));
     }
     for path in &request.paths {
-        tell_volume(rt, alloc, path.as_str(), request)?;
+        if !tell_volume(rt, alloc, path.as_str(), request)? {
+            break;
+        }
     }
     Ok(STATUS_WHOLE)
 }

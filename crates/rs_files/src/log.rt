@@ -20,6 +20,8 @@ pub struct Log {
     // The members of the object, and its lists. Without `--json`, there are none.
     object: Option<Map<String, Value>>,
     lists: Vec<(&'static str, Vec<Value>)>,
+    // The lines of each list that is printed.
+    lines: Vec<(&'static str, Lines)>,
 }
 
 impl Log {
@@ -38,6 +40,7 @@ impl Log {
             is_told: !request.quiet && !request.json,
             object: None,
             lists: Vec::new(alloc),
+            lines: Vec::new(alloc),
         };
         if request.json {
             log.object = Some(Map::new(alloc));
@@ -100,14 +103,58 @@ impl Log {
         self.add(list, ("name", name.as_str()), more)
     }
 
-    /// Appends an object with the name of an entry to a list, or prints the name after that of the list.
+    /// Appends an object to a list, with the name of an entry and the name that it had before.
+    ///
+    /// # Errors
+    ///
+    /// [`AllocError`] if memory cannot be allocated.
+    pub fn add_moved(&mut self, list: &str, name: &[u8], was: &[u8]) -> Result<(), AllocError> {
+        let was = text_in(self.alloc, was)?;
+        self.add_entry(list, name, Some(("was", was.as_str())))
+    }
+
+    /// Counts a line of a list. Returns whether it is printed: lines are printed, and it is one of the first ones.
+    ///
+    /// # Errors
+    ///
+    /// [`AllocError`] if memory cannot be allocated.
+    pub fn shows(&mut self, list: &'static str) -> Result<bool, AllocError> {
+        if !self.is_told {
+            return Ok(false);
+        }
+        if let Some((_, lines)) = self.lines.iter_mut().find(|(name, _)| *name == list) {
+            return Ok(lines.next());
+        }
+        let mut lines = Lines::new();
+        let is_shown = lines.next();
+        self.lines.push((list, lines))?;
+        Ok(is_shown)
+    }
+
+    /// Prints of each list how many lines were not printed, if there are some.
+    ///
+    /// # Errors
+    ///
+    /// Fails if a line cannot be printed.
+    pub fn end_lists<R: Print>(&self, rt: &R) -> io::Result<()> {
+        for (list, lines) in &self.lines {
+            let more = lines.more();
+            if more > 0 {
+                println!(rt; "and {more} more {list}: --json lists all")?;
+            }
+        }
+        Ok(())
+    }
+
+    /// Appends an object with the name of an entry to a list, or prints the name after that of the list, if it is one
+    /// of the first ones.
     ///
     /// # Errors
     ///
     /// Fails if the line cannot be printed, or if memory cannot be allocated.
-    pub fn note<R: Print>(&mut self, rt: &R, list: &str, name: &[u8]) -> Result<()> {
+    pub fn note<R: Print>(&mut self, rt: &R, list: &'static str, name: &[u8]) -> Result<()> {
         self.add_entry(list, name, None)?;
-        if self.is_told {
+        if self.shows(list)? {
             let name = Name(name);
             println!(rt; "{list}: {name}")?;
         }
@@ -194,15 +241,21 @@ impl Lines {
         self.count <= MOST_LINES
     }
 
+    /// Returns how many lines were not printed.
+    pub fn more(&self) -> usize {
+        self.count.saturating_sub(MOST_LINES)
+    }
+
     /// Prints how many lines were not printed, if there are some.
     ///
     /// # Errors
     ///
     /// Fails if the line cannot be printed.
     pub fn end<R: Print>(&self, rt: &R) -> io::Result<()> {
-        match self.count.checked_sub(MOST_LINES) {
-            Some(more) if more > 0 => println!(rt; "and {more} more: --json lists all"),
-            _ => Ok(()),
+        let more = self.more();
+        if more == 0 {
+            return Ok(());
         }
+        println!(rt; "and {more} more: --json lists all")
     }
 }

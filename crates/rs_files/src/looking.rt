@@ -1,5 +1,5 @@
 //! Looks for the blocks of a set as a request says.
-use crate::log::Log;
+use crate::log::{Lines, Log};
 use crate::settings::Request;
 use rs_file_sets::scanning::{Scan, scan_opened};
 use rs_file_sets::searching::{Elsewhere, find_elsewhere};
@@ -10,10 +10,10 @@ use rs_folders::names::{Name, Shown, folder_to_open, parent_of};
 use rs_volume_files::scanner::State;
 use rs_volume_files::volume::{Volumes, open_volumes};
 use rs_volumes::description::{Description, Entry};
-use std::alloc::Global;
-use std::fs;
+use std::alloc::{AllocError, Global};
 use std::io::ErrorKind;
 use std::rt::{Files, Runtime};
+use std::{fs, io};
 
 /// What was found of a set, and the entries that a request is about.
 #[derive(Drop)]
@@ -39,6 +39,19 @@ pub fn folder_of(request: &Request) -> Result<&str> {
         Some(path) => Ok(folder_to_open(parent_of(path.as_str()))),
         None => Err(Failure::of("no volume is given")),
     }
+}
+
+/// Returns the folder in which `verify` and `restore` look for the files of a set, as [`folder_of`] does. Volumes of
+/// `split` hold the files, so for these there is none without `--folder`.
+///
+/// # Errors
+///
+/// Fails if neither a folder nor a volume is named.
+pub fn folder_for<'a>(request: &'a Request, set: &Description) -> Result<Option<&'a str>> {
+    if set.volumes > 1 && request.folder.is_none() {
+        return Ok(None);
+    }
+    Ok(Some(folder_of(request)?))
 }
 
 // Checks that a folder is there.
@@ -129,7 +142,8 @@ pub fn look_for<R: Runtime>(
     for folder in &request.search {
         folders.push(folder.as_str())?;
     }
-    let elsewhere = find_elsewhere(rt, alloc, folders.as_slice(), &request.to, &mut scan)?;
+    let (folders, is_told) = (folders.as_slice(), !request.quiet);
+    let elsewhere = find_elsewhere(rt, alloc, folders, &request.to, &mut scan, is_told)?;
     Ok(Look {
         scan,
         chosen,
@@ -159,24 +173,48 @@ impl Look {
         self.chosen.iter().all(|is_chosen| *is_chosen)
     }
 
-    /// Prints which files were renamed or moved, and how many lost blocks were found elsewhere.
+    // Returns the files that were renamed or moved, each with the path at which it is now. Returns `None` if the
+    // request is not about the file.
+    fn moved(&self, number: usize) -> Option<(&Entry, &str)> {
+        let index = self.elsewhere.files.get(number).copied()?;
+        if !self.is_chosen(index) {
+            return None;
+        }
+        let entry = self.scan.description().entries.get(index)?;
+        Some((entry, self.scan.paths.get(index)?.as_str()))
+    }
+
+    /// Adds the files of the request that were renamed or moved to a log.
     ///
     /// # Errors
     ///
-    /// Fails if a message cannot be printed, or if memory cannot be allocated.
-    pub fn tell_moved<R: Print>(&self, rt: &R, log: &mut Log) -> Result<()> {
-        let entries = self.scan.description().entries.as_slice();
-        for index in &self.elsewhere.files {
-            if let (Some(entry), Some(path)) = (entries.get(*index), self.scan.paths.get(*index)) {
-                let at = Some(("path", path.as_str()));
-                log.add_entry("moved", entry.name.as_slice(), at)?;
-                if log.is_told() {
-                    let (name, path) = (Name(entry.name.as_slice()), Shown(path.as_str()));
+    /// [`AllocError`] if memory cannot be allocated.
+    pub fn note_moved(&self, log: &mut Log) -> Result<(), AllocError> {
+        for number in 0..self.elsewhere.files.len() {
+            if let Some((entry, path)) = self.moved(number) {
+                log.add_entry("moved", entry.name.as_slice(), Some(("path", path)))?;
+            }
+        }
+        Ok(())
+    }
+
+    /// Prints which files of the request were renamed or moved, and how many lost blocks were found elsewhere.
+    ///
+    /// # Errors
+    ///
+    /// Fails if a line cannot be printed.
+    pub fn tell_moved<R: Print>(&self, rt: &R) -> io::Result<()> {
+        let mut lines = Lines::new();
+        for number in 0..self.elsewhere.files.len() {
+            if let Some((entry, path)) = self.moved(number) {
+                if lines.next() {
+                    let (name, path) = (Name(entry.name.as_slice()), Shown(path));
                     println!(rt; "moved: {name} is at {path}")?;
                 }
             }
         }
-        if self.elsewhere.blocks > 0 && log.is_told() {
+        lines.end(rt)?;
+        if self.elsewhere.blocks > 0 {
             let blocks = Counted(self.elsewhere.blocks as u64, "lost block");
             println!(rt; "{blocks} found in other files or at other places")?;
         }

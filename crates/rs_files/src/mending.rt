@@ -1,7 +1,7 @@
 //! `repair` and `restore`: restore files in their folder, or into another one.
 use crate::checked::tell_nowhere;
 use crate::log::Log;
-use crate::looking::{Look, folder_of, look_for, open_request};
+use crate::looking::{Look, folder_for, folder_of, look_for, open_request};
 use crate::rebuilding::rebuild;
 use crate::settings::{Request, STATUS_DAMAGED, STATUS_FAILED, STATUS_LOST, STATUS_WHOLE};
 use crate::verifying::{add_counts, report, tell_lost, tell_volumes};
@@ -112,12 +112,7 @@ pub fn restore<R: Runtime>(rt: &R, alloc: Global, request: &Request) -> Result<u
         return Err(Failure::of("say where the files go, as --to FOLDER"));
     };
     let volumes = open_request(rt, alloc, request)?;
-    let is_spread = volumes.set.description.volumes > 1;
-    let folder = if is_spread && request.folder.is_none() {
-        None
-    } else {
-        Some(folder_of(request)?)
-    };
+    let folder = folder_for(request, &volumes.set.description)?;
     let found = look_for(rt, alloc, request, volumes, folder)?;
     let mut log = Log::new(alloc, request, &LISTS)?;
     add_counts(&mut log, &found.scan)?;
@@ -145,18 +140,25 @@ fn mend<R: Files + Clock + Print + Eprint>(
     log: &mut Log,
 ) -> Result<u8> {
     let found = job.found;
-    found.tell_moved(rt, log)?;
+    found.note_moved(log)?;
     let (wanted, lost) = divided(alloc, found)?;
     let loses = lost.contains(&true);
     // If nothing of the set is in its folder, the folder is probably another one.
     let is_nowhere = loses && !found.scan.has_files() && !found.scan.is_spread();
-    if is_nowhere && log.is_told() {
-        tell_nowhere(rt, job.folder)?;
-    }
     let is_left = !wanted.contains(&true) || is_nowhere && job.goal.in_place;
     if is_left && !loses {
         report(rt, found, job.folder, log, STATUS_WHOLE)?;
+        if !job.goal.in_place && log.is_told() {
+            let to = Shown(job.goal.folder);
+            println!(rt; "nothing was written into {to}, because nothing is damaged or missing")?;
+        }
         return Ok(STATUS_WHOLE);
+    }
+    if log.is_told() {
+        if is_nowhere {
+            tell_nowhere(rt, job.folder)?;
+        }
+        found.tell_moved(rt)?;
     }
     let all = is_left || restore_entries(rt, alloc, job, wanted, log)?;
     if loses {
@@ -271,6 +273,7 @@ fn tell_outcomes<R: Print + Eprint>(
             }
         }
     }
+    log.end_lists(rt)?;
     if log.is_told() {
         tell_restored(rt, restored, kept)?;
     }
@@ -293,7 +296,7 @@ fn note_restored<R: Print>(
         Some(path) => log.add_entry("restored", name, Some(("kept", path.as_str())))?,
         None => log.add_entry("restored", name, None)?,
     }
-    if log.is_told() {
+    if log.shows("restored")? {
         let name = Name(name);
         println!(rt; "restored: {name}")?;
         if let Some(path) = kept {

@@ -7,6 +7,7 @@ use rs_file_sets::one_entry::{is_whole, state_by_time};
 use rs_folders::counted::Kinds;
 use rs_folders::failure::Result;
 use rs_folders::hashing::CHUNK;
+use rs_folders::leftovers::tell_leftovers;
 use rs_folders::names::paths_of;
 use rs_volume_files::scanner::State;
 use rs_volumes::description::{Description, Version};
@@ -16,12 +17,13 @@ use std::io;
 use std::rt::Files;
 
 /// Compares the sizes and the times of the files of a request, the targets of its symbolic links and its empty folders
-/// with those of a set. No file is read. Returns the exit status.
+/// with those of a set. No file is read. For each file that a run of the program has not finished, the function prints
+/// a warning. Returns the exit status.
 ///
 /// # Errors
 ///
 /// Fails for a reason of [`chosen_of`], if the result cannot be printed, or if memory cannot be allocated.
-pub fn verify_quick<R: Files + Print>(
+pub fn verify_quick<R: Files + Print + Eprint>(
     rt: &R,
     alloc: Global,
     request: &Request,
@@ -29,7 +31,11 @@ pub fn verify_quick<R: Files + Print>(
     folder: &str,
 ) -> Result<u8> {
     let chosen = chosen_of(alloc, request, set)?;
-    let paths = paths_of(alloc, folder, set.entries.as_slice())?;
+    let mut paths = paths_of(alloc, folder, set.entries.as_slice())?;
+    for volume in &request.paths {
+        paths.push(volume.clone()?)?;
+    }
+    tell_leftovers(rt, alloc, paths.as_slice())?;
     let mut states = Vec::new(alloc);
     for (entry, path) in set.entries.iter().zip(paths.as_slice()) {
         states.push(state_by_time(rt, alloc, entry, path.as_str(), set.version))?;
@@ -41,6 +47,11 @@ pub fn verify_quick<R: Files + Print>(
         words: ["unchanged", "changed", "missing"],
     };
     let (same, other) = counted(&checked);
+    let status = if other.is_empty() {
+        STATUS_WHOLE
+    } else {
+        STATUS_DAMAGED
+    };
     let mut log = Log::new(alloc, request, &[])?;
     if log.is_kept() {
         log.set("quick", Value::Bool(true))?;
@@ -50,15 +61,7 @@ pub fn verify_quick<R: Files + Print>(
         checked.tell(rt, folder)?;
         tell_quick(rt, same, other)?;
     }
-    let is_same = other.is_empty();
-    log.end(
-        rt,
-        if is_same {
-            STATUS_WHOLE
-        } else {
-            STATUS_DAMAGED
-        },
-    )
+    log.end(rt, status)
 }
 
 // Returns the numbers of chosen entries that are whole, and of the others.

@@ -8,8 +8,6 @@ use rs_file_sets::cutting::{piece_bytes, shape_of};
 use rs_file_sets::scanning::{Scan, ScannedVolume};
 use rs_folders::failure::{Failure, Result};
 use rs_folders::names::Shown;
-use rs_folders::output::{at_path, free_path};
-use rs_folders::placing::link_or_rename;
 use rs_folders::progress::Progress;
 use rs_folders::source::{FileBlocks, Holders, failure_of};
 use rs_volume_files::layout::Deal;
@@ -37,13 +35,21 @@ fn damaged_paths(alloc: Global, found: &Scan) -> Result<Vec<Option<&str>>, Alloc
     Ok(paths)
 }
 
+/// Returns whether [`rebuild`] writes a damaged volume of a scan again, if all files are whole.
+pub fn can_rebuild(found: &Scan) -> bool {
+    let is_second = found.description().version == Version::Second;
+    let mut damages = found.volumes.iter().map(|volume| volume.damage);
+    is_second && damages.any(|damage| damage.number.is_some() && !damage.is_none())
+}
+
 /// Writes the damaged volumes of a scan again, and keeps each damaged one as `NAME.damaged`. Nothing is written if an
 /// original block was not found, or if the volumes have version 1. Returns whether all volumes are whole now.
 ///
 /// # Errors
 ///
-/// Fails if a block cannot be read, a volume cannot be written, or a block does not have its digest. Then the damaged
-/// volumes have their names. Every step fails if memory cannot be allocated.
+/// Fails if a block cannot be read, a volume cannot be written or get its name, or a block does not have its digest.
+/// Then nothing is left of the new volumes, apart from those that have their names, and the other damaged volumes have
+/// only their own names. Every step fails if memory cannot be allocated.
 pub fn rebuild<R: Runtime>(
     rt: &R,
     alloc: Global,
@@ -62,60 +68,61 @@ pub fn rebuild<R: Runtime>(
         return Err(Failure::of("the description of the set has another spelling"));
     }
     let mut volumes = Volumes::new(alloc, found.description(), description.len() as u64);
-    let outcome = fill(
-        rt,
-        alloc,
-        request,
-        found,
-        &paths,
-        description.as_slice(),
-        &mut volumes,
-    );
-    let kept = match outcome {
-        Ok(kept) => kept,
-        Err(failure) => {
-            volumes.remove(rt);
-            return Err(failure);
-        }
-    };
-    for (path, kept) in paths.iter().flatten().zip(kept.as_slice()) {
-        log.add("written", ("path", *path), Some(("kept", kept.as_str())))?;
-        if log.is_told() {
-            let path = Shown(*path);
-            println!(rt; "written again: {path}")?;
-        }
+    let mut kept = Vec::new(alloc);
+    let mut outcome = begin(rt, alloc, &paths, &mut volumes);
+    if outcome.is_ok() {
+        outcome = code(
+            rt,
+            alloc,
+            request,
+            found,
+            description.as_slice(),
+            &mut volumes,
+        );
     }
+    if outcome.is_ok() {
+        outcome = volumes.replace(rt, alloc, &mut kept);
+    }
+    volumes.remove(rt);
+    tell_written(rt, &paths, kept.as_slice(), log)?;
+    outcome?;
     let is_damaged = |volume: &&ScannedVolume| !volume.damage.is_none();
     let damaged = found.volumes.iter().filter(is_damaged).count();
     Ok(count == damaged && found.unreadable.is_empty())
 }
 
-// Writes volumes, and gives them their names. Those without a path are left out. Returns the paths at which the damaged
-// volumes are kept.
-fn fill<R: Runtime>(
+// Prints which volumes were written again: those of the first paths, whose damaged files were kept.
+fn tell_written<R: Print>(
+    rt: &R,
+    paths: &[Option<&str>],
+    kept: &[String],
+    log: &mut Log,
+) -> Result<()> {
+    for (path, kept) in paths.iter().flatten().zip(kept) {
+        log.add("written", ("path", *path), Some(("kept", kept.as_str())))?;
+        if log.is_told() {
+            let (path, kept) = (Shown(*path), Shown(kept.as_str()));
+            println!(rt; "written again: {path}")?;
+            println!(rt; "kept: {kept}")?;
+        }
+    }
+    Ok(())
+}
+
+// Begins the volumes that have a path.
+fn begin<R: Runtime>(
     rt: &R,
     alloc: Global,
-    request: &Request,
-    found: &Scan,
     paths: &[Option<&str>],
-    description: &[u8],
     volumes: &mut Volumes<R>,
-) -> Result<Vec<String>> {
+) -> Result<()> {
     for path in paths {
         match path {
             Some(path) => volumes.begin(rt, alloc, *path, second_part_of(alloc, *path)?)?,
             None => volumes.leave_out()?,
         }
     }
-    code(rt, alloc, request, found, description, volumes)?;
-    let mut all_kept = Vec::new(alloc);
-    for path in paths.iter().flatten() {
-        let kept = free_path(rt, alloc, "", *path, "damaged", None)?;
-        at_path(alloc, *path, link_or_rename(rt, *path, kept.as_str()))?;
-        all_kept.push(kept)?;
-    }
-    volumes.finish(rt, alloc, true)?;
-    Ok(all_kept)
+    Ok(())
 }
 
 // Codes the blocks of a set again, and writes those of some volumes. Fails if a block does not have its digest.

@@ -1,12 +1,13 @@
 //! `split`: spreads files over volumes.
 use crate::creating::{Task, make};
-use crate::settings::Request;
+use crate::settings::{Request, STATUS_LOST};
 use rs_file_sets::cutting::Recovery;
-use rs_folders::failure::{Failure, Result};
+use rs_folders::failure::{Failure, Result, warn};
+use rs_folders::identity::exists;
 use rs_folders::names::path_in;
 use rs_volume_files::volume_sink::check_parts;
 use std::alloc::{AllocError, Global};
-use std::rt::Runtime;
+use std::rt::{Files, Runtime};
 
 /// The largest number of volumes.
 const MOST_VOLUMES: u32 = 1000;
@@ -22,7 +23,8 @@ fn outputs_in(alloc: Global, volumes: u32, folder: &str) -> Result<Vec<String>, 
     Ok(paths)
 }
 
-/// Runs `split`: spreads all blocks of files over volumes. Returns the exit status.
+/// Runs `split`: spreads all blocks of files over volumes. Returns the exit status. For each volume of an earlier run
+/// whose number the new volumes do not have, the function prints a warning.
 ///
 /// # Errors
 ///
@@ -35,16 +37,29 @@ pub fn split<R: Runtime>(rt: &R, alloc: Global, request: &Request) -> Result<u8>
     let volumes = request.volumes;
     let lose = request.lose;
     let outputs = outputs_in(alloc, volumes, folder.as_str())?;
-    check_parts(
-        rt,
-        alloc,
-        outputs_in(alloc, MOST_VOLUMES, folder.as_str())?.as_slice(),
-    )?;
+    let all = outputs_in(alloc, MOST_VOLUMES, folder.as_str())?;
+    check_parts(rt, alloc, all.as_slice())?;
     let task = Task {
         request,
+        old_block: None,
         files: request.paths.as_slice(),
         recovery: Recovery::Spread { volumes, lose },
         outputs: outputs.as_slice(),
     };
-    make(rt, alloc, task)
+    let status = make(rt, alloc, task)?;
+    if status != STATUS_LOST {
+        tell_older(rt, all.get(volumes as usize..).unwrap_or(&[]));
+    }
+    Ok(status)
+}
+
+// Prints which volumes are there whose numbers the new volumes do not have.
+fn tell_older<R: Files + Eprint>(rt: &R, paths: &[String]) {
+    for path in paths {
+        if exists(rt, path.as_str()) {
+            let reason =
+                "warning: an older split made this volume, and the new ones do not belong to it: delete it";
+            warn(rt, path.as_str(), reason);
+        }
+    }
 }

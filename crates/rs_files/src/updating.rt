@@ -2,11 +2,12 @@
 use crate::creating::{Task, make};
 use crate::looking::{folder_of, open_request};
 use crate::settings::Request;
-use rs_file_sets::cutting::Recovery;
+use rs_file_sets::cutting::{Recovery, cut_data};
 use rs_folders::failure::{Failure, Result};
 use rs_folders::identity::exists;
 use rs_folders::names::{path_in, text_of};
-use rs_volumes::description::Description;
+use rs_volumes::checking::{UNIT, data_end};
+use rs_volumes::description::{Description, Version};
 use std::alloc::{AllocError, Global};
 use std::rt::{Files, Runtime};
 
@@ -45,6 +46,20 @@ fn share_of(set: &Description) -> Recovery {
     Recovery::Percent(percent.clamp(1, 10_000) as u32)
 }
 
+// Returns the block size of a set if it was given, and not chosen by default. Version 1 has other defaults, so there it
+// counts as chosen.
+fn block_of(set: &Description) -> Option<u64> {
+    if set.version == Version::First || set.original_count == 0 {
+        return None;
+    }
+    let data_bytes = data_end(UNIT, set.entries.as_slice())?;
+    let default = cut_data(data_bytes, None, Recovery::Count(set.recovery_count));
+    match default {
+        Ok(cut) if cut.block_bytes == set.block_bytes => None,
+        _ => Some(set.block_bytes),
+    }
+}
+
 /// Runs `update`: makes the volume of a set again, with the files as they are now. Returns the exit status. It is
 /// `STATUS_LOST` if the bytes of a file changed while its length and its time did not, and the file is not accepted:
 /// then the old volume stays.
@@ -55,6 +70,7 @@ fn share_of(set: &Description) -> Recovery {
 ///
 /// - not exactly one volume is named, the folder after `--folder` is not there, or the volume cannot be read,
 /// - it is one of several volumes of `split`,
+/// - nothing of the set is in its folder,
 /// - the new volume cannot be made, for a reason of [`make`].
 pub fn update<R: Runtime>(rt: &R, alloc: Global, request: &Request) -> Result<u8> {
     let [volume] = request.paths.as_slice() else {
@@ -71,9 +87,16 @@ pub fn update<R: Runtime>(rt: &R, alloc: Global, request: &Request) -> Result<u8
     }
     let recovery = request.recovery.unwrap_or(share_of(set));
     let tops = tops_of(rt, alloc, folder, set)?;
+    if tops.is_empty() {
+        let reason =
+            "nothing of the set is in this folder: if its files are in another folder, name \
+                      that with --folder. If they have other names now, make a volume with create";
+        return Err(Failure::at(alloc, folder, reason));
+    }
     let outputs = [volume.clone()?];
     let task = Task {
         request,
+        old_block: block_of(set),
         files: tops.as_slice(),
         recovery,
         outputs: &outputs,

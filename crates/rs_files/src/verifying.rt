@@ -2,8 +2,9 @@
 use crate::checked::Checked;
 use crate::json::{add, add_text};
 use crate::log::Log;
-use crate::looking::{Look, folder_of, look_for, open_request};
+use crate::looking::{Look, folder_for, folder_of, look_for, open_request};
 use crate::quick::{verify_named, verify_quick};
+use crate::rebuilding::can_rebuild;
 use crate::settings::{Request, STATUS_DAMAGED, STATUS_LOST, STATUS_WHOLE};
 use rs_file_sets::scanning::{Counts, Scan, ScannedVolume};
 use rs_folders::counted::Counted;
@@ -88,7 +89,11 @@ fn tell_blocks<R: Print>(rt: &R, found: &Look, counts: Counts) -> io::Result<()>
     let recovery = Counted(counts.recovery_count as u64, "recovery block");
     let advice = match scan.description().version {
         Version::First => "make the volume again with update",
-        Version::Second => "repair writes damaged volumes again",
+        Version::Second if can_rebuild(scan) => "repair writes damaged volumes again",
+        Version::Second if scan.description().volumes > 1 => {
+            "name all volumes, or make them again with split --force"
+        }
+        Version::Second => "make it again with update, or with create --force",
     };
     if !found.has_whole_files() {
         let lost = Counted(counts.lost as u64, "lost block");
@@ -113,11 +118,13 @@ fn tell_spread<R: Print>(rt: &R, scan: &Scan, counts: Counts) -> io::Result<()> 
     let damaged = r.saturating_sub(left);
     if lost > 0 || damaged > 0 {
         println!(rt;
-            "{lost} of {k} original blocks and {damaged} of {r} recovery blocks are not in these volumes: restore can still make all files"
+            "{lost} of {k} original blocks and {damaged} of {r} recovery blocks are not in these \
+             volumes: restore can still make all files"
         )
     } else if !scan.has_whole_volumes() {
         println!(rt;
-            "a volume is damaged or cannot be read, but all blocks are in these volumes: get the files with restore, and make the volumes again with split"
+            "a volume is damaged or cannot be read, but all blocks are in these volumes: get the files \
+             with restore, and make the volumes again with split"
         )
     } else {
         let blocks = Counted(u64::from(k), "original block");
@@ -166,6 +173,7 @@ pub fn report<R: Print + Eprint>(
         if !scan.is_spread() {
             checked(found).tell(rt, folder)?;
         }
+        found.tell_moved(rt)?;
         if found.has_all() {
             tell_volumes(rt, scan)?;
         }
@@ -237,7 +245,8 @@ fn add_unreadable(alloc: Global, scan: &Scan, volumes: &mut Vec<Value>) -> Resul
     Ok(())
 }
 
-/// Runs `verify`: looks for damage in the files of a set and in its volumes. Returns the exit status.
+/// Runs `verify`: looks for damage in the files of a set and in its volumes. Volumes of `split` hold the files, so none
+/// are looked for unless `--folder` is given, or only sizes and times are compared. Returns the exit status.
 ///
 /// # Errors
 ///
@@ -256,12 +265,15 @@ pub fn verify<R: Runtime>(rt: &R, alloc: Global, request: &Request) -> Result<u8
     if request.quick {
         return verify_quick(rt, alloc, request, set, folder);
     }
-    if let Some(status) = verify_named(rt, alloc, request, set, folder)? {
-        return Ok(status);
+    let searched = folder_for(request, set)?;
+    if searched.is_some() {
+        if let Some(status) = verify_named(rt, alloc, request, set, folder)? {
+            return Ok(status);
+        }
     }
-    let found = look_for(rt, alloc, request, volumes, Some(folder))?;
+    let found = look_for(rt, alloc, request, volumes, searched)?;
     let mut log = Log::new(alloc, request, &["moved"])?;
-    found.tell_moved(rt, &mut log)?;
+    found.note_moved(&mut log)?;
     let status = status_of(alloc, &found)?;
     report(rt, &found, folder, &log, status)?;
     if log.is_kept() {

@@ -12,7 +12,8 @@ use std::{fs, io};
 
 /// The reason why a file cannot be written whose part exists.
 const AT_WORK: &str =
-    "another rs_files is writing this file, or was killed while it wrote it: if none is at work, delete this file and run the command again";
+    "another rs_files is writing this file, or was killed while it wrote it: if none is at work, \
+     delete this file and run the command again";
 
 /// A file that is being written under another name: `NAME.rs_files.part`, or `NAME.rs_files.part2` and so on if that is
 /// in use. A long name is cut in these names.

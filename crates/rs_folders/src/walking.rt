@@ -25,8 +25,8 @@ pub struct Found {
     pub entries: Vec<Entry>,
     /// For each entry, whether it is a file whose path is a symbolic link to it. Only a path that is named may be one.
     pub linked: Vec<bool>,
-    /// Whether names, or targets of symbolic links, that are not UTF-8 were left out.
-    pub has_left_out: bool,
+    /// The folders with names, and the symbolic links with targets, that were left out because they are not UTF-8.
+    pub unreadable: Vec<LeftOut>,
     /// What else was left out.
     pub left_out: Vec<LeftOut>,
 }
@@ -37,7 +37,7 @@ pub struct LeftOut {
     /// Its path.
     pub path: String,
     /// Why it is not part of the set.
-    pub reason: &'static str,
+    pub reason: String,
 }
 
 // An entry of the set.
@@ -105,7 +105,7 @@ pub fn find<R: Files + Eprint + Alloc + Clone + Drop>(
         written: identities(rt, alloc, outputs)?,
         waiting: Vec::new(alloc),
         found: Vec::new(alloc),
-        has_left_out: false,
+        unreadable: Vec::new(alloc),
         left_out: Vec::new(alloc),
     };
     for path in paths {
@@ -113,7 +113,7 @@ pub fn find<R: Files + Eprint + Alloc + Clone + Drop>(
     }
     let FolderWalk {
         mut found,
-        has_left_out,
+        unreadable,
         left_out,
         ..
     } = walk;
@@ -132,7 +132,7 @@ pub fn find<R: Files + Eprint + Alloc + Clone + Drop>(
         folder: String::from_str(alloc, folder_to_open(folder))?,
         entries,
         linked,
-        has_left_out,
+        unreadable,
         left_out,
     })
 }
@@ -166,6 +166,14 @@ fn check_apart(alloc: Global, found: &[FoundEntry]) -> Result<()> {
     Ok(())
 }
 
+// Returns what was left out, with the reason.
+fn left_out(alloc: Global, path: &str, reason: &str) -> Result<LeftOut> {
+    Ok(LeftOut {
+        path: String::from_str(alloc, path)?,
+        reason: String::from_str(alloc, reason)?,
+    })
+}
+
 // A walk over files and folders.
 #[derive(Drop)]
 struct FolderWalk<'a, R: Files + Eprint + Alloc + Clone + Drop> {
@@ -177,8 +185,8 @@ struct FolderWalk<'a, R: Files + Eprint + Alloc + Clone + Drop> {
     waiting: Vec<Waiting>,
     // The entries that were found.
     found: Vec<FoundEntry>,
-    // Whether something was left out because it is not UTF-8.
-    has_left_out: bool,
+    // What was left out because it is not UTF-8.
+    unreadable: Vec<LeftOut>,
     // What else was left out.
     left_out: Vec<LeftOut>,
 }
@@ -238,10 +246,15 @@ impl<'a, R: Files + Eprint + Alloc + Clone + Drop> FolderWalk<'a, R> {
 
     // Notes that something is not part of the set.
     fn leave_out(&mut self, path: &str, reason: &'static str) -> Result<()> {
-        self.left_out.push(LeftOut {
-            path: String::from_str(self.alloc, path)?,
-            reason,
-        })?;
+        self.left_out.push(left_out(self.alloc, path, reason)?)?;
+        Ok(())
+    }
+
+    // Notes and prints that something is left out because it is not UTF-8.
+    fn leave_unread(&mut self, path: &str, reason: String) -> Result<()> {
+        warn(self.rt, path, format_args!("{reason}"));
+        self.unreadable
+            .push(left_out(self.alloc, path, reason.as_str())?)?;
         Ok(())
     }
 
@@ -279,13 +292,8 @@ impl<'a, R: Files + Eprint + Alloc + Clone + Drop> FolderWalk<'a, R> {
         let path = next.path.as_str();
         let target = match fs::read_link(self.rt, path) {
             Err(error) if error.kind() == ErrorKind::InvalidFilename => {
-                self.has_left_out = true;
-                warn(
-                    self.rt,
-                    path,
-                    "the target of this symbolic link is not UTF-8: it is left out",
-                );
-                return Ok(());
+                let reason = "the target of this symbolic link is not UTF-8: it is left out";
+                return self.leave_unread(path, String::from_str(self.alloc, reason)?);
             }
             outcome => at_path(self.alloc, path, outcome)?.into_string(),
         };
@@ -312,10 +320,11 @@ impl<'a, R: Files + Eprint + Alloc + Clone + Drop> FolderWalk<'a, R> {
             }
         }
         if left_out > 0 {
-            self.has_left_out = true;
             let names = Counted(left_out, "name");
-            let reason = format_args!("{names} in this folder left out, because this is not UTF-8");
-            warn(self.rt, path, reason);
+            let reason = format!(in self.alloc;
+                "{names} in this folder left out, because this is not UTF-8"
+            )?;
+            self.leave_unread(path, reason)?;
         }
         if count > 0 || folder.name.as_str().is_empty() {
             return Ok(());

@@ -252,7 +252,10 @@ fn check_set<R: Files>(rt: &R, alloc: Global, set: &Set, volumes: &[Volume]) -> 
         };
         if !belongs {
             let path = volume.path.as_str();
-            return Err(Failure::at(alloc, path, "this volume belongs to another set"));
+            let reason =
+                "this volume belongs to another set: name the volumes of one set. If an older \
+                          split has left it, delete it";
+            return Err(Failure::at(alloc, path, reason));
         }
     }
     Ok(())

@@ -7,7 +7,8 @@ use rs_folders::failure::{Failure, Result};
 use rs_folders::folders::Folders;
 use rs_folders::identity::exists;
 use rs_folders::names::{PART as PART_ENDING, shortened};
-use rs_folders::output::{Part, at_path};
+use rs_folders::output::{Part, at_path, free_path};
+use rs_folders::placing::{link_or_rename, settle};
 use rs_volumes::coding_error::CodingError;
 use rs_volumes::description::Description;
 use rs_volumes::digest::digest_of;
@@ -93,11 +94,14 @@ pub fn check_parts<R: Files>(rt: &R, alloc: Global, paths: &[String]) -> Result<
         return Ok(());
     };
     let reason = if !has_first {
-        "another rs_files is giving new volumes their names, or was killed then. The new volumes are whole: if none is at work, rename each NAME.rs_files.part to NAME"
+        "another rs_files is giving new volumes their names, or was killed then. The new volumes are \
+         whole: if none is at work, rename each NAME.rs_files.part to NAME"
     } else if paths.len() == 1 {
-        "another rs_files is writing this volume, or was killed before it was whole: if none is at work, delete this file and run the command again"
+        "another rs_files is writing this volume, or was killed before it was whole: if none is at \
+         work, delete this file and run the command again"
     } else {
-        "another rs_files is writing new volumes, or was killed before they were whole. No old one was replaced: if none is at work, delete all files NAME.rs_files.part of them, this one first"
+        "another rs_files is writing new volumes, or was killed before they were whole. No old one was \
+         replaced: if none is at work, delete all files NAME.rs_files.part of them, this one first"
     };
     Err(Failure::at(alloc, left.as_str(), reason))
 }
@@ -215,6 +219,29 @@ impl<R: Files> Volumes<R> {
         outcome
     }
 
+    /// Gives all volumes their final names. The damaged volumes with these names are kept as `NAME.damaged`, and the
+    /// paths of these are appended to `kept`: one for each volume that has its final name. Nothing is checked of the
+    /// damaged volumes, because nothing of them gets lost.
+    ///
+    /// # Errors
+    ///
+    /// Fails if a volume cannot be synced. Then, for each volume in turn, fails if the damaged one cannot be kept, or
+    /// if the new one cannot be renamed. Then this damaged volume and those after it have only their own names.
+    pub fn replace(&mut self, rt: &R, alloc: Global, kept: &mut Vec<String>) -> Result<()>
+    where
+        R: Eprint,
+    {
+        self.sync(rt, alloc)?;
+        let mut outcome = Ok(());
+        for part in self.parts.iter().flatten() {
+            if outcome.is_ok() {
+                outcome = replace_one(rt, alloc, part, &mut self.folders, kept);
+            }
+        }
+        self.folders.sync(rt);
+        outcome
+    }
+
     // Syncs the folders of all volumes, and those above new folders.
     fn sync_folders(&mut self, rt: &R, alloc: Global)
     where
@@ -257,6 +284,24 @@ impl<R: Files> Volumes<R> {
             part.remove(rt);
         }
     }
+}
+
+// Gives a volume its final name, and keeps the damaged one with this name. Appends the path of that to `kept`.
+fn replace_one<R: Files + Eprint>(
+    rt: &R,
+    alloc: Global,
+    part: &Part<R>,
+    folders: &mut Folders,
+    kept: &mut Vec<String>,
+) -> Result<()> {
+    let path = part.path.as_str();
+    let damaged = free_path(rt, alloc, "", path, "damaged", None)?;
+    at_path(alloc, path, link_or_rename(rt, path, damaged.as_str()))?;
+    let named = part.rename(rt, alloc);
+    if let Some(damaged) = settle(rt, alloc, path, named, Some(damaged), folders)? {
+        kept.push(damaged)?;
+    }
+    Ok(())
 }
 
 /// The volumes that are being written. This sink writes blocks into them.
