@@ -1,11 +1,11 @@
 //! A factor whose class is only known when the program runs: the factor whose logarithm is given.
-ghost use Rattle.std.specs.Prelude.{◌≡◌};
+ghost use Rattle.std.specs.Prelude.{◌≡◌, IfSome};
 ghost use Rattle.rs_field.specs.words.Field.{power};
 ghost use Rattle.rs_field.specs.words.Products.{IsNibbleBytes};
 ghost use Rattle.rs_engines.specs.Factors.{log_of};
 
 use crate::byte_vector::ByteVector;
-use crate::factors::{Factor, General, Small, Zero};
+use crate::factors::{Bytewise, Factor, General, Small, Zero};
 use crate::word_lanes::Words;
 use rs_field::engine::tables::Multiply128lutT;
 use rs_field::engine::{GF_MODULUS, GfElement};
@@ -48,5 +48,20 @@ pub fn factor_of<'t>(products: &'t Multiply128lutT, log_m: GfElement) -> AnyFact
         AnyFactor::Small(Small { log_m, products })
     } else {
         AnyFactor::General(General { log_m, products })
+    }
+}
+
+/// Returns the factor if it is small and its six look-ups need only four numbers.
+#[inline(always)]
+pub fn bytewise<'t>(factor: AnyFactor<'t>) -> Option<Bytewise<'t>>
+    ensures { IfSome result (λ found. found.log_m ≡ log_of factor.entry) }
+{
+    let AnyFactor::Small(Small { log_m, products }) = factor else {
+        return None;
+    };
+    if products.hi[2] == products.lo[0] && products.hi[3] == products.lo[1] {
+        Some(Bytewise { log_m, products })
+    } else {
+        None
     }
 }

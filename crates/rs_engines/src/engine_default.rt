@@ -2,7 +2,7 @@
 use crate::engine_nosimd::NoSimd;
 use crate::engine_shuffle::{Avx2, Ssse3};
 use rs_field::engine::tables::Tables;
-use rs_field::engine::{Engine, GfElement, Naive, ShardsRefMut, Steps};
+use rs_field::engine::{Engine, GfElement, Naive, ShardsRefMut, Steps, TwoLogarithms};
 use std::fmt;
 use std::str::FromStr;
 
@@ -297,6 +297,22 @@ impl Engine for DefaultEngine<'_> {
             Self::NoSimd(engine) => engine.mul_add(steps, x, y, log_m),
             Self::Avx2(engine) => engine.mul_add(steps, x, y, log_m),
             Self::Ssse3(engine) => engine.mul_add(steps, x, y, log_m),
+        }
+    }
+
+    fn mul_add_two(
+        &self,
+        steps: &mut Steps,
+        x: &mut [[u8; 64]],
+        y0: &[[u8; 64]],
+        y1: &[[u8; 64]],
+        logs: TwoLogarithms,
+    ) {
+        match self {
+            Self::Naive(engine) => Engine::mul_add_two(engine, steps, x, y0, y1, logs),
+            Self::NoSimd(engine) => Engine::mul_add_two(engine, steps, x, y0, y1, logs),
+            Self::Avx2(engine) => Engine::mul_add_two(engine, steps, x, y0, y1, logs),
+            Self::Ssse3(engine) => Engine::mul_add_two(engine, steps, x, y0, y1, logs),
         }
     }
 

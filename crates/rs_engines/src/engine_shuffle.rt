@@ -9,12 +9,14 @@ use crate::any_factor::{AnyFactor, factor_of};
 use crate::butterflies::{Backward, Forward};
 use crate::byte_vector::ByteVector;
 use crate::factors::ThreeFactors;
-use crate::shuffle_rows::{add_row, add_row_to_bytes, mul_chunks, one_layer, two_layers};
+use crate::shuffle_rows::{
+    add_row, add_row_to_bytes, add_two_rows, mul_chunks, one_layer, two_layers,
+};
 use crate::shuffle_tables::ShuffleTables;
-use rs_field::engine::GfElement;
 use rs_field::engine::kernel::{Kernel, ThreeLogarithms};
 use rs_field::engine::lent_tables::LentTables;
 use rs_field::engine::tables::{Multiply128lutT, Tables};
+use rs_field::engine::{GfElement, TwoLogarithms};
 use std::marker::PhantomData;
 use std::simd::prelude::*;
 
@@ -163,6 +165,20 @@ impl<V: ByteVector, T: ShuffleTables> Kernel for ByShuffles<V, T> {
     fn mul_add_row(&self, x: &mut [[u8; 64]], y: &[[u8; 64]], log_m: GfElement) {
         let products = self.tables.products(log_m);
         add_row::<V>(x, y, factor_of(products.lend(), log_m));
+    }
+
+    fn mul_add_two(
+        &self,
+        x: &mut [[u8; 64]],
+        y0: &[[u8; 64]],
+        y1: &[[u8; 64]],
+        logs: TwoLogarithms,
+    ) {
+        let p0 = self.tables.products(logs.first);
+        let p1 = self.tables.products(logs.second);
+        let f0 = factor_of(p0.lend(), logs.first);
+        let f1 = factor_of(p1.lend(), logs.second);
+        add_two_rows::<V>(x, y0, y1, f0, f1);
     }
 
     fn mul_add_bytes(&self, x: &mut [u8], y: &[[u8; 64]], log_m: GfElement) {

@@ -1,8 +1,10 @@
-//! The factors of butterflies in three classes: zero, factors whose products with low bytes have no high byte, and all
-//! other factors. The class of a factor is known before a loop over chunks begins.
+//! The factors of butterflies in classes: zero, factors whose products with low bytes have no high byte, and all other
+//! factors. The class of a factor is known before a loop over chunks begins.
 //!
 //! A product takes eight look-ups. If the factor is below 256, its product with a low byte has no high byte, so two of
-//! the eight look-ups would give zero, and only six are made.
+//! the eight look-ups would give zero, and only six are made. The high byte of its product with a high byte is then the
+//! low byte of its product with the same byte as a low byte, so these six look-ups need four numbers of 16 bytes. The
+//! numbers of two such factors fit the registers of a loop together.
 ghost use Rattle.std.specs.Prelude.{◌≡◌, ◌≢◌, ℕ, ◌<◌, slice_index, bit_xor};
 ghost use Rattle.rs_field.specs.words.Field.{power};
 ghost use Rattle.rs_field.specs.words.Tables.{times_factor};
@@ -58,7 +60,37 @@ impl Factor for Small<'_> {
 
     #[inline(always)]
     fn add_product<V: ByteVector>(self, x: Words<V>, y: Words<V>) -> Words<V> {
-        add(x, times_small(y, self.products))
+        let products = self.products;
+        add(
+            x,
+            times_small(y, &products.lo, products.hi[2], products.hi[3]),
+        )
+    }
+}
+
+/// A small factor whose six look-ups need four numbers. The products of the low and of the high nibble of a high byte
+/// have the same bytes, one place up, as those of a low byte.
+#[derive(Clone, Copy)]
+pub struct Bytewise<'t> {
+    /// The logarithm of the factor.
+    pub log_m: GfElement,
+    /// The products with the factor, as bytes.
+    pub products: &'t Multiply128lutT,
+    pub ghost nonzero: { log_m ≢ 65535 },
+    pub ghost of_factor: { IsNibbleBytes (power log_m) products.now },
+    pub ghost first: { slice_index products.now.hi 0 ≡ 0 },
+    pub ghost second: { slice_index products.now.hi 1 ≡ 0 },
+    pub ghost third: { slice_index products.now.hi 2 ≡ slice_index products.now.lo 0 },
+    pub ghost fourth: { slice_index products.now.hi 3 ≡ slice_index products.now.lo 1 },
+}
+
+impl Factor for Bytewise<'_> {
+    ghost log = { λ factor. factor.log_m };
+
+    #[inline(always)]
+    fn add_product<V: ByteVector>(self, x: Words<V>, y: Words<V>) -> Words<V> {
+        let low = &self.products.lo;
+        add(x, times_small(y, low, low[0], low[1]))
     }
 }
 

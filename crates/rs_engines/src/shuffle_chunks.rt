@@ -65,6 +65,49 @@ pub fn add_chunk<V: ByteVector, F: Factor>(x: &mut [u8; 64], y: &[u8; 64], facto
     }
 }
 
+// Adds to as many symbols of a chunk as a vector has lanes, from symbol `at` on, the products of the same symbols of
+// two other chunks, each with a factor of its own. Each symbol of `x` is loaded and stored once.
+#[inline(always)]
+fn add_two_lanes<V: ByteVector, F: Factor>(
+    x: &mut [u8; 64],
+    y0: &[u8; 64],
+    y1: &[u8; 64],
+    at: usize,
+    f0: F,
+    f1: F,
+)
+    requires { at + V.LANES ≤ 32 }
+    ensures sums { (i s : ℕ) → i < V.LANES → s ≡ at + i
+        → symbol x.new s
+        ≡ bit_xor (bit_xor (symbol x.old s) (times_factor (F.log f0) (symbol y0.now s)))
+        (times_factor (F.log f1) (symbol y1.now s)) }
+    ensures kept { (s : ℕ) → s < 32 → (s < at) ⊎ (at + V.LANES ≤ s)
+        → symbol x.new s ≡ symbol x.old s }
+{
+    let sum = f0.add_product(words_at::<V>(x, at), words_at::<V>(y0, at));
+    put_words(f1.add_product(sum, words_at::<V>(y1, at)), x, at);
+}
+
+/// Adds to each symbol of a chunk the products of the same symbol of two other chunks, each with a factor of its own.
+#[inline(always)]
+pub fn add_two_chunks<V: ByteVector, F: Factor>(
+    x: &mut [u8; 64],
+    y0: &[u8; 64],
+    y1: &[u8; 64],
+    f0: F,
+    f1: F,
+)
+    ensures { (s : ℕ) → s < 32
+        → symbol x.new s
+        ≡ bit_xor (bit_xor (symbol x.old s) (times_factor (F.log f0) (symbol y0.now s)))
+        (times_factor (F.log f1) (symbol y1.now s)) }
+{
+    add_two_lanes::<V, F>(x, y0, y1, 0, f0, f1);
+    if V::LANES < 32 {
+        add_two_lanes::<V, F>(x, y0, y1, 16, f0, f1);
+    }
+}
+
 // Computes a butterfly on as many symbols of two chunks as a vector has lanes, from symbol `at` on.
 #[inline(always)]
 fn lanes_of_two<V: ByteVector, D: Butterflies, F: Factor>(

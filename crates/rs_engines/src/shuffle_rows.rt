@@ -8,13 +8,16 @@ ghost use Rattle.rs_field.specs.rows.Pairs.{at_two_symbols};
 ghost use Rattle.rs_field.specs.rows.TwoLayers.{at_four_symbols};
 ghost use Rattle.rs_engines.specs.Factors.{log_of};
 
-use crate::any_factor::AnyFactor;
+use crate::any_factor::{AnyFactor, bytewise};
 use crate::butterflies::Butterflies;
 use crate::byte_vector::ByteVector;
-use crate::factors::{Factor, General, Small, ThreeFactors};
-use crate::shuffle_chunks::{add_chunk, four_chunks, mul_chunk, two_chunks};
+use crate::factors::{Bytewise, Factor, General, Small, ThreeFactors};
+use crate::shuffle_chunks::{add_chunk, add_two_chunks, four_chunks, mul_chunk, two_chunks};
 use rs_field::engine::byte_chunks::{chunk_at, put_chunk};
 use rs_field::engine::tables::Multiply128lutT;
+
+// Two rows of at most this many chunks are added one after the other.
+const FEW_CHUNKS: usize = 8;
 
 /// Multiplies each symbol of a row by a factor.
 pub fn mul_chunks<V: ByteVector>(x: &mut [[u8; 64]], factor: &Multiply128lutT)
@@ -37,6 +40,28 @@ fn add_chunks<V: ByteVector, F: Factor>(x: &mut [[u8; 64]], y: &[[u8; 64]], fact
 {
     for k in 0..x.len() {
         add_chunk::<V, F>(&mut x[k], &y[k], factor);
+    }
+}
+
+// Adds to each symbol of a row the products of the same symbol of two other rows, each with a factor of class F.
+#[inline(always)]
+fn add_chunk_pairs<V: ByteVector, F: Factor>(
+    x: &mut [[u8; 64]],
+    y0: &[[u8; 64]],
+    y1: &[[u8; 64]],
+    f0: F,
+    f1: F,
+)
+    requires first { length x.old ≡ length y0.now }
+    requires second { length x.old ≡ length y1.now }
+    ensures { (k s : ℕ) → k < length x.old → s < 32
+        → symbol (chunk x.new k) s
+        ≡ bit_xor (bit_xor (symbol (chunk x.old k) s)
+        (times_factor (F.log f0) (symbol (chunk y0.now k) s)))
+        (times_factor (F.log f1) (symbol (chunk y1.now k) s)) }
+{
+    for k in 0..x.len() {
+        add_two_chunks::<V, F>(&mut x[k], &y0[k], &y1[k], f0, f1);
     }
 }
 
@@ -129,6 +154,66 @@ pub fn add_row<V: ByteVector>(x: &mut [[u8; 64]], y: &[[u8; 64]], factor: AnyFac
             add_chunks::<V, _>(x, y, General { log_m, products })
         }
     }
+}
+
+/// Adds to each symbol of a row the products of the same symbol of two other rows, each with a factor of its own. If
+/// both factors need only four numbers, there is one loop over chunks for both. The rows are added one after the other
+/// if they have few chunks, because it takes time to find out about the numbers.
+#[inline(always)]
+pub fn add_two_rows<V: ByteVector>(
+    x: &mut [[u8; 64]],
+    y0: &[[u8; 64]],
+    y1: &[[u8; 64]],
+    f0: AnyFactor<'_>,
+    f1: AnyFactor<'_>,
+)
+    requires first { length x.old ≡ length y0.now }
+    requires second { length x.old ≡ length y1.now }
+    ensures { (k s : ℕ) → k < length x.old → s < 32
+        → symbol (chunk x.new k) s
+        ≡ bit_xor (bit_xor (symbol (chunk x.old k) s)
+        (times_factor (log_of f0.entry) (symbol (chunk y0.now k) s)))
+        (times_factor (log_of f1.entry) (symbol (chunk y1.now k) s)) }
+{
+    if x.len() > FEW_CHUNKS {
+        if let (Some(f0), Some(f1)) = (bytewise(f0), bytewise(f1)) {
+            add_two_bytewise::<V>(x, y0, y1, f0, f1);
+            return;
+        }
+    }
+    add_row::<V>(x, y0, f0);
+    add_row::<V>(x, y1, f1);
+}
+
+// Adds to each symbol of a row the products of the same symbol of two other rows, each with a factor that needs only
+// four numbers.
+#[inline(always)]
+fn add_two_bytewise<V: ByteVector>(
+    x: &mut [[u8; 64]],
+    y0: &[[u8; 64]],
+    y1: &[[u8; 64]],
+    f0: Bytewise<'_>,
+    f1: Bytewise<'_>,
+)
+    requires first { length x.old ≡ length y0.now }
+    requires second { length x.old ≡ length y1.now }
+    ensures { (k s : ℕ) → k < length x.old → s < 32
+        → symbol (chunk x.new k) s
+        ≡ bit_xor (bit_xor (symbol (chunk x.old k) s)
+        (times_factor f0.entry.log_m (symbol (chunk y0.now k) s)))
+        (times_factor f1.entry.log_m (symbol (chunk y1.now k) s)) }
+{
+    let p0 = &copied(f0.products);
+    let p1 = &copied(f1.products);
+    let first = Bytewise {
+        log_m: f0.log_m,
+        products: p0,
+    };
+    let second = Bytewise {
+        log_m: f1.log_m,
+        products: p1,
+    };
+    add_chunk_pairs::<V, _>(x, y0, y1, first, second);
 }
 
 /// Adds to each symbol of the chunks of bytes the product of the same symbol of a row with a factor. There is a loop

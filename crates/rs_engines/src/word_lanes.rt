@@ -3,9 +3,11 @@
 //! The product of a word is the sum of the products of its four nibbles. A number of 16 bytes holds one byte of the
 //! products of each value of a nibble, so a shuffle looks up this byte for all lanes at once.
 ghost use Rattle.std.specs.Prelude.{◌≡◌, ℕ, ◌+◌, ◌/◌, ◌%◌, ◌<◌, ◌≤◌, ◌⊎◌, slice_index, bit_xor};
+ghost use Rattle.rs_field.specs.declared.words.table_types.Multiply128lutT.{Multiply128lutT};
 ghost use Rattle.rs_field.specs.words.Field.{product};
 ghost use Rattle.rs_field.specs.rows.Rows.{symbol};
 ghost use Rattle.rs_field.specs.words.Products.{AreLowNibbles, AreHighNibbles, IsNibbleBytes};
+ghost use Rattle.rs_engines.specs.Factors.{HasSmallNumbers};
 ghost use Rattle.rs_engines.specs.Lanes.{lane};
 
 use crate::byte_vector::ByteVector;
@@ -79,21 +81,25 @@ pub fn times<V: ByteVector>(words: Words<V>, factor: &Multiply128lutT) -> Words<
 }
 
 /// Returns the products of words with a factor whose products with low bytes have no high byte. This takes six look-ups
-/// instead of eight.
+/// instead of eight: those of the low bytes in the four numbers `low`, and those of the high bytes in two numbers.
 #[inline(always)]
-pub fn times_small<V: ByteVector>(words: Words<V>, factor: &Multiply128lutT) -> Words<V>
-    requires first { slice_index factor.now.hi 0 ≡ 0 }
-    requires second { slice_index factor.now.hi 1 ≡ 0 }
-    ensures { (f i : ℕ) → IsNibbleBytes f factor.now → i < V.LANES
+pub fn times_small<V: ByteVector>(
+    words: Words<V>,
+    low: &[u128; 4],
+    third: u128,
+    fourth: u128,
+) -> Words<V>
+    ensures { (f i : ℕ) (factor : Multiply128lutT) → IsNibbleBytes f factor
+        → HasSmallNumbers factor low.now third fourth → i < V.LANES
         → lane (V.bytes result.low) (V.bytes result.high) i
         ≡ product (lane (V.bytes words.low) (V.bytes words.high) i) f }
 {
     Words {
-        low: product_bytes(words.low, words.high, &factor.lo),
+        low: product_bytes(words.low, words.high, low),
         high: words
             .high
-            .at_low_nibbles(factor.hi[2])
-            .sum(words.high.at_high_nibbles(factor.hi[3])),
+            .at_low_nibbles(third)
+            .sum(words.high.at_high_nibbles(fourth)),
     }
 }
 

@@ -1,5 +1,6 @@
 //! What engines are made of, at its public paths.
 pub use crate::rows::engine::Engine;
+pub use crate::rows::sums::TwoLogarithms;
 pub use crate::rows::{
     Naive, ShardsRefMut, block, byte_chunks, derivative, engine_naive, kernel, layout, marked_rows,
     rows, shards, symbols, transform, vectors,

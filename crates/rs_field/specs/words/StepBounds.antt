@@ -59,6 +59,10 @@ RowProductCounts old new = CountsUpTo 1 0 0 old new
 abbrev pub RowSumCounts : Steps → Steps → Type 0
 RowSumCounts old new = CountsUpTo 3 0 0 old new
 
+-- what the sum of a row and multiples of two other rows may count
+abbrev pub TwoSumCounts : Steps → Steps → Type 0
+TwoSumCounts old new = CountsUpTo 6 0 0 old new
+
 -- what the sum of bytes and a multiple of a row of n chunks may count
 abbrev pub ByteSumCounts : ℕ → Steps → Steps → Type 0
 ByteSumCounts n old new = CountsUpTo (3 * n) 0 0 old new

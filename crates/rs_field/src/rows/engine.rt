@@ -9,13 +9,13 @@ ghost use Rattle.rs_field.specs.rows.Rows.{byte_symbol, chunk, symbol};
 ghost use Rattle.rs_field.specs.rows.View.{word, Fits, SameExtent, SameRowsOutside, AreZero};
 ghost use Rattle.rs_field.specs.words.Locator.{IsLocator, IsLocatorBelow};
 ghost use Rattle.rs_field.specs.words.StepBounds.{LocatorCounts, TransformCounts, RowProductCounts, RowSumCounts};
-ghost use Rattle.rs_field.specs.words.StepBounds.{ByteSumCounts};
+ghost use Rattle.rs_field.specs.words.StepBounds.{ByteSumCounts, TwoSumCounts};
 
 use super::ShardsRefMut;
 use super::byte_chunks::{chunk_at, put_chunk};
 use super::bytes::symbols_are_words;
 use super::marked_rows::marked_end;
-use super::sums::xor;
+use super::sums::{TwoLogarithms, xor};
 use crate::words::{GF_MODULUS, GF_ORDER, GfElement, Steps};
 
 /// An engine: the transforms of rows, the product of a row, and the locator that encoders and decoders need.
@@ -25,7 +25,7 @@ use crate::words::{GF_MODULUS, GF_ORDER, GfElement, Steps};
 /// separately for each symbol. The points of the values are `skew_delta`, `skew_delta + 1` and so on. Every call
 /// succeeds and allocates nothing.
 ///
-/// A type that provides `fft`, `ifft`, `mul` and `eval_poly` is an engine. The other six calls have default bodies.
+/// A type that provides `fft`, `ifft`, `mul` and `eval_poly` is an engine. The other seven calls have default bodies.
 pub trait Engine: Drop {
     /// Transforms the `size` rows from `pos` on forward, at `skew_delta`.
     ///
@@ -167,8 +167,34 @@ pub trait Engine: Drop {
         }
     }
 
-    /// Adds `y` times the generator to the power `log_m` to the chunks of bytes `x`, symbol by symbol and in place. 65535
-    /// represents the factor zero. The bytes are as many as those of `y`, at least one chunk.
+    /// Adds two rows to `x`, each times a factor of its own, symbol by symbol. All three rows have the same number of
+    /// chunks.
+    ///
+    /// The default body calls `mul_add` twice. An engine can have a body of its own that loads and stores each symbol
+    /// of `x` once for both.
+    fn mul_add_two(
+        &self,
+        steps: &mut Steps,
+        x: &mut [[u8; 64]],
+        y0: &[[u8; 64]],
+        y1: &[[u8; 64]],
+        logs: TwoLogarithms,
+    )
+        requires first { length x.old ≡ length y0.now }
+        requires second { length x.old ≡ length y1.now }
+        ensures sums { (k s : ℕ) → k < length x.old → s < 32
+            → symbol (chunk x.new k) s
+            ≡ bit_xor (bit_xor (symbol (chunk x.old k) s)
+            (times_factor logs.first (symbol (chunk y0.now k) s)))
+            (times_factor logs.second (symbol (chunk y1.now k) s)) }
+        ensures counts { TwoSumCounts steps.old steps.new }
+    {
+        self.mul_add(steps, x, y0, logs.first);
+        self.mul_add(steps, x, y1, logs.second);
+    }
+
+    /// Adds `y` times the generator to the power `log_m` to the chunks of bytes `x`, symbol by symbol and in place.
+    /// 65535 represents the factor zero. The bytes are as many as those of `y`, at least one chunk.
     ///
     /// The default body adds one chunk after another with `mul_add`, which is at most three row steps for each chunk.
     /// The engines of this library take one.

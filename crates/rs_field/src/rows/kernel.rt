@@ -6,6 +6,7 @@ ghost use Rattle.rs_field.specs.rows.Rows.{byte_symbol, chunk, symbol};
 ghost use Rattle.rs_field.specs.rows.TwoLayers.{IsForwardTwoLayers, IsBackwardTwoLayers};
 
 use super::byte_chunks::{chunk_at, put_chunk};
+use super::sums::TwoLogarithms;
 use crate::words::GfElement;
 use crate::words::lent_tables::LentTables;
 
@@ -118,6 +119,24 @@ pub trait Kernel: Drop {
         ensures { (k s : ℕ) → k < length x.old → s < 32
             → symbol (chunk x.new k) s
             ≡ bit_xor (symbol (chunk x.old k) s) (times_factor log_m (symbol (chunk y.now k) s)) };
+
+    /// Adds two rows to `x`, each times the factor of a butterfly; 65535 represents the factor zero. All three rows
+    /// have the same number of chunks.
+    ///
+    /// The default body calls `mul_add_row` twice. An engine can have a body of its own that loads and stores each word
+    /// of `x` once for both.
+    fn mul_add_two(&self, x: &mut [[u8; 64]], y0: &[[u8; 64]], y1: &[[u8; 64]], logs: TwoLogarithms)
+        requires first { length x.old ≡ length y0.now }
+        requires second { length x.old ≡ length y1.now }
+        ensures { (k s : ℕ) → k < length x.old → s < 32
+            → symbol (chunk x.new k) s
+            ≡ bit_xor (bit_xor (symbol (chunk x.old k) s)
+            (times_factor logs.first (symbol (chunk y0.now k) s)))
+            (times_factor logs.second (symbol (chunk y1.now k) s)) }
+    {
+        self.mul_add_row(x, y0, logs.first);
+        self.mul_add_row(x, y1, logs.second);
+    }
 
     /// Adds `y` times the factor of a butterfly to the chunks of bytes `x`; 65535 represents the factor zero. The bytes
     /// are as many as those of `y`.

@@ -10,6 +10,7 @@ use super::engine::Engine;
 use super::kernel::Kernel;
 use super::layers::Direction::{Backward, Forward};
 use super::marked_rows::UsedRows;
+use super::sums::TwoLogarithms;
 use super::transform::transform;
 use crate::words::logarithms::put_logarithms;
 use crate::words::{GfElement, Steps, locating};
@@ -77,6 +78,18 @@ impl<K: Kernel> Engine for K {
     fn mul_add(&self, steps: &mut Steps, x: &mut [[u8; 64]], y: &[[u8; 64]], log_m: GfElement) {
         steps.row_step();
         self.mul_add_row(x, y, log_m);
+    }
+
+    fn mul_add_two(
+        &self,
+        steps: &mut Steps,
+        x: &mut [[u8; 64]],
+        y0: &[[u8; 64]],
+        y1: &[[u8; 64]],
+        logs: TwoLogarithms,
+    ) {
+        steps.row_steps(2);
+        Kernel::mul_add_two(self, x, y0, y1, logs);
     }
 
     fn mul_add_bytes(&self, steps: &mut Steps, x: &mut [u8], y: &[[u8; 64]], log_m: GfElement) {

@@ -6,8 +6,17 @@ ghost use Rattle.rs_field.specs.words.StepBounds.{CountsRows};
 
 use super::ShardsRefMut;
 use super::vectors::sum;
-use crate::words::Steps;
+use crate::words::{GfElement, Steps};
 use std::simd::prelude::*;
+
+/// The logarithms of the factors of two rows that are added to a third one. 65535 represents the factor zero.
+#[derive(Clone, Copy, Debug, PartialEq, Eq, Hash)]
+pub struct TwoLogarithms {
+    /// The logarithm of the factor of the first row.
+    pub first: GfElement,
+    /// The logarithm of the factor of the second row.
+    pub second: GfElement,
+}
 
 // Adds y to x, byte by byte.
 #[inline(always)]

@@ -16,7 +16,8 @@ returns-clause-others c j s small other =
     let part = c.copy_from_slice.new.self in
     let n : ℕ = k * 64 + 64 - k * 64 in
     let long : length c.copy_from_slice.new.self ≡ c.args.k * 64 + 64 - c.args.k * 64 = search rules in
-    let far : (i : ℕ) → i < 64 → (j * 64 + i < c.args.k * 64) ⊎ (c.args.k * 64 + (c.args.k * 64 + 64 - c.args.k * 64) ≤ j * 64 + i) =
+    let far : (i : ℕ) → i < 64
+    → (j * 64 + i < c.args.k * 64) ⊎ (c.args.k * 64 + (c.args.k * 64 + 64 - c.args.k * 64) ≤ j * 64 + i) =
     λ i h. elim (cases_lt j c.args.k) [
       | inl before ↦ inl (omega (arith, before))
       | inr from ↦ inr (omega (arith, from, other))
