@@ -1,12 +1,12 @@
 -- Direct sums over a base of received shards: the shards in rows, the base, and the words of the sums.
-use Rattle.std.proofs.Common.{rules, ◌≡◌, ℕ, ◌+◌, ◌<◌, ◌≤◌, Bool, true, cond, List, sym, ap}
+use Rattle.std.proofs.Common.{rules, ◌≡◌, ℕ, ◌+◌, ◌<◌, Bool, true, cond, List, sym, ap}
 use Rattle.std.proofs.Common.{ap₂, ◌∙◌, inl, inr, arith}
 use Rattle.std.proofs.lemmas.Grind.{common_steps}
 use Rattle.std.specs.Prelude.{None, is_some, slice_index}
 use Rattle.std.specs.List.{between}
 use Rattle.std.specs.Option.{option_map}
 use Rattle.rs_field.specs.code.Counts.{default_rate}
-use Rattle.rs_field.specs.code.Decoder.{DecoderState, IsDecoder, originals_given, recovery_given}
+use Rattle.rs_field.specs.code.Decoder.{DecoderState, IsDecoder}
 use Rattle.rs_field.specs.code.DirectLaws.{entry_in, given_at, word_of, word_at, locator_at, summed_word, shard_in_row}
 use Rattle.rs_field.specs.code.Frame.{frame_of, row_count, frame_at}
 use Rattle.rs_field.specs.declared.code.frame.Frame.{Frame}
@@ -16,7 +16,6 @@ use Rattle.rs_field.specs.rows.MarkedRows.{is_marked}
 use Rattle.rs_field.specs.words.DirectSum.{direct_sum, direct_term}
 use Rattle.rs_field.specs.words.Field.{product, power}
 use Rattle.rs_field.specs.words.Transform.{sum_below}
-use Rattle.rs_field.proofs.code_lemmas.Entries.{count_most}
 use Rattle.rs_field.proofs.code_lemmas.Frame.{HasDistinctRows}
 use Rattle.rs_field.proofs.code_lemmas.PieceStates.{is_some-map}
 use Rattle.rs_field.proofs.code_lemmas.RateFrames.{distinct_rows}
@@ -38,11 +37,6 @@ pub decoder_frame : (s : DecoderState) → IsDecoder default_rate s
 decoder_frame s is =
     distinct_rows s.configuration.rate s.configuration.original_count s.configuration.recovery_count
     (valid-supported s.configuration is.valid)
-
--- There are at most as many surplus shards as rows.
-pub few_surplus : (s : DecoderState) (surplus : ℕ) → IsDecoder default_rate s
-    → originals_given s + recovery_given s ≡ s.configuration.original_count + surplus → surplus ≤ 65536
-few_surplus s surplus is enough = search (rules, decoder_frame, count_most)
 
 -- The frame of counts is that of a decoder of these counts.
 pub frame_same : {frame : Frame} {k r : ℕ} (s : DecoderState) → IsDecoder default_rate s

@@ -59,7 +59,7 @@ pub record CanSum (s : DecoderState) (base : SumBase) (start end : ℕ) : Type 0
 pub record AreSumsReady (base : SumBase) (surplus : ℕ) (s : DecoderState) (n : ℕ) : Type 0 where
   pub based : IsBase s base
   pub surplus_is : originals_given s + recovery_given s ≡ s.configuration.original_count + surplus
-  pub few : n ≤ 2048
+  pub few : n ≤ 4096
 
 -- the direct sum over the base for word j of the shard in a row
 abbrev pub base_sum : List Bool → DecoderState → ℕ → ℕ → ℕ

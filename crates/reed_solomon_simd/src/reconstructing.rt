@@ -34,7 +34,7 @@ use std::alloc::Global;
 /// which also begin at 0. All shards have the size of the first recovery shard, or of the first original if there is no
 /// recovery shard. A shard that was received cannot be wanted.
 ///
-/// The call works strip by strip, with at most 2048 bytes of each shard at a time. If few shards are wanted, it sums
+/// The call works strip by strip, with at most 4096 bytes of each shard at a time. If few shards are wanted, it sums
 /// received shards, each times a factor. Otherwise it decodes each strip, and if a recovery shard is wanted, it also
 /// encodes the originals of the strip. It allocates two lists of references to shards, two lists of marks, the vectors,
 /// and either lists of rows and of the factors' logarithms, or work areas for a strip of each shard.

@@ -1,9 +1,12 @@
 //! The sizes of strips. The work area has room for one strip of each shard only, and for up to about a thousand shards
 //! these strips fit into the processor's caches. Of the sizes that were measured with counts from 10:4 to 1000:200,
-//! these two were the fastest or close to it. A size that depends on the counts was not worth its code.
+//! these were the fastest or close to it. A size that depends on the counts was not worth its code.
 
 /// The number of bytes of each shard that are encoded at a time.
 pub(crate) const ENCODE_STRIP_BYTES: usize = 4096;
 
-/// The number of bytes of each shard that are decoded, summed or updated at a time.
+/// The number of bytes of each shard that are decoded or updated at a time.
 pub(crate) const DECODE_STRIP_BYTES: usize = 2048;
+
+/// The number of bytes of each shard that are added to direct sums at a time. The sum has as many bytes on the stack.
+pub(crate) const SUM_STRIP_BYTES: usize = 4096;

@@ -14,11 +14,12 @@ use crate::rooms::Rooms;
 use crate::store::Store;
 use crate::strip_bytes::DECODE_STRIP_BYTES;
 use crate::strip_rounds::decode_pieces;
-use crate::strip_summer::{are_sums_used, sum_missing};
+use crate::strip_summer::sum_missing;
 use crate::strips::{Way, make_strips};
 use rs_field::engine::Engine;
 use rs_field::error::Error;
 use rs_rate::DecoderResult;
+use rs_rate::rate::are_sums_cheaper;
 use rs_rate::rate::split_rounds::lent_originals;
 use rs_rate::rate::strips::StripDecoder;
 use std::alloc::Global;
@@ -50,7 +51,9 @@ pub fn make_missing<E: Engine, S: Store>(
     ensures places { S.places store.new ≡ S.places store.old }
     ensures loan { S.loan store.new ≡ S.loan store.old }
 {
-    if are_sums_used(store.counts(), missing, surplus) {
+    let counts = store.counts();
+    let sums = missing.saturating_add(surplus);
+    if are_sums_cheaper(counts.frame, counts.original_count, sums) {
         return sum_missing(alloc, engine, missing, surplus, store);
     }
     restore_by_rounds(alloc, engine, store)

@@ -28,14 +28,14 @@ use crate::shard_index::ShardIndex;
 use crate::store::Store;
 use crate::strip_bytes::DECODE_STRIP_BYTES;
 use crate::strip_rounds::decode_pieces;
-use crate::strip_summer::{are_sums_used, sum_listed};
+use crate::strip_summer::sum_listed;
 use crate::strips::{Way, make_strips};
 use rs_field::engine::{Engine, Steps};
 use rs_field::error::Error;
 use rs_rate::DecoderResult;
-use rs_rate::rate::DefaultRateCounts;
 use rs_rate::rate::split_rounds::lent_originals;
 use rs_rate::rate::strips::{StripDecoder, StripEncoder};
+use rs_rate::rate::{DefaultRateCounts, are_sums_cheaper};
 use std::alloc::Global;
 
 /// Writes wanted shards into the rooms of a store, in order. Few of them are made by direct sums, and more by rounds.
@@ -64,7 +64,9 @@ pub fn make_listed<E: Engine, S: Store>(
     ensures places { S.places store.new ≡ S.places store.old }
     ensures loan { S.loan store.new ≡ S.loan store.old }
 {
-    if are_sums_used(store.counts(), wanted.len(), surplus) {
+    let counts = store.counts();
+    let sums = wanted.len().saturating_add(surplus);
+    if are_sums_cheaper(counts.frame, counts.original_count, sums) {
         return sum_listed(alloc, engine, wanted, surplus, store);
     }
     rebuild_by_rounds(alloc, engine, wanted, store)

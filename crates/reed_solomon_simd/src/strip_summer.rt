@@ -1,7 +1,8 @@
 //! Reconstructing few wanted shards strip by strip, by direct sums. As many received shards as there are originals are
 //! the base. Each word of a wanted shard is the sum of the words of the base, each times a factor.
 ghost use Rattle.std.specs.Prelude.{◌≡◌, ◌⊎◌, ◌↔◌, ℕ, ◌+◌, ◌-◌, ◌/◌, ◌^◌, ◌<◌, ◌≤◌, All, true, false, List};
-ghost use Rattle.std.specs.Prelude.{length, Ok, Some, None, MatchOption, IsTrue, OnOk, IfOk, IfErr, option_copied};
+ghost use Rattle.std.specs.Prelude.{length, slice_index, Ok, Some, None, MatchOption, IsTrue, OnOk, IfOk, IfErr};
+ghost use Rattle.std.specs.Prelude.{option_copied};
 ghost use Rattle.rs_field.specs.code.Column.{Shard};
 ghost use Rattle.rs_field.specs.code.Counts.{default_rate};
 ghost use Rattle.rs_field.specs.code.Decoder.{IsDecoder, originals_given, recovery_given, IsConsistent};
@@ -12,7 +13,6 @@ ghost use Rattle.rs_field.specs.rows.Layout.{row_len};
 ghost use Rattle.rs_field.specs.rows.MarkedRows.{is_marked};
 ghost use Rattle.rs_rate.specs.rows.ShardRows.{shard_in_order};
 ghost use Rattle.rs_rate.specs.passes.Sums.{sum_word};
-ghost use Rattle.rs_rate.specs.values.SumCosts.{AreSumsCheaper};
 ghost use Rattle.reed_solomon_simd.specs.Base.{row_of, MarksReceived, CanSum};
 ghost use Rattle.rs_field.specs.code.Frame.{frame_at};
 ghost use Rattle.rs_field.specs.code.DirectLaws.{shard_in_row};
@@ -23,7 +23,7 @@ ghost use Rattle.reed_solomon_simd.specs.Reconstructed.{AreReconstructed, CanBeR
 use crate::pieces::Pieces;
 use crate::shard_index::ShardIndex;
 use crate::store::Store;
-use crate::strip_bytes::DECODE_STRIP_BYTES;
+use crate::strip_bytes::SUM_STRIP_BYTES;
 use crate::strips::{Way, make_strips};
 use crate::wanted_shards::no_marks;
 use rs_field::engine::layout::row_len;
@@ -31,21 +31,9 @@ use rs_field::engine::{Engine, Steps};
 use rs_field::error::Error;
 use rs_field::frame::Frame;
 use rs_rate::rate::sums::{
-    SumBase, add_times, clear_sum, finish_sum, list_base, locate_base, summed_piece,
+    SumBase, add_times, add_two_times, clear_sum, finish_sum, list_base, locate_base, summed_piece,
 };
-use rs_rate::rate::{DefaultRateCounts, are_sums_cheaper};
 use std::alloc::Global;
-
-/// Returns whether shards are made by direct sums: there are not more wanted shards than rows, and the sums, one for
-/// each wanted shard and one for each surplus shard, are cheaper than transforms.
-pub(crate) fn are_sums_used(counts: DefaultRateCounts, wanted: usize, surplus: usize) -> bool
-    requires few { surplus ≤ 65536 }
-    ensures { IsTrue result ↔ (wanted ≤ row_count counts.frame)
-        × AreSumsCheaper counts.frame counts.original_count (wanted + surplus) }
-{
-    wanted <= counts.frame.row_count()
-        && are_sums_cheaper(counts.frame, counts.original_count, wanted + surplus)
-}
 
 // Returns a mark for each row: whether a shard was received in it. Fails with `OutOfMemory`.
 fn received_marks<P: Pieces>(alloc: Global, received: &P) -> Result<Vec<bool>, Error>
@@ -197,7 +185,7 @@ pub(crate) fn sum_listed<'a, E: Engine, S: Store>(
         wanted,
         surplus,
     };
-    make_strips(DECODE_STRIP_BYTES, &mut way, store)
+    make_strips(SUM_STRIP_BYTES, &mut way, store)
 }
 
 /// Direct sums over a base of the received shards, which make listed shards.
@@ -218,7 +206,7 @@ impl<'a, 'b, E: Engine> Way for Sums<'a, 'b, E> {
 
     fn strip<S: Store>(&mut self, start: usize, end: usize, store: &mut S) -> Result<(), Error> {
         let len = row_len(end - start);
-        let mut sum = [[0; 64]; DECODE_STRIP_BYTES / 64];
+        let mut sum = [[0; 64]; SUM_STRIP_BYTES / 64];
         let sum = &mut sum[..len];
         if self.surplus > 0 && !self.agree_in_strip(&*store, start, end, sum) {
             return Err(inconsistent(&*store, self.surplus));
@@ -350,7 +338,8 @@ impl<'a, 'b, E: Engine> Sums<'a, 'b, E> {
         finish_sum(sum, end - start);
     }
 
-    // Adds the direct sum over a strip of the base, for a row outside of the base, to a sum whose words are 0.
+    // Adds the direct sum over a strip of the base, for a row outside of the base, to a sum whose words are 0. The
+    // pieces are added two at a time.
     fn add_base<P: Pieces>(
         &self,
         received: &P,
@@ -369,14 +358,36 @@ impl<'a, 'b, E: Engine> Sums<'a, 'b, E> {
             ≡ base_sum self.now.base.marks.now
             (state_of_pieces start end (P.received received.now)) j row }
     {
-        for index in 0..self.base.rows.len() {
-            let from = usize::from(self.base.rows[index]);
-            if let Some(piece) = piece_in_row(received, from, start, end) {
-                let log_m = self.base.factor(from, row);
-                add_times(self.engine, &mut Steps::new(), sum, piece, log_m);
-            }
+        let count = self.base.rows.len();
+        for pair in 0..count / 2 {
+            let index = 2 * pair;
+            let one = piece_of_base(&self.base, received, index, start, end);
+            let other = piece_of_base(&self.base, received, index + 1, start, end);
+            let logs = self.base.two_factors(index, row);
+            add_two_times(self.engine, &mut Steps::new(), sum, one, other, logs);
+        }
+        if count % 2 == 1 {
+            let piece = piece_of_base(&self.base, received, count - 1, start, end);
+            let log_m = self.base.factor(count - 1, row);
+            add_times(self.engine, &mut Steps::new(), sum, piece, log_m);
         }
     }
+}
+
+// Returns a piece of the shard at an index of the base.
+fn piece_of_base<'p, P: Pieces>(
+    base: &SumBase<'_>,
+    received: &'p P,
+    index: usize,
+    start: usize,
+    end: usize,
+) -> &'p [u8]
+    requires ready { CanSum (P.received received.now) base.now start end }
+    requires listed { index < length base.now.rows.now }
+    ensures { shard_in_row (state_of_pieces start end (P.received received.now))
+        (slice_index base.now.rows.now index) ≡ Some result.now }
+{
+    piece_in_row(received, usize::from(base.rows[index]), start, end).unwrap_or(&[])
 }
 
 // Returns the row of a shard.

@@ -12,5 +12,6 @@ pub mod BaseAnswer
 pub mod DecodeAnswer
 pub mod DirectRows
 pub mod SumLemmas
+pub mod SplitSums
 pub mod ChangeLemmas
 pub mod InPlace

@@ -68,7 +68,8 @@ module _ (base : SumBase) where
   -- One more row was added.
   pub one_more_added : {y n x log_m : ℕ} {old mid new : ShardsRefMut} {a b c : Steps}
       → is_marked base.marks.now y ≡ false → n < length base.rows.now → x ≡ slice_index base.rows.now n
-      → log_m ≡ direct_factor (λ z. slice_index base.locator.now z) x y → RowsAdded y n old mid a b
+      → log_m ≡ direct_factor (λ z. slice_index base.locator.now z) (slice_index base.rows.now n) y
+      → RowsAdded y n old mid a b
       → SameExtent mid new → SameRowsOutside y (y + 1) mid new
       → ((k s : ℕ) → k < mid.shard_len_64 → s < 32
       → word new k s y ≡ bit_xor (word mid k s y) (times_factor log_m (word mid k s x)))
@@ -85,8 +86,8 @@ module _ (base : SumBase) where
             (times_known log_m (word mid k s x) (subst (λ (l : ℕ). l < 65535) (sym factor) (mod-lt _ (omega arith)))
             ∙ ap₂ (λ w l. product w (power l))
             (ap (λ z. symbol z s) (outside_cell before.extent before.others x k hk
-            (beside base (ap (is_marked base.marks.now) here ∙ (base.listed.entries n inside).1) missing))) factor
-            ∙ ap (base_term base (word old k s) y) here)
+            (beside base (ap (is_marked base.marks.now) here ∙ (base.listed.entries n inside).1) missing))
+            ∙ ap (word old k s) here) factor)
             ∙ xor_assoc (word old k s y) (sum_first n (word old k s) y) _
             ∙ ap (bit_xor (word old k s y))
             (sym (sum_below-suc n (λ i. base_term base (word old k s) y (slice_index base.rows.now i)))

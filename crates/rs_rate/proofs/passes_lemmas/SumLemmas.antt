@@ -5,6 +5,7 @@ use Rattle.std.proofs.Common.{get_or, subst}
 use Rattle.std.proofs.lemmas.Nat.{xor_lt}
 use Rattle.std.specs.Prelude.{slice_index}
 use Rattle.std.specs.Int.Bits.{xor_zero_r}
+use Rattle.std.proofs.Math.Nat.{mod-eq_of_lt}
 use Rattle.std.proofs.Math.Seq.{get_or-append_seam, take-append_seam}
 use Rattle.std.proofs.lemmas.Bool.{cases_lt}
 use Rattle.std.proofs.lemmas.List.{get_or_append_left, get_or-append_right, length-append, get_or-replicate}
@@ -21,6 +22,7 @@ use Rattle.rs_field.specs.words.DirectSum.{direct_factor, direct_sum}
 use Rattle.rs_field.specs.words.Field.{product, power, log}
 use Rattle.rs_field.specs.words.Tables.{times_factor}
 use Rattle.rs_field.specs.words.Transform.{sum_below}
+use Rattle.rs_field.proofs.words_lemmas.Power.{log_lt}
 use Rattle.rs_field.proofs.words_lemmas.Combination.{sum_below-suc, sum_below-same, sum_below-zero, sum_below-add}
 use Rattle.rs_rate.specs.declared.passes.sums.SumBase.{SumBase}
 use Rattle.rs_rate.specs.passes.BaseSum.{base_sum}
@@ -165,6 +167,10 @@ unfolding direct_sum
 base_sum-listed base words y = base.listed.sums (base_term base words y)
 
 -- ---- the factors
+
+-- A logarithm is below 65535.
+pub log_mod : (l z : ℕ) → 0 < z → z < 65536 → l ≡ log z → l % 65535 ≡ log z
+log_mod l z some small is = ap (λ n. n % 65535) is ∙ mod-eq_of_lt (log_lt z some small)
 
 -- A locator and logarithms of as many rows make factors.
 pub factors_made : {frame : Frame} {marks : List Bool} {locator : List ℕ} (logs : List ℕ)

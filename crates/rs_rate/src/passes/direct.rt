@@ -229,6 +229,6 @@ fn add_sum<E: Engine>(
 {
     for i in 0..base.rows.len() {
         let x = usize::from(base.rows[i]);
-        mul_add_row_at(engine, steps, rows, y, x, base.factor(x, y));
+        mul_add_row_at(engine, steps, rows, y, x, base.factor(i, y));
     }
 }

@@ -1,6 +1,7 @@
 //! The locator of the erased rows of a decoder.
-ghost use Rattle.std.specs.Prelude.{◌≡◌, ℕ, ◌<◌, ◌≤◌, length, slice_index};
+ghost use Rattle.std.specs.Prelude.{◌≡◌, ℕ, ◌<◌, ◌≤◌, [], length, slice_index, if◌then◌else◌};
 ghost use Rattle.rs_field.specs.code.Frame.{row_count};
+ghost use Rattle.rs_field.specs.rows.MarkedRows.{is_marked};
 ghost use Rattle.rs_field.specs.words.StepBounds.{LocatorCounts};
 ghost use Rattle.rs_rate.specs.passes.Decoding.{IsLocatorOf};
 ghost use Rattle.rs_rate.specs.rows.Marks.{erasure};
@@ -34,9 +35,30 @@ fn mark_erased(entries: &mut [GfElement], given: &[bool], frame: Frame)
         → slice_index entries.new row ≡ erasure frame given.now row }
     ensures length { length entries.new ≡ length entries.old }
 {
+    mark_unknown(entries, frame);
+    clear_given(entries, given);
+}
+
+// Sets the entries of the rows that are known to be zero to 0, and all other entries to 1.
+fn mark_unknown(entries: &mut [GfElement], frame: Frame)
+    ensures rows { (row : ℕ) → row < length entries.old
+        → slice_index entries.new row ≡ erasure frame [] row }
+    ensures length { length entries.new ≡ length entries.old }
+{
     for row in 0..entries.len() {
         let is_zero = frame.zeros_from <= row && row < frame.zeros_to;
-        let is_given = row < given.len() && given[row];
-        entries[row] = if is_zero || is_given { 0 } else { 1 };
+        entries[row] = if is_zero { 0 } else { 1 };
+    }
+}
+
+// Sets the entries of the given rows to 0. Each entry is written, so that many of them are written at once.
+fn clear_given(entries: &mut [GfElement], given: &[bool])
+    ensures rows { (row : ℕ) → row < length entries.old
+        → slice_index entries.new row
+        ≡ (if is_marked given.now row then 0 else slice_index entries.old row) }
+    ensures length { length entries.new ≡ length entries.old }
+{
+    for row in 0..given.len().min(entries.len()) {
+        entries[row] = if given[row] { 0 } else { entries[row] };
     }
 }

@@ -4,8 +4,8 @@
 //! The factors come from Lagrange's formula for the polynomial of a column times the locator of the erased rows. The
 //! points of the rows are all words below a power of two, so the formula needs no weights. At an erased row, the
 //! derivative of this product is the missing word times the derivative of the locator.
-ghost use Rattle.std.specs.Prelude.{◌≡◌, ◌≢◌, ℕ, ◌*◌, ◌/◌, ◌%◌, ◌<◌, ◌≤◌, length, slice_index, take};
-ghost use Rattle.std.specs.Prelude.{bit_xor};
+ghost use Rattle.std.specs.Prelude.{◌≡◌, ◌≢◌, ℕ, ◌+◌, ◌*◌, ◌/◌, ◌%◌, ◌<◌, ◌≤◌, false, length};
+ghost use Rattle.std.specs.Prelude.{slice_index, take, bit_xor};
 ghost use Rattle.rs_field.specs.code.Column.{IsShard, column};
 ghost use Rattle.rs_field.specs.code.Frame.{row_count};
 ghost use Rattle.rs_field.specs.rows.Layout.{row_len};
@@ -19,7 +19,7 @@ ghost use Rattle.rs_rate.specs.passes.Sums.{ListsMarked, MakeFactors, sum_word};
 
 use crate::passes::locators::make_locator;
 use crate::rows::shard_rows::{insert_at, move_tail, rows_are_bytes, shard_at};
-use rs_field::engine::{Engine, GF_MODULUS, GfElement, Steps};
+use rs_field::engine::{Engine, GF_MODULUS, GfElement, Steps, TwoLogarithms};
 use rs_field::frame::Frame;
 
 /// The base of direct sums: given shards, by their rows, and what the factors of their words are made of.
@@ -38,15 +38,36 @@ pub struct SumBase<'a> {
 }
 
 impl SumBase<'_> {
-    /// Returns the logarithm, below 65535, of the factor that a word of row x has in the word of row y. Row x is in the
-    /// base, and row y is another row.
-    pub fn factor(&self, x: usize, y: usize) -> GfElement
-        requires apart { x ≢ y }
-        requires first { x < length self.now.locator.now }
-        requires second { y < length self.now.locator.now }
-        ensures { result ≡ direct_factor (λ z. slice_index self.now.locator.now z) x y }
+    /// Returns the logarithms of the factors that the words of the entries `index` and `index + 1` of the base have in
+    /// the word of row y, which is not in the base. Both are below 65535.
+    pub fn two_factors(&self, index: usize, y: usize) -> TwoLogarithms
+        requires two { index + 1 < length self.now.rows.now }
+        requires outside { is_marked self.now.marks.now y ≡ false }
+        requires within { y < length self.now.locator.now }
+        ensures first { result.first
+            ≡ direct_factor (λ z. slice_index self.now.locator.now z)
+            (slice_index self.now.rows.now index) y }
+        ensures second { result.second
+            ≡ direct_factor (λ z. slice_index self.now.locator.now z)
+            (slice_index self.now.rows.now (index + 1)) y }
     {
-        factor_of(self.locator, self.logs, x, y)
+        TwoLogarithms {
+            first: self.factor(index, y),
+            second: self.factor(index + 1, y),
+        }
+    }
+
+    /// Returns the logarithm, below 65535, of the factor that a word of the entry `index` of the base has in the word
+    /// of row y, which is not in the base.
+    pub fn factor(&self, index: usize, y: usize) -> GfElement
+        requires listed { index < length self.now.rows.now }
+        requires outside { is_marked self.now.marks.now y ≡ false }
+        requires within { y < length self.now.locator.now }
+        ensures { result
+            ≡ direct_factor (λ z. slice_index self.now.locator.now z)
+            (slice_index self.now.rows.now index) y }
+    {
+        factor_of(self.locator, self.logs, usize::from(self.rows[index]), y)
     }
 }
 
@@ -66,8 +87,7 @@ pub(crate) fn factor_of(locator: &[GfElement], logs: &[GfElement], x: usize, y: 
 }
 
 /// Computes what the factors of a base are made of: the locator of the rows outside of the base, and the logarithms of
-/// words. `marks` has the marks of the rows of the base, and no row after them is in the base. All logarithms are 0
-/// before.
+/// words. `marks` has the marks of the rows of the base, and no row after them is in the base.
 pub fn locate_base<E: Engine>(
     engine: &E,
     steps: &mut Steps,
@@ -79,12 +99,24 @@ pub fn locate_base<E: Engine>(
     requires few { frame.exponent ≤ 16 }
     requires entries { length locator.old ≡ row_count frame }
     requires log_entries { length logs.old ≡ row_count frame }
-    requires zeros { (z : ℕ) → slice_index logs.old z ≡ 0 }
     ensures located { IsLocatorOf frame marks.now locator.new }
     ensures made { MakeFactors locator.new logs.new }
 {
     make_locator(engine, steps, locator, marks, frame);
-    locate_zero(engine, steps, logs, frame);
+    set_logarithms(engine, steps, logs, frame);
+}
+
+// Sets each entry except for entry 0 to the logarithm of its index, modulo 65535. If the engine has no logarithms, they
+// are located.
+fn set_logarithms<E: Engine>(engine: &E, steps: &mut Steps, logs: &mut [GfElement], frame: Frame)
+    requires few { frame.exponent ≤ 16 }
+    requires count { length logs.old ≡ row_count frame }
+    ensures { (z : ℕ) → 0 < z → z < length logs.old → slice_index logs.new z % 65535 ≡ log z }
+{
+    if !engine.logarithms(logs) {
+        logs.fill(0);
+        locate_zero(engine, steps, logs, frame);
+    }
 }
 
 /// Lists the rows of a base in `rows`, from the lowest one on: the first given rows, as many as `rows` has entries.
@@ -157,6 +189,36 @@ pub fn add_times<E: Engine>(
     engine.mul_add(steps, chunks, whole, log_m);
     if !tail.is_empty() {
         add_tail_times(engine, steps, last, tail, log_m);
+    }
+}
+
+/// Adds two pieces of shards, each times a factor of its own, to a sum of pieces of their size. `sum` is as for
+/// [`add_times`], and so are the sizes of the pieces. Both factors have logarithms below 65535.
+pub fn add_two_times<E: Engine>(
+    engine: &E,
+    steps: &mut Steps,
+    sum: &mut [[u8; 64]],
+    one: &[u8],
+    other: &[u8],
+    logs: TwoLogarithms,
+)
+    requires room { length sum.old ≡ row_len (length one.now) }
+    requires same { length other.now ≡ length one.now }
+    requires even { length one.now % 2 ≡ 0 }
+    requires first { logs.first < 65535 }
+    requires second { logs.second < 65535 }
+    ensures words { (j : ℕ) → j < length one.now / 2
+        → sum_word sum.new j
+        ≡ bit_xor (bit_xor (sum_word sum.old j) (product (column j one.now) (power logs.first)))
+        (product (column j other.now) (power logs.second)) }
+{
+    let (one_whole, one_tail) = one.as_chunks::<64>();
+    let (other_whole, other_tail) = other.as_chunks::<64>();
+    let (chunks, last) = sum.split_at_mut(one_whole.len());
+    engine.mul_add_two(steps, chunks, one_whole, other_whole, logs);
+    if !one_tail.is_empty() {
+        add_tail_times(engine, steps, last, one_tail, logs.first);
+        add_tail_times(engine, steps, last, other_tail, logs.second);
     }
 }
 

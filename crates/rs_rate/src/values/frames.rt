@@ -140,10 +140,8 @@ pub(crate) fn default_frame(original_count: usize, recovery_count: usize) -> Opt
 /// many products as rows of a decoder.
 #[tactic(auto, unfolding(crate::specs::values::SumCosts::AreSumsCheaper))]
 pub fn are_sums_cheaper(frame: Frame, original_count: usize, sums: usize) -> bool
-    requires few { frame.exponent ≤ 16 }
-    requires originals { original_count ≤ 65536 }
-    requires sums { sums ≤ 131072 }
+    requires { frame.exponent ≤ 16 }
     ensures { IsTrue result ↔ AreSumsCheaper frame original_count sums }
 {
-    sums * original_count < 4 * frame.row_count()
+    sums.saturating_mul(original_count) < 4 * frame.row_count()
 }

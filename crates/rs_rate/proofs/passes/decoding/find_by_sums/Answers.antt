@@ -2,17 +2,14 @@ use Rattle.std.proofs.Common.{rules, Bool, ◌≡◌, ℕ, ◌+◌, ◌*◌, ◌
 use Rattle.std.proofs.Common.{arith, pow_mono, subst, take, length, List, true, true≢false, inr}
 use Rattle.std.proofs.lemmas.Bool.{cases_lt}
 use Rattle.std.proofs.lemmas.List.{get_or-take, get_or_past, length-take}
-use Rattle.rs_rate.proofs.passes_lemmas.SumLemmas.{factors_made}
+use Rattle.rs_rate.proofs.passes_lemmas.SumLemmas.{factors_made, log_mod}
 use Rattle.rs_rate.specs.passes.Sums.{ListsMarked}
-use Rattle.std.proofs.Math.Nat.{mod-eq_of_lt}
 use Rattle.std.specs.Prelude.{not}
 use Rattle.rs_field.specs.code.Frame.{original_row}
 use Rattle.rs_field.specs.rows.MarkedRows.{is_marked}
-use Rattle.rs_field.specs.words.Field.{log}
 use Rattle.rs_field.specs.words.StepBounds.{CountsUpTo, LocatorCounts}
 use Rattle.rs_field.specs.declared.words.steps.Steps.{Steps}
 use Rattle.rs_field.proofs.words_lemmas.Counting.{counted}
-use Rattle.rs_field.proofs.words_lemmas.Power.{log_lt}
 use Rattle.rs_rate.specs.values.Configured.{rows_to_decode}
 use Rattle.rs_rate.specs.passes.Decoding.{find_steps, sum_steps}
 use Rattle.rs_rate.specs.rows.Marks.{how_many}
@@ -22,10 +19,6 @@ use Rattle.rs_rate.proofs.passes.decoding.find_by_sums.Goals as goal
 -- A row that is marked among the first marks is marked.
 marked-first : (marks : List Bool) (n p : ℕ) → is_marked (take n marks) p ≡ true → is_marked marks p ≡ true
 marked-first marks n p is = search (rules, cases_lt, get_or-take, get_or_past, length-take, true≢false)
-
--- A logarithm is below 65535.
-log_mod : (l z : ℕ) → 0 < z → z < 65536 → l ≡ log z → l % 65535 ≡ log z
-log_mod l z some small is = ap (λ n. n % 65535) is ∙ mod-eq_of_lt (log_lt z some small)
 
 pub are_sums_used-requires-clause-few : goal.are_sums_used-requires-clause-few
 are_sums_used-requires-clause-few g c = search (rules, pow_mono, how_many-most)
