@@ -24,6 +24,8 @@ mod shards;
 #[cfg(test)]
 mod stripes;
 #[cfg(test)]
+mod summing;
+#[cfg(test)]
 mod tables;
 #[cfg(test)]
 mod updating;

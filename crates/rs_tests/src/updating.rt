@@ -4,7 +4,7 @@ use super::counting::FourCalls;
 use super::shards::drawn;
 use reed_solomon_simd::engine::tables::Tables;
 use reed_solomon_simd::engine::{
-    DefaultEngine, Engine, EngineKind, GfElement, Naive, ShardsRefMut, Steps,
+    DefaultEngine, Engine, EngineKind, GfElement, Naive, ShardsRefMut, Steps, TwoLogarithms,
 };
 use reed_solomon_simd::{Error, encode_slice, update_into};
 use std::alloc::Global;
@@ -14,14 +14,33 @@ use std::process::Abort;
 // Sizes of shards: without a whole chunk, with and without a tail, and with one to three strips of 2048 bytes.
 const SIZES: [usize; 8] = [2, 62, 64, 66, 2046, 2048, 2050, 4226];
 
-/// The plain engine, which counts the calls that add to a shard in place.
+/// The plain engine, which counts the calls that add rows.
 #[derive(Drop)]
-struct InPlace<'t> {
+pub struct Additions<'t> {
     naive: Naive<'t>,
-    calls: &'t Cell<u32>,
+    calls: &'t Cell<AddCalls>,
 }
 
-impl Engine for InPlace<'_> {
+/// How often an engine adds rows.
+#[derive(Clone, Copy, Debug, Default, PartialEq, Eq)]
+pub struct AddCalls {
+    /// The number of calls that add one row.
+    pub one: u32,
+    /// The number of calls that add two rows.
+    pub two: u32,
+    /// The number of calls that add a row to a shard in place.
+    pub in_place: u32,
+}
+
+impl<'t> Additions<'t> {
+    /// Makes the engine over these tables. It counts its calls in `calls`.
+    pub fn new(tables: &'t Tables, calls: &'t Cell<AddCalls>) -> Additions<'t> {
+        let naive = Naive::new(tables);
+        Additions { naive, calls }
+    }
+}
+
+impl Engine for Additions<'_> {
     fn fft(
         &self,
         steps: &mut Steps,
@@ -56,16 +75,47 @@ impl Engine for InPlace<'_> {
         self.naive.eval_poly(steps, entries, truncated_size);
     }
 
+    fn mul_add(&self, steps: &mut Steps, x: &mut [[u8; 64]], y: &[[u8; 64]], log_m: GfElement) {
+        let calls = self.calls.get();
+        let one = calls.one.saturating_add(1);
+        self.calls.set(AddCalls { one, ..calls });
+        self.naive.mul_add(steps, x, y, log_m);
+    }
+
+    fn mul_add_two(
+        &self,
+        steps: &mut Steps,
+        x: &mut [[u8; 64]],
+        y0: &[[u8; 64]],
+        y1: &[[u8; 64]],
+        logs: TwoLogarithms,
+    ) {
+        let calls = self.calls.get();
+        let two = calls.two.saturating_add(1);
+        self.calls.set(AddCalls { two, ..calls });
+        Engine::mul_add_two(&self.naive, steps, x, y0, y1, logs);
+    }
+
     fn mul_add_bytes(&self, steps: &mut Steps, x: &mut [u8], y: &[[u8; 64]], log_m: GfElement) {
-        self.calls.set(self.calls.get().saturating_add(1));
+        let calls = self.calls.get();
+        let in_place = calls.in_place.saturating_add(1);
+        self.calls.set(AddCalls { in_place, ..calls });
         Engine::mul_add_bytes(&self.naive, steps, x, y, log_m);
+    }
+
+    fn logarithms(&self, logs: &mut [GfElement]) -> bool {
+        self.naive.logarithms(logs)
     }
 }
 
-// Lends recovery shards as rooms.
-fn lent(alloc: Global, recovery: &mut [Vec<u8>]) -> Result<Vec<&mut [u8]>, Error> {
+/// Lends shards as rooms.
+///
+/// # Errors
+///
+/// [`Error::OutOfMemory`] if the list of rooms cannot be allocated.
+pub fn lent(alloc: Global, shards: &mut [Vec<u8>]) -> Result<Vec<&mut [u8]>, Error> {
     let mut rooms: Vec<&mut [u8]> = Vec::new(alloc);
-    for shard in recovery {
+    for shard in shards {
         rooms.push(shard.as_mut_slice())?;
     }
     Ok(rooms)
@@ -121,13 +171,13 @@ fn an_update_calls_its_engine_so_often(rt: HostRuntime) {
         (2050, 1),
         (4226, 3),
     ] {
-        let calls = Cell::new(0);
-        let engine = InPlace {
-            naive: Naive::new(&tables),
-            calls: &calls,
-        };
+        let calls = Cell::new(AddCalls::default());
+        let engine = Additions::new(&tables, &calls);
         let updated = is_updated(&rt, rt.alloc(), &tables, 3, size, engine);
-        assert_eq!(rt; (size, updated, calls.get()), (size, true, 3 * strips));
+        assert_eq!(rt;
+            (size, updated, calls.get().in_place),
+            (size, true, 3 * strips)
+        );
     }
 }
 
