@@ -14,3 +14,4 @@ mod UpdatedCode
 mod UpdatedRooms
 pub mod BlocksBack
 pub mod BlocksFail
+pub mod FilesBack

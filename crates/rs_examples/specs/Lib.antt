@@ -1,3 +1,4 @@
 pub mod Blocks
+pub mod Files
 pub mod Losing
 pub mod SwappedRows

@@ -6,6 +6,8 @@ pub mod adding;
 pub mod block_round_trip;
 pub mod blocks;
 pub mod callers;
+pub mod descriptions;
+pub mod file_round_trip;
 pub mod lent_rows;
 pub mod levels;
 pub mod message_round_trip;

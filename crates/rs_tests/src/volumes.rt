@@ -5,6 +5,7 @@ use super::shards::drawn;
 use reed_solomon_simd::engine::DefaultEngine;
 use reed_solomon_simd::engine::tables::Tables;
 use rs_examples::blocks::Blocks;
+use rs_examples::file_round_trip::round_trip_of_files;
 use rs_volumes::checking::{UNIT, data_end, fits};
 use rs_volumes::coding_error::CodingError;
 use rs_volumes::creating::{Shape, create};
@@ -332,6 +333,21 @@ fn sets_in_memory_come_back(rt: HostRuntime) {
         check_set(&rt, alloc, block_bytes, 64, engine);
     }
     check_set(&rt, alloc, 1026, 4096, engine);
+}
+
+// The set has more than 7 original blocks. Block 5 gets wrong bytes, and blocks 0 and 7 are lost.
+#[test]
+fn files_come_back_by_one_caller(rt: HostRuntime) {
+    let alloc = rt.alloc();
+    let tables = Tables::new(alloc).expect(&rt, "tables");
+    let engine = DefaultEngine::fastest(&tables);
+    let set = make_set(&rt, alloc, 320, 64, engine);
+    let wrong = vec![in alloc; 1; 320].expect(&rt, "a block");
+    let damage = [(0, Vec::new(alloc)), (5, wrong), (7, Vec::new(alloc))];
+    let files = set.files.as_slice();
+    let back = round_trip_of_files(alloc, &set.description, 64, files, &damage, engine);
+    let back = back.expect(&rt, "files");
+    assert!(rt; back.as_slice() == files);
 }
 
 #[test]

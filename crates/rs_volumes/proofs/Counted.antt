@@ -116,7 +116,7 @@ first_counts s sound =
     ap (λ (u : ℕ). blocks_of s.block_bytes (end_of u 0 s.entries)) (first_unit s sound.fits.version) in
     omega (arith, all, none, count, unit)
 
--- The same of a description of version 1.
+-- A description of version 1 that a reader returned has as many original blocks as its data has.
 pub is_first_counted : (r : Result Description ReadError) (bytes : List ℕ)
     → IfOk r (λ d. IsFirstSound (set_of d) × (bytes ≡ first_spelling (set_of d)))
     → IfOk r (λ d. d.original_count ≡ blocks_of d.block_bytes (data_of (set_of d)))

@@ -6,7 +6,8 @@ use Rattle.std.proofs.Common.{refl, sym, ap, subst, ◌∙◌, append_assoc, ari
 use Rattle.std.proofs.Common.{drop, Ok, Err}
 use Rattle.std.specs.List.{All, concat, flat_map}
 use Rattle.std.proofs.Math.Seq.{get_or-append_seam}
-use Rattle.std.proofs.lemmas.Bool.{eq-eqb, ne_eqb, le-leb, lt-leb}
+use Rattle.std.proofs.lemmas.Bool.{and_parts, eq-eqb, leb-true, ltb-true, ne_eqb, le-leb, lt-leb}
+use Rattle.std.specs.Prelude.{◌&&◌, ◌==◌, ◌%◌, Bool, nat_le, nat_lt}
 use Rattle.std.proofs.lemmas.Grind.{flat_map-append}
 use Rattle.std.proofs.lemmas.List.{append-nil, length-append, take-append-drop, length-take, map-append, length-map}
 use Rattle.std.proofs.lemmas.List.Elements.{All-append, All-nil}
@@ -30,7 +31,7 @@ use Rattle.rs_volumes.proofs.DataLemmas.{end_of_grows, entries_further, was_belo
 use Rattle.rs_volumes.proofs.PlaceLemmas.{lies, block_is, file_is, reached, reached-grows, rises-from}
 use Rattle.rs_volumes.proofs.PlaceLemmas.{rises-append, file_covers, file_rises, file_all}
 
-size_cases : (n : ℕ) → (n ≡ 0) ⊎ (0 < n)
+pub size_cases : (n : ℕ) → (n ≡ 0) ⊎ (0 < n)
 size_cases zero = inl refl
 size_cases (suc n) = inr (omega arith)
 
@@ -47,13 +48,13 @@ entry-some unit size at index bytes some =
     rw (ne_eqb bytes 0 (λ none. let no : ⊥ = omega (arith, some, none) in no)) refl
 
 -- A file without bytes has no place.
-places-none : (unit size at index : ℕ) (e : SetEntry) (es : List SetEntry) → e.size ≡ 0
+pub places-none : (unit size at index : ℕ) (e : SetEntry) (es : List SetEntry) → e.size ≡ 0
     → set_places unit size at index (e ∷ es) ≡ set_places unit size at (suc index) es
 unfolding set_places
 places-none unit size at index e es none =
     rw (entry-none unit size at index e.size none, end_after_none unit at e.size none) refl
 
-places-some : (unit size at index : ℕ) (e : SetEntry) (es : List SetEntry) → 0 < e.size
+pub places-some : (unit size at index : ℕ) (e : SetEntry) (es : List SetEntry) → 0 < e.size
     → set_places unit size at index (e ∷ es)
     ≡ file_places size index (round_up unit at) (round_up unit at + e.size)
     ++ set_places unit size (round_up unit at + e.size) (suc index) es
@@ -107,7 +108,7 @@ set_rises unit size at index (e ∷ es) some_unit some =
 
 -- ---- they cover the files
 
-no_bytes : (x : Shard) → length x ≡ 0 → x ≡ []
+pub no_bytes : (x : Shard) → length x ≡ 0 → x ≡ []
 no_bytes [] e = refl
 no_bytes (b ∷ bs) e = absurd (let no : ⊥ = omega (arith, e) in no)
 
@@ -375,3 +376,20 @@ pub all_places : (s : FileSet) → allows_block s.block_bytes ≡ true → end_o
     → places_in s ≡ Ok (set_places (unit_of s) s.block_bytes 0 0 s.entries)
 unfolding places_in data_of
 all_places s good short = rw (good, lt-leb _ _ short) refl
+
+block_cases : (b : Bool) → (b ≡ true) ⊎ (b ≡ false)
+block_cases true = inl refl
+block_cases false = inr refl
+
+-- If a set has places, the size of its blocks is allowed.
+pub block_allowed : (s : FileSet) (places : List Place) → places_in s ≡ Ok places
+    → (0 < s.block_bytes) × (s.block_bytes ≤ 2 ^ 40)
+unfolding allows_block
+block_allowed s places given =
+    elim (block_cases (allows_block s.block_bytes)) [
+      | inl good ↦
+          let b = and_parts (nat_lt 0 s.block_bytes) (s.block_bytes % 2 == 0 && nat_le s.block_bytes (2 ^ 40)) good in
+          let c = and_parts (s.block_bytes % 2 == 0) (nat_le s.block_bytes (2 ^ 40)) b.1 in
+          (ltb-true 0 s.block_bytes b.0, leb-true s.block_bytes (2 ^ 40) c.1)
+      | inr wrong ↦ absurd (let refused = wrong_block s wrong in let no : ⊥ = cc in no)
+    ]

@@ -12,6 +12,8 @@ pub mod RecordLemmas
 pub mod DataLemmas
 pub mod PlaceLemmas
 pub mod Layouts
+pub mod LaidLemmas
+pub mod FileLemmas
 pub mod CheckLemmas
 pub mod Counted
 pub mod Hashes

@@ -1,17 +1,20 @@
 -- The places of files, block by block and file by file.
 use Rattle.std.proofs.Common.{◌≡◌, ℕ, zero, suc, ◌+◌, ◌-◌, ◌*◌, ◌/◌, ◌<◌, ◌≤◌, max, min, List, [], ◌∷◌, ◌++◌}
-use Rattle.std.proofs.Common.{length, take, refl, sym, ap, ◌∙◌, arith, ◌⊎◌, inl, inr}
+use Rattle.std.proofs.Common.{length, take, refl, sym, ap, ◌∙◌, arith, ◌⊎◌, inl, inr, true, false, cond}
+use Rattle.std.specs.Prelude.{◌==◌, ◌&&◌, nat_le, nat_lt, count_by}
 use Rattle.std.specs.List.{All, flat_map, between}
 use Rattle.std.proofs.Math.Nat.{suc-mul, div-mul-le_self, lt-div-mul-add, max-eq_left, max-eq_right, min-eq_left}
 use Rattle.std.proofs.Math.Nat.{min-eq_right, min-le_left, min-le_right, le-max_left, le-max_right, add-mul}
 use Rattle.std.proofs.Math.Nat.{mul-le-mul_right}
-use Rattle.std.proofs.lemmas.Bool.{cases_lt}
+use Rattle.std.proofs.lemmas.Bool.{and_left, and_right, cases_lt, eq-eqb, le-leb, le-ltb, lt-leb, lt-ltb}
+use Rattle.std.proofs.lemmas.List.Sums.{sum_by_push}
 use Rattle.std.proofs.lemmas.Grind.{flat_map-append}
 use Rattle.std.proofs.lemmas.List.{append-nil, take_all}
 use Rattle.std.proofs.lemmas.List.Elements.{All-append, All-nil, All-cons}
 use Rattle.rs_field.specs.code.Column.{Shard, shard_at}
 use Rattle.rs_volumes.specs.declared.placement.Place.{Place}
 use Rattle.rs_volumes.specs.Data.{blocks_of}
+use Rattle.rs_volumes.specs.Laid.{is_at}
 use Rattle.rs_volumes.specs.Places.{place_in, run_places, file_places, bytes_at, position, Rises}
 use Rattle.rs_volumes.proofs.DataLemmas.{blocks_hold, blocks_needed}
 use Rattle.rs_volumes.proofs.Strips.{take-further}
@@ -366,3 +369,80 @@ pub file_all : (P : Place → Type 0) (size file start end : ℕ) → 0 < size �
 file_all P size file start end some order each =
     run_all P size file start end (start / size) (blocks_of size end - start / size)
     (file_run size start end some order) each
+
+-- ---- the places of one byte of a file
+
+-- Whether a byte is at a place of its file.
+is_at-before : (file offset : ℕ) (place : Place) → offset < place.offset → is_at file offset place ≡ false
+is_at-before file offset place lt =
+    and_right (place.file == file) (nat_le place.offset offset && nat_lt offset (place.offset + place.bytes))
+    (and_left (nat_le place.offset offset) (nat_lt offset (place.offset + place.bytes))
+    (lt-leb place.offset offset lt))
+
+is_at-within : (file offset : ℕ) (place : Place) → place.file ≡ file → place.offset ≤ offset
+    → offset < place.offset + place.bytes → is_at file offset place ≡ true
+is_at-within file offset place same le lt =
+    rw (eq-eqb place.file file same, le-leb place.offset offset le, lt-ltb offset (place.offset + place.bytes) lt) refl
+
+is_at-after : (file offset : ℕ) (place : Place) → place.offset + place.bytes ≤ offset
+    → is_at file offset place ≡ false
+is_at-after file offset place le =
+    and_right (place.file == file) (nat_le place.offset offset && nat_lt offset (place.offset + place.bytes))
+    (and_right (nat_le place.offset offset) (nat_lt offset (place.offset + place.bytes))
+    (le-ltb offset (place.offset + place.bytes) le))
+
+one_at : (file offset : ℕ) (ps : List Place) (place : Place) → count_by (is_at file offset) (ps ++ place ∷ [])
+    ≡ count_by (is_at file offset) ps + cond (is_at file offset place) 1 0
+one_at file offset ps place = sum_by_push (λ (p : Place). cond (is_at file offset p) 1 0) ps place
+
+-- A byte is at one of the places of a run if the run reaches it.
+run_at : (size file start end first offset n : ℕ) → AreRun size start end first n
+    → count_by (is_at file offset) (run_places size file start end first n)
+    ≡ cond (nat_lt offset (reach size start end (first + n))) 1 0
+unfolding run_places
+run_at size file start end first offset zero h =
+    let none : 0 ≤ offset = omega arith in
+    rw (reach_none size start end first h, le-ltb offset 0 none) refl
+run_at size file start end first offset (suc n) h =
+    let block : ℕ = first + n in
+    let place : Place = place_in size file start end block in
+    let run : List Place = run_places size file start end first n in
+    let l = lies size file start end block (has_bytes h) in
+    let from : reach size start end block ≡ place.offset =
+    reach_is size start end block (has_bytes h) ∙ sym l.offset in
+    let to : place.offset + place.bytes ≡ reach size start end (first + suc n) =
+    l.covered ∙ reach_next size start end first n in
+    let before : count_by (is_at file offset) run ≡ cond (nat_lt offset place.offset) 1 0 =
+    run_at size file start end first offset n (fewer h)
+    ∙ ap (λ (m : ℕ). cond (nat_lt offset m) 1 0) from in
+    one_at file offset run place ∙ rw (before, ← to) (elim (cases_lt offset place.offset) [
+      | inl lt ↦
+          let more : offset < place.offset + place.bytes = omega (arith, lt) in
+          rw (
+            is_at-before file offset place lt,
+            lt-ltb offset place.offset lt,
+            lt-ltb offset (place.offset + place.bytes) more,
+          ) refl
+      | inr le ↦ elim (cases_lt offset (place.offset + place.bytes)) [
+        | inl lt ↦
+            rw (
+              is_at-within file offset place (file_is size file start end block) le lt,
+              le-ltb offset place.offset le,
+              lt-ltb offset (place.offset + place.bytes) lt,
+            ) refl
+        | inr past ↦
+            rw (
+              is_at-after file offset place past,
+              le-ltb offset place.offset le,
+              le-ltb offset (place.offset + place.bytes) past,
+            ) refl
+      ]
+    ])
+
+-- A byte of a file is at exactly one of its places.
+pub file_once : (size file start end offset : ℕ) → 0 < size → start < end → offset < end - start
+    → count_by (is_at file offset) (file_places size file start end) ≡ 1
+file_once size file start end offset some order inside =
+    run_at size file start end (start / size) offset (blocks_of size end - start / size)
+    (file_run size start end some order)
+    ∙ rw (reach_all size start end some order, lt-ltb offset (end - start) inside) refl

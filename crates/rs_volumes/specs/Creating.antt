@@ -86,8 +86,8 @@ PieceFails shape reads writes start end known before (errors.Code e) =
 PieceFails shape reads writes start end known before (errors.Missing n) = ⊥
 PieceFails shape reads writes start end known before (errors.Digest i) = ⊥
 
--- a piece of each block was read, coded, hashed and written: the bytes from `start` on, up to but without `end`; nothing
--- of a marked original block was hashed
+-- a piece of each block was read, coded, hashed and written: the bytes from `start` on, up to but without `end`; of a
+-- marked original block, nothing was hashed
 pub record MakesPiece (marks : List Bool) (shape : Shape) (start end : ℕ) (known before after : Shards)
     (hashers new_hashers recovery_hashers new_recovery_hashers : List Sha256) : Type 0 where
   pub pieces : List Shard

@@ -5,6 +5,7 @@ pub mod Data
 pub mod Sound
 pub mod Records
 pub mod Places
+pub mod Laid
 pub mod First
 pub mod Heads
 pub mod Hashing

@@ -2,7 +2,8 @@
 ghost use Rattle.std.specs.Prelude.{◌≡◌, ℕ, ◌+◌, ◌-◌, ◌<◌, ◌≤◌, ◌%◌, ◌^◌, ◌++◌, ◌⊎◌, Some, IfOk, IfErr, OnOk, length};
 ghost use Rattle.std.specs.Prelude.{map};
 ghost use Rattle.rs_field.specs.code.Column.{Shard, shard_at};
-ghost use Rattle.rs_volumes.specs.Creating.{ArePieces, CreatingFails, IsCreated, IsCreatedExcept, MakesPiece, PieceFails};
+ghost use Rattle.rs_volumes.specs.Creating.{ArePieces, CreatingFails, IsCreated, IsCreatedExcept, MakesPiece};
+ghost use Rattle.rs_volumes.specs.Creating.{PieceFails};
 ghost use Rattle.rs_volumes.specs.Failing.{ReadingFails, WritingFails};
 
 use crate::coding_error::CodingError;

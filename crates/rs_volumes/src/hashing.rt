@@ -24,8 +24,8 @@ pub fn new_hashers(alloc: Global, count: usize) -> Result<Vec<Sha256>, AllocErro
     Ok(hashers)
 }
 
-/// Adds the next piece of each block to the hasher of this block. Nothing is added for the blocks that `marks` marks. If
-/// the list is too short, the other blocks are not marked.
+/// Adds the next piece of each block to the hasher of this block. Nothing is added for the blocks that `marks` marks.
+/// If the list is too short, the other blocks are not marked.
 pub fn absorb(hashers: &mut Vec<Sha256>, marks: &[bool], pieces: &[Vec<u8>])
     requires { length hashers.old.items ≡ length pieces.now }
     ensures hashed { (blocks : List Shard) → AreHashed hashers.old.items blocks

@@ -2,6 +2,7 @@
 ghost use Rattle.std.specs.Prelude.{◌≡◌, ◌+◌, ◌*◌, ◌<◌, ◌≤◌, ◌^◌, ◌++◌, All, OnOk, IfOk};
 ghost use Rattle.rs_volumes.specs.Description.{entries_of, set_of};
 ghost use Rattle.rs_volumes.specs.Data.{unit_of};
+ghost use Rattle.rs_volumes.specs.Laid.{EachByteOnce, HoldFiles};
 ghost use Rattle.rs_volumes.specs.Reading.{Gives};
 ghost use Rattle.rs_volumes.specs.Places.{Cover, IsPlaced, Rises, place_in, file_places, places_in};
 
@@ -91,6 +92,11 @@ pub fn places_of(alloc: Global, description: &Description) -> Result<Vec<Place>,
     ensures placed { IfOk result (λ places. All (IsPlaced (set_of description.now)) places.items) }
     // The positions rise, and no place overlaps the next one.
     ensures rising { IfOk result (λ places. Rises description.now.block_bytes 0 places.items) }
+    // Each byte of each file is at exactly one place.
+    ensures once { IfOk result
+        (λ places. EachByteOnce (entries_of description.now.entries.items) places.items) }
+    // In the blocks of the files, which are laid end to end, the bytes at the places of a file are those of the file.
+    ensures files { IfOk result (λ places. HoldFiles (set_of description.now) places.items) }
 {
     let block_bytes = description.block_bytes;
     if !allows_block(block_bytes) {

@@ -11,9 +11,9 @@ invariant-loop-start g l =
       originals : length l.hashers.originals.items ≡ l.shape.original_count;
       recovery : length l.hashers.recovery.items ≡ l.shape.recovery_count;
       kept : g.S.BlockSource.blocks l.source ≡ g.S.BlockSource.blocks l.fn.source;
-      done : IsCreatedTo l.fn.work.known.now l.shape l.start (g.S.BlockSource.blocks l.fn.source) (g.W.BlockSink.written l.fn.sink)
-          (g.W.BlockSink.written l.sink)
-          l.hashers.originals.items l.hashers.recovery.items;
+      done : IsCreatedTo l.fn.work.known.now l.shape l.start (g.S.BlockSource.blocks l.fn.source)
+          (g.W.BlockSink.written l.fn.sink) (g.W.BlockSink.written l.sink) l.hashers.originals.items
+          l.hashers.recovery.items;
       others : (i : ℕ) → l.shape.original_count + l.shape.recovery_count ≤ i
           → g.W.BlockSink.written l.sink i ≡ g.W.BlockSink.written l.fn.sink i;
     }

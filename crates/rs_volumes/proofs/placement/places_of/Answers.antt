@@ -4,6 +4,7 @@ use Rattle.rs_volumes.specs.Places.{set_places}
 use Rattle.rs_volumes.specs.Description.{set_of}
 use Rattle.rs_volumes.specs.Data.{end_of}
 use Rattle.rs_volumes.proofs.DataLemmas.{was_below}
+use Rattle.rs_volumes.proofs.FileLemmas.{once_if, files_if}
 use Rattle.rs_volumes.proofs.Layouts.{end_next, ends_too_late, next_none, next_some, size_in_end}
 use Rattle.rs_volumes.proofs.Layouts.{wrong_block, long_data, all_places, places-cover, placed_if, set_rises}
 use Rattle.rs_volumes.proofs.placement.places_of.Goals as goal
@@ -53,3 +54,12 @@ returns-clause-placed c =
 
 pub returns-clause-rising : goal.returns-clause-rising
 returns-clause-rising c = search (rules, set_rises, take_all)
+
+pub returns-clause-once : goal.returns-clause-once
+returns-clause-once c =
+    once_if (set_of c.args.description.now) (search rules) c.loop-file.places.items (search (rules, take_all))
+
+pub returns-clause-files : goal.returns-clause-files
+returns-clause-files c =
+    files_if (set_of c.args.description.now) (search rules) c.loop-file.places.items (search (rules, take_all))
+    (placed_if (set_of c.args.description.now) c.loop-file.places.items (search rules) (search (rules, take_all)))
