@@ -82,8 +82,8 @@ def check_links(pages):
 def check_decisions():
     """The index of the decisions has their numbers and titles."""
     page = (TOP / "docs/DECISIONS.md").read_text()
-    index = re.findall(r"(?m)^- \[D(\d+)\]\(#d(\d+)\) (.*)$", page)
-    decisions = re.findall(r"(?m)^### D(\d+)\n\n\*\*(.*?)\*\*", page)
+    index = re.findall(r"(?m)^- \[(\d+)\]\(#decision-(\d+)\) (.*)$", page)
+    decisions = re.findall(r"(?m)^### Decision (\d+)\n\n\*\*(.*?)\*\*", page)
     if [(n, title) for n, _, title in index] != decisions or any(n != to for n, to, _ in index):
         wrong("the index of docs/DECISIONS.md is not that of its decisions")
     if len({n for n, _ in decisions}) != len(decisions):
