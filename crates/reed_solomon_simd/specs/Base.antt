@@ -55,6 +55,12 @@ pub record CanSum (s : DecoderState) (base : SumBase) (start end : ℕ) : Type 0
   pub based : IsBase s base
   pub strip : IsStrip start end s.configuration.shard_bytes
 
+-- a strip of a shard that was received in a row can be read
+pub record HasPiece (s : DecoderState) (start end x : ℕ) : Type 0 where
+  pub set_up : IsDecoder default_rate s
+  pub strip : IsStrip start end s.configuration.shard_bytes
+  pub there : is_some (shard_in_row s x) ≡ true
+
 -- a base of received shards, with the number of received shards that are not in it, for strips of n bytes
 pub record AreSumsReady (base : SumBase) (surplus : ℕ) (s : DecoderState) (n : ℕ) : Type 0 where
   pub based : IsBase s base

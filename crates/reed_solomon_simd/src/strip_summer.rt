@@ -13,7 +13,7 @@ ghost use Rattle.rs_field.specs.rows.Layout.{row_len};
 ghost use Rattle.rs_field.specs.rows.MarkedRows.{is_marked};
 ghost use Rattle.rs_rate.specs.rows.ShardRows.{shard_in_order};
 ghost use Rattle.rs_rate.specs.passes.Sums.{sum_word};
-ghost use Rattle.reed_solomon_simd.specs.Base.{row_of, MarksReceived, CanSum};
+ghost use Rattle.reed_solomon_simd.specs.Base.{row_of, MarksReceived, CanSum, HasPiece};
 ghost use Rattle.rs_field.specs.code.Frame.{frame_at};
 ghost use Rattle.rs_field.specs.code.DirectLaws.{shard_in_row};
 ghost use Rattle.reed_solomon_simd.specs.Base.{base_sum, IsBaseSum, AgreesInRow};
@@ -30,9 +30,8 @@ use rs_field::engine::layout::row_len;
 use rs_field::engine::{Engine, Steps};
 use rs_field::error::Error;
 use rs_field::frame::Frame;
-use rs_rate::rate::sums::{
-    SumBase, add_times, add_two_times, clear_sum, finish_sum, list_base, locate_base, summed_piece,
-};
+use rs_rate::rate::base_sums::{BasePieces, add_base_sum};
+use rs_rate::rate::sums::{SumBase, clear_sum, finish_sum, list_base, locate_base, summed_piece};
 use std::alloc::Global;
 
 // Returns a mark for each row: whether a shard was received in it. Fails with `OutOfMemory`.
@@ -334,60 +333,59 @@ impl<'a, 'b, E: Engine> Sums<'a, 'b, E> {
             (shard_in_order sum.new (end - start) 0) }
     {
         clear_sum(sum);
-        self.add_base(received, row, start, end, sum);
+        let pieces = StripPieces {
+            received,
+            start,
+            end,
+        };
+        add_base_sum(
+            self.engine,
+            &mut Steps::new(),
+            sum,
+            &self.base,
+            &pieces,
+            row,
+        );
         finish_sum(sum, end - start);
-    }
-
-    // Adds the direct sum over a strip of the base, for a row outside of the base, to a sum whose words are 0. The
-    // pieces are added two at a time.
-    fn add_base<P: Pieces>(
-        &self,
-        received: &P,
-        row: usize,
-        start: usize,
-        end: usize,
-        sum: &mut [[u8; 64]],
-    )
-        requires ready { CanSum (P.received received.now) self.now.base start end }
-        requires row { row < row_count (frame_at (P.received received.now).configuration) }
-        requires outside { is_marked self.now.base.marks.now row ≡ false }
-        requires room { length sum.old ≡ row_len (end - start) }
-        requires zeros { (j : ℕ) → j < (end - start) / 2 → sum_word sum.old j ≡ 0 }
-        ensures { (j : ℕ) → j < (end - start) / 2
-            → sum_word sum.new j
-            ≡ base_sum self.now.base.marks.now
-            (state_of_pieces start end (P.received received.now)) j row }
-    {
-        let count = self.base.rows.len();
-        for pair in 0..count / 2 {
-            let index = 2 * pair;
-            let one = piece_of_base(&self.base, received, index, start, end);
-            let other = piece_of_base(&self.base, received, index + 1, start, end);
-            let logs = self.base.two_factors(index, row);
-            add_two_times(self.engine, &mut Steps::new(), sum, one, other, logs);
-        }
-        if count % 2 == 1 {
-            let piece = piece_of_base(&self.base, received, count - 1, start, end);
-            let log_m = self.base.factor(count - 1, row);
-            add_times(self.engine, &mut Steps::new(), sum, piece, log_m);
-        }
     }
 }
 
-// Returns a piece of the shard at an index of the base.
-fn piece_of_base<'p, P: Pieces>(
-    base: &SumBase<'_>,
-    received: &'p P,
-    index: usize,
+/// A strip of the received shards, of which those of a base are read.
+#[derive(Drop)]
+struct StripPieces<'a, P> {
+    /// The received shards.
+    received: &'a P,
+    /// The first byte of the strip.
     start: usize,
+    /// The byte after the last one of the strip.
     end: usize,
-) -> &'p [u8]
-    requires ready { CanSum (P.received received.now) base.now start end }
-    requires listed { index < length base.now.rows.now }
-    ensures { shard_in_row (state_of_pieces start end (P.received received.now))
-        (slice_index base.now.rows.now index) ≡ Some result.now }
+}
+
+impl<'a, P: Pieces> BasePieces for StripPieces<'a, P> {
+    ghost use Rattle.std.specs.Prelude.{◌-◌};
+    ghost use Rattle.rs_field.specs.code.DirectLaws.{word_of, shard_in_row};
+    ghost use Rattle.rs_field.specs.code.PieceStates.{state_of_pieces};
+    ghost use Rattle.reed_solomon_simd.specs.Base.{HasPiece};
+
+    ghost size = { λ x. x.end - x.start };
+
+    ghost word = { λ x j row. word_of j (shard_in_row
+        (state_of_pieces x.start x.end (P.received x.received.now)) row) };
+
+    ghost has = { λ x row. HasPiece (P.received x.received.now) x.start x.end row };
+
+    fn piece(&self, row: usize) -> &[u8] {
+        piece_of_strip(self.received, row, self.start, self.end)
+    }
+}
+
+// Returns the piece of the shard that was received in a row.
+fn piece_of_strip<P: Pieces>(received: &P, row: usize, start: usize, end: usize) -> &[u8]
+    requires { HasPiece (P.received received.now) start end row }
+    ensures { shard_in_row (state_of_pieces start end (P.received received.now)) row
+        ≡ Some result.now }
 {
-    piece_in_row(received, usize::from(base.rows[index]), start, end).unwrap_or(&[])
+    piece_in_row(received, row, start, end).unwrap_or(&[])
 }
 
 // Returns the row of a shard.

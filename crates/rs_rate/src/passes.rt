@@ -1,5 +1,6 @@
 //! The passes over rows that encode and decode. These modules may import from `rows` and `values`, which may not import
 //! from them.
+pub mod base_sums;
 pub mod changes;
 pub mod decoding;
 pub mod direct;

@@ -1,10 +1,9 @@
 //! Row functions that count their steps: clearing, copying and products.
-ghost use Rattle.std.specs.Prelude.{◌≡◌, ◌≢◌, ℕ, ◌+◌, ◌-◌, ◌<◌, ◌≤◌, ◌⊎◌, length, bit_xor};
-ghost use Rattle.rs_field.specs.words.Tables.{times_factor};
+ghost use Rattle.std.specs.Prelude.{◌≡◌, ℕ, ◌+◌, ◌-◌, ◌<◌, ◌≤◌, length};
 ghost use Rattle.rs_field.specs.words.Field.{product, power};
 ghost use Rattle.rs_field.specs.rows.Rows.{chunk, symbol, SameOutside};
 ghost use Rattle.rs_field.specs.rows.View.{cell, word, Fits, SameExtent, SameRowsOutside, AreZero};
-ghost use Rattle.rs_field.specs.words.StepBounds.{CountsRows, RowProductCounts, RowSumCounts};
+ghost use Rattle.rs_field.specs.words.StepBounds.{CountsRows, RowProductCounts};
 
 use super::ShardsRefMut;
 use super::engine::Engine;
@@ -86,57 +85,4 @@ fn mul_run<E: Engine>(
     ensures counts { RowProductCounts steps.old steps.new }
 {
     engine.mul(steps, &mut chunks[a..a + n], log_m);
-}
-
-/// Adds row `from` times the generator to the power `log_m` to row `to`, with `mul_add` of the engine. 65535 represents
-/// the factor zero. The two rows are different.
-pub fn mul_add_row_at<E: Engine>(
-    engine: &E,
-    steps: &mut Steps,
-    rows: &mut ShardsRefMut<'_>,
-    to: usize,
-    from: usize,
-    log_m: GfElement,
-)
-    requires fits { Fits rows.old }
-    requires apart { to ≢ from }
-    requires to_in { to < rows.old.shard_count }
-    requires from_in { from < rows.old.shard_count }
-    ensures extent { SameExtent rows.old rows.new }
-    ensures sums { (k s : ℕ) → k < rows.old.shard_len_64 → s < 32
-        → word rows.new k s to
-        ≡ bit_xor (word rows.old k s to) (times_factor log_m (word rows.old k s from)) }
-    ensures others { SameRowsOutside to (to + 1) rows.old rows.new }
-    ensures counts { RowSumCounts steps.old steps.new }
-{
-    let len = rows.shard_len_64;
-    mul_add_runs(engine, steps, rows.chunks, to * len, from * len, len, log_m);
-}
-
-// Adds the n chunks from b on times a factor to the n chunks from a on.
-fn mul_add_runs<E: Engine>(
-    engine: &E,
-    steps: &mut Steps,
-    chunks: &mut [[u8; 64]],
-    a: usize,
-    b: usize,
-    n: usize,
-    log_m: GfElement,
-)
-    requires apart { (a + n ≤ b) ⊎ (b + n ≤ a) }
-    requires a_in { a + n ≤ length chunks.old }
-    requires b_in { b + n ≤ length chunks.old }
-    ensures sums { (k s : ℕ) → k < n → s < 32
-        → symbol (chunk chunks.new (a + k)) s
-        ≡ bit_xor (symbol (chunk chunks.old (a + k)) s)
-        (times_factor log_m (symbol (chunk chunks.old (b + k)) s)) }
-    ensures others { SameOutside a (a + n) chunks.old chunks.new }
-    ensures counts { RowSumCounts steps.old steps.new }
-{
-    let (front, back) = chunks.split_at_mut(a.max(b));
-    if a < b {
-        engine.mul_add(steps, &mut front[a..a + n], &back[..n], log_m);
-    } else {
-        engine.mul_add(steps, &mut back[..n], &front[b..b + n], log_m);
-    }
 }

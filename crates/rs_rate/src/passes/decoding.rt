@@ -11,13 +11,13 @@ ghost use Rattle.rs_rate.specs.rows.DecoderRoom.{memory_room};
 ghost use Rattle.rs_field.specs.code.Frame.{original_row, row_count};
 ghost use Rattle.rs_rate.specs.values.Configured.{configuration_at, IsConfigured, rows_to_decode};
 ghost use Rattle.rs_rate.specs.rows.DecoderView.{decoder_state, restored_by_rows, restored_from};
-ghost use Rattle.rs_rate.specs.passes.Decoding.{AreRowsOf, find_steps, FindsWords, RestoresShards};
+ghost use Rattle.rs_rate.specs.passes.Decoding.{find_steps, FindsWords, RestoresShards};
 ghost use Rattle.rs_rate.specs.rows.Marks.{CanBeRestored};
-ghost use Rattle.rs_field.specs.rows.View.{word, SameExtent};
+ghost use Rattle.rs_field.specs.rows.Layout.{row_len};
 ghost use Rattle.rs_rate.specs.rows.Marks.{given_marks, restored_marks, mark_count, WantsMissing};
 ghost use Rattle.rs_rate.specs.values.SetUp.{IsSetUp};
 ghost use Rattle.rs_rate.specs.values.ChunkCounts.{chunk_count};
-ghost use Rattle.rs_rate.specs.rows.ShardRows.{shard_laid_out, shard_in_order};
+ghost use Rattle.rs_rate.specs.rows.ShardRows.{word_in, shard_laid_out, shard_in_order};
 
 use crate::passes::direct::{MOST_ROWS, are_sums_used, sum_rows};
 use crate::passes::locators::make_locator;
@@ -103,9 +103,7 @@ fn restore<E: Engine>(
         marks.want_missing(configuration);
         return true;
     }
-    let len = row_len(configuration.shard_bytes);
-    let mut rows = ShardsRefMut::new(configuration.frame.row_count(), len, chunks);
-    let agrees = find_words(engine, steps, &mut rows, marks, entries, tally);
+    let agrees = find_words(engine, steps, chunks, marks, entries, tally);
     if agrees {
         move_restored_tails(steps, chunks, marks, configuration);
     }
@@ -114,51 +112,57 @@ fn restore<E: Engine>(
 
 // Restores the words of the missing originals if some message agrees with all given shards, and returns whether one
 // does. Afterwards the marks are those of restored originals.
+#[tactic(auto, unfolding(crate::specs::values::ChunkCounts::chunk_count))]
 fn find_words<E: Engine>(
     engine: &E,
     steps: &mut Steps,
-    rows: &mut ShardsRefMut<'_>,
+    chunks: &mut [[u8; 64]],
     marks: &mut Marks,
     entries: &mut [GfElement],
     tally: Tally,
 ) -> bool
-    requires rows { AreRowsOf tally.configuration rows.old }
+    requires whole { chunk_count
+        (rows_to_decode tally.configuration) tally.configuration.shard_bytes ≤ length chunks.old }
     requires facts { CanBeRestored tally marks.old }
     requires entries { length entries.old ≡ rows_to_decode tally.configuration }
-    ensures extent { SameExtent rows.old rows.new }
     ensures marks { WantsMissing tally.configuration marks.old marks.new }
-    ensures words { FindsWords tally.configuration (given_marks marks.old) tally.surplus
-        (word rows.old) (word rows.new) result }
+    ensures words { let n = row_len tally.configuration.shard_bytes in
+        FindsWords tally.configuration (given_marks marks.old) tally.surplus
+        (word_in chunks.old n) (word_in chunks.new n) result }
     ensures counts { CountsUpTo (find_steps tally.configuration) 1048576 65536 steps.old steps.new }
 {
-    if let Some(agrees) = find_by_sums(engine, steps, rows, marks, entries, tally) {
+    if let Some(agrees) = find_by_sums(engine, steps, chunks, marks, entries, tally) {
         return agrees;
     }
-    let frame = tally.configuration.frame;
-    make_locator(engine, steps, entries, marks.given(), frame);
-    restore_rows(engine, steps, rows, marks, entries, tally)
+    let configuration = tally.configuration;
+    make_locator(engine, steps, entries, marks.given(), configuration.frame);
+    let len = row_len(configuration.shard_bytes);
+    let mut rows = ShardsRefMut::new(configuration.frame.row_count(), len, chunks);
+    restore_rows(engine, steps, &mut rows, marks, entries, tally)
 }
 
 // Restores the words of the missing originals by direct sums over k given shards, if the other given shards agree with
 // these. Returns whether they do. Afterwards the marks are those of restored originals. Returns `None` if transforms
 // cost less, if sums could take more steps, or if the engine has no logarithms. Then nothing has changed.
+#[tactic(auto, unfolding(crate::specs::values::ChunkCounts::chunk_count))]
 fn find_by_sums<E: Engine>(
     engine: &E,
     steps: &mut Steps,
-    rows: &mut ShardsRefMut<'_>,
+    chunks: &mut [[u8; 64]],
     marks: &mut Marks,
     entries: &mut [GfElement],
     tally: Tally,
 ) -> Option<bool>
-    requires rows { AreRowsOf tally.configuration rows.old }
+    requires whole { chunk_count
+        (rows_to_decode tally.configuration) tally.configuration.shard_bytes ≤ length chunks.old }
     requires facts { CanBeRestored tally marks.old }
     requires entries { length entries.old ≡ rows_to_decode tally.configuration }
-    ensures none { IfNone result ((rows.new ≡ rows.old) × (marks.new ≡ marks.old)
+    ensures none { IfNone result ((chunks.new ≡ chunks.old) × (marks.new ≡ marks.old)
         × (steps.new ≡ steps.old) × (entries.new ≡ entries.old)) }
-    ensures extent { SameExtent rows.old rows.new }
     ensures marks { IfSome result (λ _. WantsMissing tally.configuration marks.old marks.new) }
-    ensures words { IfSome result (λ agrees. FindsWords tally.configuration (given_marks marks.old)
-        tally.surplus (word rows.old) (word rows.new) agrees) }
+    ensures words { let n = row_len tally.configuration.shard_bytes in
+        IfSome result (λ agrees. FindsWords tally.configuration (given_marks marks.old)
+        tally.surplus (word_in chunks.old n) (word_in chunks.new n) agrees) }
     ensures counts { IfSome result (λ _. CountsUpTo (find_steps tally.configuration) 1048576 65536
         steps.old steps.new) }
 {
@@ -183,7 +187,7 @@ fn find_by_sums<E: Engine>(
         locator: entries,
         logs,
     };
-    let agrees = sum_rows(engine, steps, rows, given, &base, configuration);
+    let agrees = sum_rows(engine, steps, chunks, given, &base, configuration);
     marks.want_missing(configuration);
     Some(agrees)
 }

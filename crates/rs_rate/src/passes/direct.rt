@@ -2,25 +2,29 @@
 //! the base, each times a factor. If the given shards belong to one message, each word of a given shard outside the
 //! base is such a sum too, and the decoder checks this. If there are few such shards and few missing originals, this
 //! takes less time than transforms, unless the shards are very short.
-ghost use Rattle.std.specs.Prelude.{◌≡◌, ℕ, ◌+◌, ◌*◌, ◌/◌, ◌%◌, ◌<◌, ◌≤◌, ◌↔◌, not, true, false, length};
+ghost use Rattle.std.specs.Prelude.{◌≡◌, ◌≢◌, ℕ, ◌+◌, ◌*◌, ◌/◌, ◌%◌, ◌<◌, ◌≤◌, ◌↔◌, not, true, false, length};
 ghost use Rattle.std.specs.Prelude.{bit_xor, IsTrue};
-ghost use Rattle.rs_field.specs.code.Frame.{original_row};
+ghost use Rattle.rs_field.specs.code.Frame.{original_row, row_count};
 ghost use Rattle.rs_field.specs.rows.MarkedRows.{is_marked};
 ghost use Rattle.rs_field.specs.rows.Layout.{row_len};
-ghost use Rattle.rs_field.specs.rows.View.{word, Fits, SameExtent, SameRowsOutside};
+ghost use Rattle.rs_field.specs.rows.Rows.{SameOutside};
 ghost use Rattle.rs_field.specs.words.StepBounds.{CountsUpTo};
-ghost use Rattle.rs_rate.specs.passes.BaseSum.{base_sum, AreFirstOf};
+ghost use Rattle.rs_rate.specs.passes.BaseSum.{base_sum, AreFirstOf, word_beside};
 ghost use Rattle.rs_rate.specs.values.Configured.{IsConfigured, rows_to_decode};
-ghost use Rattle.rs_rate.specs.passes.Decoding.{AreRowsOf, SumsWords, sum_steps, find_steps};
+ghost use Rattle.rs_rate.specs.passes.Decoding.{SumsWords, sum_steps, find_steps};
+ghost use Rattle.rs_rate.specs.passes.Sums.{sum_word};
 ghost use Rattle.rs_rate.specs.rows.Marks.{how_many};
+ghost use Rattle.rs_rate.specs.rows.ShardRows.{word_in};
+ghost use Rattle.rs_rate.specs.values.ChunkCounts.{chunk_count};
 ghost use Rattle.rs_rate.specs.values.SumCosts.{AreSumsCheaper};
 
-use crate::passes::sums::SumBase;
+use crate::passes::base_sums::{BasePieces, add_base_sum};
+use crate::passes::sums::{SumBase, clear_sum};
+use crate::rows::shard_rows::shard_at;
 use crate::values::configuration::{Configuration, Tally};
 use crate::values::frames::are_sums_cheaper;
-use rs_field::engine::layout::is_zero_row;
-use rs_field::engine::rows::{clear_rows, mul_add_row_at};
-use rs_field::engine::{Engine, ShardsRefMut, Steps};
+use rs_field::engine::layout::{is_zero_row, row_len};
+use rs_field::engine::{Engine, Steps};
 
 /// The most rows of a decoder that uses direct sums. As many logarithms and as many rows of the base are kept on the
 /// stack.
@@ -62,19 +66,20 @@ fn are_sums_within_steps(configuration: Configuration, sums: usize) -> bool
 pub(crate) fn sum_rows<E: Engine>(
     engine: &E,
     steps: &mut Steps,
-    rows: &mut ShardsRefMut<'_>,
+    chunks: &mut [[u8; 64]],
     given: &[bool],
     base: &SumBase<'_>,
     configuration: Configuration,
 ) -> bool
     requires configured { IsConfigured configuration }
-    requires rows { AreRowsOf configuration rows.old }
+    requires rows { rows_to_decode configuration * row_len configuration.shard_bytes
+        ≤ length chunks.old }
     requires marked { length given.now ≡ rows_to_decode configuration }
     requires first { AreFirstOf given.now base.now }
     requires located { length base.now.locator.now ≡ rows_to_decode configuration }
-    ensures extent { SameExtent rows.old rows.new }
-    ensures words { SumsWords configuration given.now base.now.marks.now
-        base.now.locator.now (word rows.old) (word rows.new) result }
+    ensures words { let n = row_len configuration.shard_bytes in
+        SumsWords configuration given.now base.now.marks.now
+        base.now.locator.now (word_in chunks.old n) (word_in chunks.new n) result }
     ensures counts { (surplus : ℕ)
         → length base.now.rows.now + surplus
         ≡ how_many (rows_to_decode configuration) (is_marked given.now)
@@ -82,9 +87,16 @@ pub(crate) fn sum_rows<E: Engine>(
         (λ i. not (is_marked given.now (original_row configuration.frame i))) + surplus)
         * (1 + 3 * length base.now.rows.now)) 0 0 steps.old steps.new }
 {
-    let agrees = are_equal_to_sums(engine, steps, rows, given, base, configuration.shard_bytes);
+    let agrees = are_equal_to_sums(
+        engine,
+        steps,
+        chunks,
+        given,
+        base,
+        configuration.shard_bytes,
+    );
     if agrees {
-        sum_missing(engine, steps, rows, given, base, configuration);
+        sum_missing(engine, steps, chunks, given, base, configuration);
     }
     agrees
 }
@@ -94,31 +106,30 @@ pub(crate) fn sum_rows<E: Engine>(
 fn are_equal_to_sums<E: Engine>(
     engine: &E,
     steps: &mut Steps,
-    rows: &mut ShardsRefMut<'_>,
+    chunks: &mut [[u8; 64]],
     given: &[bool],
     base: &SumBase<'_>,
     shard_bytes: usize,
 ) -> bool
-    requires fits { Fits rows.old }
-    requires len { rows.old.shard_len_64 ≡ row_len shard_bytes }
+    requires rows { length given.now * row_len shard_bytes ≤ length chunks.old }
     requires even { shard_bytes % 2 ≡ 0 }
-    requires marked { length given.now ≡ rows.old.shard_count }
     requires first { AreFirstOf given.now base.now }
-    requires located { length base.now.locator.now ≡ rows.old.shard_count }
-    ensures extent { SameExtent rows.old rows.new }
-    ensures kept { (k s p : ℕ) → k < rows.old.shard_len_64 → is_marked base.now.marks.now p ≡ true
-        → word rows.new k s p ≡ word rows.old k s p }
-    ensures equal { ((p j : ℕ) → p < rows.old.shard_count → is_marked given.now p ≡ true
+    requires located { length base.now.locator.now ≡ length given.now }
+    ensures kept { (k s p : ℕ) → k < row_len shard_bytes → is_marked base.now.marks.now p ≡ true
+        → word_in chunks.new (row_len shard_bytes) k s p
+        ≡ word_in chunks.old (row_len shard_bytes) k s p }
+    ensures equal { let words = word_in chunks.old (row_len shard_bytes) in
+        ((p j : ℕ) → p < length given.now → is_marked given.now p ≡ true
         → is_marked base.now.marks.now p ≡ false → j < shard_bytes / 2
-        → word rows.old (j / 32) (j % 32) p
-        ≡ base_sum base.now (word rows.old (j / 32) (j % 32)) p) ↔ (result ≡ true) }
+        → words (j / 32) (j % 32) p ≡ base_sum base.now (words (j / 32) (j % 32)) p)
+        ↔ (result ≡ true) }
     ensures counts { (surplus : ℕ)
         → length base.now.rows.now + surplus
-        ≡ how_many rows.old.shard_count (is_marked given.now)
+        ≡ how_many (length given.now) (is_marked given.now)
         → CountsUpTo (surplus * (1 + 3 * length base.now.rows.now)) 0 0 steps.old steps.new }
 {
-    for y in base.marks.len()..rows.len() {
-        if given[y] && !is_equal_to_sum(engine, steps, rows, base, y, shard_bytes) {
+    for y in base.marks.len()..given.len() {
+        if given[y] && !is_equal_to_sum(engine, steps, chunks, base, y, shard_bytes) {
             return false;
         }
     }
@@ -130,105 +141,166 @@ fn are_equal_to_sums<E: Engine>(
 fn is_equal_to_sum<E: Engine>(
     engine: &E,
     steps: &mut Steps,
-    rows: &mut ShardsRefMut<'_>,
+    chunks: &mut [[u8; 64]],
     base: &SumBase<'_>,
     y: usize,
     shard_bytes: usize,
 ) -> bool
-    requires fits { Fits rows.old }
-    requires len { rows.old.shard_len_64 ≡ row_len shard_bytes }
+    requires rows { length base.now.locator.now * row_len shard_bytes ≤ length chunks.old }
     requires even { shard_bytes % 2 ≡ 0 }
-    requires located { length base.now.locator.now ≡ rows.old.shard_count }
-    requires within { y < rows.old.shard_count }
+    requires within { y < length base.now.locator.now }
     requires outside { is_marked base.now.marks.now y ≡ false }
-    ensures extent { SameExtent rows.old rows.new }
-    ensures others { SameRowsOutside y (y + 1) rows.old rows.new }
-    ensures equal { ((j : ℕ) → j < shard_bytes / 2
-        → word rows.old (j / 32) (j % 32) y
-        ≡ base_sum base.now (word rows.old (j / 32) (j % 32)) y) ↔ (result ≡ true) }
+    ensures others { let n = row_len shard_bytes in
+        SameOutside (y * n) (y * n + n) chunks.old chunks.new }
+    ensures equal { let words = word_in chunks.old (row_len shard_bytes) in
+        ((j : ℕ) → j < shard_bytes / 2
+        → words (j / 32) (j % 32) y ≡ base_sum base.now (words (j / 32) (j % 32)) y)
+        ↔ (result ≡ true) }
     ensures counts { CountsUpTo (1 + 3 * length base.now.rows.now) 0 0 steps.old steps.new }
 {
-    add_sum(engine, steps, rows, base, y);
+    let len = row_len(shard_bytes);
+    add_sum(engine, steps, chunks, len, base, y);
     steps.row_step();
-    is_zero_row(rows.row(y), shard_bytes)
+    is_zero_row(&chunks[y * len..y * len + len], shard_bytes)
 }
 
 // Sets the rows of the missing originals to direct sums over the base.
 fn sum_missing<E: Engine>(
     engine: &E,
     steps: &mut Steps,
-    rows: &mut ShardsRefMut<'_>,
+    chunks: &mut [[u8; 64]],
     given: &[bool],
     base: &SumBase<'_>,
     configuration: Configuration,
 )
     requires configured { IsConfigured configuration }
-    requires rows { AreRowsOf configuration rows.old }
+    requires rows { rows_to_decode configuration * row_len configuration.shard_bytes
+        ≤ length chunks.old }
     requires marked { length given.now ≡ rows_to_decode configuration }
     requires first { AreFirstOf given.now base.now }
     requires located { length base.now.locator.now ≡ rows_to_decode configuration }
-    ensures extent { SameExtent rows.old rows.new }
-    ensures words { (k s i : ℕ) → k < rows.old.shard_len_64 → s < 32
-        → i < configuration.original_count
+    ensures words { let n = row_len configuration.shard_bytes in
+        (k s i : ℕ) → k < n → s < 32 → i < configuration.original_count
         → is_marked given.now (original_row configuration.frame i) ≡ false
-        → word rows.new k s (original_row configuration.frame i)
-        ≡ base_sum base.now (word rows.old k s) (original_row configuration.frame i) }
+        → word_in chunks.new n k s (original_row configuration.frame i)
+        ≡ base_sum base.now (word_in chunks.old n k s) (original_row configuration.frame i) }
     ensures counts { CountsUpTo (how_many configuration.original_count
         (λ i. not (is_marked given.now (original_row configuration.frame i)))
         * (1 + 3 * length base.now.rows.now)) 0 0 steps.old steps.new }
 {
+    let len = row_len(configuration.shard_bytes);
     for i in 0..configuration.original_count {
         let y = configuration.frame.original_row(i);
         if !given[y] {
-            set_to_sum(engine, steps, rows, base, y);
+            set_to_sum(engine, steps, chunks, len, base, y);
         }
     }
 }
 
-// Sets row y, which is not in the base, to the direct sum over the base.
+// Sets row y, which is not in the base, to the direct sum over the base. The rows have `len` chunks.
 fn set_to_sum<E: Engine>(
     engine: &E,
     steps: &mut Steps,
-    rows: &mut ShardsRefMut<'_>,
+    chunks: &mut [[u8; 64]],
+    len: usize,
     base: &SumBase<'_>,
     y: usize,
 )
-    requires fits { Fits rows.old }
-    requires located { length base.now.locator.now ≡ rows.old.shard_count }
-    requires within { y < rows.old.shard_count }
-    requires few { y < 65536 }
+    requires rows { length base.now.locator.now * len ≤ length chunks.old }
+    requires within { y < length base.now.locator.now }
     requires outside { is_marked base.now.marks.now y ≡ false }
-    ensures extent { SameExtent rows.old rows.new }
-    ensures sums { (k s : ℕ) → k < rows.old.shard_len_64 → s < 32
-        → word rows.new k s y ≡ base_sum base.now (word rows.old k s) y }
-    ensures others { SameRowsOutside y (y + 1) rows.old rows.new }
+    ensures sums { (k s : ℕ) → k < len → s < 32
+        → word_in chunks.new len k s y ≡ base_sum base.now (word_in chunks.old len k s) y }
+    ensures others { SameOutside (y * len) (y * len + len) chunks.old chunks.new }
     ensures counts { CountsUpTo (1 + 3 * length base.now.rows.now) 0 0 steps.old steps.new }
 {
-    clear_rows(steps, rows, y, y + 1);
-    add_sum(engine, steps, rows, base, y);
+    clear_sum(&mut chunks[y * len..y * len + len]);
+    steps.row_step();
+    add_sum(engine, steps, chunks, len, base, y);
 }
 
-// Adds the direct sum over the base to row y, which is not in the base.
+// Adds the direct sum over the base to row y, which is not in the base. The rows have `len` chunks.
 fn add_sum<E: Engine>(
     engine: &E,
     steps: &mut Steps,
-    rows: &mut ShardsRefMut<'_>,
+    chunks: &mut [[u8; 64]],
+    len: usize,
     base: &SumBase<'_>,
     y: usize,
 )
-    requires fits { Fits rows.old }
-    requires located { length base.now.locator.now ≡ rows.old.shard_count }
-    requires within { y < rows.old.shard_count }
+    requires rows { length base.now.locator.now * len ≤ length chunks.old }
+    requires within { y < length base.now.locator.now }
     requires outside { is_marked base.now.marks.now y ≡ false }
-    ensures extent { SameExtent rows.old rows.new }
-    ensures sums { (k s : ℕ) → k < rows.old.shard_len_64 → s < 32
-        → word rows.new k s y
-        ≡ bit_xor (word rows.old k s y) (base_sum base.now (word rows.old k s) y) }
-    ensures others { SameRowsOutside y (y + 1) rows.old rows.new }
+    ensures sums { (k s : ℕ) → k < len → s < 32
+        → word_in chunks.new len k s y
+        ≡ bit_xor (word_in chunks.old len k s y) (base_sum base.now (word_in chunks.old len k s) y) }
+    ensures others { SameOutside (y * len) (y * len + len) chunks.old chunks.new }
     ensures counts { CountsUpTo (3 * length base.now.rows.now) 0 0 steps.old steps.new }
 {
-    for i in 0..base.rows.len() {
-        let x = usize::from(base.rows[i]);
-        mul_add_row_at(engine, steps, rows, y, x, base.factor(i, y));
+    let (before, rest) = chunks.split_at_mut(y * len);
+    let (sum, after) = rest.split_at_mut(len);
+    add_beside(engine, steps, sum, base, (&*before, &*after), y);
+}
+
+// Adds the direct sum over the base to row y, which is not in the base. `others` are the rows before it and those after
+// it.
+fn add_beside<E: Engine>(
+    engine: &E,
+    steps: &mut Steps,
+    sum: &mut [[u8; 64]],
+    base: &SumBase<'_>,
+    others: (&[[u8; 64]], &[[u8; 64]]),
+    y: usize,
+)
+    requires before { length others.0.now ≡ y * length sum.old }
+    requires after { length base.now.locator.now * length sum.old
+        ≤ y * length sum.old + length sum.old + length others.1.now }
+    requires within { y < length base.now.locator.now }
+    requires outside { is_marked base.now.marks.now y ≡ false }
+    ensures words { (j : ℕ) → j < 64 * length sum.old / 2
+        → sum_word sum.new j
+        ≡ bit_xor (sum_word sum.old j) (base_sum base.now (λ p. word_beside others.entry.0.now
+        others.entry.1.now y (length sum.old) (j / 32) (j % 32) p) y) }
+    ensures counts { CountsUpTo (3 * length base.now.rows.now) 0 0 steps.old steps.new }
+{
+    let (before, after) = others;
+    let pieces = RowsBeside {
+        before,
+        after,
+        row: y,
+        len: sum.len(),
+    };
+    add_base_sum(engine, steps, sum, base, &pieces, y);
+}
+
+/// All rows of a list of rows except for one, which is written while these are read.
+#[derive(Drop)]
+struct RowsBeside<'a> {
+    /// The chunks of the rows before the row that is left out.
+    before: &'a [[u8; 64]],
+    /// The chunks of the rows after it.
+    after: &'a [[u8; 64]],
+    /// The index of the row that is left out.
+    row: usize,
+    /// The number of chunks of each row.
+    len: usize,
+}
+
+impl BasePieces for RowsBeside<'_> {
+    ghost use Rattle.std.specs.Prelude.{◌≢◌, ◌+◌, ◌-◌, ◌*◌, ◌/◌, ◌%◌, ◌<◌, ◌≤◌, length};
+    ghost use Rattle.rs_rate.specs.passes.BaseSum.{word_beside, IsRowBeside};
+
+    ghost size = { λ x. 64 * x.len };
+
+    ghost word = { λ x j p. word_beside x.before.now x.after.now x.row x.len (j / 32) (j % 32) p };
+
+    ghost has = { λ x p. IsRowBeside x.before.now x.after.now x.row x.len p };
+
+    fn piece(&self, row: usize) -> &[u8] {
+        if row < self.row {
+            shard_at(self.before, 64 * self.len, row)
+        } else {
+            shard_at(self.after, 64 * self.len, row - self.row - 1)
+        }
     }
 }

@@ -12,6 +12,7 @@ ghost use Rattle.rs_field.specs.rows.Layout.{row_len};
 ghost use Rattle.rs_field.specs.rows.MarkedRows.{is_marked};
 ghost use Rattle.rs_field.specs.words.DirectSum.{direct_factor};
 ghost use Rattle.rs_field.specs.words.Field.{product, power, log};
+ghost use Rattle.rs_field.specs.words.StepBounds.{RowSumCounts, TwoSumCounts};
 ghost use Rattle.rs_rate.specs.passes.Decoding.{IsLocatorOf};
 ghost use Rattle.rs_rate.specs.rows.Marks.{how_many};
 ghost use Rattle.rs_rate.specs.rows.ShardRows.{shard_in_order};
@@ -183,6 +184,7 @@ pub fn add_times<E: Engine>(
     ensures words { (j : ℕ) → j < length piece.now / 2
         → sum_word sum.new j
         ≡ bit_xor (sum_word sum.old j) (product (column j piece.now) (power log_m)) }
+    ensures counts { length piece.now % 64 ≡ 0 → RowSumCounts steps.old steps.new }
 {
     let (whole, tail) = piece.as_chunks::<64>();
     let (chunks, last) = sum.split_at_mut(whole.len());
@@ -211,6 +213,7 @@ pub fn add_two_times<E: Engine>(
         → sum_word sum.new j
         ≡ bit_xor (bit_xor (sum_word sum.old j) (product (column j one.now) (power logs.first)))
         (product (column j other.now) (power logs.second)) }
+    ensures counts { length one.now % 64 ≡ 0 → TwoSumCounts steps.old steps.new }
 {
     let (one_whole, one_tail) = one.as_chunks::<64>();
     let (other_whole, other_tail) = other.as_chunks::<64>();

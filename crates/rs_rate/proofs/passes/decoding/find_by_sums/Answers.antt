@@ -1,4 +1,4 @@
-use Rattle.std.proofs.Common.{rules, Bool, ◌≡◌, ℕ, ◌+◌, ◌*◌, ◌%◌, ◌^◌, ◌<◌, ◌≤◌, sym, ap, ◌∙◌}
+use Rattle.std.proofs.Common.{rules, Bool, ◌≡◌, ℕ, ◌+◌, ◌*◌, ◌^◌, ◌≤◌, sym, ap, ◌∙◌}
 use Rattle.std.proofs.Common.{arith, pow_mono, subst, take, length, List, true, true≢false, inr}
 use Rattle.std.proofs.lemmas.Bool.{cases_lt}
 use Rattle.std.proofs.lemmas.List.{get_or-take, get_or_past, length-take}
@@ -55,7 +55,12 @@ returns-clause-words g c =
     inr (
       base,
       c.make_locator.new.entries,
-      search (rules, marked-first),
+      record {
+        given = λ p is.
+            ap (λ (l : List Bool). is_marked l p) (sym given)
+            ∙ marked-first c.given-given.result.now c.list_base.result p is;
+        counted = ap (λ n. how_many n (is_marked base)) (sym rows) ∙ sym c.list_base.ensures.listed.count ∙ many;
+      },
       c.make_locator.ensures.locator,
       rw (sym given) c.sum_rows-agrees.ensures.words,
     )

@@ -1,4 +1,4 @@
-use Rattle.std.proofs.Common.{◌≡◌, ℕ, ◌+◌, rules, ap, sym, ◌∙◌, true≢false, arith}
+use Rattle.std.proofs.Common.{ℕ, ◌+◌, ap, sym, ◌∙◌, true≢false, arith}
 use Rattle.std.specs.Prelude.{not}
 use Rattle.rs_field.specs.code.Column.{column}
 use Rattle.rs_field.specs.rows.Layout.{row_len}
@@ -6,9 +6,7 @@ use Rattle.rs_field.proofs.code_lemmas.DecodeSteps.{counts_decode}
 use Rattle.rs_field.proofs.words_lemmas.Counting.{counts_none}
 use Rattle.rs_rate.specs.values.Configured.{rows_to_decode}
 use Rattle.rs_rate.specs.passes.Decoding.{find_steps}
-use Rattle.rs_rate.specs.rows.Marks.{given_marks}
 use Rattle.rs_rate.specs.rows.ShardRows.{word_in}
-use Rattle.rs_rate.proofs.passes_lemmas.RestoredRows.{found_read}
 use Rattle.rs_rate.proofs.rows_lemmas.ShardRowsLemmas.{column-put}
 use Rattle.rs_rate.proofs.passes.decoding.restore.Goals as goal
 
@@ -16,16 +14,11 @@ pub returns-then-agrees-clause-restored : goal.returns-then-agrees-clause-restor
 returns-then-agrees-clause-restored g c some =
     let s = c.args.tally.configuration in
     let n : ℕ = row_len s.shard_bytes in
-    let mid = c.chunks-1.given.0 in
+    let mid = c.find_words-agrees.new.chunks in
     let missing = c.find_words-agrees.ensures.marks in
-    let len : c.new-rows.result.shard_len_64 ≡ n = c.new-rows.ensures.len_64 ∙ c.row_len-len.ensures in
     record {
       words = word_in mid n;
-      found = found_read s
-          (given_marks c.args.marks.now) c.args.tally.surplus n c.args.chunks.now mid
-          c.new-rows.result c.find_words-agrees.new.rows c.find_words-agrees.result
-          len (c.find_words-agrees.ensures.extent.len_64 ∙ len) c.new-rows.ensures.chunks
-          (search rules) c.find_words-agrees.ensures.words;
+      found = c.find_words-agrees.ensures.words;
       shards = λ _ i j inside hj none.
           ap (column j) (c.move_restored_tails.ensures.moved i inside (missing.missing i inside ∙ ap not none))
           ∙ column-put mid s.shard_bytes
@@ -36,15 +29,10 @@ pub returns-else-agrees-clause-restored : goal.returns-else-agrees-clause-restor
 returns-else-agrees-clause-restored g c some =
     let s = c.args.tally.configuration in
     let n : ℕ = row_len s.shard_bytes in
-    let mid = c.chunks-1.given.0 in
-    let len : c.new-rows.result.shard_len_64 ≡ n = c.new-rows.ensures.len_64 ∙ c.row_len-len.ensures in
+    let mid = c.find_words-agrees.new.chunks in
     record {
       words = word_in mid n;
-      found = found_read s
-          (given_marks c.args.marks.now) c.args.tally.surplus n c.args.chunks.now mid
-          c.new-rows.result c.find_words-agrees.new.rows c.find_words-agrees.result
-          len (c.find_words-agrees.ensures.extent.len_64 ∙ len) c.new-rows.ensures.chunks
-          (search rules) c.find_words-agrees.ensures.words;
+      found = c.find_words-agrees.ensures.words;
       shards = λ agreed. absurd (true≢false (sym agreed ∙ c.if-agrees.false));
     }
 

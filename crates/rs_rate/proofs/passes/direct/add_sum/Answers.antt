@@ -1,20 +1,19 @@
-use Rattle.std.proofs.Common.{rules, ◌≡◌, ap, ◌∙◌, arith, bit_xor, length}
-use Rattle.rs_field.specs.rows.View.{word}
-use Rattle.rs_rate.proofs.passes_lemmas.DirectRows.{none_added, one_more_added, sum_first}
-use Rattle.rs_rate.proofs.passes_lemmas.SumLemmas.{base_sum-listed}
+use Rattle.std.proofs.Common.{rules, ◌≡◌, length}
+use Rattle.rs_field.proofs.rows_lemmas.RowOffsets.{row_ends}
+use Rattle.rs_rate.proofs.passes_lemmas.DirectRows.{others-same, sum-added}
 use Rattle.rs_rate.proofs.passes.direct.add_sum.Goals as goal
 
-pub loop-i-init : goal.loop-i-init
-loop-i-init g c = none_added c.args.base.now c.args.y c.args.rows.now c.args.steps.now c.requires.fits
-
-pub loop-i-preserved : goal.loop-i-preserved
-loop-i-preserved g c = search (rules, one_more_added)
+pub returns-clause-others : goal.returns-clause-others
+returns-clause-others g c =
+    let ends = row_ends c.args.y (length c.args.base.now.locator.now) c.args.len c.requires.within in
+    others-same c.split_at_mut-before.result.0.now c.split_at_mut-sum.result.1.now c.args.len c.args.y (search rules)
+    _ _ c.split_at_mut-sum.result.0.now c.add_beside.new.sum (search rules) (search rules) (search rules)
+    (search rules)
 
 pub returns-clause-sums : goal.returns-clause-sums
-returns-clause-sums g c k s hk hs =
-    let base = c.args.base.now in
-    let ends : c.loop-i.i ≡ length c.args.base.now.rows.now = omega arith in
-    c.loop-i.invariant.added k s hk hs
-    ∙ ap (bit_xor (word c.args.rows.now k s c.args.y))
-    (ap (λ n. sum_first base n (word c.args.rows.now k s) c.args.y) ends
-    ∙ base_sum-listed base (word c.args.rows.now k s) c.args.y)
+returns-clause-sums g c =
+    let ends = row_ends c.args.y (length c.args.base.now.locator.now) c.args.len c.requires.within in
+    let long : length c.split_at_mut-sum.result.0.now ≡ c.args.len = search rules in
+    sum-added c.split_at_mut-before.result.0.now c.split_at_mut-sum.result.1.now c.args.len c.args.y (search rules)
+    _ _ c.split_at_mut-sum.result.0.now c.add_beside.new.sum (search rules) (search rules) long
+    (search rules) c.args.base.now c.requires.outside (rw long at c.add_beside.ensures.words)

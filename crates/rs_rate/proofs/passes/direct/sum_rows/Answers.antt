@@ -3,20 +3,21 @@ use Rattle.std.proofs.Common.{true≢false}
 use Rattle.std.proofs.Math.Nat.{mul-le-mul_right}
 use Rattle.std.specs.Prelude.{◌↔◌}
 use Rattle.rs_field.specs.rows.MarkedRows.{is_marked}
-use Rattle.rs_field.specs.rows.View.{word}
+use Rattle.rs_field.specs.rows.Layout.{row_len}
 use Rattle.rs_field.specs.words.StepBounds.{CountsUpTo}
 use Rattle.rs_field.proofs.words_lemmas.Counting.{counts_then, counts_within}
 use Rattle.rs_field.proofs.words_lemmas.DirectSum.{direct_sum-same}
 use Rattle.rs_rate.specs.values.Configured.{rows_to_decode}
 use Rattle.rs_rate.specs.passes.Decoding.{AreEqualToSums}
 use Rattle.rs_rate.specs.rows.Marks.{how_many}
+use Rattle.rs_rate.specs.rows.ShardRows.{word_in}
 use Rattle.rs_rate.proofs.passes.direct.sum_rows.Given.{Over}
 use Rattle.rs_rate.proofs.passes.direct.sum_rows.Goals.{After-are_equal_to_sums-agrees}
 use Rattle.rs_rate.proofs.passes.direct.sum_rows.Goals as goal
 
 checked : (g : Over) (c : After-are_equal_to_sums-agrees g)
     → AreEqualToSums c.args.configuration c.args.given.now c.args.base.now.marks.now c.args.base.now.locator.now
-    (word c.args.rows.now) ↔ (c.are_equal_to_sums-agrees.result ≡ true)
+    (word_in c.args.chunks.now (row_len c.args.configuration.shard_bytes)) ↔ (c.are_equal_to_sums-agrees.result ≡ true)
 checked g c = search rules
 
 tested : (g : Over) (c : After-are_equal_to_sums-agrees g) (surplus : ℕ) → length c.args.base.now.rows.now + surplus
@@ -25,7 +26,7 @@ tested : (g : Over) (c : After-are_equal_to_sums-agrees g) (surplus : ℕ) → l
     c.are_equal_to_sums-agrees.new.steps
 tested g c surplus total =
     c.are_equal_to_sums-agrees.ensures.counts surplus
-    (total ∙ sym (ap (λ n. how_many n (is_marked c.args.given.now)) c.requires.rows.count))
+    (total ∙ sym (ap (λ n. how_many n (is_marked c.args.given.now)) c.requires.marked))
 
 pub returns-then-agrees-clause-words : goal.returns-then-agrees-clause-words
 returns-then-agrees-clause-words g c =
@@ -34,8 +35,10 @@ returns-then-agrees-clause-words g c =
 
 pub returns-else-agrees-clause-words : goal.returns-else-agrees-clause-words
 returns-else-agrees-clause-words g c =
-    let all = checked g (goal.at.returns-else-agrees-clause-words g c).After-are_equal_to_sums-agrees in
-    search (rules, true≢false)
+    record {
+      checked = checked g (goal.at.returns-else-agrees-clause-words g c).After-are_equal_to_sums-agrees;
+      summed = λ is. absurd (true≢false (sym is ∙ c.if-agrees.false));
+    }
 
 pub returns-then-agrees-clause-counts : goal.returns-then-agrees-clause-counts
 returns-then-agrees-clause-counts g c surplus total =

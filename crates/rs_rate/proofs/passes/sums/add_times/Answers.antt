@@ -31,6 +31,7 @@ returns-then-not-is_empty g c =
             (tail-product n c.args.log_m piece c.as_chunks.result.1.now (search rules) within i))
             j late (omega (arith, inside, late, count, c.as_chunks.ensures.back_len))
       ];
+      counts = λ whole. search rules;
     }
 
 pub returns-else-not-is_empty : goal.returns-else-not-is_empty
@@ -51,4 +52,5 @@ returns-else-not-is_empty g c =
           ∙ ap (bit_xor (sum_word c.split_at_mut-chunks.result.0.now i))
           (whole-product n c.args.log_m piece c.as_chunks.result.0.now c.requires.factor within (search rules) i h))
           j (omega (arith, inside, count, none, c.as_chunks.ensures.back_len));
+      counts = λ whole. search rules;
     }

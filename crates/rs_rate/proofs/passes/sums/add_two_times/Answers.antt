@@ -44,6 +44,7 @@ returns-then-not-is_empty g c =
             (tail-product n c.args.logs.second other c.as_chunks-2.result.1.now (search rules) second i))
             j late (omega (arith, inside, late, count, c.as_chunks.ensures.back_len))
       ];
+      counts = λ whole. search rules;
     }
 
 pub returns-else-not-is_empty : goal.returns-else-not-is_empty
@@ -73,4 +74,5 @@ returns-else-not-is_empty g c =
           (whole-product n c.args.logs.second other c.as_chunks-2.result.0.now c.requires.second second (search rules)
           i h))
           j (omega (arith, inside, count, none, c.as_chunks.ensures.back_len));
+      counts = λ whole. search rules;
     }
