@@ -10,6 +10,15 @@ log_of (AnyFactor.Zero factor) = 65535
 log_of (AnyFactor.Small factor) = factor.log_m
 log_of (AnyFactor.General factor) = factor.log_m
 
+-- the six look-ups of a small factor need only four numbers: the high bytes of the products of high bytes are the low
+-- bytes of the products of low bytes; this is not asked of other factors
+abbrev pub NeedsFourNumbers : AnyFactor → Type 0
+NeedsFourNumbers (AnyFactor.Zero factor) = ⊥
+NeedsFourNumbers (AnyFactor.Small factor) =
+    let products = factor.products.now in
+    (slice_index products.hi 2 ≡ slice_index products.lo 0) × (slice_index products.hi 3 ≡ slice_index products.lo 1)
+NeedsFourNumbers (AnyFactor.General factor) = ⊥
+
 -- the products with one factor, which are held or lent
 abbrev pub products_of : Products → Multiply128lutT
 products_of (Products.Lent products) = products.now
@@ -18,8 +27,8 @@ products_of (Products.Held products) = products
 -- the products with a factor are looked up in six numbers: low bytes have no high byte in their products, `low` has the
 -- low bytes of all products, and the other two numbers have the high bytes of the products of high bytes
 pub record HasSmallNumbers (products : Multiply128lutT) (low : List ℕ) (third fourth : ℕ) : Type 0 where
-  pub none : slice_index products.hi 0 ≡ 0
-  pub nothing : slice_index products.hi 1 ≡ 0
+  pub no_low_nibbles : slice_index products.hi 0 ≡ 0
+  pub no_high_nibbles : slice_index products.hi 1 ≡ 0
   pub low_bytes : products.lo ≡ low
   pub low_nibbles : slice_index products.hi 2 ≡ third
   pub high_nibbles : slice_index products.hi 3 ≡ fourth

@@ -1,8 +1,8 @@
 //! A factor whose class is only known when the program runs: the factor whose logarithm is given.
-ghost use Rattle.std.specs.Prelude.{◌≡◌, IfSome};
+ghost use Rattle.std.specs.Prelude.{◌≡◌, IfNone, IfSome};
 ghost use Rattle.rs_field.specs.words.Field.{power};
 ghost use Rattle.rs_field.specs.words.Products.{IsNibbleBytes};
-ghost use Rattle.rs_engines.specs.Factors.{log_of};
+ghost use Rattle.rs_engines.specs.Factors.{log_of, NeedsFourNumbers};
 
 use crate::byte_vector::ByteVector;
 use crate::factors::{Bytewise, Factor, General, Small, Zero};
@@ -54,7 +54,8 @@ pub fn factor_of<'t>(products: &'t Multiply128lutT, log_m: GfElement) -> AnyFact
 /// Returns the factor if it is small and its six look-ups need only four numbers.
 #[inline(always)]
 pub fn bytewise<'t>(factor: AnyFactor<'t>) -> Option<Bytewise<'t>>
-    ensures { IfSome result (λ found. found.log_m ≡ log_of factor.entry) }
+    ensures some { IfSome result (λ found. found.log_m ≡ log_of factor.entry) }
+    ensures none { IfNone result (NeedsFourNumbers factor.entry → ⊥) }
 {
     let AnyFactor::Small(Small { log_m, products }) = factor else {
         return None;

@@ -25,8 +25,8 @@ returns g c f i factor are numbers h =
     let high = sum_of_nibbles (λ x. product x f / 256) (high_additive f) l u (c.product_bytes.ensures.small i h)
     (c.at_high_nibbles.ensures.small i h) 0 0 _ _ 0 s s
     (sym (xor_comm 0 s ∙ xor_zero_r s)) (sym (xor_zero_r 0)) (c.sum.ensures.lanes i h)
-    (sym (zero_byte _ (l % 16) numbers.none) ∙ are.hi.high 0 (l % 16) (omega arith) (omega arith))
-    (sym (zero_byte _ (l / 16) numbers.nothing) ∙ are.hi.high 1 (l / 16) (omega arith) (omega arith))
+    (sym (zero_byte _ (l % 16) numbers.no_low_nibbles) ∙ are.hi.high 0 (l % 16) (omega arith) (omega arith))
+    (sym (zero_byte _ (l / 16) numbers.no_high_nibbles) ∙ are.hi.high 1 (l / 16) (omega arith) (omega arith))
     (c.at_low_nibbles.ensures third i h ∙ ap (λ t. byte_at t (u % 16)) (sym numbers.low_nibbles)
     ∙ are.hi.high 2 (u % 16) (omega arith) (omega arith))
     (c.at_high_nibbles.ensures.lanes fourth i h ∙ ap (λ t. byte_at t (u / 16)) (sym numbers.high_nibbles)
