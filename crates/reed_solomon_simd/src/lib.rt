@@ -18,29 +18,29 @@ mod into;
 mod lent_originals;
 mod messages;
 mod one_call;
-pub mod originals;
-pub mod pieces;
-pub mod received_shards;
-pub mod receiving;
+mod originals;
+mod pieces;
+mod received_shards;
+mod receiving;
 mod reconstruct_error;
-pub mod reconstructing;
-pub mod restoring;
+mod reconstructing;
+mod restoring;
 mod room_error;
-pub mod rooms;
-pub mod separate_store;
+mod rooms;
+mod separate_store;
 mod shard_index;
 mod slices;
-pub mod store;
+mod store;
 mod strip_bytes;
-pub mod strip_comparer;
-pub mod strip_decoder;
-pub mod strip_encoder;
-pub mod strip_rebuilder;
+mod strip_comparer;
+mod strip_decoder;
+mod strip_encoder;
+mod strip_rebuilder;
 mod strip_rounds;
 mod strip_summer;
 mod strips;
 mod updating;
-pub mod verifying;
+mod verifying;
 mod wanted_shards;
 
 /// The version of this library.
@@ -113,6 +113,15 @@ pub use verifying::verify;
 /// }
 /// ```
 pub use rs_rate::{DecoderResult, EncoderResult, Recovery, RestoredOriginal};
+
+/// What the calls from C share with the one-call functions. Most of these functions have conditions that the one-call
+/// functions meet for their users, so a program in Rattle needs none of them.
+pub mod ffi {
+    pub use crate::{
+        originals, pieces, received_shards, receiving, reconstructing, restoring, rooms, store,
+        strip_encoder, verifying,
+    };
+}
 
 /// The field, its tables, and the engines, which transform rows of symbols.
 ///
