@@ -117,10 +117,16 @@ pub use rs_rate::{DecoderResult, EncoderResult, Recovery, RestoredOriginal};
 /// What the calls from C share with the one-call functions. Most of these functions have conditions that the one-call
 /// functions meet for their users, so a program in Rattle needs none of them.
 pub mod ffi {
-    pub use crate::{
-        originals, pieces, received_shards, receiving, reconstructing, restoring, rooms, store,
-        strip_encoder, verifying,
-    };
+    pub use crate::originals::Originals;
+    pub use crate::pieces::{Pieces, piece_of};
+    pub use crate::received_shards::{ReceivedShards, surplus_of};
+    pub use crate::receiving::{received_of_size, received_shards};
+    pub use crate::reconstructing::reconstruct_received;
+    pub use crate::restoring::{restore_in_place, restore_into};
+    pub use crate::rooms::{Rooms, check_rooms};
+    pub use crate::store::Store;
+    pub use crate::strip_encoder::encode_strips;
+    pub use crate::verifying::check_consistent;
 }
 
 /// The field, its tables, and the engines, which transform rows of symbols.

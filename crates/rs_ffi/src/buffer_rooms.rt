@@ -2,7 +2,7 @@
 ghost use Rattle.std.specs.Prelude.{◌≡◌, ◌+◌, ◌*◌, ◌≤◌, ◌++◌, length, take, drop};
 
 use reed_solomon_simd::Error;
-use reed_solomon_simd::ffi::rooms::Rooms;
+use reed_solomon_simd::ffi::Rooms;
 
 /// Rooms of one size, one after the other in a buffer.
 #[derive(Drop)]

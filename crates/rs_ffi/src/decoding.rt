@@ -20,10 +20,9 @@ use crate::fault_places::placed_fault;
 use crate::layouts::RsShard;
 use crate::marked_buffers::{MarkedBuffers, indexes_of_lost};
 use reed_solomon_simd::RoomError;
-use reed_solomon_simd::ffi::received_shards::surplus_of;
-use reed_solomon_simd::ffi::receiving::received_shards;
-use reed_solomon_simd::ffi::restoring::{restore_in_place, restore_into};
-use reed_solomon_simd::ffi::rooms::check_rooms;
+use reed_solomon_simd::ffi::{
+    check_rooms, received_shards, restore_in_place, restore_into, surplus_of,
+};
 use rs_field::bytes::are_bytes;
 use rs_field::engine::Engine;
 use rs_field::error::Error;

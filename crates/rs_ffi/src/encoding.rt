@@ -12,7 +12,7 @@ use crate::buffers::check_length;
 use crate::fault::Fault;
 use crate::fault_places::placed_fault;
 use crate::layouts::BufferShards;
-use reed_solomon_simd::ffi::strip_encoder::encode_strips;
+use reed_solomon_simd::ffi::encode_strips;
 use reed_solomon_simd::{Error, encode_into};
 use rs_field::bytes::are_bytes;
 use rs_field::engine::Engine;

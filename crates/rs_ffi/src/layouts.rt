@@ -4,8 +4,7 @@ ghost use Rattle.rs_ffi.specs.Buffers.{shards_in_buffer};
 ghost use Rattle.rs_ffi.specs.Faults.{named};
 
 use reed_solomon_simd::ShardIndex;
-use reed_solomon_simd::ffi::originals::Originals;
-use reed_solomon_simd::ffi::pieces::piece_of;
+use reed_solomon_simd::ffi::{Originals, piece_of};
 
 /// The shards of a buffer, which lie one after the other.
 #[derive(Clone, Copy)]

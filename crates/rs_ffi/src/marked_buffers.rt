@@ -6,9 +6,7 @@ ghost use Rattle.rs_field.specs.code.Column.{Shard};
 ghost use Rattle.rs_ffi.specs.Buffers.{lost_indexes, marked_map};
 
 use crate::buffer_rooms::put;
-use reed_solomon_simd::ffi::pieces::{Pieces, piece_of};
-use reed_solomon_simd::ffi::rooms::Rooms;
-use reed_solomon_simd::ffi::store::Store;
+use reed_solomon_simd::ffi::{Pieces, Rooms, Store, piece_of};
 use reed_solomon_simd::{Error, ShardIndex};
 use rs_rate::rate::DefaultRateCounts;
 use std::alloc::Global;

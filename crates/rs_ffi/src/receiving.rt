@@ -6,8 +6,7 @@ ghost use Rattle.reed_solomon_simd.specs.Verified.{IsReceiving, first_size};
 ghost use Rattle.rs_ffi.specs.Arrays.{items_of};
 
 use crate::layouts::RsShard;
-use reed_solomon_simd::ffi::received_shards::ReceivedShards;
-use reed_solomon_simd::ffi::receiving::received_of_size;
+use reed_solomon_simd::ffi::{ReceivedShards, received_of_size};
 use rs_field::error::Error;
 use rs_rate::rate::DefaultRateCounts;
 use std::alloc::Global;

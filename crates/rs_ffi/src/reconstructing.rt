@@ -8,7 +8,7 @@ use crate::fault::Fault;
 use crate::fault_places::placed_reconstruct_fault;
 use crate::layouts::{RsShard, RsWanted, named};
 use crate::receiving::received_in_arrays;
-use reed_solomon_simd::ffi::reconstructing::reconstruct_received;
+use reed_solomon_simd::ffi::reconstruct_received;
 use reed_solomon_simd::{ReconstructError, ShardIndex};
 use rs_field::engine::Engine;
 use rs_field::error::Error;

@@ -7,7 +7,7 @@ use crate::fault_places::placed_fault;
 use crate::layouts::RsShard;
 use crate::receiving::received_in_arrays;
 use reed_solomon_simd::RoomError;
-use reed_solomon_simd::ffi::verifying::check_consistent;
+use reed_solomon_simd::ffi::check_consistent;
 use rs_field::engine::Engine;
 use rs_field::error::Error;
 use rs_rate::rate::DefaultRateCounts;

@@ -187,7 +187,8 @@ fn calls_of_encode<'t, R: Rate<Counting<'t>>>(
     Ok(encoder.into_parts().0.calls.get())
 }
 
-type Item = (usize, [u8; 2]);
+/// The index of a shard, and its two bytes.
+pub type Item = (usize, [u8; 2]);
 
 // Gives a decoder these originals.
 fn give_originals<E: Engine>(
@@ -211,8 +212,12 @@ fn decode_given<E: Engine>(
     decoder.decode(&mut Steps::new()).map(drop)
 }
 
-// Returns the engine after a decode of these shards, for `count` originals and as many recovery shards.
-fn after_decode<E: Engine, R: Rate<E>>(
+/// Returns the engine after a decode of these shards, for `count` originals and as many recovery shards.
+///
+/// # Errors
+///
+/// The error of the decoder.
+pub fn after_decode<E: Engine, R: Rate<E>>(
     alloc: Global,
     count: usize,
     original: &[Item],
@@ -315,13 +320,14 @@ fn each_rate_calls_its_engine_so_often(rt: HostRuntime) {
     check_rate::<HighRate<Counting<'_>>>(&rt, alloc, &tables, (&high, 2), [1, 2, 0, 0, 0]);
 }
 
-// The shards that a decode is given, how often it calls `mul_add`, and how often it calls `mul` if the engine has no
-// `mul_add` of its own. There is one direct sum for each missing original and one for each surplus shard. A sum adds a
-// multiple of each of four shards, and without `mul_add` this takes two products. All shards belong to one message of
-// four originals and four recovery shards.
-type Sums<'a> = (&'a [Item], &'a [Item], u32, u32);
+/// The shards that a decode is given, how many multiples of rows its sums add, and how often it calls `mul` if the
+/// engine has no sums of its own. There is one direct sum for each missing original and one for each surplus shard. A
+/// sum adds a multiple of each of four shards, and without sums of the engine this takes two products. All shards
+/// belong to one message of four originals and four recovery shards.
+pub type Sums<'a> = (&'a [Item], &'a [Item], u32, u32);
 
-const FEW_LOST: [Sums<'static>; 3] = [
+/// Decodes by direct sums.
+pub const FEW_LOST: [Sums<'static>; 3] = [
     (
         &[(0, [0, 0]), (2, [2, 0]), (3, [3, 0])],
         &[(0, [11, 0])],

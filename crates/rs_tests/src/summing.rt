@@ -1,10 +1,11 @@
-//! How a decode over strips calls its engine if it restores an original by a direct sum. Its contract states the bytes
-//! for each lawful engine. How often it calls its engine is in no contract.
-use super::counting::FourCalls;
+//! How a decode calls its engine if it restores an original by a direct sum. Its contract states the bytes for each
+//! lawful engine. How often it calls its engine is in no contract.
+use super::counting::{FEW_LOST, FourCalls, after_decode};
 use super::shards::{drawn, left};
 use super::updating::{AddCalls, Additions, lent};
 use reed_solomon_simd::engine::tables::Tables;
 use reed_solomon_simd::engine::{DefaultEngine, Engine, EngineKind};
+use reed_solomon_simd::rate::DefaultRate;
 use reed_solomon_simd::{decode_into, encode_slice};
 use std::alloc::Global;
 use std::cell::Cell;
@@ -66,6 +67,27 @@ fn a_sum_calls_its_engine_so_often(rt: HostRuntime) {
             (original_count, size, restored, calls.get()),
             (original_count, size, true, wanted)
         );
+    }
+}
+
+// An object adds its rows two at a time: two pairs for each sum over four rows.
+#[test]
+fn an_object_adds_two_rows_at_a_time(rt: HostRuntime) {
+    let alloc = rt.alloc();
+    let tables = Tables::new(alloc).expect(&rt, "tables");
+    for (original, recovery, added, _) in FEW_LOST {
+        let calls = Cell::new(AddCalls::default());
+        let engine = Additions::new(&tables, &calls);
+        let engine = after_decode::<_, DefaultRate<Additions<'_>>>(
+            alloc, 4, original, recovery, engine,
+        ).expect(&rt, "an engine");
+        drop(engine);
+        let wanted = AddCalls {
+            one: 0,
+            two: added / 2,
+            in_place: 0,
+        };
+        assert_eq!(rt; calls.get(), wanted);
     }
 }
 
