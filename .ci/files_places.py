@@ -114,7 +114,7 @@ def long_paths():
         run("create", at("d"), "-q")
         os.rename(path, path[:-1])
         os.mkdir(path)
-        faults = [(path, "a folder is in the place of this file: remove it or give it another name")]
+        faults = [(path, "a folder has the name of this file: remove it or give it another name")]
         restored_but([*before], ("repair", at("d.rsv")), before, at("d"), faults)
         missing = os.path.join(deep, "m" * 255)
         for words in (("create", missing), ("verify", missing), ("info", missing)):
@@ -155,7 +155,7 @@ def blocked():
             os.rmdir(at("d", name))
         nobody = block(at("d"))
         blocked = ["b", "closed/c", "file/f"]
-        faults = [("b", "a folder is in the place of this file"), ("closed/c", "Permission denied"), ("file/f", "Not a directory")]
+        faults = [("b", "a folder has the name of this file"), ("closed/c", "Permission denied"), ("file/f", "Not a directory")]
         restored_but(blocked, ("repair", at("d.rsv")), before, at("d"), [(at("d", name), reason) for name, reason in faults], before=nobody)
         if not os.path.isdir(at("d", "b", "inner")) or read(at("d", "file")) != b"a file":
             wrong("repair changed what is in the place of a file")
@@ -399,7 +399,7 @@ def no_files():
         os.mkdir(at("d", "a"))
         os.remove(at("d", "b"))
         os.mkfifo(at("d", "b"))
-        error = f"rs_files: {at('d', 'a')}: a folder is in the place of this file\nrs_files: {at('d', 'b')}: this is no regular file\n"
+        error = f"rs_files: {at('d', 'a')}: a folder has the name of this file\nrs_files: {at('d', 'b')}: this is no regular file\n"
         out = "missing: d/a\nmissing: d/b\n3 lost blocks, and 5 of 5 recovery blocks left: the files can be repaired\n"
         if printed("verify", at("d.rsv"), status=1) != (out, error) or printed("verify", at("d.rsv"), "-q", status=1) != ("", error):
             wrong(f"verify of a folder and a pipe in the place of files: {printed('verify', at('d.rsv'), status=1)}")

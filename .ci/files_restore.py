@@ -390,6 +390,30 @@ def objects():
                 wrong(f"{words} --json does not print the reason")
 
 
+def wrong_words():
+    """With --json, a wrong command line gives one object with the message, too, and so does a failure before the command begins."""
+    with Folder() as at:
+        write(at("a"), b"bytes")
+        run("create", at("a"), *CREATE)
+        cases = ((("verify", at("a.rsv"), "--nonsense"), "--nonsense"), (("verify",), "VOLUME"), (("nonsense", at("a.rsv")), "nonsense"),
+                 (("split", at("a"), "-o", at("v")), "--volumes"), (("create", at("a"), "--block", "7"), "--block: write an even number"),
+                 (("split", at("a"), "-n", "3", "--lose", "3", "-o", at("v")), "--lose must be"), (("verify", at("a.rsv"), "--quick", "--search", at()), "--quick reads no file"))
+        for words, reason in cases:
+            for line in ((*words, "--json"), (words[0], "--json", *words[1:])):
+                out, error = printed(*line, status=2)
+                found = json.loads(out)
+                if found["status"] != 2 or reason not in found["error"] or reason not in error or set(found) != {"status", "error"} or out.count("\n") != 1:
+                    wrong(f"{line} prints {(out, error)}")
+            if printed(*words, status=2)[0] or len(words) > 1 and printed(*words, "--", "--json", status=2)[0]:
+                wrong(f"{words} prints something on standard output")
+        for words in (("--help",), ("verify", "--json", "--help"), ("--version",)):
+            if not printed(*words)[0] or "{" in printed(*words)[0]:
+                wrong(f"{words} prints an object")
+        out, error = printed("verify", b"caf\xe9", "--json", status=4)
+        if json.loads(out)["status"] != 4 or not error:
+            wrong(f"a word that is not UTF-8: {(out, error)}")
+
+
 def lists_and_hints():
     """Long lists are cut, and say how many lines more there are. A folder after --folder or --search that is not there is an error."""
     with Folder() as at:
@@ -532,4 +556,4 @@ def said_by_create():
             wrong(f"the help text of {command} has an option that means nothing, or lacks one")
 
 
-TESTS = (one_command, restored_parts, repaired_parts_of_sets, unlike_digests, named, quick, nothing_to_do, left_out, closed_early, objects, lists_and_hints, cut_lists, next_steps, said_by_create)
+TESTS = (one_command, restored_parts, repaired_parts_of_sets, unlike_digests, named, quick, nothing_to_do, left_out, closed_early, objects, wrong_words, lists_and_hints, cut_lists, next_steps, said_by_create)

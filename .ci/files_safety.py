@@ -250,8 +250,8 @@ def shown_names():
         if json.loads(printed("verify", volume, "--json", status=1)[0])["files"][0]["name"] != "d/" + name or info(volume)["files"][0]["name"] != "d/" + name:
             wrong("a name in JSON is another one")
         os.mkdir(at("d", name))
-        seen(at("d", shown) + ": a folder is in the place of this file\n", "verify", volume, status=1)
-        seen(at("d", shown) + ": a folder is in the place of this file: remove it", "repair", volume, status=4)
+        seen(at("d", shown) + ": a folder has the name of this file\n", "verify", volume, status=1)
+        seen(at("d", shown) + ": a folder has the name of this file: remove it", "repair", volume, status=4)
 
 
 def empty_paths():

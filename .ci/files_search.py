@@ -125,6 +125,98 @@ def renamed_set():
         made.repair("renamed set")
 
 
+def own_folder():
+    """`--folder` with a folder of the set itself is as good as the folder above it, however it is spelled: nothing is copied."""
+    with Folder() as at:
+        made = Protected(at)
+        os.mkdir(at("far"))
+        os.symlink(at("set"), at("far", "link"))
+        spelled = ((at("set"), None), (at("set") + "/", None), ("set", at()), (".", at("set")), ("../set/.", at("set")), (at("far", "link"), None), (at(), None))
+        for folder, cwd in spelled:
+            write(at("set", "b"), damaged(made.files["b"], 300))
+            names = {os.path.join(where, name) for where, _, names in os.walk(at()) for name in names}
+            volume, options = at("set.rsv"), ("--folder", folder)
+            if "damaged: set/b\n" not in printed("verify", volume, *options, status=1, cwd=cwd)[0]:
+                wrong(f"verify --folder {folder} does not find the files")
+            if "damaged: set/b" not in printed("verify", volume, *options, "--only", "set/b", status=1, cwd=cwd)[0]:
+                wrong(f"verify --only --folder {folder} does not find the file")
+            printed("restore", volume, *options, "--to", at("new"), "-q", cwd=cwd)
+            if tree(at("new")) != {"set/b": made.files["b"]}:
+                wrong(f"restore --folder {folder} restores {sorted(tree(at('new')))}")
+            shutil.rmtree(at("new"))
+            if "restored: set/b\n" not in printed("repair", volume, *options, cwd=cwd)[0]:
+                wrong(f"repair --folder {folder} does not restore a file")
+            os.remove(at("set", "b.damaged"))
+            if {os.path.join(where, name) for where, _, names in os.walk(at()) for name in names} != names:
+                wrong(f"repair --folder {folder} makes other files")
+            printed("verify", volume, *options, "-q", cwd=cwd)
+            printed("update", volume, *options, "-q", cwd=cwd)
+            if tree(at("set")) != made.files:
+                wrong(f"update --folder {folder} changes a file")
+            printed("verify", volume, "--quick", *options, "-q", cwd=cwd)
+    # The volume is in the folder of the set.
+    with Folder() as at:
+        made = Protected(at)
+        os.rename(at("set.rsv"), at("set", "set.rsv"))
+        os.remove(at("set", "f"))
+        if "missing: set/f\n" not in printed("verify", at("set", "set.rsv"), status=1)[0]:
+            wrong("verify of a volume in the folder of the set")
+        run("repair", at("set", "set.rsv"), "-q")
+        if {name: data for name, data in tree(at("set")).items() if name != "set.rsv"} != made.files:
+            wrong("repair with a volume in the folder of the set")
+    # A folder of the set that has the name of the folder above it: its files are there under their names.
+    with Folder() as at:
+        made = Protected(at, {"a": RANDOM.randbytes(700), "set/a": RANDOM.randbytes(900)}, recovery=8)
+        write(at("set", "set", "a"), b"other")
+        printed("repair", at("set.rsv"), "--folder", at(), "-q")
+        if read(at("set", "set", "a")) != made.files["set/a"] or os.path.exists(at("set", "set", "set")):
+            wrong("a folder with the name of the folder above it")
+
+
+def renamed_top():
+    """If the folder of the set was renamed, all commands say what to do. `repair --folder` with this folder copies nothing into it, but it restores
+    files of which there are copies in other folders. `create --force` compares the files under their new names with the old volume, also
+    their bytes."""
+    with Folder() as at:
+        made = Protected(at)
+        os.rename(at("set"), at("photos"))
+        before = tree(at())
+        hint = "if the folder of the set was renamed, give it its old name again. Or make the volume again with create NEW -o VOLUME --force, "
+        for words in ((), ("--folder", at("photos"))):
+            if hint not in printed("verify", at("set.rsv"), *words, status=1)[0]:
+                wrong(f"verify {words} of a folder that was renamed does not say what to do")
+        out, error = printed("repair", at("set.rsv"), "--folder", at("photos"), status=4)
+        if hint not in out or "this is the folder of the set, and it was renamed: nothing was restored" not in error or tree(at()) != before:
+            wrong(f"repair --folder with a folder that was renamed: {(out, error)}")
+        found = json.loads(printed("repair", at("set.rsv"), "--folder", at("photos"), "--json", status=4)[0])
+        if "nothing was restored" not in found["error"]:
+            wrong(f"repair --folder --json with a folder that was renamed: {found}")
+        shutil.copytree(at("photos"), at("far", "copy"))
+        run("repair", at("set.rsv"), "--folder", at("far"), "-q")
+        if tree(at("far", "set")) != made.files:
+            wrong("repair --folder with a folder that has copies of the files does not restore them")
+        shutil.rmtree(at("far"))
+        for words in ((), ("--folder", at("photos"))):
+            if "create NEW -o VOLUME --force, which compares" not in printed("update", at("set.rsv"), *words, status=4)[1]:
+                wrong(f"update {words} of a folder that was renamed does not say what to do")
+        again = ("create", at("photos"), "-o", at("set.rsv"), "--force")
+        for seconds in (False, True):
+            if seconds:
+                run(*again, "-q")
+                os.rename(at("photos"), at("pictures"))
+                again = ("create", at("pictures"), *again[2:])
+            folder = again[1]
+            rot(os.path.join(folder, "b"))
+            error = printed(*again, status=3)[1]
+            if f"rs_files: rotten: {os.path.basename(folder)}/b (was " not in error:
+                wrong(f"create --force of a folder that was renamed protects a rotten file: {error}")
+            rot(os.path.join(folder, "b"))
+        run(*again, "-q")
+        run("verify", at("set.rsv"), "-q")
+        if tree(at("pictures")) != made.files:
+            wrong("a command changed a file of a folder that was renamed")
+
+
 def many_moved():
     """Of many files that were moved, 20 are printed, after the hint on --folder, and --json has all."""
     with Folder() as at:
@@ -325,6 +417,25 @@ def wrong_digests():
         made.check("the right bytes behind bytes with the same sums", {})
 
 
+def many_tries():
+    """Many blocks that have both sums of a lost block, and not its digest, do not end the search of a file: the right bytes after them are
+    found."""
+    with Folder() as at:
+        files = {"a": bytes(range(1, 255)) * 3, "b": RANDOM.randbytes(5120)}
+        for name, data in files.items():
+            write(at("set", name), data)
+        run("create", at("set"), "--block", "64", "-r", "1", "-q")
+        block = files["b"][1024:1088]
+        place = next(i for i in range(62) if block[i] < 255 and block[i + 1] > 1 and block[i + 2] < 255)
+        like = block[:place] + bytes([block[place] + 1, block[place + 1] - 2, block[place + 2] + 1]) + block[place + 3:]
+        write(at("set", "z"), like * 1500 + RANDOM.randbytes(7) + files["b"])
+        os.remove(at("set", "b"))
+        run("verify", at("set.rsv"), status=1)
+        run("repair", at("set.rsv"), "-q")
+        if read(at("set", "b")) != files["b"]:
+            wrong("the search at every byte ends before the right bytes")
+
+
 def first_version_moved():
     """A volume of version 1 has neither digests of files nor sums: nothing is found elsewhere, and `verify` says what is missing."""
     with Folder() as at:
@@ -371,4 +482,4 @@ def first_version_updated():
         run("verify", at("set.rsv"))
 
 
-TESTS = (moved_files, moved_to_entries, renamed_set, many_moved, announced, one_size, exchanged_files, shifted_blocks, shifted_far, overlapping_blocks, searched_folders, equal_blocks, wrong_digests, first_version_moved, first_version_updated)
+TESTS = (moved_files, moved_to_entries, renamed_set, own_folder, renamed_top, many_moved, announced, one_size, exchanged_files, shifted_blocks, shifted_far, overlapping_blocks, searched_folders, equal_blocks, wrong_digests, many_tries, first_version_moved, first_version_updated)

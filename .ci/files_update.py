@@ -488,6 +488,71 @@ def repaired_parts():
                 wrong(f"verify after the repair of volumes of split: {found}")
 
 
+def parts_alone():
+    """`repair` of volumes of `split` without --folder writes the damaged volumes again, from the blocks in the volumes that are named. It makes
+    no file of the set, although original blocks are lost, and although a volume is missing. Each volume gets the bytes that it had."""
+    with Folder() as at:
+        files = written(at)
+        os.mkdir(at("parts"))
+        run("split", at("set"), "-n", "5", "--lose", "2", "-o", at("parts"), "--block", "512", "-q")
+        whole = tree(at("parts"))
+        paths = [at("parts", name) for name in sorted(whole)]
+        os.rename(at("set"), at("gone"))
+        out = printed("repair", *paths)[0]
+        if not out.startswith("all volumes are whole") or tree(at("parts")) != whole:
+            wrong(f"repair of whole volumes of split says {out!r}")
+        for number, (name, bad) in enumerate(damages(read(paths[1]))):
+            write(paths[1], bad)
+            given = paths
+            if number % 2:
+                write(paths[3], damaged(read(paths[3]), 900, 2000))
+            else:
+                given = [path for path in paths[::-1] if path != paths[4]]
+            before = {path: os.stat(path).st_mtime_ns for path in (paths[0], paths[2], paths[4])}
+            out, error = printed("verify", *given, status=1)
+            if "repair writes damaged volumes again" not in out:
+                wrong(f"verify of volumes of split with damage of {name} says {out!r}")
+            out, error = printed("repair", *given)
+            now = tree(at("parts"))
+            kept = {path for path in now if path.endswith(".damaged")}
+            if {path: now[path] for path in now if path not in kept} != whole or len(kept) != 1 + number % 2 or now["volume0002.rsv.damaged"] != bad:
+                wrong(f"repair of volumes of split alone with damage of {name} leaves {sorted(now)}: {(out, error)}")
+            if f"written again: {paths[1]}\nkept: {paths[1]}.damaged\n" not in out or error or sorted(os.listdir(at())) != ["gone", "parts"]:
+                wrong(f"repair of volumes of split alone with damage of {name} says {(out, error)}")
+            if any(os.stat(path).st_mtime_ns != time for path, time in before.items()):
+                wrong("repair wrote a whole volume again")
+            for path in kept:
+                os.remove(at("parts", path))
+        write(paths[1], damaged(read(paths[1]), 900, 2000))
+        before = tree(at())
+        if "restore" not in printed("repair", *paths, "--only", "set/a", status=4)[1]:
+            wrong("repair --only of volumes of split does not name restore")
+        if "cannot be restored without" not in printed("repair", *paths[1:3], status=3)[1] or tree(at()) != before:
+            wrong("repair of too few volumes of split")
+        if json.loads(printed("repair", *paths[1:3], "--json", status=3)[0])["written"]:
+            wrong("repair --json of too few volumes of split")
+        for failure in ({"FAIL_SYNC": "volume0002.rsv.rs_files.part2"}, {"FAIL_WRITE": "volume0002.rsv.rs_files.part3", "FAIL_FROM": 0}):
+            env = preloaded("fail_calls", **failure)
+            if env and (printed("repair", *paths, status=4, env=env)[1] == "" or tree(at()) != before):
+                wrong(f"repair of volumes of split that fails leaves {sorted(tree(at()))}")
+        write(at("parts", "volume0002.rsv.rs_files.part3"), b"other")
+        if "volume0002.rsv.rs_files.part3" not in printed("repair", *paths, status=4)[1] or read(at("parts", "volume0002.rsv.rs_files.part3")) != b"other":
+            wrong("repair of volumes of split replaced the part of another run")
+        if "volume0002.rsv.rs_files.part3: warning: " not in printed("verify", *paths, status=1)[1]:
+            wrong("verify does not name the part with the restored blocks")
+        os.remove(at("parts", "volume0002.rsv.rs_files.part3"))
+        found = json.loads(printed("repair", *paths, "--json")[0])
+        if found["written"] != [{"path": paths[1], "kept": paths[1] + ".damaged"}] or found["restored"]:
+            wrong(f"repair --json of volumes of split prints {found}")
+        os.remove(paths[1] + ".damaged")
+        write(paths[0], b"no volume")
+        if printed("repair", *paths, status=1)[0].splitlines()[-1:] == [] or sorted(os.listdir(at())) != ["gone", "parts"]:
+            wrong("repair with a volume that cannot be read")
+        run("restore", *paths[1:], "--to", at(), "-q")
+        if {name: data for name, data in tree(at("set")).items()} != files:
+            wrong("restore after a repair of volumes of split")
+
+
 def foreign_bytes():
     """A volume with other bytes in front of it, which are most of the file, is written again by `repair`, as `verify` says, and kept."""
     with Folder() as at:
@@ -566,4 +631,4 @@ def unwritten_volumes():
 
 
 TESTS = (updated, shares, rotten, rotten_moved, rotten_copies, moved_whole, moved_first, taken_over, kept_blocks, accepted_names, nothing_there, edited_and_rotten,
-         refused_updates, repaired_volumes, kept_volumes, repaired_parts, foreign_bytes, failed_rewrites, unwritten_volumes)
+         refused_updates, repaired_volumes, kept_volumes, repaired_parts, parts_alone, foreign_bytes, failed_rewrites, unwritten_volumes)

@@ -206,5 +206,5 @@ class Made:
 
 def copies_of(count, record_bytes, description_bytes, copy_bytes):
     """Returns how many copies of the description a volume with this number of block records has."""
-    least = 5 if description_bytes <= 1 << 20 else 3
+    least = 3 if description_bytes > 1 << 20 or 5 * copy_bytes > max(record_bytes, 1 << 16) else 5
     return max(least, min(3 + max(count, 1).bit_length() - 1, record_bytes // (100 * copy_bytes)))

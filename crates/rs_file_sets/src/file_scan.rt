@@ -1,6 +1,6 @@
 //! Looks for the blocks of a set in its files, and finds the states of its entries.
 use rs_folders::failure::Result;
-use rs_folders::hashing::{CHUNK, add_bytes, add_zeros, hash_at};
+use rs_folders::hashing::{CHUNK, add_bytes, add_zeros, hash_path};
 use rs_folders::identity::open_regular;
 use rs_folders::names::{Name, text_of};
 use rs_folders::runs::places_in;
@@ -61,11 +61,11 @@ pub fn look<R: Files>(rt: &R, alloc: Global, entry: &Entry, path: &str) -> io::R
     };
     match entry.kind {
         Kind::Folder => Ok(state_if(found.is_dir())),
-        Kind::File if found.is_dir() => Err(in_its_place("a folder is in the place of this file")),
+        Kind::File if found.is_dir() => Err(in_its_place("a folder has the name of this file")),
         Kind::File if !found.is_file() => Err(in_its_place("this is no regular file")),
         Kind::File => Ok(state_if(found.len() == entry.size)),
         Kind::Link if found.is_dir() => {
-            Err(in_its_place("a folder is in the place of this symbolic link"))
+            Err(in_its_place("a folder has the name of this symbolic link"))
         }
         Kind::Link if found.is_symlink() => {
             let target = rt.read_link(alloc, path)?.into_string();
@@ -280,11 +280,8 @@ impl<'a, R: Files + Clock + Eprint> EntryScan<'a, R> {
 
     // Compares a file with its digest. Returns that it is damaged if it cannot be read.
     fn compare(&mut self, index: usize, entry: &Entry) -> State {
-        let own = match open_regular(self.rt, self.path(index), true) {
-            Ok(mut file) => hash_at(&mut file, 0, entry.size, &mut self.buffer),
-            Err(error) => Err(error),
-        };
-        match own {
+        let path = self.path(index);
+        match hash_path(self.rt, path, true, entry.size, &mut self.buffer) {
             Ok(own) => state_if(own == entry.digest),
             Err(_) => State::Damaged,
         }

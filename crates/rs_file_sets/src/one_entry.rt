@@ -1,7 +1,6 @@
 //! The state of one entry, without the blocks of its set.
 use crate::file_scan::look;
-use rs_folders::hashing::hash_at;
-use rs_folders::identity::open_regular;
+use rs_folders::hashing::hash_path;
 use rs_volume_files::scanner::State;
 use rs_volumes::description::{Entry, Kind, Version};
 use std::alloc::Global;
@@ -29,10 +28,7 @@ pub fn state_by_time<R: Files>(
     path: &str,
     version: Version,
 ) -> State {
-    let has_its_time = match fs::metadata(rt, path) {
-        Ok(found) => has_time(entry, &found, version),
-        Err(_) => false,
-    };
+    let has_its_time = fs::metadata(rt, path).is_ok_and(|found| has_time(entry, &found, version));
     match look(rt, alloc, entry, path) {
         Ok(State::Whole) if entry.kind == Kind::File && !has_its_time => State::Damaged,
         Ok(state) => state,
@@ -55,11 +51,5 @@ pub fn is_whole<R: Files>(
     if entry.kind != Kind::File || entry.size == 0 {
         return true;
     }
-    match open_regular(rt, path, true) {
-        Ok(mut file) => match hash_at(&mut file, 0, entry.size, buffer) {
-            Ok(own) => own == entry.digest,
-            Err(_) => false,
-        },
-        Err(_) => false,
-    }
+    hash_path(rt, path, true, entry.size, buffer).is_ok_and(|own| own == entry.digest)
 }

@@ -6,14 +6,14 @@ use crate::scanning::Scan;
 use crate::targets::Targets;
 use reed_solomon_simd::engine::tables::Tables;
 use reed_solomon_simd::engine::{DefaultEngine, EngineKind};
-use rs_folders::failure::Result;
+use rs_folders::failure::{Failure, Result};
 use rs_folders::hashing::{CHUNK, add_bytes, add_zeros, hash_at};
 use rs_folders::output::Part;
 use rs_folders::progress::Progress;
 use rs_folders::runs::{Run, is_padded, places_in, places_of_piece, run_of};
 use rs_folders::source::{FileBlocks, Holders, failure_of};
 use rs_volumes::coding_error::CodingError;
-use rs_volumes::description::{Description, Version};
+use rs_volumes::description::Version;
 use rs_volumes::digest::is_digest;
 use rs_volumes::pieces::BlockSink;
 use rs_volumes::placement::Place;
@@ -26,30 +26,23 @@ use std::rt::{Clock, Files};
 
 /// The files that are being restored. This sink writes blocks into them.
 #[derive(Drop)]
-struct FileSink<'a, R: Files + Eprint> {
-    rt: &'a R,
-    alloc: Global,
+struct FileSink<'a, 'b, 'c, R: Files + Eprint> {
     /// The files that are restored.
-    targets: &'a mut Targets<R>,
+    targets: &'a mut Targets<'b, R>,
     /// Where the original blocks lie in the files.
-    places: &'a [Place],
+    places: &'c [Place],
     /// Whether the bytes of a block that are in no file must be zeros. Version 1 of the format does not say this.
     is_padded: bool,
     /// For each original block, whether such a byte that was written is not zero.
     unpadded: Vec<bool>,
 }
 
-impl<'a, R: Files + Eprint> FileSink<'a, R> {
-    // Gives up a file that cannot be written. The other files can still be restored.
-    fn give_up(&mut self, file: usize, error: io::Error) {
-        self.targets.give_up(self.rt, self.alloc, file, error);
-    }
-
+impl<'a, 'b, 'c, R: Files + Eprint> FileSink<'a, 'b, 'c, R> {
     // Writes the bytes of a piece of a block that are in a file.
     fn write(&mut self, run: &Run, piece: &[u8]) {
         let bytes = piece.get(run.from..run.to).unwrap_or(&[]);
-        if let Err(error) = self.targets.write(self.rt, run.file, run.offset, bytes) {
-            self.give_up(run.file, error);
+        if let Err(error) = self.targets.write(run.file, run.offset, bytes) {
+            self.targets.give_up(run.file, error);
         }
     }
 
@@ -61,13 +54,14 @@ impl<'a, R: Files + Eprint> FileSink<'a, R> {
             }
             for place in places_in(self.places, block) {
                 let reason = "bytes of its blocks that belong to no file are not zero";
-                self.give_up(place.file, io::Error::new(ErrorKind::InvalidData, reason));
+                let error = io::Error::new(ErrorKind::InvalidData, reason);
+                self.targets.give_up(place.file, error);
             }
         }
     }
 }
 
-impl<'a, R: Files + Eprint> BlockSink for FileSink<'a, R> {
+impl<'a, 'b, 'c, R: Files + Eprint> BlockSink for FileSink<'a, 'b, 'c, R> {
     ghost written = { λ _. nothing };
 
     fn put(&mut self, index: usize, start: usize, piece: &[u8]) -> io::Result<()> {
@@ -87,14 +81,9 @@ impl<'a, R: Files + Eprint> BlockSink for FileSink<'a, R> {
     }
 }
 
-// Returns which blocks a restore reads and writes. It writes the blocks of the files that have a part. If one of these
-// blocks is lost, it reads all blocks that were found and as many recovery blocks as original blocks are lost.
-fn plan_for<R: Files>(
-    alloc: Global,
-    scan: &Scan,
-    parts: &[Option<Part<R>>],
-) -> Result<Plan, AllocError> {
-    let wanted = wanted_blocks(alloc, scan, parts)?;
+// Returns which blocks a restore of some original blocks reads and writes. If one of these blocks is lost, it reads all
+// blocks that were found and as many recovery blocks as original blocks are lost.
+fn plan_for(alloc: Global, scan: &Scan, wanted: Vec<bool>) -> Result<Plan, AllocError> {
     let loses_wanted = loses_wanted(scan, wanted.as_slice());
     let originals = original_blocks(alloc, scan, wanted.as_slice(), loses_wanted)?;
     let count = if loses_wanted { scan.counts().lost } else { 0 };
@@ -175,19 +164,23 @@ fn recovery_blocks(
 /// # Errors
 ///
 /// Fails if a block cannot be read or restored, or if memory cannot be allocated.
-pub fn write_blocks<R: Files + Clock + Eprint>(
-    rt: &R,
+pub fn write_blocks<'a, R: Files + Clock + Eprint>(
+    rt: &'a R,
     alloc: Global,
-    scan: &Scan,
-    targets: &mut Targets<R>,
+    scan: &'a Scan,
+    targets: &mut Targets<'_, R>,
     memory: u64,
     shown: bool,
 ) -> Result<()> {
-    let plan = plan_for(alloc, scan, targets.parts.as_slice())?;
-    let blocks = (plan.originals.len() as u64).saturating_add(plan.recovery.len() as u64);
-    let description = scan.description();
-    let total = blocks.saturating_mul(description.block_bytes);
-    let progress = Progress::new(rt, shown, total);
+    let wanted = wanted_blocks(alloc, scan, targets.parts.as_slice())?;
+    let plan = plan_for(alloc, scan, wanted)?;
+    let mut sink = FileSink {
+        targets,
+        places: scan.places.as_slice(),
+        is_padded: scan.description().version == Version::Second,
+        unpadded: vec![in alloc; false; plan.wanted.len()]?,
+    };
+    let progress = progress_of(rt, scan, &plan, shown);
     let holders = Holders {
         paths: scan.paths.as_slice(),
         follows: &[],
@@ -195,15 +188,7 @@ pub fn write_blocks<R: Files + Clock + Eprint>(
         origins: scan.origins.as_slice(),
     };
     let mut source = FileBlocks::new(rt, alloc, holders, progress);
-    let mut sink = FileSink {
-        rt,
-        alloc,
-        targets,
-        places: scan.places.as_slice(),
-        is_padded: description.version == Version::Second,
-        unpadded: vec![in alloc; false; plan.wanted.len()]?,
-    };
-    let are_right = restore_blocks(alloc, description, &plan, memory, &mut source, &mut sink)?;
+    let are_right = restore_blocks(alloc, scan, &plan, memory, &mut source, &mut sink)?;
     if !are_right {
         give_up_wrong(rt, alloc, scan, sink.targets)?;
     }
@@ -211,21 +196,65 @@ pub fn write_blocks<R: Files + Clock + Eprint>(
     Ok(())
 }
 
+/// Restores the lost original blocks of a scan, and writes them into a sink. At least as many recovery blocks must have
+/// been found. The parameters are those of [`write_blocks`].
+///
+/// # Errors
+///
+/// Fails if a block cannot be read, restored or written, if a restored block does not have its digest, or if memory
+/// cannot be allocated.
+pub fn restore_lost<'a, R: Files + Clock + Eprint, W: BlockSink>(
+    rt: &'a R,
+    alloc: Global,
+    scan: &'a Scan,
+    sink: &mut W,
+    memory: u64,
+    shown: bool,
+) -> Result<()> {
+    let mut wanted = vec![in alloc; false; scan.description().original_count as usize]?;
+    for block in scan.lost(alloc)? {
+        if let Some(is_wanted) = wanted.get_mut(block) {
+            *is_wanted = true;
+        }
+    }
+    let plan = plan_for(alloc, scan, wanted)?;
+    let progress = progress_of(rt, scan, &plan, shown);
+    let holders = Holders {
+        paths: scan.paths.as_slice(),
+        follows: &[],
+        places: scan.places.as_slice(),
+        origins: scan.origins.as_slice(),
+    };
+    let mut source = FileBlocks::new(rt, alloc, holders, progress);
+    if restore_blocks(alloc, scan, &plan, memory, &mut source, sink)? {
+        Ok(())
+    } else {
+        Err(Failure::of("a restored block does not have its digest"))
+    }
+}
+
+// Begins to count the bytes of the blocks that a plan reads.
+fn progress_of<R: Clock>(rt: &R, scan: &Scan, plan: &Plan, shown: bool) -> Progress {
+    let blocks = (plan.originals.len() as u64).saturating_add(plan.recovery.len() as u64);
+    let total = blocks.saturating_mul(scan.description().block_bytes);
+    Progress::new(rt, shown, total)
+}
+
 // Restores the blocks of a plan: reads the blocks of a source, and writes blocks into the sink. Returns whether all
 // blocks have their digests.
-fn restore_blocks<R: Files + Clock + Eprint>(
+fn restore_blocks<R: Files + Clock + Eprint, W: BlockSink>(
     alloc: Global,
-    description: &Description,
+    scan: &Scan,
     plan: &Plan,
     memory: u64,
     source: &mut FileBlocks<'_, R>,
-    sink: &mut FileSink<'_, R>,
+    sink: &mut W,
 ) -> Result<bool> {
     let tables = Tables::new(alloc)?;
     let engine = DefaultEngine::new(&tables, EngineKind::Ssse3);
-    let shape = shape_of(description);
+    let shape = shape_of(scan.description());
     let piece = piece_bytes(&shape, memory);
-    let digests = description.digests.as_slice();
+    let digests = scan.description().digests.as_slice();
     let outcome = restore(alloc, shape, piece, engine, plan, digests, source, sink);
     source.end();
     match outcome {
@@ -241,7 +270,7 @@ fn give_up_wrong<R: Files + Eprint>(
     rt: &R,
     alloc: Global,
     scan: &Scan,
-    targets: &mut Targets<R>,
+    targets: &mut Targets<'_, R>,
 ) -> Result<(), AllocError> {
     let mut buffer = vec![in alloc; 0u8; CHUNK]?;
     for file in 0..targets.parts.len() {
@@ -250,7 +279,7 @@ fn give_up_wrong<R: Files + Eprint>(
             _ => Ok(()),
         };
         if let Err(error) = checked {
-            targets.give_up(rt, alloc, file, error);
+            targets.give_up(file, error);
         }
     }
     Ok(())

@@ -1,5 +1,11 @@
 //! The sums of blocks, and a sum that moves over a file byte by byte.
+ghost use Rattle.rs_field.specs.code.Given.{nothing};
+
+use rs_folders::source::FileBlocks;
+use rs_volumes::pieces::BlockSource;
 use std::alloc::{AllocError, Global};
+use std::io;
+use std::rt::{Clock, Files};
 
 /// The number of bytes of a filter of sums.
 const FILTER_BYTES: usize = 1 << 17;
@@ -48,6 +54,57 @@ impl RollingSum {
     }
 }
 
+/// A source of blocks that also computes the sums of the original blocks, which are read piece by piece.
+#[derive(Drop)]
+pub struct SummedBlocks<'a, R: Files + Clock + Eprint> {
+    /// The source.
+    pub blocks: FileBlocks<'a, R>,
+    // The sum of each block.
+    sums: Vec<RollingSum>,
+}
+
+impl<'a, R: Files + Clock + Eprint> SummedBlocks<'a, R> {
+    /// Makes a source of `count` blocks.
+    ///
+    /// # Errors
+    ///
+    /// [`AllocError`] if memory cannot be allocated.
+    pub fn new(
+        alloc: Global,
+        blocks: FileBlocks<'a, R>,
+        count: usize,
+    ) -> Result<SummedBlocks<'a, R>, AllocError> {
+        let sums = vec![in alloc; RollingSum::new(0); count]?;
+        Ok(SummedBlocks { blocks, sums })
+    }
+
+    /// Returns the sums of all blocks as they are in a description: of each block 4 bytes for the sum of its bytes, and
+    /// 4 bytes for the sum of the products of each byte and the number of bytes from it to the end of the block.
+    ///
+    /// # Errors
+    ///
+    /// [`AllocError`] if memory cannot be allocated.
+    pub fn sums(&self, alloc: Global) -> Result<Vec<u8>, AllocError> {
+        let mut bytes = Vec::new(alloc);
+        for sum in &self.sums {
+            bytes.extend_from_slice(&sum.value().to_le_bytes())?;
+        }
+        Ok(bytes)
+    }
+}
+
+impl<'a, R: Files + Clock + Eprint> BlockSource for SummedBlocks<'a, R> {
+    ghost blocks = { λ _. nothing };
+
+    fn piece(&mut self, index: usize, start: usize, end: usize) -> io::Result<Vec<u8>> {
+        let piece = self.blocks.piece(index, start, end)?;
+        if let Some(sum) = self.sums.get_mut(index) {
+            sum.add(piece.as_slice());
+        }
+        Ok(piece)
+    }
+}
+
 /// The sums of blocks that are looked for.
 #[derive(Drop)]
 pub struct Sums {
@@ -91,10 +148,10 @@ impl Sums {
     /// Returns whether a sum is one of the sums.
     pub fn has(&self, sum: &RollingSum) -> bool {
         let bit = bit_of(sum.value());
-        let may_have = match self.filter.get((bit >> 3) as usize) {
-            Some(bits) => (*bits >> (bit & 7)) & 1 == 1,
-            None => false,
-        };
+        let may_have = self
+            .filter
+            .get((bit >> 3) as usize)
+            .is_some_and(|bits| (*bits >> (bit & 7)) & 1 == 1);
         may_have && !self.blocks_of(sum).is_empty()
     }
 

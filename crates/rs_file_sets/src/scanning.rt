@@ -49,7 +49,7 @@ pub struct ScannedVolume {
 ///
 /// For each volume that cannot be read, the function prints a message. A block that cannot be read is not an error: it
 /// is not found. For each file and each volume with such blocks, the function prints a message. It also prints a
-/// message for each entry in whose place something else is.
+/// message for each entry whose name something else has.
 ///
 /// # Errors
 ///
@@ -183,6 +183,22 @@ impl Scan {
     /// Returns the description of the set.
     pub fn description(&self) -> &Description {
         &self.set.description
+    }
+
+    /// Returns the original blocks that were not found.
+    ///
+    /// # Errors
+    ///
+    /// [`AllocError`] if memory cannot be allocated.
+    pub fn lost(&self, alloc: Global) -> Result<Vec<usize>, AllocError> {
+        let (originals, _) = self.origins();
+        let mut lost = Vec::new(alloc);
+        for (block, origin) in originals.iter().enumerate() {
+            if origin.is_none() {
+                lost.push(block)?;
+            }
+        }
+        Ok(lost)
     }
 
     // Returns where the original blocks and where the recovery blocks were found.

@@ -2,7 +2,7 @@
 use crate::rolling::{RollingSum, Sums};
 use crate::scanning::Scan;
 use rs_folders::failure::Result;
-use rs_folders::hashing::{CHUNK, hash_at};
+use rs_folders::hashing::{CHUNK, hash_at, hash_path};
 use rs_folders::identity::{Identity, identity_of, open_regular};
 use rs_folders::names::{Shown, folder_to_open, path_in};
 use rs_folders::progress::Progress;
@@ -19,8 +19,12 @@ use std::io::{Read, Seek};
 use std::rt::Runtime;
 use std::{fs, io};
 
-/// After how many blocks of a file that have the sum of a lost block, but not its digest, the file is left.
-const TRIES: u32 = 1000;
+/// A file is left after this many blocks that have the sum of a lost block, but not its digest, unless
+/// [`TRIED_TIMES`] allows more of them.
+const TRIES: u64 = 1000;
+
+/// These blocks may in any case have this many times the bytes of the file. So the search stays linear.
+const TRIED_TIMES: u64 = 8;
 
 /// A search below folders with this many files, or at every byte of this many bytes, is announced.
 const MANY_FILES: usize = 10_000;
@@ -95,7 +99,7 @@ pub fn find_elsewhere<R: Runtime>(
             blocks: 0,
         },
     };
-    let before = search.lost()?.len();
+    let before = search.scan.lost(alloc)?.len();
     if before > 0 {
         search.collect(folders, to)?;
         if search.find_files()? {
@@ -104,25 +108,13 @@ pub fn find_elsewhere<R: Runtime>(
         search.find_equal_blocks()?;
         search.find_anywhere(folders)?;
     }
-    let after = search.lost()?.len();
+    let after = search.scan.lost(alloc)?.len();
     let Search { mut found, .. } = search;
     found.blocks = before.saturating_sub(after);
     Ok(found)
 }
 
 impl<'a, R: Runtime> Search<'a, R> {
-    // Returns the original blocks that were not found.
-    fn lost(&self) -> Result<Vec<usize>, AllocError> {
-        let k = self.scan.description().original_count as usize;
-        let mut lost = Vec::new(self.alloc);
-        for (block, origin) in self.scan.origins.iter().enumerate() {
-            if block < k && origin.is_none() {
-                lost.push(block)?;
-            }
-        }
-        Ok(lost)
-    }
-
     // Returns the state of an entry.
     fn state(&self, index: usize) -> State {
         self.scan
@@ -333,10 +325,8 @@ impl<'a, R: Runtime> Search<'a, R> {
             if own == Some(candidate.identity) {
                 continue;
             }
-            let Ok(mut file) = open_regular(self.rt, candidate.path.as_str(), false) else {
-                continue;
-            };
-            let Ok(found) = hash_at(&mut file, 0, size, &mut self.buffer) else {
+            let path = candidate.path.as_str();
+            let Ok(found) = hash_path(self.rt, path, false, size, &mut self.buffer) else {
                 continue;
             };
             self.hashed.insert(found, at)?;
@@ -353,7 +343,7 @@ impl<'a, R: Runtime> Search<'a, R> {
     fn check_blocks(&mut self) -> Result<()> {
         let k = self.scan.description().original_count as usize;
         let in_files = vec![in self.alloc; Some(Origin::Files); k]?;
-        for block in self.lost()? {
+        for block in self.scan.lost(self.alloc)? {
             if self.has_digest(block, in_files.as_slice()) {
                 self.note(block, Origin::Files);
             }
@@ -423,7 +413,7 @@ impl<'a, R: Runtime> Search<'a, R> {
 
     // Looks for each lost block among the blocks that were found: a block with its digest has its bytes.
     fn find_equal_blocks(&mut self) -> Result<()> {
-        let lost = self.lost()?;
+        let lost = self.scan.lost(self.alloc)?;
         if lost.is_empty() {
             return Ok(());
         }
@@ -451,7 +441,7 @@ impl<'a, R: Runtime> Search<'a, R> {
         if counts.lost <= counts.recovery {
             return Ok(());
         }
-        let lost = self.lost()?;
+        let lost = self.scan.lost(self.alloc)?;
         let bytes = self.scan.description().sums.as_slice();
         let mut sums = Sums::of(self.alloc, bytes, lost.as_slice())?;
         if bytes.is_empty() {
@@ -486,7 +476,7 @@ impl<'a, R: Runtime> Search<'a, R> {
         };
         let block_bytes = self.scan.description().block_bytes;
         let mut windows = Windows::new(self.alloc, file, size, block_bytes)?;
-        let mut tries = TRIES;
+        let mut tries = TRIES.max(size.saturating_mul(TRIED_TIMES) / block_bytes.max(1));
         let mut has_found = false;
         for _ in 0..u64::MAX {
             if tries == 0 || !windows.find(sums) {

@@ -5,8 +5,8 @@ use crate::settings::Request;
 use rs_file_sets::one_entry::has_time;
 use rs_file_sets::scanning::{Scan, scan_paths};
 use rs_folders::failure::{Failure, Result, warn};
-use rs_folders::hashing::{CHUNK, hash_at};
-use rs_folders::identity::{exists, open_regular};
+use rs_folders::hashing::{CHUNK, hash_path};
+use rs_folders::identity::exists;
 use rs_folders::names::{Name, order_of, paths_of};
 use rs_folders::runs::places_in;
 use rs_folders::source::Origin;
@@ -357,7 +357,7 @@ fn moved_rotten<R: Files>(
             continue;
         }
         let follows = found.linked.get(index).copied().unwrap_or(false);
-        let own = digest_at(rt, path.as_str(), follows, entry.size, &mut buffer);
+        let own = hash_path(rt, path.as_str(), follows, entry.size, &mut buffer).ok();
         if let (Some(own), Some(place)) = (own, known.get_mut(index)) {
             *place = Some(own);
             mark_found(files.as_mut_slice(), entry, &own);
@@ -397,10 +397,8 @@ fn is_kept_for(old: &Description, index: usize, name: &[u8]) -> bool {
     let Some(entry) = old.entries.get(index) else {
         return false;
     };
-    match name.strip_prefix(entry.name.as_slice()) {
-        Some(rest) => rest.starts_with(b".damaged"),
-        None => false,
-    }
+    name.strip_prefix(entry.name.as_slice())
+        .is_some_and(|rest| rest.starts_with(b".damaged"))
 }
 
 // Marks the entries of an old set under whose names there are rotten files now that were moved there. `origins` has for
@@ -438,10 +436,8 @@ fn is_moved(old: &Description, entry: &Entry, files: &[OldFile]) -> bool {
     if with_stamp(files, entry).is_empty() {
         return false;
     }
-    match index_in(old, entry.name.as_slice()).and_then(|index| old.entries.get(index)) {
-        Some(same) => stamp_of(same) != stamp_of(entry),
-        None => true,
-    }
+    let same = index_in(old, entry.name.as_slice()).and_then(|index| old.entries.get(index));
+    same.is_none_or(|same| stamp_of(same) != stamp_of(entry))
 }
 
 // Marks the old files with the stamp of an entry and with a digest as found.
@@ -454,18 +450,6 @@ fn mark_found(files: &mut [OldFile], entry: &Entry, digest: &[u8; 32]) {
     for file in files.iter_mut().take(to).skip(from) {
         file.is_found = true;
     }
-}
-
-// Returns the digest of a file, or `None` if it cannot be read.
-fn digest_at<R: Files>(
-    rt: &R,
-    path: &str,
-    follows: bool,
-    size: u64,
-    buffer: &mut [u8],
-) -> Option<[u8; 32]> {
-    let mut file = open_regular(rt, path, follows).ok()?;
-    hash_at(&mut file, 0, size, buffer).ok()
 }
 
 /// Checks that each name after `--accept` is that of an entry.
@@ -486,8 +470,8 @@ pub fn check_accepted(alloc: Global, request: &Request, found: &Found) -> Result
     Ok(())
 }
 
-// Compares the files of a request with the old volumes at `outputs`. Returns `None` if there are none, or if none can be
-// read: then the function prints why.
+// Compares the files of a request with the old volumes at `outputs`. Returns `None` if there are none. If none can be
+// read, the function prints why, and returns `None` too.
 fn old_set<R: Runtime>(
     rt: &R,
     alloc: Global,

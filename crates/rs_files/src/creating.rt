@@ -5,6 +5,8 @@ use crate::settings::{NO_OUTPUT, Request, STATUS_FAILED, STATUS_LOST, STATUS_WHO
 use reed_solomon_simd::engine::tables::Tables;
 use reed_solomon_simd::engine::{DefaultEngine, EngineKind};
 use rs_file_sets::cutting::{Cut, Recovery, cut_data, piece_bytes, shape_of};
+use rs_file_sets::one_entry::has_time;
+use rs_file_sets::rolling::SummedBlocks;
 use rs_folders::counted::{Counted, Kinds};
 use rs_folders::failure::{Failure, Result};
 use rs_folders::hashing::{CHUNK, add_bytes};
@@ -12,10 +14,10 @@ use rs_folders::identity::open_regular;
 use rs_folders::names::{Name, Shown, front_of_volume, paths_of};
 use rs_folders::output::at_path;
 use rs_folders::progress::Progress;
-use rs_folders::source::{FileBlocks, Holders, Origin, SummedBlocks, failure_of};
+use rs_folders::source::{FileBlocks, Holders, Origin, failure_of};
 use rs_folders::walking::{Found, find};
 use rs_volume_files::assembly::LARGEST_DESCRIPTION;
-use rs_volume_files::volume_sink::{VolumeSink, Volumes, check_output, check_parts, part_of};
+use rs_volume_files::volume_sink::{Volumes, check_output, check_parts, part_of};
 use rs_volumes::checking::{UNIT, data_end, fits};
 use rs_volumes::coding_error::CodingError;
 use rs_volumes::creating::{Work, create_except};
@@ -26,7 +28,6 @@ use rs_volumes::write_description;
 use sha2::{Digest, Sha256};
 use std::alloc::{AllocError, Global};
 use std::io::ErrorKind;
-use std::os::unix::fs::MetadataExt;
 use std::rt::{Clock, Files, Runtime};
 use std::{fs, io};
 
@@ -224,7 +225,7 @@ impl<'a, R: Files + Clock + Eprint> Making<'a, R> {
 
     // Makes the recovery blocks, and writes blocks into the sink. Sets the digests and the sums of all blocks. A set
     // without blocks has none. Digests that are known from old volumes are not computed again.
-    fn code(&mut self, progress: Progress, sink: &mut VolumeSink<'_, R>) -> Result<()> {
+    fn code(&mut self, progress: Progress, sink: &mut Volumes<'_, R>) -> Result<()> {
         let shape = shape_of(&self.description);
         if shape.original_count == 0 {
             return Ok(());
@@ -238,7 +239,7 @@ impl<'a, R: Files + Clock + Eprint> Making<'a, R> {
             origins: origins.as_slice(),
         };
         let blocks = FileBlocks::new(self.rt, self.alloc, holders, progress);
-        let mut source = SummedBlocks::new(blocks, shape.original_count)?;
+        let mut source = SummedBlocks::new(self.alloc, blocks, shape.original_count)?;
         let tables = Tables::new(self.alloc)?;
         let engine = DefaultEngine::new(&tables, EngineKind::Ssse3);
         let linked = self.linked.as_slice();
@@ -255,7 +256,7 @@ impl<'a, R: Files + Clock + Eprint> Making<'a, R> {
             Ok(mut digests) => {
                 self.known.take_over(known.as_slice(), &mut digests);
                 self.description.digests = digests;
-                self.description.sums = source.sums()?;
+                self.description.sums = source.sums(self.alloc)?;
                 Ok(())
             }
             Err(error) => {
@@ -278,31 +279,30 @@ impl<'a, R: Files + Clock + Eprint> Making<'a, R> {
 
     // Writes the description and the heads of all records into the volumes. Fails if `read_description` does not accept
     // the description, so that no volume with an unsound description is written.
-    fn describe(&self, sink: &mut VolumeSink<'_, R>) -> Result<()> {
+    fn describe(&self, sink: &mut Volumes<'_, R>) -> Result<()> {
         let bytes = written(self.alloc, &self.description)?;
         rs_volumes::read_description(self.alloc, bytes.as_slice())?;
         sink.describe(bytes.as_slice())
     }
 
     // Begins all volumes, with room for their records, writes into them, and gives them their final names.
-    fn write(&mut self, outputs: &[String], volumes: &mut Volumes<R>) -> Result<()> {
+    fn write(&mut self, outputs: &[String], volumes: &mut Volumes<'_, R>) -> Result<()> {
         for output in outputs {
             let part = part_of(self.alloc, output.as_str())?;
-            volumes.begin(self.rt, self.alloc, output.as_str(), part)?;
+            volumes.begin(output.as_str(), part)?;
         }
         let total = self.bytes_to_read();
         let mut progress = Progress::new(self.rt, self.request.progress, total);
         self.hash_files(&mut progress)?;
-        let mut sink = VolumeSink::new(self.rt, self.alloc, volumes);
-        self.code(progress, &mut sink)?;
+        self.code(progress, volumes)?;
         self.check_unchanged()?;
-        self.describe(&mut sink)?;
-        volumes.finish(self.rt, self.alloc, self.request.force)
+        self.describe(volumes)?;
+        volumes.finish(self.request.force)
     }
 }
 
 // Prints for how many bytes of new volumes the disk has no room, if it is full.
-fn tell_full<R: Files + Eprint>(rt: &R, sink: &VolumeSink<'_, R>, error: &CodingError) {
+fn tell_full<R: Files + Eprint>(rt: &R, sink: &Volumes<'_, R>, error: &CodingError) {
     if is_full(error) {
         let missing = Counted(sink.missing(), "byte");
         let _ = eprintln!(rt; "rs_files: the disk has no room for {missing} of the new volumes");
@@ -320,12 +320,7 @@ fn is_full(error: &CodingError) -> bool {
 // Fails if the length of a file, or the time of its last change, is not the one in its description.
 fn check_file<R: Files>(rt: &R, alloc: Global, path: &str, entry: &Entry) -> Result<()> {
     let metadata = at_path(alloc, path, fs::metadata(rt, path))?;
-    let seconds = u64::from_le_bytes(metadata.mtime().to_le_bytes());
-    let nanoseconds = metadata.mtime_nsec();
-    if metadata.len() == entry.size
-        && seconds == entry.seconds
-        && nanoseconds == i64::from(entry.nanoseconds)
-    {
+    if has_time(entry, &metadata, Version::Second) {
         return Ok(());
     }
     Err(Failure::at(
@@ -409,7 +404,7 @@ const LISTS: [&str; 6] = ["volumes", "left_out", "edited", "new", "removed", "ro
 /// - if a file cannot be read, a block cannot be written into its volume, or the code fails,
 /// - for each file, if its length or the time of its last change cannot be read, or is not the one from before,
 /// - if `read_description` does not accept the description,
-/// - for a reason of [`VolumeSink::describe`],
+/// - for a reason of [`Volumes::describe`],
 /// - for a reason of [`Volumes::finish`],
 /// - if the result cannot be printed.
 ///
@@ -463,9 +458,9 @@ fn make_volumes<R: Runtime>(
     let made = made_of(alloc, request, &found, cut)?;
     let mut making = Making::new(rt, alloc, request, found, cut, task.outputs.len())?;
     making.known = known;
-    let mut volumes = Volumes::new(alloc, &making.description, making.description_bytes()?);
+    let mut volumes = Volumes::new(rt, alloc, &making.description, making.description_bytes()?);
     if let Err(failure) = making.write(task.outputs, &mut volumes) {
-        volumes.remove(rt);
+        volumes.remove();
         return Err(failure);
     }
     Ok(Some(made))

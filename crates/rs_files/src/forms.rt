@@ -225,8 +225,9 @@ const VERIFY: Form = Form {
 const REPAIR: Form = Form {
     name: "repair",
     paths: VOLUMES,
-    about: "Restore damaged and missing files in their folder",
-    after: "Status 0: all is whole now. 1: the files are whole, but a damaged volume cannot be written again.\n\
+    about: "Restore damaged and missing files in their folder, and damaged volumes",
+    after: "Of volumes of split, only damaged volumes are written again, unless --folder is given.\n\n\
+            Status 0: all is whole now. 1: the files are whole, but a damaged volume cannot be written again.\n\
             3: blocks are lacking for some files. 4: another error, for example a file that cannot be written.\n\
             All other files are restored.\n\n\
             Examples:\n  rs_files repair photos.rsv\n  rs_files repair photos.rsv --only photos/2024/beach.jpg",

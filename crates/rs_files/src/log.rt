@@ -1,7 +1,7 @@
 //! What a command did and found: lines for people, or one JSON object for programs.
 use crate::json::{add, add_text, object_of, text_in};
 use crate::settings::Request;
-use rs_folders::failure::{Failure, Result};
+use rs_folders::failure::Result;
 use rs_folders::names::Name;
 use serde_json::{Map, Value};
 use std::alloc::{AllocError, Global};
@@ -210,15 +210,14 @@ impl Log {
     }
 }
 
-/// Prints the object of a command that failed.
+/// Prints the object of a command that failed, or of a wrong command line. `error` is the message.
 ///
 /// # Errors
 ///
 /// Fails if the object cannot be printed, or if memory cannot be allocated.
-pub fn tell_error<R: Print>(rt: &R, alloc: Global, status: u8, failure: &Failure) -> Result<()> {
+pub fn tell_error<R: Print>(rt: &R, alloc: Global, status: u8, error: &str) -> Result<()> {
     let mut object = object_of(alloc, &[("status", u64::from(status))])?;
-    let error = format!(in alloc; "{failure}")?;
-    add_text(alloc, &mut object, "error", error.as_str())?;
+    add_text(alloc, &mut object, "error", error)?;
     let text = Value::Object(object).to_string(alloc)?;
     Ok(println!(rt; "{text}")?)
 }

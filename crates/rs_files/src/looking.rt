@@ -5,8 +5,11 @@ use rs_file_sets::scanning::{Scan, scan_opened};
 use rs_file_sets::searching::{Elsewhere, find_elsewhere};
 use rs_folders::counted::Counted;
 use rs_folders::failure::{Failure, Result};
+use rs_folders::identity::{exists, identity_of};
 use rs_folders::leftovers::tell_leftovers;
-use rs_folders::names::{Name, Shown, folder_to_open, parent_of};
+use rs_folders::names::{
+    Name, Shown, folder_to_open, last_of, parent_of, path_in, paths_of, text_of, trimmed,
+};
 use rs_volume_files::scanner::State;
 use rs_volume_files::volume::{Volumes, open_volumes};
 use rs_volumes::description::{Description, Entry};
@@ -26,32 +29,88 @@ pub struct Look {
     elsewhere: Elsewhere,
 }
 
-/// Returns the folder of the files: the folder after `--folder`, or else the folder of the first volume.
+/// Returns the folder of the files of a set: the folder after `--folder`, or else the folder of the first volume. If
+/// this is a folder of the set itself, returns the folder above it.
 ///
 /// # Errors
 ///
-/// Fails if neither a folder nor a volume is named.
-pub fn folder_of(request: &Request) -> Result<&str> {
-    if let Some(folder) = &request.folder {
-        return Ok(folder.as_str());
-    }
-    match request.paths.first() {
-        Some(path) => Ok(folder_to_open(parent_of(path.as_str()))),
-        None => Err(Failure::of("no volume is given")),
-    }
+/// Fails if neither a folder nor a volume is named, or if memory cannot be allocated.
+pub fn folder_of<R: Files>(
+    rt: &R,
+    alloc: Global,
+    request: &Request,
+    set: &Description,
+) -> Result<String> {
+    let folder = match (&request.folder, request.paths.first()) {
+        (Some(folder), _) => folder.as_str(),
+        (None, Some(path)) => folder_to_open(parent_of(path.as_str())),
+        (None, None) => return Err(Failure::of("no volume is given")),
+    };
+    Ok(folder_around(rt, alloc, folder, set)?)
 }
 
-/// Returns the folder in which `verify` and `restore` look for the files of a set, as [`folder_of`] does. Volumes of
-/// `split` hold the files, so for these there is none without `--folder`.
+/// Returns the folder in which `verify`, `repair` and `restore` look for the files of a set, as [`folder_of`] does.
+/// Volumes of `split` hold the files, so for these there is none without `--folder`.
 ///
 /// # Errors
 ///
-/// Fails if neither a folder nor a volume is named.
-pub fn folder_for<'a>(request: &'a Request, set: &Description) -> Result<Option<&'a str>> {
+/// Fails if neither a folder nor a volume is named, or if memory cannot be allocated.
+pub fn folder_for<R: Files>(
+    rt: &R,
+    alloc: Global,
+    request: &Request,
+    set: &Description,
+) -> Result<Option<String>> {
     if set.volumes > 1 && request.folder.is_none() {
         return Ok(None);
     }
-    Ok(Some(folder_of(request)?))
+    Ok(Some(folder_of(rt, alloc, request, set)?))
+}
+
+/// Returns the first parts of all names of a set, each once.
+///
+/// # Errors
+///
+/// [`AllocError`] if memory cannot be allocated.
+pub fn tops_of(alloc: Global, set: &Description) -> Result<Vec<&str>, AllocError> {
+    let mut tops: Vec<&str> = Vec::new(alloc);
+    for entry in &set.entries {
+        let name = text_of(entry.name.as_slice()).unwrap_or("");
+        let top = name.split_once('/').map_or(name, |(top, _)| top);
+        if !top.is_empty() && tops.last().copied() != Some(top) {
+            tops.push(top)?;
+        }
+    }
+    Ok(tops)
+}
+
+// Returns the folder above `folder` if this is a folder of the set, and no entry of the set is found from `folder` on.
+// Otherwise returns `folder`.
+fn folder_around<R: Files>(
+    rt: &R,
+    alloc: Global,
+    folder: &str,
+    set: &Description,
+) -> Result<String, AllocError> {
+    for path in paths_of(alloc, folder, set.entries.as_slice())? {
+        if !path.is_empty() && exists(rt, path.as_str()) {
+            return String::from_str(alloc, folder);
+        }
+    }
+    let own = identity_of(rt, folder);
+    let path = trimmed(folder);
+    for top in tops_of(alloc, set)? {
+        let above = if last_of(path) == top {
+            String::from_str(alloc, folder_to_open(parent_of(path)))?
+        } else {
+            path_in(alloc, folder, "..")?
+        };
+        let here = path_in(alloc, above.as_str(), top)?;
+        if own.is_some() && identity_of(rt, here.as_str()) == own {
+            return Ok(above);
+        }
+    }
+    String::from_str(alloc, folder)
 }
 
 // Checks that a folder is there.
@@ -112,10 +171,8 @@ pub fn chosen_of(alloc: Global, request: &Request, set: &Description) -> Result<
 
 // Returns whether an entry has a name, or is in a folder of this name.
 fn is_at_or_below(entry: &Entry, name: &[u8]) -> bool {
-    match entry.name.as_slice().strip_prefix(name) {
-        Some(rest) => rest.is_empty() || rest.starts_with(b"/"),
-        None => false,
-    }
+    let rest = entry.name.as_slice().strip_prefix(name);
+    rest.is_some_and(|rest| rest.is_empty() || rest.starts_with(b"/"))
 }
 
 /// Looks for all blocks of a set in its volumes, in its files below `folder`, if there is one, and if blocks are lost
@@ -173,6 +230,34 @@ impl Look {
         self.chosen.iter().all(|is_chosen| *is_chosen)
     }
 
+    /// Returns whether nothing of the set has its name in the folder, but files of it were found under other names.
+    pub fn is_renamed(&self) -> bool {
+        !self.scan.has_files() && !self.scan.is_spread() && !self.elsewhere.files.is_empty()
+    }
+
+    /// Returns whether a folder is probably that of the set and was renamed: nothing of the set has its name there, and
+    /// each file that was found elsewhere is below this folder as it was below the folder of the set.
+    ///
+    /// # Errors
+    ///
+    /// [`AllocError`] if memory cannot be allocated.
+    pub fn is_renamed_to(&self, alloc: Global, folder: &str) -> Result<bool, AllocError> {
+        for number in 0..self.elsewhere.files.len() {
+            if let Some((entry, path)) = self.moved(number) {
+                let name = text_of(entry.name.as_slice()).unwrap_or("");
+                let rest = match name.split_once('/') {
+                    Some((_, rest)) => rest,
+                    None => "",
+                };
+                let here = path_in(alloc, folder, rest)?;
+                if here.as_str() != path {
+                    return Ok(false);
+                }
+            }
+        }
+        Ok(self.is_renamed())
+    }
+
     // Returns the files that were renamed or moved, each with the path at which it is now. Returns `None` if the
     // request is not about the file.
     fn moved(&self, number: usize) -> Option<(&Entry, &str)> {
@@ -214,6 +299,12 @@ impl Look {
             }
         }
         lines.end(rt)?;
+        if self.is_renamed() {
+            println!(rt;
+                "if the folder of the set was renamed, give it its old name again. Or make the volume again with \
+                 create NEW -o VOLUME --force, which compares the files under their new names with the old volume"
+            )?;
+        }
         if self.elsewhere.blocks > 0 {
             let blocks = Counted(self.elsewhere.blocks as u64, "lost block");
             println!(rt; "{blocks} found in other files or at other places")?;

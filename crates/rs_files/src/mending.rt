@@ -1,28 +1,30 @@
 //! `repair` and `restore`: restore files in their folder, or into another one.
 use crate::checked::tell_nowhere;
 use crate::log::Log;
-use crate::looking::{Look, folder_for, folder_of, look_for, open_request};
+use crate::looking::{Look, folder_for, look_for, open_request};
 use crate::rebuilding::rebuild;
 use crate::settings::{Request, STATUS_DAMAGED, STATUS_FAILED, STATUS_LOST, STATUS_WHOLE};
 use crate::verifying::{add_counts, report, tell_lost, tell_volumes};
 use rs_file_sets::restoring::write_blocks;
-use rs_file_sets::scanning::scan_paths;
+use rs_file_sets::scanning::{Scan, scan_paths};
 use rs_file_sets::targets::{Outcome, Targets};
 use rs_folders::counted::{Counted, Kinds};
 use rs_folders::failure::{Failure, Result};
 use rs_folders::names::{Name, Shown};
 use rs_folders::placing::Goal;
-use rs_volumes::description::{Description, Entry};
+use rs_volumes::description::Entry;
 use std::alloc::{AllocError, Global};
 use std::io;
-use std::rt::{Clock, Files, Runtime};
+use std::rt::Runtime;
 
 /// The lists of the object that `repair` and `restore` print with `--json`.
 const LISTS: [&str; 5] = ["restored", "failed", "lost", "moved", "written"];
 
 // What is restored, and where.
-#[derive(Clone, Copy)]
-struct Job<'a> {
+#[derive(Drop)]
+struct Job<'a, R: Runtime> {
+    rt: &'a R,
+    alloc: Global,
     request: &'a Request,
     // What was found of the set, and the folder in which its files were looked for.
     found: &'a Look,
@@ -31,6 +33,7 @@ struct Job<'a> {
 }
 
 /// Runs `repair`: restores the damaged and missing files of a set in their folder, and writes damaged volumes again.
+/// Volumes of `split` hold the files, so without `--folder` only these volumes are written again.
 /// Returns the exit status. It is `STATUS_LOST` if not enough blocks are left for a file, and otherwise `STATUS_FAILED`
 /// if a file could not be restored for another reason. All other files are restored.
 ///
@@ -40,59 +43,109 @@ struct Job<'a> {
 ///
 /// - no volume is named, or a folder of the request is not there,
 /// - no volume can be read, or volumes belong to different sets,
-/// - a name after `--only` is not in the set,
+/// - a name after `--only` is not in the set, or `--only` is given for volumes of `split` without `--folder`,
+/// - the folder is that of the set and was renamed,
 /// - a block that was found cannot be read or restored,
 /// - the result cannot be printed,
 /// - the damaged volumes cannot be written again, for a reason of [`rebuild`].
 ///
 /// Every step fails if memory cannot be allocated.
 pub fn repair<R: Runtime>(rt: &R, alloc: Global, request: &Request) -> Result<u8> {
-    let folder = folder_of(request)?;
     let volumes = open_request(rt, alloc, request)?;
-    let found = look_for(rt, alloc, request, volumes, Some(folder))?;
+    let searched = folder_for(rt, alloc, request, &volumes.set.description)?;
+    let found = look_for(rt, alloc, request, volumes, searched.as_deref())?;
     let mut log = Log::new(alloc, request, &LISTS)?;
     add_counts(&mut log, &found.scan)?;
-    let job = Job {
-        request,
-        found: &found,
-        folder,
-        goal: Goal {
-            folder,
-            in_place: true,
-            force: false,
-            set: found.scan.description(),
-        },
-    };
-    let mut status = mend(rt, alloc, job, &mut log)?;
+    if request.folder.is_none() && found.scan.is_spread() {
+        let status = mend_spread(rt, alloc, request, found, &mut log)?;
+        return log.end(rt, status);
+    }
+    let folder = searched.as_deref().unwrap_or("");
+    let mut status = mend_in_place(rt, alloc, request, &found, folder, &mut log)?;
     if status == STATUS_WHOLE && found.has_all() && !found.scan.has_whole_volumes() {
-        status = mend_volumes(rt, alloc, request, found, &mut log)?;
+        let scan = scanned_again(rt, alloc, request, found, folder)?;
+        status = mend_volumes(rt, alloc, request, scan, &mut log)?;
     }
     log.end(rt, status)
 }
 
-// Writes the damaged volumes of a set again, whose files are whole by now. Returns the exit status.
-fn mend_volumes<R: Runtime>(
+// Restores the entries of a request in the folder in which they were looked for. Returns the exit status.
+fn mend_in_place<'a, R: Runtime>(
+    rt: &'a R,
+    alloc: Global,
+    request: &'a Request,
+    found: &'a Look,
+    folder: &'a str,
+    log: &mut Log,
+) -> Result<u8> {
+    let goal = Goal {
+        folder,
+        in_place: true,
+        force: false,
+        set: found.scan.description(),
+    };
+    let job = Job {
+        rt,
+        alloc,
+        request,
+        found,
+        folder,
+        goal,
+    };
+    mend(&job, log)
+}
+
+// Returns what is found of a set whose files are whole by now. If they were whole before, nothing is read.
+fn scanned_again<R: Runtime>(
+    rt: &R,
+    alloc: Global,
+    request: &Request,
+    found: Look,
+    folder: &str,
+) -> Result<Scan> {
+    if found.has_whole_files() {
+        return Ok(found.scan);
+    }
+    let (paths, shown) = (request.paths.as_slice(), request.progress);
+    scan_paths(rt, alloc, paths, request.memory, shown, Some(folder))
+}
+
+// Writes the damaged ones of the volumes of `split` again, from the blocks in all of them. No file of the set is read
+// or written. Returns the exit status.
+fn mend_spread<R: Runtime>(
     rt: &R,
     alloc: Global,
     request: &Request,
     found: Look,
     log: &mut Log,
 ) -> Result<u8> {
-    let folder = folder_of(request)?;
-    let scan = if found.has_whole_files() {
-        found.scan
+    if !request.only.is_empty() {
+        return Err(Failure::of(
+            "volumes of split hold the files: name the folder of the files with --folder, or use restore",
+        ));
+    }
+    let counts = found.scan.counts();
+    let status = if counts.lost > counts.recovery {
+        STATUS_LOST
     } else {
-        let paths = request.paths.as_slice();
-        scan_paths(
-            rt,
-            alloc,
-            paths,
-            request.memory,
-            request.progress,
-            Some(folder),
-        )?
+        STATUS_WHOLE
     };
-    let is_whole = rebuild(rt, alloc, request, &scan, log)?;
+    report(rt, &found, "", log, status)?;
+    if status == STATUS_LOST || found.scan.has_whole_volumes() {
+        return Ok(status);
+    }
+    mend_volumes(rt, alloc, request, found.scan, log)
+}
+
+// Writes the damaged volumes of a set again. Returns the exit status.
+fn mend_volumes<R: Runtime>(
+    rt: &R,
+    alloc: Global,
+    request: &Request,
+    mut scan: Scan,
+    log: &mut Log,
+) -> Result<u8> {
+    let is_whole = rebuild(rt, alloc, request, &mut scan, log)?;
     Ok(if is_whole {
         STATUS_WHOLE
     } else {
@@ -112,40 +165,48 @@ pub fn restore<R: Runtime>(rt: &R, alloc: Global, request: &Request) -> Result<u
         return Err(Failure::of("say where the files go, as --to FOLDER"));
     };
     let volumes = open_request(rt, alloc, request)?;
-    let folder = folder_for(request, &volumes.set.description)?;
-    let found = look_for(rt, alloc, request, volumes, folder)?;
+    let searched = folder_for(rt, alloc, request, &volumes.set.description)?;
+    let found = look_for(rt, alloc, request, volumes, searched.as_deref())?;
     let mut log = Log::new(alloc, request, &LISTS)?;
     add_counts(&mut log, &found.scan)?;
-    let job = Job {
-        request,
-        found: &found,
-        folder: folder.unwrap_or(""),
-        goal: Goal {
-            folder: to.as_str(),
-            in_place: false,
-            force: request.force,
-            set: found.scan.description(),
+    let status = mend(
+        &Job {
+            rt,
+            alloc,
+            request,
+            found: &found,
+            folder: searched.as_deref().unwrap_or(""),
+            goal: Goal {
+                folder: to.as_str(),
+                in_place: false,
+                force: request.force,
+                set: found.scan.description(),
+            },
         },
-    };
-    let status = mend(rt, alloc, job, &mut log)?;
+        &mut log,
+    )?;
     log.end(rt, status)
 }
 
 // Restores the entries of a request that are not whole and can be restored, and names the others. Returns the exit
 // status.
-fn mend<R: Files + Clock + Print + Eprint>(
-    rt: &R,
-    alloc: Global,
-    job: Job<'_>,
-    log: &mut Log,
-) -> Result<u8> {
-    let found = job.found;
+fn mend<R: Runtime>(job: &Job<'_, R>, log: &mut Log) -> Result<u8> {
+    let (rt, found) = (job.rt, job.found);
     found.note_moved(log)?;
-    let (wanted, lost) = divided(alloc, found)?;
+    let (wanted, lost) = divided(job.alloc, found)?;
     let loses = lost.contains(&true);
     // If nothing of the set is in its folder, the folder is probably another one.
     let is_nowhere = loses && !found.scan.has_files() && !found.scan.is_spread();
     let is_left = !wanted.contains(&true) || is_nowhere && job.goal.in_place;
+    if job.goal.in_place && found.has_all() && found.is_renamed_to(job.alloc, job.folder)? {
+        if log.is_told() {
+            found.tell_moved(rt)?;
+        }
+        let reason =
+            "this is the folder of the set, and it was renamed: nothing was restored, because that would \
+             copy all files into it";
+        return Err(Failure::at(job.alloc, job.folder, reason));
+    }
     if is_left && !loses {
         report(rt, found, job.folder, log, STATUS_WHOLE)?;
         if !job.goal.in_place && log.is_told() {
@@ -160,7 +221,7 @@ fn mend<R: Files + Clock + Print + Eprint>(
         }
         found.tell_moved(rt)?;
     }
-    let all = is_left || restore_entries(rt, alloc, job, wanted, log)?;
+    let all = is_left || restore_entries(job, wanted, log)?;
     if loses {
         tell_beyond(rt, found, lost.as_slice(), is_nowhere && is_left, log)?;
         return Ok(STATUS_LOST);
@@ -209,16 +270,11 @@ fn tell_beyond<R: Print + Eprint>(
 
 // Restores the entries that `wanted` marks, and prints what became of each. Returns whether all were restored. If this
 // fails, all files that do not have their final names are removed.
-fn restore_entries<R: Files + Clock + Print + Eprint>(
-    rt: &R,
-    alloc: Global,
-    job: Job<'_>,
-    wanted: Vec<bool>,
-    log: &mut Log,
-) -> Result<bool> {
-    let mut targets = Targets::new(alloc, wanted);
-    let restored = restore_into(rt, alloc, job, &mut targets);
-    targets.remove(rt);
+fn restore_entries<R: Runtime>(job: &Job<'_, R>, wanted: Vec<bool>, log: &mut Log) -> Result<bool> {
+    let (rt, read) = (job.rt, job.found.scan.paths.as_slice());
+    let mut targets = Targets::new(rt, job.alloc, job.goal, wanted, read)?;
+    let restored = restore_into(job, &mut targets);
+    targets.remove();
     let outcomes = targets.outcomes.as_slice();
     for outcome in outcomes {
         if let Outcome::Failed(failure) = outcome {
@@ -230,34 +286,28 @@ fn restore_entries<R: Files + Clock + Print + Eprint>(
         let bytes = Counted(targets.without_room, "byte");
         eprintln!(rt; "rs_files: the disk has no room for {bytes} of these files")?;
     }
-    tell_outcomes(rt, alloc, job.goal.set, outcomes, log)
+    tell_outcomes(job, outcomes, log)
 }
 
 // Begins the parts of files, writes their blocks, and gives all entries their final names.
-fn restore_into<R: Files + Clock + Eprint>(
-    rt: &R,
-    alloc: Global,
-    job: Job<'_>,
-    targets: &mut Targets<R>,
-) -> Result<()> {
-    let (scan, request) = (&job.found.scan, job.request);
-    targets.begin(rt, alloc, scan, job.goal)?;
-    write_blocks(rt, alloc, scan, targets, request.memory, request.progress)?;
-    targets.finish(rt, alloc, job.goal);
+fn restore_into<R: Runtime>(job: &Job<'_, R>, targets: &mut Targets<'_, R>) -> Result<()> {
+    let (scan, memory, shown) = (&job.found.scan, job.request.memory, job.request.progress);
+    targets.begin()?;
+    write_blocks(job.rt, job.alloc, scan, targets, memory, shown)?;
+    targets.finish();
     Ok(())
 }
 
 // Prints what became of each entry, and how many were restored. Returns whether all were.
-fn tell_outcomes<R: Print + Eprint>(
-    rt: &R,
-    alloc: Global,
-    set: &Description,
+fn tell_outcomes<R: Runtime>(
+    job: &Job<'_, R>,
     outcomes: &[Outcome],
     log: &mut Log,
 ) -> Result<bool> {
+    let rt = job.rt;
     let mut restored = Kinds::none();
     let (mut kept, mut failed) = (0u64, 0u64);
-    for (entry, outcome) in set.entries.iter().zip(outcomes) {
+    for (entry, outcome) in job.goal.set.entries.iter().zip(outcomes) {
         match outcome {
             Outcome::Left => {}
             Outcome::Restored(path) => {
@@ -267,7 +317,7 @@ fn tell_outcomes<R: Print + Eprint>(
             }
             Outcome::Failed(failure) => {
                 failed = failed.saturating_add(1);
-                let reason = format!(in alloc; "{failure}")?;
+                let reason = format!(in job.alloc; "{failure}")?;
                 let reason = Some(("reason", reason.as_str()));
                 log.add_entry("failed", entry.name.as_slice(), reason)?;
             }

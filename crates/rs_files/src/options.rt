@@ -11,6 +11,7 @@ use rs_folders::names::front_of_volume;
 use rs_volumes::checking::allows_block;
 use std::alloc::{AllocError, Global};
 use std::env;
+use std::env::FillError;
 use std::rt::Env;
 
 /// A request, or the status with which the program ends at once.
@@ -18,8 +19,11 @@ use std::rt::Env;
 pub enum Parsed {
     /// The request to run.
     Run(Request),
-    /// The exit status. The program has already printed a message or the help text.
+    /// The exit status. The program has already printed the help text or the version.
     Stop(u8),
+    /// The exit status of a wrong command line, and what is wrong. The program has already printed this on standard
+    /// error.
+    Wrong(u8, String),
 }
 
 // Returns an option as clap takes it.
@@ -98,9 +102,28 @@ pub fn read_words<R: Env + Print + Eprint + AllocGlobal>(rt: &R, terminal: bool)
         Ok(matches) => read_matches(rt, alloc, &matches, terminal),
         Err(error) => {
             error.print(rt)?;
-            Ok(Parsed::Stop(status_of(&error)))
+            let status = status_of(&error);
+            if status == STATUS_WHOLE {
+                return Ok(Parsed::Stop(status));
+            }
+            let text = format!(in alloc; "{error}")?;
+            Ok(Parsed::Wrong(status, String::from_str(alloc, text.as_str().trim_end())?))
         }
     }
+}
+
+/// Returns whether the words of the command line ask for JSON. They need not be right, nor UTF-8.
+pub fn wants_json<R: Env>(rt: &R) -> bool {
+    let mut word = [0u8; 7];
+    for index in 1..usize::MAX {
+        match rt.arg(index, &mut word) {
+            Ok(6) if word.starts_with(b"--json") => return true,
+            Ok(2) if word.starts_with(b"--") => return false,
+            Err(FillError::NotPresent) => return false,
+            _ => {}
+        }
+    }
+    false
 }
 
 // Returns the request of a command line. If an option has a wrong value, the function prints a message.
@@ -110,14 +133,15 @@ fn read_matches<R: Eprint>(
     matches: &ArgMatches<'_>,
     terminal: bool,
 ) -> Result<Parsed> {
-    let Some((name, inner)) = matches.subcommand() else {
-        return Ok(Parsed::Stop(STATUS_USAGE));
+    let outcome = match matches.subcommand() {
+        Some((name, inner)) => request_of(alloc, name, inner, terminal)?,
+        None => Err("no command is given"),
     };
-    match request_of(alloc, name, inner, terminal)? {
+    match outcome {
         Ok(request) => Ok(Parsed::Run(request)),
         Err(fault) => {
             eprintln!(rt; "rs_files: {fault}")?;
-            Ok(Parsed::Stop(STATUS_USAGE))
+            Ok(Parsed::Wrong(STATUS_USAGE, String::from_str(alloc, fault)?))
         }
     }
 }
@@ -221,10 +245,7 @@ fn set_options(request: &mut Request, matches: &ArgMatches<'_>) -> Result<(), &'
 
 // Returns whether an option is given with an empty text.
 fn is_empty(option: &Option<String>) -> bool {
-    match option {
-        Some(text) => text.as_str().is_empty(),
-        None => false,
-    }
+    option.as_ref().is_some_and(|text| text.as_str().is_empty())
 }
 
 // Checks that no path of an option is empty. A variable of a shell that is not set gives an empty path.
@@ -249,26 +270,18 @@ fn check_filled(request: &Request) -> Result<(), &'static str> {
 // Reads `--recovery`, `--block` and `--memory`.
 fn set_numbers(request: &mut Request, matches: &ArgMatches<'_>) -> Result<(), &'static str> {
     if let Some(text) = matches.get_str("recovery") {
-        match recovery_of(text) {
-            Some(recovery) => request.recovery = Some(recovery),
-            None => return Err(
-                "--recovery: write a percentage up to 10000%, as 10%, or a number of blocks above 0",
-            ),
-        }
+        let fault =
+            "--recovery: write a percentage up to 10000%, as 10%, or a number of blocks above 0";
+        request.recovery = Some(recovery_of(text).ok_or(fault)?);
     }
     if let Some(text) = matches.get_str("block") {
-        match bytes_of(text) {
-            Some(bytes) if allows_block(bytes) => request.block_bytes = Some(bytes),
-            _ => {
-                return Err("--block: write an even number of bytes from 2 to 2^40, as 4096 or 64K");
-            }
-        }
+        let bytes = bytes_of(text).filter(|bytes| allows_block(*bytes));
+        let fault = "--block: write an even number of bytes from 2 to 2^40, as 4096 or 64K";
+        request.block_bytes = Some(bytes.ok_or(fault)?);
     }
     if let Some(text) = matches.get_str("memory") {
-        match bytes_of(text) {
-            Some(bytes) => request.memory = bytes,
-            None => return Err("--memory: write a number of bytes, as 64M or 2G"),
-        }
+        let fault = "--memory: write a number of bytes, as 64M or 2G";
+        request.memory = bytes_of(text).ok_or(fault)?;
     }
     Ok(())
 }
@@ -287,16 +300,15 @@ fn set_progress(request: &mut Request, matches: &ArgMatches<'_>) -> Result<(), &
 // Reads `--volumes` and `--lose`.
 fn set_volumes(request: &mut Request, matches: &ArgMatches<'_>) -> Result<(), &'static str> {
     if let Some(text) = matches.get_str("volumes") {
-        match text.parse::<u32>() {
-            Ok(count) if count >= 2 && count <= 1000 => request.volumes = count,
-            _ => return Err("--volumes: write a number from 2 to 1000"),
-        }
+        let count = text
+            .parse::<u32>()
+            .ok()
+            .filter(|count| *count >= 2 && *count <= 1000);
+        request.volumes = count.ok_or("--volumes: write a number from 2 to 1000")?;
     }
     if let Some(text) = matches.get_str("lose") {
-        match text.parse::<u32>() {
-            Ok(count) => request.lose = count,
-            Err(_) => return Err("--lose: write how many volumes may be lost"),
-        }
+        let count = text.parse::<u32>().ok();
+        request.lose = count.ok_or("--lose: write how many volumes may be lost")?;
     }
     Ok(())
 }

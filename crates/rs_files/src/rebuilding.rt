@@ -1,22 +1,29 @@
 //! Writes damaged volumes again, from the blocks of their set.
+ghost use Rattle.rs_field.specs.code.Given.{nothing};
+
 use crate::creating::written;
 use crate::log::Log;
 use crate::settings::Request;
 use reed_solomon_simd::engine::tables::Tables;
 use reed_solomon_simd::engine::{DefaultEngine, EngineKind};
 use rs_file_sets::cutting::{piece_bytes, shape_of};
+use rs_file_sets::restoring::restore_lost;
 use rs_file_sets::scanning::{Scan, ScannedVolume};
 use rs_folders::failure::{Failure, Result};
 use rs_folders::names::Shown;
+use rs_folders::output::Part;
 use rs_folders::progress::Progress;
-use rs_folders::source::{FileBlocks, Holders, failure_of};
+use rs_folders::source::{FileBlocks, Holders, Origin, failure_of};
 use rs_volume_files::layout::Deal;
-use rs_volume_files::volume_sink::{VolumeSink, Volumes, second_part_of};
+use rs_volume_files::volume_sink::{Volumes, numbered_part_of};
 use rs_volumes::creating::create as create_blocks;
 use rs_volumes::description::Version;
 use rs_volumes::digest::digest_of;
+use rs_volumes::pieces::BlockSink;
 use std::alloc::{AllocError, Global};
-use std::rt::Runtime;
+use std::io;
+use std::io::ErrorKind;
+use std::rt::{Files, Runtime};
 
 // Returns for each volume of a set the path of the damaged volume that has its number, if one was scanned.
 fn damaged_paths(alloc: Global, found: &Scan) -> Result<Vec<Option<&str>>, AllocError> {
@@ -35,6 +42,15 @@ fn damaged_paths(alloc: Global, found: &Scan) -> Result<Vec<Option<&str>>, Alloc
     Ok(paths)
 }
 
+// Returns the first of these paths.
+fn first_damaged(alloc: Global, found: &Scan) -> Result<Option<String>, AllocError> {
+    let paths = damaged_paths(alloc, found)?;
+    match paths.iter().flatten().next() {
+        Some(path) => Ok(Some(String::from_str(alloc, *path)?)),
+        None => Ok(None),
+    }
+}
+
 /// Returns whether [`rebuild`] writes a damaged volume of a scan again, if all files are whole.
 pub fn can_rebuild(found: &Scan) -> bool {
     let is_second = found.description().version == Version::Second;
@@ -42,15 +58,114 @@ pub fn can_rebuild(found: &Scan) -> bool {
     is_second && damages.any(|damage| damage.number.is_some() && !damage.is_none())
 }
 
-/// Writes the damaged volumes of a scan again, and keeps each damaged one as `NAME.damaged`. Nothing is written if an
-/// original block was not found, or if the volumes have version 1. Returns whether all volumes are whole now.
+// The permission bits of a file with restored blocks: nobody else may read it.
+const LOST_MODE: u32 = 0o600;
+
+// The lost original blocks of a set, in order. They are written into a file, one after another.
+#[derive(Drop)]
+struct LostBlocks<'a, R: Files> {
+    rt: &'a R,
+    part: &'a mut Part<R>,
+    lost: &'a [usize],
+    block_bytes: u64,
+}
+
+impl<'a, R: Files> BlockSink for LostBlocks<'a, R> {
+    ghost written = { λ _. nothing };
+
+    fn put(&mut self, index: usize, start: usize, piece: &[u8]) -> io::Result<()> {
+        match self.lost.binary_search(&index) {
+            Ok(number) => {
+                let offset = (number as u64).saturating_mul(self.block_bytes);
+                let offset = offset.saturating_add(start as u64);
+                self.part.write_at(self.rt, offset, piece)
+            }
+            Err(_) => Err(io::Error::from(ErrorKind::NotFound)),
+        }
+    }
+}
+
+/// Writes the damaged volumes of a scan again, and keeps each damaged one as `NAME.damaged`. Original blocks that were
+/// not found are first restored into a file beside the first damaged volume, which is removed in the end. Nothing is
+/// written if too many blocks are lost, or if the volumes have version 1. Returns whether all volumes are whole now.
 ///
 /// # Errors
 ///
-/// Fails if a block cannot be read, a volume cannot be written or get its name, or a block does not have its digest.
-/// Then nothing is left of the new volumes, apart from those that have their names, and the other damaged volumes have
-/// only their own names. Every step fails if memory cannot be allocated.
+/// Fails if a block cannot be read or restored, a volume cannot be written or get its name, or a block does not have
+/// its digest. Then nothing is left of the new volumes, apart from those that have their names, and the other damaged
+/// volumes have only their own names. Every step fails if memory cannot be allocated.
 pub fn rebuild<R: Runtime>(
+    rt: &R,
+    alloc: Global,
+    request: &Request,
+    found: &mut Scan,
+    log: &mut Log,
+) -> Result<bool> {
+    let counts = found.counts();
+    let is_second = found.description().version == Version::Second;
+    let first = match first_damaged(alloc, found)? {
+        Some(first) if is_second && counts.lost <= counts.recovery => first,
+        _ => return Ok(found.has_whole_volumes()),
+    };
+    if counts.lost == 0 {
+        return rebuild_found(rt, alloc, request, found, log);
+    }
+    let lost = found.lost(alloc)?;
+    let size = (lost.len() as u64).saturating_mul(found.description().block_bytes);
+    let path = numbered_part_of(alloc, first.as_str(), 3)?;
+    let mut part = Part::begin(rt, alloc, path.as_str(), path.clone()?, size, LOST_MODE)?;
+    let mut outcome = restore_into(rt, alloc, request, found, lost.as_slice(), &mut part);
+    if outcome.is_ok() {
+        outcome = note_restored(found, lost.as_slice(), path);
+    }
+    let outcome = match outcome {
+        Ok(()) => rebuild_found(rt, alloc, request, found, log),
+        Err(failure) => Err(failure),
+    };
+    part.remove(rt);
+    outcome
+}
+
+// Restores the lost original blocks into a file.
+fn restore_into<R: Runtime>(
+    rt: &R,
+    alloc: Global,
+    request: &Request,
+    found: &Scan,
+    lost: &[usize],
+    part: &mut Part<R>,
+) -> Result<()> {
+    let mut sink = LostBlocks {
+        rt,
+        part,
+        lost,
+        block_bytes: found.description().block_bytes,
+    };
+    restore_lost(
+        rt,
+        alloc,
+        found,
+        &mut sink,
+        request.memory,
+        request.progress,
+    )
+}
+
+// Notes in a scan that lost blocks are in the file at a path now.
+fn note_restored(found: &mut Scan, lost: &[usize], path: String) -> Result<()> {
+    let (holder, block_bytes) = (found.paths.len(), found.description().block_bytes);
+    for (number, block) in lost.iter().enumerate() {
+        if let Some(origin) = found.origins.get_mut(*block) {
+            let offset = (number as u64).saturating_mul(block_bytes);
+            *origin = Some(Origin::Volume { holder, offset });
+        }
+    }
+    Ok(found.paths.push(path)?)
+}
+
+// Writes the damaged volumes of a scan again that has found all original blocks. Returns whether all volumes are whole
+// now. Fails as [`rebuild`] does.
+fn rebuild_found<R: Runtime>(
     rt: &R,
     alloc: Global,
     request: &Request,
@@ -58,18 +173,13 @@ pub fn rebuild<R: Runtime>(
     log: &mut Log,
 ) -> Result<bool> {
     let paths = damaged_paths(alloc, found)?;
-    let can_write = found.description().version == Version::Second && found.counts().lost == 0;
-    let count = paths.iter().flatten().count();
-    if !can_write || count == 0 {
-        return Ok(found.has_whole_volumes());
-    }
     let description = written(alloc, found.description())?;
     if digest_of(description.as_slice()) != found.set.digest {
         return Err(Failure::of("the description of the set has another spelling"));
     }
-    let mut volumes = Volumes::new(alloc, found.description(), description.len() as u64);
+    let mut volumes = Volumes::new(rt, alloc, found.description(), description.len() as u64);
     let mut kept = Vec::new(alloc);
-    let mut outcome = begin(rt, alloc, &paths, &mut volumes);
+    let mut outcome = begin(alloc, &paths, &mut volumes);
     if outcome.is_ok() {
         outcome = code(
             rt,
@@ -81,11 +191,12 @@ pub fn rebuild<R: Runtime>(
         );
     }
     if outcome.is_ok() {
-        outcome = volumes.replace(rt, alloc, &mut kept);
+        outcome = volumes.replace(&mut kept);
     }
-    volumes.remove(rt);
+    volumes.remove();
     tell_written(rt, &paths, kept.as_slice(), log)?;
     outcome?;
+    let count = paths.iter().flatten().count();
     let is_damaged = |volume: &&ScannedVolume| !volume.damage.is_none();
     let damaged = found.volumes.iter().filter(is_damaged).count();
     Ok(count == damaged && found.unreadable.is_empty())
@@ -111,14 +222,13 @@ fn tell_written<R: Print>(
 
 // Begins the volumes that have a path.
 fn begin<R: Runtime>(
-    rt: &R,
     alloc: Global,
     paths: &[Option<&str>],
-    volumes: &mut Volumes<R>,
+    volumes: &mut Volumes<'_, R>,
 ) -> Result<()> {
     for path in paths {
         match path {
-            Some(path) => volumes.begin(rt, alloc, *path, second_part_of(alloc, *path)?)?,
+            Some(path) => volumes.begin(*path, numbered_part_of(alloc, *path, 2)?)?,
             None => volumes.leave_out()?,
         }
     }
@@ -132,34 +242,33 @@ fn code<R: Runtime>(
     request: &Request,
     found: &Scan,
     description: &[u8],
-    volumes: &mut Volumes<R>,
+    volumes: &mut Volumes<'_, R>,
 ) -> Result<()> {
     let shape = shape_of(found.description());
-    let mut sink = VolumeSink::new(rt, alloc, volumes);
     if shape.original_count > 0 {
+        let blocks = shape.original_count as u64;
+        let total = blocks.saturating_mul(found.description().block_bytes);
+        let progress = Progress::new(rt, request.progress, total);
         let holders = Holders {
             paths: found.paths.as_slice(),
             follows: &[],
             places: found.places.as_slice(),
             origins: found.origins.as_slice(),
         };
-        let blocks = shape.original_count as u64;
-        let total = blocks.saturating_mul(found.description().block_bytes);
-        let progress = Progress::new(rt, request.progress, total);
         let mut source = FileBlocks::new(rt, alloc, holders, progress);
         let tables = Tables::new(alloc)?;
         let engine = DefaultEngine::new(&tables, EngineKind::Ssse3);
         let piece = piece_bytes(&shape, request.memory);
-        let outcome = create_blocks(alloc, shape, piece, engine, &mut source, &mut sink);
+        let outcome = create_blocks(alloc, shape, piece, engine, &mut source, volumes);
         source.end();
         match outcome {
             Ok(digests) if digests.as_slice() == found.description().digests.as_slice() => {}
             Ok(_) => return Err(Failure::of("a block changed while it was read: try again")),
             Err(error) => {
-                let (read, written) = (source.path_of(&error), sink.path_of(&error));
+                let (read, written) = (source.path_of(&error), volumes.path_of(&error));
                 return Err(failure_of(alloc, read, written, error));
             }
         }
     }
-    sink.describe(description)
+    volumes.describe(description)
 }

@@ -1,40 +1,31 @@
 //! `update`: makes a volume again after files were changed.
 use crate::creating::{Task, make};
-use crate::looking::{folder_of, open_request};
+use crate::looking::{folder_of, open_request, tops_of};
 use crate::settings::Request;
 use rs_file_sets::cutting::{Recovery, cut_data};
 use rs_folders::failure::{Failure, Result};
 use rs_folders::identity::exists;
-use rs_folders::names::{path_in, text_of};
+use rs_folders::names::path_in;
 use rs_volumes::checking::{UNIT, data_end};
 use rs_volumes::description::{Description, Version};
 use std::alloc::{AllocError, Global};
 use std::rt::{Files, Runtime};
 
 // Returns the paths of the files and folders of a set in its folder: those of the first parts of all names.
-fn tops_of<R: Files>(
+fn paths_in<R: Files>(
     rt: &R,
     alloc: Global,
     folder: &str,
     set: &Description,
 ) -> Result<Vec<String>, AllocError> {
-    let mut tops: Vec<String> = Vec::new(alloc);
-    for entry in &set.entries {
-        let name = text_of(entry.name.as_slice()).unwrap_or("");
-        let top = match name.split_once('/') {
-            Some((top, _)) => top,
-            None => name,
-        };
+    let mut paths = Vec::new(alloc);
+    for top in tops_of(alloc, set)? {
         let path = path_in(alloc, folder, top)?;
-        let is_new = match tops.last() {
-            Some(last) => last.as_str() != path.as_str(),
-            None => true,
-        };
-        if is_new && !top.is_empty() && exists(rt, path.as_str()) {
-            tops.push(path)?;
+        if exists(rt, path.as_str()) {
+            paths.push(path)?;
         }
     }
-    Ok(tops)
+    Ok(paths)
 }
 
 // Returns the share of recovery blocks of a set in percent, at least 1.
@@ -78,7 +69,6 @@ pub fn update<R: Runtime>(rt: &R, alloc: Global, request: &Request) -> Result<u8
             "name one volume: the volumes of split are made again with split --force",
         ));
     };
-    let folder = folder_of(request)?;
     let old = open_request(rt, alloc, request)?;
     let set = &old.set.description;
     if set.volumes > 1 {
@@ -86,12 +76,14 @@ pub fn update<R: Runtime>(rt: &R, alloc: Global, request: &Request) -> Result<u8
         return Err(Failure::at(alloc, volume.as_str(), reason));
     }
     let recovery = request.recovery.unwrap_or(share_of(set));
-    let tops = tops_of(rt, alloc, folder, set)?;
+    let folder = folder_of(rt, alloc, request, set)?;
+    let tops = paths_in(rt, alloc, folder.as_str(), set)?;
     if tops.is_empty() {
         let reason =
-            "nothing of the set is in this folder: if its files are in another folder, name \
-                      that with --folder. If they have other names now, make a volume with create";
-        return Err(Failure::at(alloc, folder, reason));
+            "nothing of the set is in this folder: if its files are in another folder, name that with \
+             --folder. If they were renamed, give them their old names, or use create NEW -o VOLUME --force, \
+             which compares as update does";
+        return Err(Failure::at(alloc, folder.as_str(), reason));
     }
     let outputs = [volume.clone()?];
     let task = Task {

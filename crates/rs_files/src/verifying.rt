@@ -1,6 +1,6 @@
 //! `verify`: looks for damage.
 use crate::checked::Checked;
-use crate::json::{add, add_text};
+use crate::json::{add_text, object_of};
 use crate::log::Log;
 use crate::looking::{Look, folder_for, folder_of, look_for, open_request};
 use crate::quick::{verify_named, verify_quick};
@@ -11,7 +11,7 @@ use rs_folders::counted::Counted;
 use rs_folders::failure::Result;
 use rs_folders::names::Shown;
 use rs_volumes::description::Version;
-use serde_json::{Map, Value};
+use serde_json::Value;
 use std::alloc::{AllocError, Global};
 use std::io;
 use std::rt::Runtime;
@@ -117,9 +117,18 @@ fn tell_spread<R: Print>(rt: &R, scan: &Scan, counts: Counts) -> io::Result<()> 
     let (lost, left, r) = (counts.lost, counts.recovery, counts.recovery_count);
     let damaged = r.saturating_sub(left);
     if lost > 0 || damaged > 0 {
+        let again = if can_rebuild(scan) {
+            ", and repair writes damaged volumes again"
+        } else {
+            ""
+        };
         println!(rt;
             "{lost} of {k} original blocks and {damaged} of {r} recovery blocks are not in these \
-             volumes: restore can still make all files"
+             volumes: restore can still make all files{again}"
+        )
+    } else if can_rebuild(scan) {
+        println!(rt;
+            "a volume is damaged, but all blocks are in these volumes: repair writes damaged volumes again"
         )
     } else if !scan.has_whole_volumes() {
         println!(rt;
@@ -203,44 +212,38 @@ pub fn add_counts(log: &mut Log, scan: &Scan) -> Result<(), AllocError> {
     ])
 }
 
-// Returns the name of a volume and a word for its state as JSON.
-fn volume_json(alloc: Global, name: &str, word: &str) -> Result<Map<String, Value>, AllocError> {
-    let mut object = Map::new(alloc);
+// Returns the name of a volume, a word for its state and numbers as JSON.
+fn volume_json(
+    alloc: Global,
+    name: &str,
+    word: &str,
+    numbers: &[(&str, u64)],
+) -> Result<Value, AllocError> {
+    let mut object = object_of(alloc, numbers)?;
     add_text(alloc, &mut object, "name", name)?;
     add_text(alloc, &mut object, "state", word)?;
-    Ok(object)
+    Ok(Value::Object(object))
 }
 
-// Returns the volumes with their states as JSON.
-fn volumes_json(alloc: Global, scan: &Scan) -> Result<Value, AllocError> {
+// Returns the volumes that can be read with their states as JSON.
+fn volumes_json(alloc: Global, scan: &Scan) -> Result<Vec<Value>, AllocError> {
     let mut volumes = Vec::new(alloc);
     for volume in &scan.volumes {
         let damage = volume.damage;
         let word = if damage.is_none() { "whole" } else { "damaged" };
-        let mut object = volume_json(alloc, volume.path.as_str(), word)?;
-        add(
-            alloc,
-            &mut object,
-            "damaged_blocks",
-            Value::from(damage.blocks),
-        )?;
-        add(
-            alloc,
-            &mut object,
-            "damaged_parts",
-            Value::from(damage.parts),
-        )?;
-        volumes.push(Value::Object(object))?;
+        let numbers = [
+            ("damaged_blocks", damage.blocks),
+            ("damaged_parts", damage.parts),
+        ];
+        volumes.push(volume_json(alloc, volume.path.as_str(), word, &numbers)?)?;
     }
-    add_unreadable(alloc, scan, &mut volumes)?;
-    Ok(Value::Array(volumes))
+    Ok(volumes)
 }
 
 // Appends the volumes that cannot be read, as JSON.
 fn add_unreadable(alloc: Global, scan: &Scan, volumes: &mut Vec<Value>) -> Result<(), AllocError> {
     for path in &scan.unreadable {
-        let object = volume_json(alloc, path.as_str(), "unreadable")?;
-        volumes.push(Value::Object(object))?;
+        volumes.push(volume_json(alloc, path.as_str(), "unreadable", &[])?)?;
     }
     Ok(())
 }
@@ -259,27 +262,29 @@ fn add_unreadable(alloc: Global, scan: &Scan, volumes: &mut Vec<Value>) -> Resul
 ///
 /// Every step fails if memory cannot be allocated.
 pub fn verify<R: Runtime>(rt: &R, alloc: Global, request: &Request) -> Result<u8> {
-    let folder = folder_of(request)?;
     let volumes = open_request(rt, alloc, request)?;
     let set = &volumes.set.description;
     if request.quick {
-        return verify_quick(rt, alloc, request, set, folder);
+        let folder = folder_of(rt, alloc, request, set)?;
+        return verify_quick(rt, alloc, request, set, folder.as_str());
     }
-    let searched = folder_for(request, set)?;
-    if searched.is_some() {
-        if let Some(status) = verify_named(rt, alloc, request, set, folder)? {
+    let searched = folder_for(rt, alloc, request, set)?;
+    if let Some(folder) = &searched {
+        if let Some(status) = verify_named(rt, alloc, request, set, folder.as_str())? {
             return Ok(status);
         }
     }
-    let found = look_for(rt, alloc, request, volumes, searched)?;
+    let found = look_for(rt, alloc, request, volumes, searched.as_deref())?;
     let mut log = Log::new(alloc, request, &["moved"])?;
     found.note_moved(&mut log)?;
     let status = status_of(alloc, &found)?;
-    report(rt, &found, folder, &log, status)?;
+    report(rt, &found, searched.as_deref().unwrap_or(""), &log, status)?;
     if log.is_kept() {
         add_counts(&mut log, &found.scan)?;
         log.set("files", checked(&found).json(alloc)?)?;
-        log.set("volumes", volumes_json(alloc, &found.scan)?)?;
+        let mut volumes = volumes_json(alloc, &found.scan)?;
+        add_unreadable(alloc, &found.scan, &mut volumes)?;
+        log.set("volumes", Value::Array(volumes))?;
     }
     log.end(rt, status)
 }

@@ -42,10 +42,10 @@ impl Folders {
     // Adds the folder of a path, unless it was added last.
     fn add(&mut self, alloc: Global, path: &str) -> Result<(), AllocError> {
         let folder = folder_to_open(parent_of(path));
-        let is_last = match self.changed.last() {
-            Some(last) => last.as_str() == folder,
-            None => false,
-        };
+        let is_last = self
+            .changed
+            .last()
+            .is_some_and(|last| last.as_str() == folder);
         if !is_last {
             self.changed.push(String::from_str(alloc, folder)?)?;
         }

@@ -1,7 +1,9 @@
 //! The SHA-256 of the bytes of files.
+use crate::identity::open_regular;
 use sha2::{Digest, Sha256};
 use std::io;
 use std::io::{Read, Seek, SeekFrom};
+use std::rt::Files;
 
 /// How many bytes are read at a time.
 pub const CHUNK: usize = 1 << 18;
@@ -60,4 +62,21 @@ pub fn hash_at<F: Read + Seek>(
     file.seek(SeekFrom::Start(offset))?;
     add_bytes(&mut hasher, file, count, buffer)?;
     Ok(hasher.finalize())
+}
+
+/// Returns the SHA-256 of the first `size` bytes of the regular file at a path. `follows` says whether a symbolic link
+/// there is followed.
+///
+/// # Errors
+///
+/// Fails for a reason of [`open_regular`] or [`hash_at`].
+pub fn hash_path<R: Files>(
+    rt: &R,
+    path: &str,
+    follows: bool,
+    size: u64,
+    buffer: &mut [u8],
+) -> io::Result<[u8; 32]> {
+    let mut file = open_regular(rt, path, follows)?;
+    hash_at(&mut file, 0, size, buffer)
 }

@@ -31,19 +31,17 @@ pub fn exists<R: Files>(rt: &R, path: &str) -> bool {
 /// Returns the identity of a file. A symbolic link has the identity of the file to which it leads. Returns `None` if
 /// there is no file, or if its metadata cannot be read.
 pub fn identity_of<R: Files>(rt: &R, path: &str) -> Option<Identity> {
-    match fs::metadata(rt, path) {
-        Ok(metadata) => Some(Identity::of(&metadata)),
-        Err(_) => None,
-    }
+    fs::metadata(rt, path)
+        .ok()
+        .map(|metadata| Identity::of(&metadata))
 }
 
 /// Returns the identity of what is at a path, which may be a symbolic link. Returns `None` if there is nothing, or if
 /// its metadata cannot be read.
 pub fn identity_at<R: Files>(rt: &R, path: &str) -> Option<Identity> {
-    match fs::symlink_metadata(rt, path) {
-        Ok(metadata) => Some(Identity::of(&metadata)),
-        Err(_) => None,
-    }
+    fs::symlink_metadata(rt, path)
+        .ok()
+        .map(|metadata| Identity::of(&metadata))
 }
 
 /// Returns the identities of the files at those of the paths at which there is a file.
@@ -70,10 +68,7 @@ pub fn is_one_of<R: Files>(rt: &R, path: &str, identities: &[Identity]) -> bool 
     if identities.is_empty() {
         return false;
     }
-    match identity_of(rt, path) {
-        Some(own) => identities.contains(&own),
-        None => false,
-    }
+    identity_of(rt, path).is_some_and(|own| identities.contains(&own))
 }
 
 /// Returns the error for a file that has replaced the one that was found or made.

@@ -37,7 +37,7 @@ fn tell_leftovers_of<R: Files + Eprint>(
     let mut part = format!(in alloc; "{front}.{PART}")?;
     for number in 2..u32::MAX {
         let is_left = exists(rt, part.as_str());
-        if !is_left && number > 2 {
+        if !is_left && number > 3 {
             break;
         }
         if is_left && !paths.iter().any(|other| other.as_str() == part.as_str()) {

@@ -94,10 +94,7 @@ pub fn parent_of(path: &str) -> &str {
 
 /// Returns the last part of a path: the text after the last slash.
 pub fn last_of(path: &str) -> &str {
-    match path.rsplit_once('/') {
-        Some((_, name)) => name,
-        None => path,
-    }
+    path.rsplit_once('/').map_or(path, |(_, name)| name)
 }
 
 /// The ending of the name of a file that is being written. No other program gives a file such a name, so a file that
@@ -124,10 +121,8 @@ pub fn shortened(path: &str) -> &str {
     let cut = name
         .len()
         .saturating_sub(name.floor_char_boundary(FRONT_BYTES));
-    match path.split_at_checked(path.len().saturating_sub(cut)) {
-        Some((front, _)) => front,
-        None => path,
-    }
+    let front = path.split_at_checked(path.len().saturating_sub(cut));
+    front.map_or(path, |(front, _)| front)
 }
 
 /// Returns a path without the slashes at its end. A path of slashes alone is not changed.

@@ -1,7 +1,7 @@
 //! Where restored entries may be written, and how they get their attributes and their final names.
 use crate::failure::{Failure, Result, warn};
 use crate::folders::Folders;
-use crate::identity::{Identity, exists, identity_at, is_one_of, open_found, replaced};
+use crate::identity::{Identity, exists, identities, identity_at, is_one_of, open_found, replaced};
 use crate::names::{Name, PART, path_in, text_of};
 use crate::output::{Part, at_path, free_path};
 use rs_volumes::description::{Description, Entry, Kind};
@@ -17,6 +17,9 @@ use std::{fs, io};
 /// the owner is another one after a restore.
 const RESTORED_BITS: u32 = 0o777;
 
+/// The permission bits of a file while it is written: nobody else may read it.
+const PART_MODE: u32 = 0o600;
+
 /// Where restored entries are written.
 #[derive(Clone, Copy)]
 pub struct Goal<'a> {
@@ -30,69 +33,242 @@ pub struct Goal<'a> {
     pub set: &'a Description,
 }
 
-/// An entry that is restored, with its path.
+// An entry that is restored, with its path.
 #[derive(Drop)]
-pub struct Target<'a> {
-    /// The entry.
-    pub entry: &'a Entry,
-    /// Its name.
-    pub name: &'a str,
-    /// Its path below the folder of the goal.
-    pub path: String,
+struct Target<'a> {
+    entry: &'a Entry,
+    name: &'a str,
+    // Its path below the folder of the goal.
+    path: String,
 }
 
-impl<'a> Target<'a> {
-    /// Returns the entry with its path.
+/// A restore of entries.
+#[derive(Drop)]
+pub struct Placing<'a, R: Files + Eprint> {
+    rt: &'a R,
+    alloc: Global,
+    goal: Goal<'a>,
+    // The files and volumes that are read. No restored file may replace one of them.
+    inputs: Vec<Identity>,
+    // The folders in which entries are restored.
+    folders: Folders,
+}
+
+impl<'a, R: Files + Eprint> Placing<'a, R> {
+    /// Begins a restore. `read` are the paths of the files and volumes that are read.
     ///
     /// # Errors
     ///
-    /// Fails if the name is not UTF-8, or if memory cannot be allocated.
-    pub fn of(alloc: Global, entry: &'a Entry, goal: Goal<'_>) -> Result<Target<'a>> {
+    /// Fails if memory cannot be allocated.
+    pub fn new(rt: &'a R, alloc: Global, goal: Goal<'a>, read: &[String]) -> Result<Self> {
+        let may_replace = !goal.in_place && goal.force;
+        let read = if may_replace { read } else { &[] };
+        Ok(Placing {
+            rt,
+            alloc,
+            goal,
+            inputs: identities(rt, alloc, read)?,
+            folders: Folders::new(alloc),
+        })
+    }
+
+    /// Checks that a file may be written, and begins its part.
+    ///
+    /// # Errors
+    ///
+    /// Fails if the name of the file is not UTF-8, if the file may not be written, or if the part cannot be begun.
+    pub fn begin_file(&mut self, entry: &Entry) -> Result<Part<R>> {
+        let target = self.target(entry)?;
+        self.check(&target)?;
+        let path = target.path.as_str();
+        self.folders.make_parent(self.rt, self.alloc, path)?;
+        let part = self.free_path(&target, PART)?;
+        Part::begin(self.rt, self.alloc, path, part, entry.size, PART_MODE)
+    }
+
+    /// Gives a restored file its permission bits, its time and its final name, and removes it if this fails. Returns
+    /// the path of the damaged file that was kept.
+    ///
+    /// If the bits or the time cannot be set, the function only prints a warning: the contents of the file are right,
+    /// and some file systems let nobody set these.
+    ///
+    /// # Errors
+    ///
+    /// Fails if the file cannot be opened again, synced or renamed, if it may not be written any more, or if the
+    /// damaged file cannot be kept.
+    pub fn finish_file(&mut self, mut part: Part<R>, entry: &Entry) -> Result<Option<String>> {
+        let outcome = self.name_file(&mut part, entry);
+        if outcome.is_err() {
+            part.remove(self.rt);
+        }
+        outcome
+    }
+
+    /// Makes a folder or a symbolic link, with its permission bits and its time. Returns the path of the damaged file
+    /// that was kept.
+    ///
+    /// # Errors
+    ///
+    /// Fails if the name or the target of a link is not UTF-8, if the entry may not be written, if it cannot be made,
+    /// or if the damaged file cannot be kept.
+    pub fn make_other(&mut self, entry: &Entry) -> Result<Option<String>> {
+        let target = self.target(entry)?;
+        self.check(&target)?;
+        self.folders
+            .make_parent(self.rt, self.alloc, target.path.as_str())?;
+        match entry.kind {
+            Kind::Link => self.make_link(&target),
+            _ => self.make_folder(&target),
+        }
+    }
+
+    /// Syncs each folder with a new name.
+    pub fn sync(&mut self) {
+        self.folders.sync(self.rt);
+    }
+
+    /// Removes the new folders in which nothing is.
+    pub fn remove_empty(&mut self) {
+        self.folders.remove_empty(self.rt);
+    }
+
+    // Returns an entry with its path. Fails if its name is not UTF-8.
+    fn target<'b>(&self, entry: &'b Entry) -> Result<Target<'b>> {
         let Some(name) = text_of(entry.name.as_slice()) else {
-            let shown = format!(in alloc; "{}", Name(entry.name.as_slice()))?;
+            let shown = format!(in self.alloc; "{}", Name(entry.name.as_slice()))?;
             let reason = "this name is not UTF-8: this program cannot restore it";
-            return Err(Failure::at(alloc, shown.as_str(), reason));
+            return Err(Failure::at(self.alloc, shown.as_str(), reason));
         };
         Ok(Target {
             entry,
             name,
-            path: path_in(alloc, goal.folder, name)?,
+            path: path_in(self.alloc, self.goal.folder, name)?,
         })
     }
-}
 
-/// Checks that an entry may be written: no folder above it, below the folder of the goal, is a symbolic link, and
-/// nothing is in its place that may not be replaced.
-///
-/// # Errors
-///
-/// Fails if it may not be written, if the system cannot say what is in its place, or if memory cannot be allocated.
-pub fn check_target<R: Files>(
-    rt: &R,
-    alloc: Global,
-    target: &Target<'_>,
-    goal: Goal<'_>,
-    inputs: &[Identity],
-) -> Result<()> {
-    let path = target.path.as_str();
-    if leads_away(rt, alloc, goal.folder, target.name)? {
-        let reason =
-            "a folder of its path is a symbolic link: restore it into another folder with --to";
-        return Err(Failure::at(alloc, path, reason));
+    // Returns a path that nothing has: that of an entry with an ending.
+    fn free_path(&self, target: &Target<'_>, ending: &str) -> Result<String> {
+        let Goal { folder, set, .. } = self.goal;
+        free_path(self.rt, self.alloc, folder, target.name, ending, Some(set))
     }
-    let found = match fs::symlink_metadata(rt, path) {
-        Ok(found) => found,
-        Err(error) if error.kind() == ErrorKind::NotFound => return Ok(()),
-        Err(error) => return Err(Failure::at(alloc, path, error)),
-    };
-    match obstacle(
-        goal,
-        target.entry.kind,
-        found.is_dir(),
-        is_one_of(rt, path, inputs),
-    ) {
-        Some(reason) => Err(Failure::at(alloc, path, reason)),
-        None => Ok(()),
+
+    // Checks that an entry may be written: no folder above it, below the folder of the goal, is a symbolic link, and
+    // nothing has its name that may not be replaced.
+    fn check(&self, target: &Target<'_>) -> Result<()> {
+        let path = target.path.as_str();
+        if leads_away(self.rt, self.alloc, self.goal.folder, target.name)? {
+            let reason =
+                "a folder of its path is a symbolic link: restore it into another folder with --to";
+            return Err(Failure::at(self.alloc, path, reason));
+        }
+        let found = match fs::symlink_metadata(self.rt, path) {
+            Ok(found) => found,
+            Err(error) if error.kind() == ErrorKind::NotFound => return Ok(()),
+            Err(error) => return Err(Failure::at(self.alloc, path, error)),
+        };
+        let is_input = is_one_of(self.rt, path, self.inputs.as_slice());
+        match obstacle(self.goal, target.entry.kind, found.is_dir(), is_input) {
+            Some(reason) => Err(Failure::at(self.alloc, path, reason)),
+            None => Ok(()),
+        }
+    }
+
+    // Gives a restored file its permission bits, its time and its final name. Returns the path of the damaged file that
+    // was kept.
+    fn name_file(&mut self, part: &mut Part<R>, entry: &Entry) -> Result<Option<String>> {
+        let outcome = match part.open(self.rt) {
+            Ok(handle) => Ok(attributes_set(handle, entry)),
+            Err(error) => Err(error),
+        };
+        let attributes = at_path(self.alloc, part.path.as_str(), outcome)?;
+        warn_unset(self.rt, part.path.as_str(), attributes);
+        part.sync(self.rt, self.alloc)?;
+        let target = self.target(entry)?;
+        let kept = self.make_room(&target)?;
+        let named = part.rename(self.rt, self.alloc);
+        self.settle(&target, named, kept)
+    }
+
+    // Makes a symbolic link under another name, and gives it its final name. Returns the path of the damaged file that
+    // was kept. Fails if the target of the link is not UTF-8.
+    fn make_link(&mut self, target: &Target<'_>) -> Result<Option<String>> {
+        let (rt, path) = (self.rt, target.path.as_str());
+        let Some(text) = text_of(target.entry.target.as_slice()) else {
+            let reason =
+                "the target of this symbolic link is not UTF-8: this program cannot restore it";
+            return Err(Failure::at(self.alloc, path, reason));
+        };
+        let part = self.free_path(target, PART)?;
+        at_path(self.alloc, path, symlink(rt, text, part.as_str()))?;
+        let own = identity_at(rt, part.as_str());
+        let outcome = match self.make_room(target) {
+            Ok(kept) => {
+                let named = at_path(self.alloc, path, rename_link(rt, part.as_str(), path, own));
+                self.settle(target, named, kept)
+            }
+            Err(failure) => Err(failure),
+        };
+        if outcome.is_err() && own.is_some() && identity_at(rt, part.as_str()) == own {
+            let _ = fs::remove_file(rt, part.as_str());
+        }
+        outcome
+    }
+
+    // Makes a folder, and gives it its permission bits and its time. Returns the path of the damaged file that was
+    // kept.
+    fn make_folder(&mut self, target: &Target<'_>) -> Result<Option<String>> {
+        let (rt, path) = (self.rt, target.path.as_str());
+        let kept = self.make_room(target)?;
+        let named = at_path(self.alloc, path, fs::create_dir_all(rt, path));
+        let kept = self.settle(target, named, kept)?;
+        let found = at_path(self.alloc, path, fs::symlink_metadata(rt, path))?;
+        let attributes = at_path(self.alloc, path, folder_set(rt, path, &found, target.entry))?;
+        warn_unset(rt, path, attributes);
+        Ok(kept)
+    }
+
+    // Makes room for a restored entry at its path: checks its path again, because something may have changed, and keeps
+    // the damaged file there, if the entry was damaged in place. Returns the path of the damaged file that was kept.
+    fn make_room(&self, target: &Target<'_>) -> Result<Option<String>> {
+        self.check(target)?;
+        if self.goal.in_place {
+            self.keep_damaged(target)
+        } else {
+            Ok(None)
+        }
+    }
+
+    // Does what [`settle`] does, for an entry.
+    fn settle(
+        &mut self,
+        target: &Target<'_>,
+        named: Result<()>,
+        kept: Option<String>,
+    ) -> Result<Option<String>> {
+        let path = target.path.as_str();
+        settle(self.rt, self.alloc, path, named, kept, &mut self.folders)
+    }
+
+    // Gives a damaged file a second name, `NAME.damaged` or `NAME.damaged2` and so on, if the file exists. Returns the
+    // path of this name. A folder that has the name of a folder is not damaged.
+    //
+    // The file keeps its own name too, until the restored file takes it. So the program can be killed at any moment,
+    // and the next run finds the file. A file system without hard links gets the file renamed. A folder cannot take the
+    // name of a file, so then the file is renamed as well.
+    fn keep_damaged(&self, target: &Target<'_>) -> Result<Option<String>> {
+        let (rt, path) = (self.rt, target.path.as_str());
+        let is_folder = target.entry.kind == Kind::Folder;
+        if !exists(rt, path) || is_folder && is_real_folder(rt, path) {
+            return Ok(None);
+        }
+        let kept = self.free_path(target, "damaged")?;
+        let outcome = if is_folder {
+            fs::rename(rt, path, kept.as_str())
+        } else {
+            link_or_rename(rt, path, kept.as_str())
+        };
+        at_path(self.alloc, path, outcome)?;
+        Ok(Some(kept))
     }
 }
 
@@ -105,11 +281,11 @@ fn obstacle(goal: Goal<'_>, kind: Kind, is_folder: bool, is_input: bool) -> Opti
         }
         Kind::Link if is_folder => {
             return Some(
-                "a folder is in the place of this symbolic link: remove it or give it another name",
+                "a folder has the name of this symbolic link: remove it or give it another name",
             );
         }
         _ if is_folder => {
-            return Some("a folder is in the place of this file: remove it or give it another name");
+            return Some("a folder has the name of this file: remove it or give it another name");
         }
         _ => {}
     }
@@ -139,38 +315,14 @@ fn leads_away<R: Files>(rt: &R, alloc: Global, folder: &str, name: &str) -> Resu
 
 // Returns whether a path is a symbolic link.
 fn is_link<R: Files>(rt: &R, path: &str) -> bool {
-    match fs::symlink_metadata(rt, path) {
-        Ok(metadata) => metadata.file_type().is_symlink(),
-        Err(_) => false,
-    }
+    fs::symlink_metadata(rt, path).is_ok_and(|found| found.is_symlink())
 }
 
-/// Gives a restored file its permission bits and the time of its last change, and syncs it. If the bits or the time
-/// cannot be set, the function only prints a warning: the contents of the file are right, and some file systems let
-/// nobody set these.
-///
-/// # Errors
-///
-/// Fails if the file cannot be opened again, or cannot be synced.
-pub fn complete<R: Files + Eprint>(
-    rt: &R,
-    alloc: Global,
-    part: &mut Part<R>,
-    entry: &Entry,
-) -> Result<()> {
-    let outcome = match part.open(rt) {
-        Ok(handle) => Ok(attributes_set(handle, entry)),
-        Err(error) => Err(error),
-    };
-    let path = part.path.as_str();
-    let (mode, time) = at_path(alloc, path, outcome)?;
-    warn_unset(rt, path, "its permission bits", mode);
-    warn_unset(rt, path, "the time of its last change", time);
-    part.sync(rt, alloc)
-}
+// What became of the permission bits and of the time of an entry.
+type Attributes = (io::Result<()>, io::Result<()>);
 
 // Sets the permission bits and the time of the last change of a file or a folder, and returns both outcomes.
-fn attributes_set<F: OpenFile>(handle: &F, entry: &Entry) -> (io::Result<()>, io::Result<()>) {
+fn attributes_set<F: OpenFile>(handle: &F, entry: &Entry) -> Attributes {
     let mode = handle.set_permissions(Permissions::from_mode(entry.mode & RESTORED_BITS));
     (mode, set_time(handle, entry))
 }
@@ -188,52 +340,18 @@ fn set_time<F: OpenFile>(handle: &F, entry: &Entry) -> io::Result<()> {
     Ok(())
 }
 
-// Prints a warning if something of an entry could not be set.
-fn warn_unset<R: Eprint>(rt: &R, path: &str, what: &'static str, outcome: io::Result<()>) {
-    if let Err(error) = outcome {
-        warn(
-            rt,
-            path,
-            format_args!("warning: {what} cannot be set: {error}"),
-        );
-    }
-}
-
-/// Makes a symbolic link under another name, and gives it its final name. Returns the path of the damaged file that was
-/// kept.
-///
-/// # Errors
-///
-/// Fails if the target is not UTF-8, if the link cannot be made, or for a reason of [`make_room`].
-pub fn make_link<R: Files + Eprint>(
-    rt: &R,
-    alloc: Global,
-    target: &Target<'_>,
-    goal: Goal<'_>,
-    inputs: &[Identity],
-    folders: &mut Folders,
-) -> Result<Option<String>> {
-    let path = target.path.as_str();
-    let Some(text) = text_of(target.entry.target.as_slice()) else {
-        let reason =
-            "the target of this symbolic link is not UTF-8: this program cannot restore it";
-        return Err(Failure::at(alloc, path, reason));
-    };
-    folders.make_parent(rt, alloc, path)?;
-    let part = free_path(rt, alloc, goal.folder, target.name, PART, Some(goal.set))?;
-    at_path(alloc, path, symlink(rt, text, part.as_str()))?;
-    let own = identity_at(rt, part.as_str());
-    let outcome = match make_room(rt, alloc, target, goal, inputs) {
-        Ok(kept) => {
-            let named = at_path(alloc, path, rename_link(rt, part.as_str(), path, own));
-            settle(rt, alloc, path, named, kept, folders)
+// Prints a warning for each attribute that could not be set.
+fn warn_unset<R: Eprint>(rt: &R, path: &str, attributes: Attributes) {
+    let named = [
+        ("its permission bits", attributes.0),
+        ("the time of its last change", attributes.1),
+    ];
+    for (what, outcome) in named {
+        if let Err(error) = outcome {
+            let reason = format_args!("warning: {what} cannot be set: {error}");
+            warn(rt, path, reason);
         }
-        Err(failure) => Err(failure),
-    };
-    if outcome.is_err() && own.is_some() && identity_at(rt, part.as_str()) == own {
-        let _ = fs::remove_file(rt, part.as_str());
     }
-    outcome
 }
 
 // Renames a symbolic link. `own` is the identity that it had when it was made.
@@ -249,31 +367,6 @@ fn rename_link<R: Files>(rt: &R, part: &str, path: &str, own: Option<Identity>) 
     }
 }
 
-/// Makes a folder, and gives it its permission bits and its time. Returns the path of the damaged file that was kept.
-///
-/// # Errors
-///
-/// Fails for a reason of [`make_room`], or if the folder cannot be made.
-pub fn make_folder<R: Files + Eprint>(
-    rt: &R,
-    alloc: Global,
-    target: &Target<'_>,
-    goal: Goal<'_>,
-    inputs: &[Identity],
-    folders: &mut Folders,
-) -> Result<Option<String>> {
-    let path = target.path.as_str();
-    folders.make_parent(rt, alloc, path)?;
-    let kept = make_room(rt, alloc, target, goal, inputs)?;
-    let named = at_path(alloc, path, fs::create_dir_all(rt, path));
-    let kept = settle(rt, alloc, path, named, kept, folders)?;
-    let found = at_path(alloc, path, fs::symlink_metadata(rt, path))?;
-    let (mode, time) = at_path(alloc, path, folder_set(rt, path, &found, target.entry))?;
-    warn_unset(rt, path, "its permission bits", mode);
-    warn_unset(rt, path, "the time of its last change", time);
-    Ok(kept)
-}
-
 // Sets the permission bits and the time of the last change of a folder that was found at a path, and returns both
 // outcomes. Fails if the folder cannot be opened, or if something else is there now.
 fn folder_set<R: Files>(
@@ -281,32 +374,11 @@ fn folder_set<R: Files>(
     path: &str,
     found: &Metadata,
     entry: &Entry,
-) -> io::Result<(io::Result<()>, io::Result<()>)> {
+) -> io::Result<Attributes> {
     let mut options = OpenOptions::new();
     options.read(true);
     let handle = open_found(rt, &options, path, found)?;
     Ok(attributes_set(&handle, entry))
-}
-
-/// Makes room for a restored entry at its path: checks its path again, because something may have changed, and keeps
-/// the damaged file there, if the entry was damaged in place. Returns the path of the damaged file that was kept.
-///
-/// # Errors
-///
-/// Fails for a reason of [`check_target`], or if the damaged file cannot be kept.
-pub fn make_room<R: Files>(
-    rt: &R,
-    alloc: Global,
-    target: &Target<'_>,
-    goal: Goal<'_>,
-    inputs: &[Identity],
-) -> Result<Option<String>> {
-    check_target(rt, alloc, target, goal, inputs)?;
-    if goal.in_place {
-        keep_damaged(rt, alloc, target, goal)
-    } else {
-        Ok(None)
-    }
 }
 
 /// Notes that the folder of a restored entry that has got its name must be synced, and returns the path of the damaged
@@ -336,46 +408,9 @@ pub fn settle<R: Files + Eprint>(
     }
 }
 
-// Gives a damaged file a second name, `NAME.damaged` or `NAME.damaged2` and so on, if the file exists. Returns the path
-// of this name. A folder that is in its place for a folder is not damaged.
-//
-// The file keeps its own name too, until the restored file takes it. So the program can be killed at any moment, and
-// the next run finds the file. A file system without hard links gets the file renamed. A folder cannot take the name of
-// a file, so then the file is renamed as well.
-fn keep_damaged<R: Files>(
-    rt: &R,
-    alloc: Global,
-    target: &Target<'_>,
-    goal: Goal<'_>,
-) -> Result<Option<String>> {
-    let path = target.path.as_str();
-    let is_folder = target.entry.kind == Kind::Folder;
-    if !exists(rt, path) || is_folder && is_real_folder(rt, path) {
-        return Ok(None);
-    }
-    let kept = free_path(
-        rt,
-        alloc,
-        goal.folder,
-        target.name,
-        "damaged",
-        Some(goal.set),
-    )?;
-    let outcome = if is_folder {
-        fs::rename(rt, path, kept.as_str())
-    } else {
-        link_or_rename(rt, path, kept.as_str())
-    };
-    at_path(alloc, path, outcome)?;
-    Ok(Some(kept))
-}
-
 // Returns whether a folder is at a path, and no symbolic link to one.
 fn is_real_folder<R: Files>(rt: &R, path: &str) -> bool {
-    match fs::symlink_metadata(rt, path) {
-        Ok(found) => found.is_dir(),
-        Err(_) => false,
-    }
+    fs::symlink_metadata(rt, path).is_ok_and(|found| found.is_dir())
 }
 
 /// Gives a file a second name, or another name if it cannot have two.

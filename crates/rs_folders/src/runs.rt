@@ -64,8 +64,5 @@ pub fn is_padded(places: &[Place], start: u64, piece: &[u8]) -> bool {
 
 // Returns whether all bytes are zeros, also if there are none.
 fn are_zeros(bytes: Option<&[u8]>) -> bool {
-    match bytes {
-        Some(bytes) => bytes.iter().all(|byte| *byte == 0),
-        None => true,
-    }
+    bytes.is_none_or(|bytes| bytes.iter().all(|byte| *byte == 0))
 }

@@ -8,7 +8,7 @@ use crate::runs::{places_in, places_of_piece, run_of};
 use rs_volumes::coding_error::CodingError;
 use rs_volumes::pieces::BlockSource;
 use rs_volumes::placement::Place;
-use std::alloc::{AllocError, Global};
+use std::alloc::Global;
 use std::io;
 use std::io::{ErrorKind, Read, Seek, SeekFrom};
 use std::rt::{Clock, Files};
@@ -113,11 +113,8 @@ impl<'a, R: Files + Clock + Eprint> FileBlocks<'a, R> {
         let CodingError::Read(index, _) = error else {
             return "";
         };
-        let holder = match self.failed {
-            Some(holder) => holder,
-            None => self.holders.holder_of(*index).unwrap_or(usize::MAX),
-        };
-        match self.holders.paths.get(holder) {
+        let holder = self.failed.or(self.holders.holder_of(*index));
+        match self.holders.paths.get(holder.unwrap_or(usize::MAX)) {
             Some(path) => path.as_str(),
             None => "",
         }
@@ -178,64 +175,6 @@ impl<'a, R: Files + Clock + Eprint> BlockSource for FileBlocks<'a, R> {
         let mut piece = vec![in self.alloc; 0u8; end - start]?;
         self.read(index, start as u64, &mut piece)?;
         self.progress.advance(self.rt, (end - start) as u64);
-        Ok(piece)
-    }
-}
-
-/// A source of blocks that also computes the sums of the original blocks, which are read piece by piece.
-#[derive(Drop)]
-pub struct SummedBlocks<'a, R: Files + Clock + Eprint> {
-    /// The source.
-    pub blocks: FileBlocks<'a, R>,
-    // For each block the sum of its bytes, and the sum of these sums after each byte. Both are modulo 2^32.
-    sums: Vec<(u32, u32)>,
-}
-
-impl<'a, R: Files + Clock + Eprint> SummedBlocks<'a, R> {
-    /// Makes a source of `count` blocks.
-    ///
-    /// # Errors
-    ///
-    /// [`AllocError`] if memory cannot be allocated.
-    pub fn new(blocks: FileBlocks<'a, R>, count: usize) -> Result<SummedBlocks<'a, R>, AllocError> {
-        let sums = vec![in blocks.alloc; (0, 0); count]?;
-        Ok(SummedBlocks { blocks, sums })
-    }
-
-    /// Returns the sums of all blocks as they are in a description: of each block 4 bytes for the sum of its bytes, and
-    /// 4 bytes for the sum of the products of each byte and the number of bytes from it to the end of the block.
-    ///
-    /// # Errors
-    ///
-    /// [`AllocError`] if memory cannot be allocated.
-    pub fn sums(&self) -> Result<Vec<u8>, AllocError> {
-        let mut bytes = Vec::new(self.blocks.alloc);
-        for (plain, weighted) in &self.sums {
-            bytes.extend_from_slice(&plain.to_le_bytes())?;
-            bytes.extend_from_slice(&weighted.to_le_bytes())?;
-        }
-        Ok(bytes)
-    }
-}
-
-// Returns the sums of a block after more of its bytes.
-fn summed(sums: (u32, u32), bytes: &[u8]) -> (u32, u32) {
-    let (mut plain, mut weighted) = sums;
-    for byte in bytes {
-        plain = plain.wrapping_add(u32::from(*byte));
-        weighted = weighted.wrapping_add(plain);
-    }
-    (plain, weighted)
-}
-
-impl<'a, R: Files + Clock + Eprint> BlockSource for SummedBlocks<'a, R> {
-    ghost blocks = { λ _. nothing };
-
-    fn piece(&mut self, index: usize, start: usize, end: usize) -> io::Result<Vec<u8>> {
-        let piece = self.blocks.piece(index, start, end)?;
-        if let Some(sums) = self.sums.get_mut(index) {
-            *sums = summed(*sums, piece.as_slice());
-        }
         Ok(piece)
     }
 }

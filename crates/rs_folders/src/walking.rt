@@ -153,10 +153,9 @@ fn check_apart(alloc: Global, found: &[FoundEntry]) -> Result<()> {
     let mut previous: &[u8] = b"";
     for FoundEntry { entry, .. } in found {
         let name = entry.name.as_slice();
-        let is_below = match name.strip_prefix(previous) {
-            Some(rest) => !previous.is_empty() && (rest.is_empty() || rest.starts_with(b"/")),
-            None => false,
-        };
+        let is_below = name.strip_prefix(previous).is_some_and(|rest| {
+            !previous.is_empty() && (rest.is_empty() || rest.starts_with(b"/"))
+        });
         if is_below {
             let name = text_of(previous).unwrap_or("");
             return Err(Failure::at(alloc, name, "this file is given twice"));

@@ -18,10 +18,8 @@ const LEAST_MEMORY: u64 = 32 << 20;
 
 // Returns the number of 4 bytes at an offset, or 0 if there are too few bytes.
 fn number_at(bytes: &[u8], offset: usize) -> u64 {
-    match bytes.get(offset..).unwrap_or(&[]).first_chunk::<4>() {
-        Some(number) => u64::from(u32::from_le_bytes(*number)),
-        None => 0,
-    }
+    let number = bytes.get(offset..).unwrap_or(&[]).first_chunk::<4>();
+    number.map_or(0, |number| u64::from(u32::from_le_bytes(*number)))
 }
 
 // Returns about how many bytes of memory the program needs for a set whose description has `total` bytes, and begins

@@ -192,10 +192,8 @@ impl<'a, F: Read + Seek> Source<'a, F> {
 
     // Returns whether the copy of the description that belongs to the head at an offset is right.
     fn has_copy(&mut self, head: u64, set: &Set) -> bool {
-        match self.copy(set.description_bytes, head) {
-            Ok(bytes) => digest_of(bytes.as_slice()) == set.digest,
-            Err(_) => false,
-        }
+        let copy = self.copy(set.description_bytes, head);
+        copy.is_ok_and(|bytes| digest_of(bytes.as_slice()) == set.digest)
     }
 
     // Reads a volume with the head at an offset, and with both copies of the description.

@@ -126,16 +126,17 @@ impl Layout {
     }
 
     /// Returns how many copies of the description the volume has. It has more if it has many blocks and the copies take
-    /// at most 1 % of the bytes of the blocks. It has at least 5, or 3 if the description has more than 1 MiB.
+    /// at most 1 % of the bytes of the blocks. It has at least 5, or 3 if the description has more than 1 MiB, or if 5
+    /// copies take more than 64 KiB and more bytes than the blocks.
     pub fn copies(&self) -> u64 {
-        let least = if self.description_bytes <= 1 << 20 {
-            5
-        } else {
-            3
-        };
+        let (copy, records) = (
+            self.copy_bytes().max(1),
+            self.blocks.saturating_mul(self.record_bytes()),
+        );
+        let few = self.description_bytes > 1 << 20 || copy.saturating_mul(5) > records.max(1 << 16);
+        let least = if few { 3 } else { 5 };
         let many = 3 + u64::from(self.blocks.max(1).ilog2());
-        let hundred = self.copy_bytes().max(1).saturating_mul(100);
-        let fit = self.blocks.saturating_mul(self.record_bytes()) / hundred;
+        let fit = records / copy.saturating_mul(100);
         many.min(fit).max(least)
     }
 

@@ -53,10 +53,7 @@ pub struct Walk<F: Drop> {
 
 // Returns the valid head at the front of bytes.
 fn head_of(bytes: &[u8]) -> Option<RecordHead> {
-    match bytes.first_chunk::<RECORD_HEAD_BYTES>() {
-        Some(bytes) => read_record_head(bytes).ok(),
-        None => None,
-    }
+    read_record_head(bytes.first_chunk::<RECORD_HEAD_BYTES>()?).ok()
 }
 
 // Returns the first valid head in bytes, with its index.

@@ -196,10 +196,7 @@ pub fn open_volume<R: Files>(
 
 // Returns why no description can be used.
 fn fault_of(fault: Option<Failure>) -> Failure {
-    match fault {
-        Some(fault) => fault,
-        None => Failure::of("each copy of its description is damaged"),
-    }
+    fault.unwrap_or(Failure::of("each copy of its description is damaged"))
 }
 
 /// Opens volumes, and finds their set: that of the first description that is whole, in the order of the volumes and of

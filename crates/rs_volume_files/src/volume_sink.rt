@@ -57,15 +57,15 @@ pub fn part_of(alloc: Global, path: &str) -> Result<String, AllocError> {
     format!(in alloc; "{front}.{PART_ENDING}")
 }
 
-/// Returns the path under which a damaged volume is written again. It differs from that of a new volume: such a part
-/// says nothing about the other volumes of the set.
+/// Returns the path of another file that is written for a volume: with the number 2 that of a damaged volume that is
+/// written again. It differs from that of a new volume: such a part says nothing about the other volumes of the set.
 ///
 /// # Errors
 ///
 /// [`AllocError`] if memory cannot be allocated.
-pub fn second_part_of(alloc: Global, path: &str) -> Result<String, AllocError> {
+pub fn numbered_part_of(alloc: Global, path: &str, number: u32) -> Result<String, AllocError> {
     let front = shortened(path);
-    format!(in alloc; "{front}.{PART_ENDING}2")
+    format!(in alloc; "{front}.{PART_ENDING}{number}")
 }
 
 /// Checks that no other run of the program writes new volumes at these paths, and that no killed run has left parts of
@@ -106,9 +106,11 @@ pub fn check_parts<R: Files>(rt: &R, alloc: Global, paths: &[String]) -> Result<
     Err(Failure::at(alloc, left.as_str(), reason))
 }
 
-/// The volumes that a command writes.
+/// The volumes that a command writes. This sink writes blocks into them.
 #[derive(Drop)]
-pub struct Volumes<R: Files> {
+pub struct Volumes<'a, R: Files + Eprint> {
+    rt: &'a R,
+    alloc: Global,
     // The file of each volume, which is open and does not have its final name yet. `None` if the volume is not written.
     parts: Vec<Option<Part<R>>>,
     // How the blocks are dealt to the volumes.
@@ -121,10 +123,17 @@ pub struct Volumes<R: Files> {
     folders: Folders,
 }
 
-impl<R: Files> Volumes<R> {
+impl<'a, R: Files + Eprint> Volumes<'a, R> {
     /// Makes the volumes of a set, of which none has begun yet. The description will have `description_bytes` bytes.
-    pub fn new(alloc: Global, set: &Description, description_bytes: u64) -> Volumes<R> {
+    pub fn new(
+        rt: &'a R,
+        alloc: Global,
+        set: &Description,
+        description_bytes: u64,
+    ) -> Volumes<'a, R> {
         Volumes {
+            rt,
+            alloc,
             parts: Vec::new(alloc),
             deal: Deal::of(set.original_count, set.recovery_count, set.volumes),
             block_bytes: set.block_bytes,
@@ -149,7 +158,8 @@ impl<R: Files> Volumes<R> {
     /// # Errors
     ///
     /// Fails if its folder cannot be made, for a reason of [`Part::begin`], or if memory cannot be allocated.
-    pub fn begin(&mut self, rt: &R, alloc: Global, path: &str, part: String) -> Result<()> {
+    pub fn begin(&mut self, path: &str, part: String) -> Result<()> {
+        let (rt, alloc) = (self.rt, self.alloc);
         let size = self.layout(self.parts.len() as u64).size();
         self.folders.make_parent(rt, alloc, path)?;
         let part = Part::begin(rt, alloc, path, part, size, VOLUME_MODE)?;
@@ -189,12 +199,9 @@ impl<R: Files> Volumes<R> {
     /// - for each volume, if it cannot be synced,
     /// - for each volume, for a reason of [`check_output`],
     /// - if a volume cannot be renamed.
-    pub fn finish(&mut self, rt: &R, alloc: Global, force: bool) -> Result<()>
-    where
-        R: Eprint,
-    {
-        self.sync(rt, alloc)?;
-        self.check(rt, alloc, force)?;
+    pub fn finish(&mut self, force: bool) -> Result<()> {
+        self.sync()?;
+        self.check(force)?;
         let first = self
             .parts
             .iter()
@@ -203,18 +210,18 @@ impl<R: Files> Volumes<R> {
         let others = first.saturating_add(1)..self.parts.len();
         let has_others = !others.is_empty();
         if has_others {
-            self.sync_folders(rt, alloc);
+            self.sync_folders();
         }
-        self.rename(rt, alloc, first)?;
-        self.sync_folders(rt, alloc);
+        self.rename(first)?;
+        self.sync_folders();
         let mut outcome = Ok(());
         for number in others {
-            if let Err(failure) = self.rename(rt, alloc, number) {
+            if let Err(failure) = self.rename(number) {
                 outcome = Err(failure);
             }
         }
         if has_others {
-            self.sync_folders(rt, alloc);
+            self.sync_folders();
         }
         outcome
     }
@@ -227,62 +234,131 @@ impl<R: Files> Volumes<R> {
     ///
     /// Fails if a volume cannot be synced. Then, for each volume in turn, fails if the damaged one cannot be kept, or
     /// if the new one cannot be renamed. Then this damaged volume and those after it have only their own names.
-    pub fn replace(&mut self, rt: &R, alloc: Global, kept: &mut Vec<String>) -> Result<()>
-    where
-        R: Eprint,
-    {
-        self.sync(rt, alloc)?;
+    pub fn replace(&mut self, kept: &mut Vec<String>) -> Result<()> {
+        self.sync()?;
         let mut outcome = Ok(());
         for part in self.parts.iter().flatten() {
             if outcome.is_ok() {
-                outcome = replace_one(rt, alloc, part, &mut self.folders, kept);
+                outcome = replace_one(self.rt, self.alloc, part, &mut self.folders, kept);
             }
         }
-        self.folders.sync(rt);
+        self.folders.sync(self.rt);
         outcome
     }
 
     // Syncs the folders of all volumes, and those above new folders.
-    fn sync_folders(&mut self, rt: &R, alloc: Global)
-    where
-        R: Eprint,
-    {
+    fn sync_folders(&mut self) {
         for part in self.parts.iter().flatten() {
-            self.folders.note(rt, alloc, part.path.as_str());
+            self.folders.note(self.rt, self.alloc, part.path.as_str());
         }
-        self.folders.sync(rt);
+        self.folders.sync(self.rt);
     }
 
     // Syncs all volumes.
-    fn sync(&mut self, rt: &R, alloc: Global) -> Result<()> {
+    fn sync(&mut self) -> Result<()> {
         for part in self.parts.iter_mut().flatten() {
-            part.sync(rt, alloc)?;
+            part.sync(self.rt, self.alloc)?;
         }
         Ok(())
     }
 
     // Checks that each volume can get its final name. Something may have changed since the volumes were begun.
-    fn check(&self, rt: &R, alloc: Global, force: bool) -> Result<()> {
+    fn check(&self, force: bool) -> Result<()> {
         for part in self.parts.iter().flatten() {
-            check_output(rt, alloc, part.path.as_str(), force)?;
+            check_output(self.rt, self.alloc, part.path.as_str(), force)?;
         }
         Ok(())
     }
 
     // Renames the volume with this number to its final name, if it is written.
-    fn rename(&self, rt: &R, alloc: Global, number: usize) -> Result<()> {
+    fn rename(&self, number: usize) -> Result<()> {
         match self.parts.get(number) {
-            Some(Some(part)) => part.rename(rt, alloc),
+            Some(Some(part)) => part.rename(self.rt, self.alloc),
             _ => Ok(()),
         }
     }
 
     /// Removes the files of all volumes that do not have their final names, the first one last: as long as it is there,
     /// [`check_parts`] does not take the others for volumes that are whole.
-    pub fn remove(&self, rt: &R) {
+    pub fn remove(&self) {
         for part in self.parts.iter().rev().flatten() {
-            part.remove(rt);
+            part.remove(self.rt);
         }
+    }
+    /// Returns the path of the file into which a block could not be written. The path is empty after another error.
+    pub fn path_of(&self, error: &CodingError) -> &str {
+        let CodingError::Write(index, _) = error else {
+            return "";
+        };
+        let Some((volume, _)) = self.deal.record_of(*index as u64) else {
+            return "";
+        };
+        match self.parts.get(volume as usize) {
+            Some(Some(part)) => part.path.as_str(),
+            _ => "",
+        }
+    }
+
+    /// Writes the line of text, the description and the heads of all records of all volumes.
+    ///
+    /// # Errors
+    ///
+    /// Fails if the description has another length than the volumes have room for. Then, for each volume, fails if
+    /// memory cannot be allocated, or if the volume cannot be written.
+    pub fn describe(&mut self, description: &[u8]) -> Result<()> {
+        if description.len() as u64 != self.description_bytes {
+            return Err(Failure::of("the description has another length than expected"));
+        }
+        let set = digest_of(description);
+        let line = first_line(self.alloc)?;
+        let copy = copy_of(self.alloc, description, &set)?;
+        for number in 0..self.parts.len() {
+            let layout = self.layout(number as u64);
+            self.write(number, 0, line.as_slice())?;
+            for copy_number in 0..layout.copies() {
+                self.write(number, layout.copy_at(copy_number), copy.as_slice())?;
+            }
+            self.write_heads(number, layout, &set)?;
+        }
+        Ok(())
+    }
+
+    /// Returns the number of bytes of the volumes that are not written yet.
+    pub fn missing(&self) -> u64 {
+        let mut total = 0u64;
+        for part in self.parts.iter().flatten() {
+            total = total.saturating_add(part.size);
+        }
+        total.saturating_sub(self.written)
+    }
+
+    // Writes bytes into the volume with this number, from byte `offset` on.
+    fn write(&mut self, number: usize, offset: u64, bytes: &[u8]) -> Result<()> {
+        match self.parts.get_mut(number) {
+            Some(Some(part)) => {
+                let written = part.write_at(self.rt, offset, bytes);
+                at_path(self.alloc, part.path.as_str(), written)?;
+                self.written = self.written.saturating_add(bytes.len() as u64);
+                Ok(())
+            }
+            _ => Ok(()),
+        }
+    }
+
+    // Writes the heads of the records of all blocks of a volume.
+    fn write_heads(&mut self, number: usize, layout: Layout, set: &[u8; 32]) -> Result<()> {
+        for record in 0..layout.blocks {
+            let index = self.deal.block_of(number as u64, record);
+            let head = RecordHead {
+                kind: BLOCK,
+                index: index.min(u64::from(u32::MAX)) as u32,
+                body_bytes: layout.block_bytes,
+                set: *set,
+            };
+            let head = write_record_head(self.alloc, &head)?;
+            self.write(number, layout.record_at(record), head.as_slice())?;
+        }
+        Ok(())
     }
 }
 
@@ -302,97 +378,6 @@ fn replace_one<R: Files + Eprint>(
         kept.push(damaged)?;
     }
     Ok(())
-}
-
-/// The volumes that are being written. This sink writes blocks into them.
-#[derive(Drop)]
-pub struct VolumeSink<'a, R: Files> {
-    rt: &'a R,
-    alloc: Global,
-    volumes: &'a mut Volumes<R>,
-}
-
-impl<'a, R: Files> VolumeSink<'a, R> {
-    /// Makes a sink that writes into volumes that have begun.
-    pub fn new(rt: &'a R, alloc: Global, volumes: &'a mut Volumes<R>) -> VolumeSink<'a, R> {
-        VolumeSink { rt, alloc, volumes }
-    }
-
-    /// Returns the path of the file into which a block could not be written. The path is empty after another error.
-    pub fn path_of(&self, error: &CodingError) -> &str {
-        let CodingError::Write(index, _) = error else {
-            return "";
-        };
-        let Some((volume, _)) = self.volumes.deal.record_of(*index as u64) else {
-            return "";
-        };
-        match self.volumes.parts.get(volume as usize) {
-            Some(Some(part)) => part.path.as_str(),
-            _ => "",
-        }
-    }
-
-    /// Writes the line of text, the description and the heads of all records of all volumes.
-    ///
-    /// # Errors
-    ///
-    /// Fails if the description has another length than the volumes have room for. Then, for each volume, fails if
-    /// memory cannot be allocated, or if the volume cannot be written.
-    pub fn describe(&mut self, description: &[u8]) -> Result<()> {
-        if description.len() as u64 != self.volumes.description_bytes {
-            return Err(Failure::of("the description has another length than expected"));
-        }
-        let set = digest_of(description);
-        let line = first_line(self.alloc)?;
-        let copy = copy_of(self.alloc, description, &set)?;
-        for number in 0..self.volumes.parts.len() {
-            let layout = self.volumes.layout(number as u64);
-            self.write(number, 0, line.as_slice())?;
-            for copy_number in 0..layout.copies() {
-                self.write(number, layout.copy_at(copy_number), copy.as_slice())?;
-            }
-            self.write_heads(number, layout, &set)?;
-        }
-        Ok(())
-    }
-
-    /// Returns the number of bytes of the volumes that are not written yet.
-    pub fn missing(&self) -> u64 {
-        let mut total = 0u64;
-        for part in self.volumes.parts.iter().flatten() {
-            total = total.saturating_add(part.size);
-        }
-        total.saturating_sub(self.volumes.written)
-    }
-
-    // Writes bytes into the volume with this number, from byte `offset` on.
-    fn write(&mut self, number: usize, offset: u64, bytes: &[u8]) -> Result<()> {
-        match self.volumes.parts.get_mut(number) {
-            Some(Some(part)) => {
-                let written = part.write_at(self.rt, offset, bytes);
-                at_path(self.alloc, part.path.as_str(), written)?;
-                self.volumes.written = self.volumes.written.saturating_add(bytes.len() as u64);
-                Ok(())
-            }
-            _ => Ok(()),
-        }
-    }
-
-    // Writes the heads of the records of all blocks of a volume.
-    fn write_heads(&mut self, number: usize, layout: Layout, set: &[u8; 32]) -> Result<()> {
-        for record in 0..layout.blocks {
-            let index = self.volumes.deal.block_of(number as u64, record);
-            let head = RecordHead {
-                kind: BLOCK,
-                index: index.min(u64::from(u32::MAX)) as u32,
-                body_bytes: layout.block_bytes,
-                set: *set,
-            };
-            let head = write_record_head(self.alloc, &head)?;
-            self.write(number, layout.record_at(record), head.as_slice())?;
-        }
-        Ok(())
-    }
 }
 
 // Returns the records of all parts of a description, one after another.
@@ -434,23 +419,22 @@ fn put_part(
     copy.extend_from_slice(rest.as_slice())
 }
 
-impl<'a, R: Files> BlockSink for VolumeSink<'a, R> {
+impl<'a, R: Files + Eprint> BlockSink for Volumes<'a, R> {
     ghost written = { λ _. nothing };
 
     fn put(&mut self, index: usize, start: usize, piece: &[u8]) -> io::Result<()> {
-        let Some((volume, record)) = self.volumes.deal.record_of(index as u64) else {
+        let Some((volume, record)) = self.deal.record_of(index as u64) else {
             return Ok(());
         };
         let offset = self
-            .volumes
             .layout(volume)
             .record_at(record)
             .saturating_add(RECORD_HEAD_BYTES as u64)
             .saturating_add(start as u64);
-        match self.volumes.parts.get_mut(volume as usize) {
+        match self.parts.get_mut(volume as usize) {
             Some(Some(part)) => {
                 part.write_at(self.rt, offset, piece)?;
-                self.volumes.written = self.volumes.written.saturating_add(piece.len() as u64);
+                self.written = self.written.saturating_add(piece.len() as u64);
                 Ok(())
             }
             Some(None) => Ok(()),
