@@ -217,6 +217,84 @@ def renamed_top():
             wrong("a command changed a file of a folder that was renamed")
 
 
+def deleted_set():
+    """A set that was deleted, and of which there are copies below the folder that `--folder` names, is restored: this folder was not renamed. It
+    counts as renamed only if it has all files of the set, and nothing has the name of the folder of the set."""
+    hint = "if the folder of the set was renamed"
+    equal = RANDOM.randbytes(900)
+    files = {"a": equal, "b": equal, "deep/c": RANDOM.randbytes(700), "empty": b""}
+
+    def case(what, change, folder, is_hinted, is_refused=False, files=files):
+        with Folder() as at:
+            made = Protected(at, files, recovery=40)
+            change(at)
+            before = tree(at())
+            words = ("repair", at("set.rsv"), *(("--folder", at(folder)) if folder is not None else ()))
+            out, error = printed(*words, status=4 if is_refused else 0)
+            if (hint in out) != is_hinted or ("it was renamed: nothing was restored" in error) != is_refused:
+                wrong(f"{what}: repair prints {(out, error)}")
+            if is_refused:
+                if tree(at()) != before:
+                    wrong(f"{what}: repair changed a file")
+            elif tree(at(folder or "", "set")) != made.files or any(tree(at()).get(name) != data for name, data in before.items()):
+                wrong(f"{what}: repair did not restore the files, or changed another one")
+
+    def copied(at, names):
+        for name in names:
+            write(at(name), files[name])
+
+    def emptied(at):
+        copied(at, files)
+        for name in files:
+            os.remove(at("set", name))
+
+    def removed(at, names):
+        copied(at, names)
+        shutil.rmtree(at("set"))
+
+    def renamed(at, name="photos"):
+        os.rename(at("set"), at(name))
+
+    def damaged_too(at):
+        renamed(at)
+        write(at("photos", "b"), b"other")
+
+    def touched(at):
+        renamed(at)
+        os.utime(at("photos", "a"), (1e9, 1e9))
+        os.utime(at("photos", "b"), (1e9, 1e9))
+
+    for folder in (None, ""):
+        case("emptied folder with all copies beside it", emptied, folder, False)
+        case("removed folder with a copy", lambda at: removed(at, ["a"]), folder, True)
+        case("removed folder with most copies", lambda at: removed(at, ["a", "b"]), folder, True)
+        case("removed folder of one file with a copy", lambda at: removed(at, ["a"]), folder, True, files={"a": equal})
+    case("removed folder with all copies in the folder of the volume", lambda at: removed(at, files), None, True)
+    case("renamed folder", renamed, "photos", True, True)
+    case("renamed folder below the folder after --folder", lambda at: renamed(at, "photos"), "", True)
+    case("renamed folder with a damaged file", damaged_too, "photos", True)
+    case("renamed folder of one file", renamed, "photos", True, files={"a": equal})
+    # Of equal files, one is found. The other one has its length and its time.
+    case("renamed folder of which equal files were touched", touched, "photos", True)
+    with Folder() as at:
+        made = Protected(at, files)
+        renamed(at)
+        run("repair", at("set.rsv"), "--folder", at("photos"), "--only", "set/a", "-q")
+        if tree(at("photos", "set")) != {"a": files["a"]}:
+            wrong("repair --only of a folder that was renamed")
+        shutil.rmtree(at("photos", "set"))
+        run("restore", at("set.rsv"), "--folder", at("photos"), "--to", at("new"), "-q")
+        if tree(at("new", "set")) != made.files:
+            wrong("restore of a folder that was renamed")
+    # A file that was renamed has no folder.
+    with Folder() as at:
+        write(at("a"), equal)
+        run("create", at("a"), "-q")
+        os.rename(at("a"), at("b"))
+        if hint in printed("verify", at("a.rsv"), status=1)[0]:
+            wrong("verify takes a file that was renamed for a folder")
+
+
 def many_moved():
     """Of many files that were moved, 20 are printed, after the hint on --folder, and --json has all."""
     with Folder() as at:
@@ -482,4 +560,4 @@ def first_version_updated():
         run("verify", at("set.rsv"))
 
 
-TESTS = (moved_files, moved_to_entries, renamed_set, own_folder, renamed_top, many_moved, announced, one_size, exchanged_files, shifted_blocks, shifted_far, overlapping_blocks, searched_folders, equal_blocks, wrong_digests, many_tries, first_version_moved, first_version_updated)
+TESTS = (moved_files, moved_to_entries, renamed_set, own_folder, renamed_top, deleted_set, many_moved, announced, one_size, exchanged_files, shifted_blocks, shifted_far, overlapping_blocks, searched_folders, equal_blocks, wrong_digests, many_tries, first_version_moved, first_version_updated)

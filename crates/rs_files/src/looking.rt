@@ -1,5 +1,6 @@
 //! Looks for the blocks of a set as a request says.
 use crate::log::{Lines, Log};
+use crate::renamed::{Renamed, renaming_of, tops_of};
 use crate::settings::Request;
 use rs_file_sets::scanning::{Scan, scan_opened};
 use rs_file_sets::searching::{Elsewhere, find_elsewhere};
@@ -8,7 +9,7 @@ use rs_folders::failure::{Failure, Result};
 use rs_folders::identity::{exists, identity_of};
 use rs_folders::leftovers::tell_leftovers;
 use rs_folders::names::{
-    Name, Shown, folder_to_open, last_of, parent_of, path_in, paths_of, text_of, trimmed,
+    Name, Shown, folder_to_open, last_of, parent_of, path_in, paths_of, trimmed,
 };
 use rs_volume_files::scanner::State;
 use rs_volume_files::volume::{Volumes, open_volumes};
@@ -27,6 +28,8 @@ pub struct Look {
     pub chosen: Vec<bool>,
     // What was found in other files.
     elsewhere: Elsewhere,
+    // Whether the folder of the set was renamed.
+    renamed: Renamed,
 }
 
 /// Returns the folder of the files of a set: the folder after `--folder`, or else the folder of the first volume. If
@@ -65,23 +68,6 @@ pub fn folder_for<R: Files>(
         return Ok(None);
     }
     Ok(Some(folder_of(rt, alloc, request, set)?))
-}
-
-/// Returns the first parts of all names of a set, each once.
-///
-/// # Errors
-///
-/// [`AllocError`] if memory cannot be allocated.
-pub fn tops_of(alloc: Global, set: &Description) -> Result<Vec<&str>, AllocError> {
-    let mut tops: Vec<&str> = Vec::new(alloc);
-    for entry in &set.entries {
-        let name = text_of(entry.name.as_slice()).unwrap_or("");
-        let top = name.split_once('/').map_or(name, |(top, _)| top);
-        if !top.is_empty() && tops.last().copied() != Some(top) {
-            tops.push(top)?;
-        }
-    }
-    Ok(tops)
 }
 
 // Returns the folder above `folder` if this is a folder of the set, and no entry of the set is found from `folder` on.
@@ -201,10 +187,13 @@ pub fn look_for<R: Runtime>(
     }
     let (folders, is_told) = (folders.as_slice(), !request.quiet);
     let elsewhere = find_elsewhere(rt, alloc, folders, &request.to, &mut scan, is_told)?;
+    let moved = elsewhere.files.as_slice();
+    let renamed = renaming_of(rt, alloc, request, folder, &scan, moved)?;
     Ok(Look {
         scan,
         chosen,
         elsewhere,
+        renamed,
     })
 }
 
@@ -230,32 +219,9 @@ impl Look {
         self.chosen.iter().all(|is_chosen| *is_chosen)
     }
 
-    /// Returns whether nothing of the set has its name in the folder, but files of it were found under other names.
+    /// Returns whether the folder in which the files were looked for is that of the set, and was renamed.
     pub fn is_renamed(&self) -> bool {
-        !self.scan.has_files() && !self.scan.is_spread() && !self.elsewhere.files.is_empty()
-    }
-
-    /// Returns whether a folder is probably that of the set and was renamed: nothing of the set has its name there, and
-    /// each file that was found elsewhere is below this folder as it was below the folder of the set.
-    ///
-    /// # Errors
-    ///
-    /// [`AllocError`] if memory cannot be allocated.
-    pub fn is_renamed_to(&self, alloc: Global, folder: &str) -> Result<bool, AllocError> {
-        for number in 0..self.elsewhere.files.len() {
-            if let Some((entry, path)) = self.moved(number) {
-                let name = text_of(entry.name.as_slice()).unwrap_or("");
-                let rest = match name.split_once('/') {
-                    Some((_, rest)) => rest,
-                    None => "",
-                };
-                let here = path_in(alloc, folder, rest)?;
-                if here.as_str() != path {
-                    return Ok(false);
-                }
-            }
-        }
-        Ok(self.is_renamed())
+        self.renamed == Renamed::Here
     }
 
     // Returns the files that were renamed or moved, each with the path at which it is now. Returns `None` if the
@@ -299,7 +265,7 @@ impl Look {
             }
         }
         lines.end(rt)?;
-        if self.is_renamed() {
+        if self.renamed != Renamed::No {
             println!(rt;
                 "if the folder of the set was renamed, give it its old name again. Or make the volume again with \
                  create NEW -o VOLUME --force, which compares the files under their new names with the old volume"

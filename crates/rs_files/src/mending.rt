@@ -198,7 +198,7 @@ fn mend<R: Runtime>(job: &Job<'_, R>, log: &mut Log) -> Result<u8> {
     // If nothing of the set is in its folder, the folder is probably another one.
     let is_nowhere = loses && !found.scan.has_files() && !found.scan.is_spread();
     let is_left = !wanted.contains(&true) || is_nowhere && job.goal.in_place;
-    if job.goal.in_place && found.has_all() && found.is_renamed_to(job.alloc, job.folder)? {
+    if job.goal.in_place && found.has_all() && found.is_renamed() {
         if log.is_told() {
             found.tell_moved(rt)?;
         }

@@ -1,6 +1,7 @@
 //! `update`: makes a volume again after files were changed.
 use crate::creating::{Task, make};
-use crate::looking::{folder_of, open_request, tops_of};
+use crate::looking::{folder_of, open_request};
+use crate::renamed::tops_of;
 use crate::settings::Request;
 use rs_file_sets::cutting::{Recovery, cut_data};
 use rs_folders::failure::{Failure, Result};

@@ -128,7 +128,8 @@ fn tell_spread<R: Print>(rt: &R, scan: &Scan, counts: Counts) -> io::Result<()> 
         )
     } else if can_rebuild(scan) {
         println!(rt;
-            "a volume is damaged, but all blocks are in these volumes: repair writes damaged volumes again"
+            "a volume is damaged, but all blocks are in these volumes: restore makes the files from them, and \
+             repair writes damaged volumes again"
         )
     } else if !scan.has_whole_volumes() {
         println!(rt;
