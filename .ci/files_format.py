@@ -433,8 +433,8 @@ def changed_at(volume, places):
 
 
 def first_version():
-    """Volumes of version 1 are read, also if one of the two copies of the head and the description is damaged. The reader in Python also
-    restores from volumes of which both are damaged at different places, or both heads, or both digests."""
+    """Volumes of version 1 are read, also if one of the two copies of the head and the description is damaged, if both are damaged at
+    different places, or if both heads or both digests are damaged."""
     with Folder() as at:
         made = first_set(12)
         copy, end = 64 + len(made.description), len(made.volume([])) - 64 - len(made.description)
@@ -449,7 +449,7 @@ def first_version():
             for number, volume in enumerate(whole):
                 paths.append(at(f"{number}.rsv"))
                 write(paths[-1], changed_at(volume, [*front, *(len(volume) + place for place in back)]))
-            for reader, restored in readers()[:1 if name in dict((case[0], 1) for case in both) else 2]:
+            for reader, restored in readers():
                 for left in (paths, paths[:1] if made.k <= made.r else paths):
                     found = restored(at("new"), left)
                     if found != (expected(made.items), True):
