@@ -1,7 +1,7 @@
 //! Reconstructing few wanted shards strip by strip, by direct sums. As many received shards as there are originals are
 //! the base. Each word of a wanted shard is the sum of the words of the base, each times a factor.
-ghost use Rattle.std.specs.Prelude.{◌≡◌, ◌⊎◌, ◌↔◌, ℕ, ◌+◌, ◌-◌, ◌/◌, ◌^◌, ◌<◌, ◌≤◌, All, true, false, List};
-ghost use Rattle.std.specs.Prelude.{length, slice_index, Ok, Some, None, MatchOption, IsTrue, OnOk, IfOk, IfErr};
+ghost use Rattle.std.specs.Prelude.{◌≡◌, ◌⊎◌, ◌↔◌, ◌+◌, ◌-◌, ◌^◌, ◌<◌, ◌≤◌, All, true, false, List};
+ghost use Rattle.std.specs.Prelude.{length, Ok, Some, None, MatchOption, IsTrue, OnOk, IfOk, IfErr};
 ghost use Rattle.std.specs.Prelude.{option_copied};
 ghost use Rattle.rs_field.specs.code.Column.{Shard};
 ghost use Rattle.rs_field.specs.code.Counts.{default_rate};
@@ -12,11 +12,10 @@ ghost use Rattle.rs_field.specs.code.PieceStates.{state_of_pieces};
 ghost use Rattle.rs_field.specs.rows.Layout.{row_len};
 ghost use Rattle.rs_field.specs.rows.MarkedRows.{is_marked};
 ghost use Rattle.rs_rate.specs.rows.ShardRows.{shard_in_order};
-ghost use Rattle.rs_rate.specs.passes.Sums.{sum_word};
 ghost use Rattle.reed_solomon_simd.specs.Base.{row_of, MarksReceived, CanSum, HasPiece};
 ghost use Rattle.rs_field.specs.code.Frame.{frame_at};
 ghost use Rattle.rs_field.specs.code.DirectLaws.{shard_in_row};
-ghost use Rattle.reed_solomon_simd.specs.Base.{base_sum, IsBaseSum, AgreesInRow};
+ghost use Rattle.reed_solomon_simd.specs.Base.{IsBaseSum, AgreesInRow};
 ghost use Rattle.reed_solomon_simd.specs.Making.{CanMake, AreRooms, Makes, MakesMissing};
 ghost use Rattle.reed_solomon_simd.specs.Reconstructed.{AreReconstructed, CanBeRebuilt, NamesMissing};
 

@@ -1,5 +1,6 @@
 -- A sum in two parts: its first chunks, which take the whole chunks of pieces, and the others, which take the tails.
-use Rattle.std.proofs.Common.{◌≡◌, ℕ, ◌+◌, ◌-◌, ◌*◌, ◌/◌, ◌<◌, ◌≤◌, ◌++◌, length, take, drop, sym, ap, ◌∙◌, arith}
+use Rattle.std.proofs.Common.{◌≡◌, ℕ, ◌+◌, ◌-◌, ◌*◌, ◌/◌, ◌<◌, ◌≤◌, ◌++◌, length, take, drop, sym, ap, ◌∙◌, inl, inr, arith}
+use Rattle.std.proofs.lemmas.Bool.{cases_lt}
 use Rattle.std.proofs.lemmas.List.{take-append-drop, length-take-le}
 use Rattle.std.specs.Simd.{first_chunks}
 use Rattle.rs_field.specs.code.Column.{Shard, column}
@@ -12,7 +13,7 @@ use Rattle.rs_rate.specs.passes.Sums.{sum_word}
 use Rattle.rs_rate.proofs.passes_lemmas.SumLemmas.{times_known, words-first, words-last}
 
 -- The words of the first n chunks of a sum, if each of them becomes f of itself.
-pub whole-words : (n : ℕ) (f : ℕ → ℕ → ℕ) (sum now rest front : Chunks) → n ≤ length sum → length now ≡ n
+whole-words : (n : ℕ) (f : ℕ → ℕ → ℕ) (sum now rest front : Chunks) → n ≤ length sum → length now ≡ n
     → front ≡ take n sum → ((j : ℕ) → j / 32 < n → sum_word now j ≡ f j (sum_word front j))
     → (j : ℕ) → j / 32 < n → sum_word (now ++ rest) j ≡ f j (sum_word sum j)
 whole-words n f sum now rest front room long is are j inside =
@@ -23,7 +24,7 @@ whole-words n f sum now rest front room long is are j inside =
     ∙ ap (λ (c : Chunks). sum_word c j) (take-append-drop n sum))
 
 -- The words of the other chunks, of which the first m become f of themselves.
-pub tail-words : (n m : ℕ) (f : ℕ → ℕ → ℕ) (sum now last back : Chunks) → n ≤ length sum → length now ≡ n
+tail-words : (n m : ℕ) (f : ℕ → ℕ → ℕ) (sum now last back : Chunks) → n ≤ length sum → length now ≡ n
     → back ≡ drop n sum
     → ((i : ℕ) → i < m → sum_word last i ≡ f (32 * n + i) (sum_word back i))
     → (j : ℕ) → n ≤ j / 32 → j - 32 * n < m → sum_word (now ++ last) j ≡ f j (sum_word sum j)
@@ -36,6 +37,19 @@ tail-words n m f sum now last back room long is are j past inside =
     ∙ ap (λ (c : Chunks). f j (sum_word c (j - 32 * n))) is
     ∙ ap (f j) (sym (words-last n j (take n sum) (drop n sum) first past)
     ∙ ap (λ (c : Chunks). sum_word c j) (take-append-drop n sum))
+
+-- The words of both parts, if each word of the first n chunks and each of the first m words of the others becomes f of
+-- itself.
+pub split-words : (n m : ℕ) (f : ℕ → ℕ → ℕ) (sum now last front back : Chunks) → n ≤ length sum → length now ≡ n
+    → front ≡ take n sum → back ≡ drop n sum
+    → ((j : ℕ) → j / 32 < n → sum_word now j ≡ f j (sum_word front j))
+    → ((i : ℕ) → i < m → sum_word last i ≡ f (32 * n + i) (sum_word back i))
+    → (j : ℕ) → j < 32 * n + m → sum_word (now ++ last) j ≡ f j (sum_word sum j)
+split-words n m f sum now last front back room long first rest whole tail j inside =
+    elim (cases_lt (j / 32) n) [
+      | inl early ↦ whole-words n f sum now last front room long first whole j early
+      | inr late ↦ tail-words n m f sum now last back room long rest tail j late (omega (arith, inside, late))
+    ]
 
 -- The product of a symbol of the whole chunks is that of the word of the piece.
 pub whole-product : (n log_m : ℕ) (piece : Shard) (chunks : Chunks) → log_m < 65535 → n * 64 ≤ length piece

@@ -85,31 +85,28 @@ module _ (rate : Rate) (c : Configuration) (is : HasDistinctRows c.frame c.origi
       (recovery-entered rate c is rows index shard inside) (is_some (rows (recovery_row c.frame index)))
       (not (length shard == c.shard_bytes))))
 
--- The outcome of an entry, from its two tests.
-abbrev tested : Bool → Bool → Error → Error → Shards → Result Shards Error
-tested taken other repeated sized new = cond taken (Err repeated) (cond other (Err sized) (Ok new))
+-- If a call fails, the state stays as it is.
+pub unchanged : {S : Type 0} (s : S) (outcome : Result S Error) (e : Error) → Err e ≡ answer_of outcome
+    → s ≡ state_after s outcome
+unchanged s (Ok t) e told = cc
+unchanged s (Err f) e told = refl
 
-refused_by : (taken other : Bool) (repeated sized e : Error) (old new : Shards)
-    → Err e ≡ answer_of (tested taken other repeated sized new)
-    → state_after old (tested taken other repeated sized new) ≡ old
-refused_by true other repeated sized e old new refused = refl
-refused_by false true repeated sized e old new refused = refl
-refused_by false false repeated sized e old new refused = cc
+-- A decoder accepts an original only if its index is below k, it was not added before, and it has the size.
+pub accepted-original : (s : DecoderState) (index : ℕ) (shard : Shard)
+    → answer_of (with_original s index shard) ≡ Ok tt
+    → (index < s.configuration.original_count) × (s.originals index ≡ None)
+    × (length shard ≡ s.configuration.shard_bytes)
+accepted-original s index shard accepted = search (rules, none_of)
+
+-- A decoder accepts a recovery shard only if its index is below r, it was not added before, and it has the size.
+pub accepted-recovery : (s : DecoderState) (index : ℕ) (shard : Shard)
+    → answer_of (with_recovery s index shard) ≡ Ok tt
+    → (index < s.configuration.recovery_count) × (s.recovery index ≡ None)
+    × (length shard ≡ s.configuration.shard_bytes)
+accepted-recovery s index shard accepted = search (rules, none_of)
 
 module _ (rows : Shards) (row size : ℕ) (repeated : Error) (shard : Shard) where
   -- A shard of the size is entered in a free row.
   pub entry-free : is_some (rows row) ≡ false → length shard ≡ size
       → entry_outcome rows row size repeated shard ≡ Ok (with_entry rows row shard)
   entry-free free same = rw (free, eq-eqb (length shard) size same) refl
-
-  -- If an entry succeeds, the row was free, and the shard is in the row afterwards.
-  pub entry-made : Ok tt ≡ answer_of (entry_outcome rows row size repeated shard)
-      → (rows row ≡ None) × (entry_outcome rows row size repeated shard ≡ Ok (with_entry rows row shard))
-  entry-made made = search rules
-
-  -- If an entry fails, the rows stay as they are.
-  pub entry-refused : (e : Error) → Err e ≡ answer_of (entry_outcome rows row size repeated shard)
-      → state_after rows (entry_outcome rows row size repeated shard) ≡ rows
-  entry-refused e refused =
-      refused_by (is_some (rows row)) (not (length shard == size)) repeated (DifferentShardSize size (length shard)) e
-      rows (with_entry rows row shard) refused

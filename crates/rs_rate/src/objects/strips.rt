@@ -48,19 +48,14 @@ impl<C: RateMarker> RateObject<(), C, EncoderRows> {
         Ok(())
     }
 
-    /// Adds the next original, as `RateEncoder::add_original_shard` does.
-    ///
-    /// # Errors
-    ///
-    /// Those of `RateEncoder::add_original_shard`.
-    pub fn take(&mut self, shard: &[u8]) -> Result<(), Error>
-        ensures answer { result
-            ≡ answer_of (with_shard (encoder_state C.rate self.old.rows) shard.now) }
-        ensures left { encoder_state C.rate self.new.rows
+    /// Adds the next original, which `RateEncoder::add_original_shard` would accept.
+    pub fn take(&mut self, shard: &[u8])
+        requires { answer_of (with_shard (encoder_state C.rate self.old.rows) shard.now) ≡ Ok tt }
+        ensures { encoder_state C.rate self.new.rows
             ≡ state_after (encoder_state C.rate self.old.rows)
             (with_shard (encoder_state C.rate self.old.rows) shard.now) }
     {
-        self.rows.add_original_shard(shard)
+        self.rows.take_original_shard(shard);
     }
 
     /// Encodes the added originals and ends the round, as `RateEncoder::encode` does. The recovery shards are then in
@@ -116,34 +111,26 @@ impl<C: RateMarker> RateObject<(), C, DecoderRows> {
         Ok(())
     }
 
-    /// Adds an original, as `RateDecoder::add_original_shard` does.
-    ///
-    /// # Errors
-    ///
-    /// Those of `RateDecoder::add_original_shard`.
-    pub fn take_original(&mut self, index: usize, shard: &[u8]) -> Result<(), Error>
-        ensures answer { result
-            ≡ answer_of (with_original (decoder_state C.rate self.old.rows) index shard.now) }
-        ensures left { decoder_state C.rate self.new.rows
+    /// Adds an original, which `RateDecoder::add_original_shard` would accept.
+    pub fn take_original(&mut self, index: usize, shard: &[u8])
+        requires { answer_of (with_original (decoder_state C.rate self.old.rows) index shard.now)
+            ≡ Ok tt }
+        ensures { decoder_state C.rate self.new.rows
             ≡ state_after (decoder_state C.rate self.old.rows)
             (with_original (decoder_state C.rate self.old.rows) index shard.now) }
     {
-        self.rows.add_original_shard(index, shard)
+        self.rows.take_original_shard(index, shard);
     }
 
-    /// Adds a recovery shard, as `RateDecoder::add_recovery_shard` does.
-    ///
-    /// # Errors
-    ///
-    /// Those of `RateDecoder::add_recovery_shard`.
-    pub fn take_recovery(&mut self, index: usize, shard: &[u8]) -> Result<(), Error>
-        ensures answer { result
-            ≡ answer_of (with_recovery (decoder_state C.rate self.old.rows) index shard.now) }
-        ensures left { decoder_state C.rate self.new.rows
+    /// Adds a recovery shard, which `RateDecoder::add_recovery_shard` would accept.
+    pub fn take_recovery(&mut self, index: usize, shard: &[u8])
+        requires { answer_of (with_recovery (decoder_state C.rate self.old.rows) index shard.now)
+            ≡ Ok tt }
+        ensures { decoder_state C.rate self.new.rows
             ≡ state_after (decoder_state C.rate self.old.rows)
             (with_recovery (decoder_state C.rate self.old.rows) index shard.now) }
     {
-        self.rows.add_recovery_shard(index, shard)
+        self.rows.take_recovery_shard(index, shard);
     }
 
     /// Restores the originals that were not added and ends the round, as `RateDecoder::decode` does. The restored

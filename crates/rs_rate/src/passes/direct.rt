@@ -2,7 +2,7 @@
 //! the base, each times a factor. If the given shards belong to one message, each word of a given shard outside the
 //! base is such a sum too, and the decoder checks this. If there are few such shards and few missing originals, this
 //! takes less time than transforms, unless the shards are very short.
-ghost use Rattle.std.specs.Prelude.{◌≡◌, ◌≢◌, ℕ, ◌+◌, ◌*◌, ◌/◌, ◌%◌, ◌<◌, ◌≤◌, ◌↔◌, not, true, false, length};
+ghost use Rattle.std.specs.Prelude.{◌≡◌, ℕ, ◌+◌, ◌*◌, ◌/◌, ◌%◌, ◌<◌, ◌≤◌, ◌↔◌, not, true, false, length};
 ghost use Rattle.std.specs.Prelude.{bit_xor, IsTrue};
 ghost use Rattle.rs_field.specs.code.Frame.{original_row, row_count};
 ghost use Rattle.rs_field.specs.rows.MarkedRows.{is_marked};
@@ -15,7 +15,6 @@ ghost use Rattle.rs_rate.specs.passes.Decoding.{SumsWords, sum_steps, find_steps
 ghost use Rattle.rs_rate.specs.passes.Sums.{sum_word};
 ghost use Rattle.rs_rate.specs.rows.Marks.{how_many};
 ghost use Rattle.rs_rate.specs.rows.ShardRows.{word_in};
-ghost use Rattle.rs_rate.specs.values.ChunkCounts.{chunk_count};
 ghost use Rattle.rs_rate.specs.values.SumCosts.{AreSumsCheaper};
 
 use crate::passes::base_sums::{BasePieces, add_base_sum};
@@ -243,7 +242,7 @@ fn add_sum<E: Engine>(
 }
 
 // Adds the direct sum over the base to row y, which is not in the base. `others` are the rows before it and those after
-// it.
+// it. This is a function of its own because the checker follows the two loans into a struct only from arguments.
 fn add_beside<E: Engine>(
     engine: &E,
     steps: &mut Steps,
@@ -287,7 +286,7 @@ struct RowsBeside<'a> {
 }
 
 impl BasePieces for RowsBeside<'_> {
-    ghost use Rattle.std.specs.Prelude.{◌≢◌, ◌+◌, ◌-◌, ◌*◌, ◌/◌, ◌%◌, ◌<◌, ◌≤◌, length};
+    ghost use Rattle.std.specs.Prelude.{◌*◌, ◌/◌, ◌%◌};
     ghost use Rattle.rs_rate.specs.passes.BaseSum.{word_beside, IsRowBeside};
 
     ghost size = { λ x. 64 * x.len };

@@ -1,17 +1,18 @@
 //! The work of a decoder, which is the memory that decoders pass on, and the rows of a decoder in this memory.
-ghost use Rattle.std.specs.Prelude.{◌≡◌, ◌≢◌, ℕ, ◌+◌, ◌%◌, ◌<◌, ◌≤◌, true, false, length, vec_len};
-ghost use Rattle.std.specs.Prelude.{IfOk, IfErr, IfSome, OnOk, OnErr, IsOk, MatchOption, [], ◌∷◌, option_copied};
+ghost use Rattle.std.specs.Prelude.{◌≡◌, ℕ, ◌+◌, ◌%◌, ◌<◌, ◌≤◌, true, false, length, vec_len};
+ghost use Rattle.std.specs.Prelude.{None, IfOk, IfErr, IfSome, OnOk, OnErr, IsOk, MatchOption, [], ◌∷◌, option_copied};
 ghost use Rattle.std.specs.Vec.{vec_capacity};
 ghost use Rattle.rs_field.specs.code.Column.{IsShard};
 ghost use Rattle.rs_field.specs.code.Counts.{Rate};
 ghost use Rattle.rs_field.specs.code.Outcome.{answer_of, state_after};
 ghost use Rattle.rs_field.specs.code.Configuration.{UpToMemory};
 ghost use Rattle.rs_field.specs.code.Decoder.{fresh_decoder, enough_given, with_original, with_recovery};
+ghost use Rattle.rs_field.specs.code.Frame.{original_row, recovery_row};
+ghost use Rattle.rs_field.specs.code.Given.{with_entry};
 ghost use Rattle.rs_field.specs.rows.MarkedRows.{is_marked};
 ghost use Rattle.rs_rate.specs.values.Configured.{IsConfigured, rows_to_decode};
 ghost use Rattle.rs_rate.specs.rows.Entering.{given_rows, entry_outcome};
 ghost use Rattle.rs_rate.specs.values.ChunkCounts.{memory_outcome, chunk_count};
-ghost use Rattle.rs_rate.specs.rows.ShardRows.{shard_laid_out};
 ghost use Rattle.rs_rate.specs.rows.Marks.{given_marks, mark_count, mark_room, AreSameMarks, HoldGiven};
 ghost use Rattle.rs_rate.specs.rows.DecoderRoom.{IsLaidOut};
 
@@ -184,27 +185,21 @@ impl DecoderMemory {
         Ok(())
     }
 
-    // Enters a shard of `shard_bytes` bytes in row `row`: lays it into the row, and marks the row. Fails with
-    // `repeated` if the row holds a given shard, and then with `DifferentShardSize`.
-    fn enter(
-        &mut self,
+    // Checks that a shard of `shard_bytes` bytes can be entered in row `row`. Fails with `repeated` if the row holds a
+    // given shard, and then with `DifferentShardSize`.
+    fn check_entry(
+        &self,
         row: usize,
         shard_bytes: usize,
         shard: &[u8],
         repeated: Error,
     ) -> Result<(), Error>
-        requires room { chunk_count (row + 1) shard_bytes ≤ vec_len self.old.chunks }
-        requires even { shard_bytes % 2 ≡ 0 }
-        requires marked { row < mark_count self.old.marks }
+        requires { row < mark_count self.now.marks }
         ensures answer { result
             ≡ answer_of (entry_outcome
-            (given_rows self.old shard_bytes) row shard_bytes repeated shard.now) }
-        ensures rows { given_rows self.new shard_bytes
-            ≡ state_after (given_rows self.old shard_bytes)
-            (entry_outcome (given_rows self.old shard_bytes) row shard_bytes repeated shard.now) }
-        ensures shard { OnOk result (IsShard shard_bytes shard.now) }
-        ensures laid { (c : Configuration) → IsLaidOut c self.old → IsLaidOut c self.new }
-        ensures grown { memory_room self.new ≡ memory_room self.old }
+            (given_rows self.now shard_bytes) row shard_bytes repeated shard.now) }
+        ensures free { OnOk result (given_rows self.now shard_bytes row ≡ None) }
+        ensures size { OnOk result (length shard.now ≡ shard_bytes) }
     {
         if self.marks.is_given(row) {
             return Err(repeated);
@@ -215,26 +210,18 @@ impl DecoderMemory {
                 got: shard.len(),
             });
         }
-        self.put(row, shard);
         Ok(())
     }
 
-    // Lays a shard into row `row` of rows of its size, and marks the row.
-    fn put(&mut self, row: usize, shard: &[u8])
+    // Enters a shard in row `row` of rows of its size: lays it into the row, and marks the row.
+    fn enter(&mut self, row: usize, shard: &[u8])
         requires room { chunk_count (row + 1) (length shard.now) ≤ vec_len self.old.chunks }
         requires even { length shard.now % 2 ≡ 0 }
         requires marked { row < mark_count self.old.marks }
-        ensures here { shard_laid_out self.new.chunks.items (length shard.now) row ≡ shard.now }
-        ensures others { (i : ℕ) → i ≢ row
-            → shard_laid_out self.new.chunks.items (length shard.now) i
-            ≡ shard_laid_out self.old.chunks.items (length shard.now) i }
+        ensures rows { given_rows self.new (length shard.now)
+            ≡ with_entry (given_rows self.old (length shard.now)) row shard.now }
         ensures shard { IsShard (length shard.now) shard.now }
-        ensures mark { is_marked (given_marks self.new.marks) row ≡ true }
-        ensures other_marks { (p : ℕ) → p ≢ row
-            → is_marked (given_marks self.new.marks) p ≡ is_marked (given_marks self.old.marks) p }
-        ensures chunks { vec_len self.new.chunks ≡ vec_len self.old.chunks }
-        ensures marks { mark_count self.new.marks ≡ mark_count self.old.marks }
-        ensures entries { vec_len self.new.entries ≡ vec_len self.old.entries }
+        ensures laid { (c : Configuration) → IsLaidOut c self.old → IsLaidOut c self.new }
         ensures grown { memory_room self.new ≡ memory_room self.old }
     {
         are_bytes(shard);
@@ -342,9 +329,27 @@ impl DecoderRows {
         let row = self.configuration.frame.original_row(index);
         let repeated = Error::DuplicateOriginalShardIndex { index };
         self.memory
-            .enter(row, self.configuration.shard_bytes, shard, repeated)?;
-        self.originals_given += 1;
+            .check_entry(row, self.configuration.shard_bytes, shard, repeated)?;
+        self.take_original_shard(index, shard);
         Ok(())
+    }
+
+    // Takes an original: copies it into its row and marks the row. The index is valid, no shard has it yet, and the shard
+    // has the size.
+    pub(crate) fn take_original_shard(&mut self, index: usize, shard: &[u8])
+        requires index { index < self.old.configuration.original_count }
+        requires free { given_rows self.old.memory self.old.configuration.shard_bytes
+            (original_row self.old.configuration.frame index) ≡ None }
+        requires size { length shard.now ≡ self.old.configuration.shard_bytes }
+        ensures left { (rate : Rate) → decoder_state rate self.new
+            ≡ state_after (decoder_state rate self.old)
+            (with_original (decoder_state rate self.old) index shard.now) }
+        ensures configuration { self.new.configuration ≡ self.old.configuration }
+        ensures room { memory_room self.new.memory ≡ memory_room self.old.memory }
+    {
+        let row = self.configuration.frame.original_row(index);
+        self.memory.enter(row, shard);
+        self.originals_given += 1;
     }
 
     // Adds a recovery shard: copies it into its row and marks the row. Fails with `InvalidRecoveryShardIndex`, then
@@ -368,9 +373,27 @@ impl DecoderRows {
         let row = self.configuration.frame.recovery_row(index);
         let repeated = Error::DuplicateRecoveryShardIndex { index };
         self.memory
-            .enter(row, self.configuration.shard_bytes, shard, repeated)?;
-        self.recovery_given += 1;
+            .check_entry(row, self.configuration.shard_bytes, shard, repeated)?;
+        self.take_recovery_shard(index, shard);
         Ok(())
+    }
+
+    // Takes a recovery shard: copies it into its row and marks the row. The index is valid, no shard has it yet, and the shard
+    // has the size.
+    pub(crate) fn take_recovery_shard(&mut self, index: usize, shard: &[u8])
+        requires index { index < self.old.configuration.recovery_count }
+        requires free { given_rows self.old.memory self.old.configuration.shard_bytes
+            (recovery_row self.old.configuration.frame index) ≡ None }
+        requires size { length shard.now ≡ self.old.configuration.shard_bytes }
+        ensures left { (rate : Rate) → decoder_state rate self.new
+            ≡ state_after (decoder_state rate self.old)
+            (with_recovery (decoder_state rate self.old) index shard.now) }
+        ensures configuration { self.new.configuration ≡ self.old.configuration }
+        ensures room { memory_room self.new.memory ≡ memory_room self.old.memory }
+    {
+        let row = self.configuration.frame.recovery_row(index);
+        self.memory.enter(row, shard);
+        self.recovery_given += 1;
     }
 
     pub(crate) fn tally(&self) -> Tally

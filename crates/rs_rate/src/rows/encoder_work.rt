@@ -1,5 +1,5 @@
 //! The work of an encoder, which is the memory that encoders pass on, and the rows of an encoder in this memory.
-ghost use Rattle.std.specs.Prelude.{◌≡◌, ℕ, ◌*◌, ◌^◌, ◌<◌, ◌≤◌, vec_len, IfSome, MatchOption};
+ghost use Rattle.std.specs.Prelude.{◌≡◌, ℕ, ◌*◌, ◌^◌, ◌<◌, ◌≤◌, length, vec_len, IfSome, MatchOption};
 ghost use Rattle.std.specs.Vec.{vec_capacity};
 ghost use Rattle.rs_field.specs.code.Column.{IsShard};
 ghost use Rattle.rs_field.specs.code.Counts.{Rate};
@@ -165,6 +165,21 @@ impl EncoderRows {
                 got: original_shard.len(),
             });
         }
+        self.take_original_shard(original_shard);
+        Ok(())
+    }
+
+    // Takes the next original: copies it into its row. An original is missing, and the shard has the size.
+    pub(crate) fn take_original_shard(&mut self, original_shard: &[u8])
+        requires more { self.old.originals_given < self.old.configuration.original_count }
+        requires size { length original_shard.now ≡ self.old.configuration.shard_bytes }
+        ensures left { (rate : Rate)
+            → encoder_state rate self.new
+            ≡ state_after (encoder_state rate self.old)
+            (with_shard (encoder_state rate self.old) original_shard.now) }
+        ensures configuration { self.new.configuration ≡ self.old.configuration }
+        ensures room { vec_capacity self.new.chunks ≡ vec_capacity self.old.chunks }
+    {
         are_bytes(original_shard);
         insert_at(
             self.chunks.as_mut_slice(),
@@ -172,7 +187,6 @@ impl EncoderRows {
             self.originals_given,
         );
         self.originals_given += 1;
-        Ok(())
     }
 
     // Fails with `TooFewOriginalShards` if originals are missing.

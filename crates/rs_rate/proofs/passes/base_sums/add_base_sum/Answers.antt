@@ -1,4 +1,4 @@
-use Rattle.std.proofs.Common.{rules, ◌≡◌, ℕ, ◌*◌, ◌+◌, ◌-◌, suc, length, sym, ap, ap₂, ◌∙◌, arith, subst}
+use Rattle.std.proofs.Common.{rules, ◌≡◌, ℕ, ◌*◌, ◌+◌, ◌-◌, length, refl, sym, ap, ap₂, ◌∙◌, arith, subst}
 use Rattle.std.proofs.Common.{add-one, bit_xor}
 use Rattle.std.specs.Prelude.{slice_index}
 use Rattle.std.specs.Int.Bits.{xor_assoc, xor_zero_r}
@@ -20,19 +20,6 @@ term-of : (base : SumBase) (words : ℕ → ℕ) (j y x log_m : ℕ) (piece : Sh
     → product (column j piece) (power log_m) ≡ base_term base words y x
 term-of base words j y x log_m piece is factor = ap₂ (λ v l. product v (power l)) is factor
 
--- Two more terms are added.
-two_more : (term : ℕ → ℕ) (a s n : ℕ) → s ≡ bit_xor a (sum_below (2 * n) term)
-    → bit_xor (bit_xor s (term (2 * n))) (term (2 * n + 1)) ≡ bit_xor a (sum_below (2 * (n + 1)) term)
-two_more term a s n is =
-    let next : suc (suc (2 * n)) ≡ 2 * (n + 1) = omega arith in
-    ap (λ w. bit_xor (bit_xor w (term (2 * n))) (term (2 * n + 1))) is
-    ∙ ap (λ w. bit_xor w (term (2 * n + 1))) (xor_assoc a (sum_below (2 * n) term) (term (2 * n))
-    ∙ ap (bit_xor a) (sym (sum_below-suc (2 * n) term)))
-    ∙ xor_assoc a (sum_below (suc (2 * n)) term) (term (2 * n + 1))
-    ∙ ap (bit_xor a) (ap (λ m. bit_xor (sum_below (suc (2 * n)) term) (term m)) (add-one (2 * n))
-    ∙ sym (sum_below-suc (suc (2 * n)) term))
-    ∙ ap (λ m. bit_xor a (sum_below m term)) next
-
 -- One more term is added.
 one_more : (term : ℕ → ℕ) (a s n m : ℕ) → s ≡ bit_xor a (sum_below n term) → m ≡ n
     → bit_xor s (term m) ≡ bit_xor a (sum_below (n + 1) term)
@@ -40,6 +27,14 @@ one_more term a s n m is same =
     ap₂ (λ w i. bit_xor w (term i)) is same
     ∙ xor_assoc a (sum_below n term) (term n)
     ∙ ap (bit_xor a) (sym (sum_below-suc n term) ∙ ap (λ i. sum_below i term) (sym (add-one n)))
+
+-- Two more terms are added.
+two_more : (term : ℕ → ℕ) (a s n : ℕ) → s ≡ bit_xor a (sum_below (2 * n) term)
+    → bit_xor (bit_xor s (term (2 * n))) (term (2 * n + 1)) ≡ bit_xor a (sum_below (2 * (n + 1)) term)
+two_more term a s n is =
+    let next : 2 * n + 1 + 1 ≡ 2 * (n + 1) = omega arith in
+    one_more term a (bit_xor s (term (2 * n))) (2 * n + 1) (2 * n + 1) (one_more term a s (2 * n) (2 * n) is refl) refl
+    ∙ ap (λ m. bit_xor a (sum_below m term)) next
 
 pub loop-pair-init : goal.loop-pair-init
 loop-pair-init g c = search (rules, sum_below-zero, xor_zero_r)
