@@ -5,7 +5,7 @@ ghost use Rattle.std.specs.Result.{result_map_both};
 ghost use Rattle.rs_field.specs.code.Bounds.{EncodeCountsAt, DecodeCountsAt};
 ghost use Rattle.rs_field.specs.code.Configuration.{Configuration as AsDefined, configuration};
 ghost use Rattle.rs_field.specs.code.Decoder.{DecodeAnswers, after_decode, fresh_decoder};
-ghost use Rattle.rs_field.specs.code.Encoder.{EncodeAnswers, after_encode, fresh_encoder};
+ghost use Rattle.rs_field.specs.code.Encoder.{fresh_encoder};
 ghost use Rattle.rs_rate.specs.rows.DecoderView.{decoder_state, restored_by_rows};
 ghost use Rattle.rs_rate.specs.rows.EncoderView.{encoder_state, lent_shards};
 
@@ -27,7 +27,8 @@ pub type StripDecoder = RateObject<(), DefaultRateMarker, DecoderRows>;
 impl<C: RateMarker> RateObject<(), C, EncoderRows> {
     ghost use Rattle.std.specs.Prelude.{MatchOption, length};
     ghost use Rattle.rs_field.specs.code.Column.{shard_at};
-    ghost use Rattle.rs_field.specs.code.Encoder.{with_shard};
+    ghost use Rattle.rs_field.specs.code.Code.{AreRecovery};
+    ghost use Rattle.rs_field.specs.code.Encoder.{with_shard, message_of};
     ghost use Rattle.rs_field.specs.code.Outcome.{answer_of, state_after};
 
     /// Sets an encoder without originals up for shards of this size, which is not larger than its own. This never
@@ -58,23 +59,18 @@ impl<C: RateMarker> RateObject<(), C, EncoderRows> {
         self.rows.take_original_shard(shard);
     }
 
-    /// Encodes the added originals and ends the round, as `RateEncoder::encode` does. The recovery shards are then in
-    /// the encoder.
-    ///
-    /// # Errors
-    ///
-    /// [`Error::TooFewOriginalShards`] if originals are missing.
-    pub fn encode<E: Engine>(&mut self, engine: &E, steps: &mut Steps) -> Result<(), Error>
-        ensures answer { EncodeAnswers (encoder_state C.rate self.old.rows)
-            (result_map_both (λ _. lent_shards self.new.rows) (λ e. e) result) }
+    /// Encodes the added originals, of which none is missing, and ends the round. The recovery shards are then in the
+    /// encoder.
+    pub fn encode<E: Engine>(&mut self, engine: &E, steps: &mut Steps)
+        requires { answer_of (message_of (encoder_state C.rate self.old.rows)) ≡ Ok tt }
+        ensures coded { AreRecovery (encoder_state C.rate self.old.rows).configuration
+            (encoder_state C.rate self.old.rows).given (lent_shards self.new.rows) }
         ensures counts { let c = (encoder_state C.rate self.old.rows).configuration in
             EncodeCountsAt C.rate c.original_count c.recovery_count steps.old steps.new }
         ensures state { encoder_state C.rate self.new.rows
-            ≡ after_encode (encoder_state C.rate self.old.rows) }
+            ≡ fresh_encoder (encoder_state C.rate self.old.rows).configuration }
     {
-        self.rows.check_all_given()?;
         encode_rows(engine, steps, &mut self.rows);
-        Ok(())
     }
 
     /// Returns the recovery shard with this index, or `None` if `index` is not below the number of recovery shards. The
