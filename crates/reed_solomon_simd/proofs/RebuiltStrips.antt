@@ -3,7 +3,7 @@
 use Rattle.std.proofs.Common.{rules, ◌≡◌, ℕ, ◌+◌, ◌-◌, ◌<◌, ◌≤◌, Bool, List, [], ◌∷◌, ◌++◌, length, take, drop, get_or}
 use Rattle.std.proofs.Common.{map, All, Ok, suc, true, cond, refl, sym, ap, ap₂, ◌∙◌, subst, arith}
 use Rattle.std.proofs.lemmas.Grind.{common_steps}
-use Rattle.std.specs.Prelude.{Option, Some, None}
+use Rattle.std.specs.Prelude.{Option, Some, None, unwrap_or}
 use Rattle.std.specs.List.{list_any, between}
 use Rattle.std.proofs.lemmas.Bool.{lt-ltb}
 use Rattle.std.proofs.Math.Seq.{take-add}
@@ -20,11 +20,13 @@ use Rattle.rs_field.proofs.code_lemmas.Agreement.{one_message}
 use Rattle.rs_field.proofs.code_lemmas.Pieces.{AreStripPut, put-inside, put-fit, room-whole}
 use Rattle.rs_field.proofs.code_lemmas.PieceStates.{shard_at-pieces, agrees-cut, recovery-cut, AreConsistentBelow}
 use Rattle.rs_field.proofs.code_lemmas.Unique.{recovery_unique}
+use Rattle.rs_field.proofs.words_lemmas.UpTo.{up_to-is}
 use Rattle.rs_rate.proofs.rows_lemmas.DecoderRows.{enough-least}
 use Rattle.rs_rate.proofs.rows_lemmas.StateLemmas.{valid-supported}
 use Rattle.reed_solomon_simd.specs.declared.shard_index.ShardIndex.{ShardIndex}
 use Rattle.reed_solomon_simd.specs.declared.shard_index.ShardIndex.TheVariants.{Original, Recovery}
 use Rattle.reed_solomon_simd.specs.Reconstructed.{AreReconstructed, CanBeRebuilt, lent_at}
+use Rattle.reed_solomon_simd.specs.Rounds.{first_of, own_piece, own_message}
 use Rattle.reed_solomon_simd.specs.ShardNames.{shard_named, is_recovery}
 use Rattle.reed_solomon_simd.proofs.ConsistentStrips.{checked-further, checked-all, even-strip, few-originals}
 use Rattle.reed_solomon_simd.proofs.SetUp.{valid-even}
@@ -187,6 +189,20 @@ pub restored-there : (s : DecoderState) (out : Shards) (message : List Shard) (i
     → IsAgreeing s message → i < s.configuration.original_count → s.originals i ≡ None
     → out i ≡ Some (shard_at message i)
 restored-there s out message i restored agrees inside none = search (rules, missing-there)
+
+-- If some originals were received and the others were restored, they are each message that agrees.
+pub own-agreeing : (s : DecoderState) (out : Shards) (message : List Shard) → Restored s out → IsAgreeing s message
+    → own_message s out ≡ message
+own-agreeing s out message restored agrees =
+    up_to-is [] s.configuration.original_count (λ i. unwrap_or (own_piece s out i) []) message agrees.shards.length_is
+    (λ i inside. by_case i inside (s.originals i) refl)
+  where
+    by_case : (i : ℕ) → i < s.configuration.original_count → (o : Option Shard) → s.originals i ≡ o
+        → unwrap_or (own_piece s out i) [] ≡ get_or message i []
+    by_case i inside (Some shard) found =
+        ap (λ p. unwrap_or (first_of p (out i)) []) found ∙ sym (agrees.own i shard found)
+    by_case i inside None none =
+        ap₂ (λ p q. unwrap_or (first_of p q) []) none (restored-there s out message i restored agrees inside none)
 
 -- The wanted shards among the restored originals and the encoded recovery shards are those of the codeword.
 module _ (s : DecoderState) (out : Shards) (encoded message : List Shard) (agrees : IsAgreeing s message)

@@ -1,7 +1,8 @@
 -- A round of a decoder over a strip of each received shard.
 use Rattle.std.proofs.Common.{rules, ◌≡◌, ℕ, suc, ◌+◌, ◌-◌, ◌<◌, ◌≤◌, [], ◌∷◌, length, drop, get_or}
 use Rattle.std.proofs.Common.{Result, Ok, Err, Some, sym, ap, ◌∙◌, arith}
-use Rattle.std.specs.Prelude.{MatchResult}
+use Rattle.std.specs.Prelude.{MatchResult, IfOk, IfErr}
+use Rattle.std.specs.Result.{result_map_both}
 use Rattle.std.proofs.lemmas.List.{length-drop, get_or-map, drop_more}
 use Rattle.rs_field.specs.declared.code.error.Error.{Error}
 use Rattle.rs_field.specs.code.Column.{Shard}
@@ -92,13 +93,17 @@ module _ (start end : ℕ) (x : DecoderState) {state : DecoderState} (is : state
       → MatchResult result (Restored (state_of_pieces start end x)) (NoneAgrees (state_of_pieces start end x))
   answers-here result answers = search (rules, enough-here)
 
-  -- A round fails only if no message agrees with the pieces.
-  pub round-refused : (e : Error) → DecodeAnswers state (Err e) → NoneAgrees (state_of_pieces start end x) e
-  round-refused e answers = answers-here (Err e) answers
+  -- A round that succeeds restores the missing pieces, and a round fails only if no message agrees with the pieces.
+  module _ (out : Shards) where
+    pub round-restored : (result : Result ℕ Error) → DecodeAnswers state (result_map_both (λ _. out) (λ e. e) result)
+        → IfOk result (λ _. Restored (state_of_pieces start end x) out)
+    round-restored (Ok n) answers = answers-here (Ok out) answers
+    round-restored (Err e) answers = tt
 
-  -- A round that succeeds restores the missing pieces.
-  pub round-restored : (out : Shards) → DecodeAnswers state (Ok out) → Restored (state_of_pieces start end x) out
-  round-restored out answers = answers-here (Ok out) answers
+    pub round-refused : (result : Result ℕ Error) → DecodeAnswers state (result_map_both (λ _. out) (λ e. e) result)
+        → IfErr result (NoneAgrees (state_of_pieces start end x))
+    round-refused (Ok n) answers = tt
+    round-refused (Err e) answers = answers-here (Err e) answers
 
   -- After a round, the decoder has no shards.
   pub round-ends : after_decode state ≡ fresh_decoder (state_of_pieces start end x).configuration

@@ -1,39 +1,41 @@
--- A round of an encoder over a strip of each original.
-use Rattle.std.proofs.Common.{rules, ◌≡◌, ℕ, ◌-◌, ◌≤◌, List, length, All, Ok, Err}
-use Rattle.rs_field.specs.declared.code.error.Error.{Error}
-use Rattle.rs_field.specs.code.Code.{AreRecovery}
+-- An encoder that takes the strips of a message, one after another.
+use Rattle.std.proofs.Common.{rules, ◌≡◌, ℕ, ◌+◌, ◌<◌, List, [], ◌∷◌, ◌++◌, length, take, get_or, Ok, refl, sym, ap, ◌∙◌, arith}
+use Rattle.std.proofs.lemmas.Bool.{lt-leb, eq-eqb}
+use Rattle.std.proofs.lemmas.List.{take_more, length-take-le}
 use Rattle.rs_field.specs.code.Column.{Shard}
-use Rattle.rs_field.specs.code.Counts.{default_rate}
-use Rattle.rs_field.specs.code.Encoder.{EncoderState, IsEncoder, fresh_encoder, EncodeAnswers, after_encode}
-use Rattle.rs_field.specs.code.OneCall.{default_of, with_shards}
-use Rattle.rs_field.specs.code.Pieces.{pieces}
-use Rattle.rs_field.proofs.code_lemmas.Pieces.{pieces-count, pieces-sized}
-use Rattle.rs_rate.specs.objects.Giving.{Reaches}
-use Rattle.reed_solomon_simd.proofs.ObjectRoundTrip.{codes-given, gives-all, encodes, round-ends}
+use Rattle.rs_field.specs.code.Encoder.{EncoderState, fresh_encoder, with_shard, message_of}
+use Rattle.rs_field.specs.code.Outcome.{answer_of, state_after}
 
-module _ (start end r : ℕ) (originals : List Shard) (order : start ≤ end)
-    (inside : All (λ shard. end ≤ length shard) originals)
-    (first : EncoderState) (fresh : first ≡ fresh_encoder (default_of (length originals) r (end - start))) where
-  -- Adding the pieces of a strip does not fail.
-  pub strip-added : (P : EncoderState → Type 0) (e : Error)
-      → Reaches (with_shards first (pieces start end originals)) (Err e) P → ⊥
-  strip-added =
-      gives-all (default_of (length originals) r (end - start)) (pieces start end originals) first fresh
-      (pieces-count start end originals) (pieces-sized start end originals order inside)
+-- An encoder without originals is fresh.
+pub fresh-is : (s : EncoderState) → s.given ≡ [] → s ≡ fresh_encoder s.configuration
+fresh-is s none = ap (λ (given : List Shard). record s { given = given }) none
 
-  module _ (given : EncoderState) (led : with_shards first (pieces start end originals) ≡ Ok given) where
-    -- Encoding the pieces of a strip does not fail.
-    pub strip-encoded : (e : Error) → EncodeAnswers given (Err e) → ⊥
-    strip-encoded e = search (rules, encodes, pieces-count, pieces-sized)
+-- An encoder that has the first n originals of a message takes the next one.
+module _ (s now : EncoderState) (message : List Shard) (n : ℕ) (shard : Shard)
+    (is : now ≡ record s { given = take n message }) (number : length message ≡ s.configuration.original_count)
+    (more : n < length message) (same : shard ≡ get_or message n [])
+    (sized : length shard ≡ s.configuration.shard_bytes) where
+  room : length (take n message) < s.configuration.original_count
+  room = let long = length-take-le n message (omega (arith, more)) in omega (arith, long, more, number)
 
-    -- After encoding a strip, the encoder has the state that it had before.
-    pub strip-ends : after_encode given ≡ first
-    strip-ends = search (rules, round-ends, pieces-count, pieces-sized)
+  accepted : with_shard (record s { given = take n message }) shard
+      ≡ Ok (record s { given = take n message ++ shard ∷ [] })
+  accepted = rw (
+    lt-leb s.configuration.original_count (length (take n message)) room,
+    eq-eqb (length shard) s.configuration.shard_bytes sized,
+  ) refl
 
-    -- Encoding the pieces of a strip makes the recovery pieces of the strip.
-    pub strip-codes : (made : List Shard) → IsEncoder default_rate given → EncodeAnswers given (Ok made)
-        → AreRecovery (default_of (length originals) r (end - start)) (pieces start end originals) made
-    strip-codes made is answers =
-        let both = codes-given default_rate (default_of (length originals) r (end - start))
-        (pieces start end originals) made first given fresh led is answers in
-        both.1
+  pub takes-next : answer_of (with_shard now shard) ≡ Ok tt
+  takes-next = ap (λ (t : EncoderState). answer_of (with_shard t shard)) is ∙ ap answer_of accepted
+
+  pub took-next : state_after now (with_shard now shard) ≡ record s { given = take (n + 1) message }
+  took-next =
+      ap (λ (t : EncoderState). state_after t (with_shard t shard)) is
+      ∙ ap (state_after (record s { given = take n message })) accepted
+      ∙ ap (λ (given : List Shard). record s { given = given })
+      (ap (λ (x : Shard). take n message ++ x ∷ []) same ∙ sym (take_more message n [] more))
+
+-- An encoder to which all originals were added has a message.
+pub message-there : (s : EncoderState) → length s.given ≡ s.configuration.original_count
+    → answer_of (message_of s) ≡ Ok tt
+message-there s all = search rules

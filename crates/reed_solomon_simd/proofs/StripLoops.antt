@@ -11,12 +11,10 @@ pub record IsCut (start size : ℕ) : Type 0 where
 pub cut-first : (size : ℕ) → IsCut 0 size
 cut-first size = record { inside = omega arith; begins = inl refl }
 
--- The strip at `start` lies inside the shards, the strip after it begins where it ends, and if it is shorter than the
--- width, no bytes are left after it.
+-- The strip at `start` lies inside the shards, and the strip after it begins where it ends.
 pub record IsNext (start part width size whole : ℕ) : Type 0 where
   pub strip : IsStrip start (start + part) whole
   pub cut : IsCut (start + part) size
-  pub last : size - start < width → start + part < size → ⊥
 
 -- If bytes are left at `start`, the next ones are a strip.
 pub strip-next : (bytes : ℕ) {start part width size whole : ℕ} → width ≡ min bytes size
@@ -27,3 +25,7 @@ strip-next bytes {start} {part} {width} {size} width_is part_is chunks cut more 
 -- If no bytes are left, the strips end where the shards end.
 pub cut-last : {start size whole : ℕ} → IsCut start size → size ≤ start → size ≡ whole → start ≡ whole
 cut-last cut none long = let inside = cut.inside in omega (arith, inside, none, long)
+
+-- A strip of a shard of even size has an even number of bytes.
+pub strip-even : {start end size : ℕ} → IsStrip start end size → size % 2 ≡ 0 → (end - start) % 2 ≡ 0
+strip-even strip even = search rules

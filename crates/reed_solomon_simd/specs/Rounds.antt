@@ -1,9 +1,11 @@
--- Encoders and decoders that are ready for strips of received shards.
-use Rattle.std.specs.Prelude.{◌≡◌, ℕ, ◌≤◌, List, [], Option, Some, None}
+-- Encoders and decoders that are ready for strips of received shards, and the messages that encoders take.
+use Rattle.std.specs.Prelude.{◌≡◌, ℕ, ◌<◌, ◌≤◌, List, [], Option, Some, None, unwrap_or}
 use Rattle.rs_field.specs.code.Column.{Shard}
 use Rattle.rs_field.specs.code.Counts.{default_rate}
-use Rattle.rs_field.specs.code.Decoder.{DecoderState, fresh_decoder}
+use Rattle.rs_field.specs.code.Decoder.{DecoderState, fresh_decoder, originals_given, recovery_given}
 use Rattle.rs_field.specs.code.Encoder.{fresh_encoder}
+use Rattle.rs_field.specs.code.Given.{Shards}
+use Rattle.rs_field.specs.words.UpTo.{up_to}
 use Rattle.rs_rate.specs.declared.rows.decoder_work.DecoderRows.{DecoderRows}
 use Rattle.rs_rate.specs.declared.rows.encoder_work.EncoderRows.{EncoderRows}
 use Rattle.rs_rate.specs.rows.DecoderView.{decoder_state}
@@ -26,3 +28,23 @@ pub record IsReadyToEncode (rows : EncoderRows) (s : DecoderState) (n : ℕ) : T
 abbrev pub lent_by : Option EncoderRows → List Shard
 lent_by (Some rows) = lent_shards rows
 lent_by None = []
+
+-- an encoder is ready for strips of n bytes, and all originals and some recovery shards, this many, were received
+pub record IsReadyToCompare (rows : EncoderRows) (received_count : ℕ) (s : DecoderState) (n : ℕ) : Type 0 where
+  pub encoder : IsReadyToEncode rows s n
+  pub all : originals_given s ≡ s.configuration.original_count
+  pub number : recovery_given s ≡ received_count
+  pub some : 0 < received_count
+
+-- the first of two optional shards that is there
+abbrev pub first_of : Option Shard → Option Shard → Option Shard
+first_of (Some shard) other = Some shard
+first_of None other = other
+
+-- an original, if it was received or restored
+abbrev pub own_piece : DecoderState → Shards → ℕ → Option Shard
+own_piece s restored i = first_of (s.originals i) (restored i)
+
+-- the originals, each of which was received or restored
+abbrev pub own_message : DecoderState → Shards → List Shard
+own_message s restored = up_to s.configuration.original_count (λ i. unwrap_or (own_piece s restored i) [])

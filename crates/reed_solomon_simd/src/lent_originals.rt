@@ -14,7 +14,8 @@ use crate::rooms::Rooms;
 use crate::strip_encoder::{encode_strips_with, strip_encoder};
 use rs_field::engine::Engine;
 use rs_field::error::Error;
-use rs_rate::rate::{DefaultRateCounts, DefaultRateEncoder, check_encoder_rows};
+use rs_rate::rate::strips::StripEncoder;
+use rs_rate::rate::{DefaultRateCounts, check_encoder_rows};
 use std::alloc::Global;
 
 /// The originals of one message, in order.
@@ -83,12 +84,11 @@ impl<'a> LentOriginals<'a> {
     ///   list of references or the work area of the encoder cannot be allocated.
     /// - For each original in order: [`Error::TooManyOriginalShards`], then [`Error::DifferentShardSize`]. The iterator
     ///   is then not called again.
-    pub fn gather<I: Iterator<Item = &'a [u8]> + Drop, E: Engine>(
+    pub fn gather<I: Iterator<Item = &'a [u8]> + Drop>(
         alloc: Global,
         counts: DefaultRateCounts,
         mut original: I,
-        engine: E,
-    ) -> Result<(LentOriginals<'a>, DefaultRateEncoder<E>), Error>
+    ) -> Result<(LentOriginals<'a>, StripEncoder), Error>
         requires can { I.can_next original }
         requires ends { IsFinite (I.remaining original) }
         ensures gathered { (calls : Calls I.next_gives original)
@@ -105,7 +105,7 @@ impl<'a> LentOriginals<'a> {
             });
         };
         let mut originals: LentOriginals<'a> = LentOriginals::new(alloc, counts, first.len())?;
-        let encoder = strip_encoder(alloc, counts, first.len(), engine)?;
+        let encoder = strip_encoder(alloc, counts, first.len())?;
         originals.add(first)?;
         originals.add_all(original)?;
         Ok((originals, encoder))
@@ -167,7 +167,8 @@ impl<'a> LentOriginals<'a> {
     /// [`Error::OutOfMemory`] if a room cannot grow.
     pub fn encode<E: Engine, R: Rooms>(
         &self,
-        encoder: &mut DefaultRateEncoder<E>,
+        engine: &E,
+        encoder: &mut StripEncoder,
         rooms: &mut R,
     ) -> Result<(), Error>
         requires encoder { IsStripEncoder self.now encoder.old.rows }
@@ -185,7 +186,7 @@ impl<'a> LentOriginals<'a> {
         let shards = LentShards {
             shards: self.shards.as_slice(),
         };
-        encode_strips_with(encoder, self.counts, self.shard_bytes, &shards, rooms)
+        encode_strips_with(engine, encoder, self.shard_bytes, &shards, rooms)
     }
 
     /// Returns the recovery shards as vectors, with the encoder that [`LentOriginals::gather`] made.
@@ -196,7 +197,8 @@ impl<'a> LentOriginals<'a> {
     pub fn encode_vectors<E: Engine>(
         &self,
         alloc: Global,
-        encoder: &mut DefaultRateEncoder<E>,
+        engine: &E,
+        encoder: &mut StripEncoder,
     ) -> Result<Vec<Vec<u8>>, Error>
         requires encoder { IsStripEncoder self.now encoder.old.rows }
         requires all { answer_of (message_of (lent_state self.now)) ≡ Ok tt }
@@ -206,7 +208,7 @@ impl<'a> LentOriginals<'a> {
             (λ e. e ≡ Error.OutOfMemory) }
     {
         let mut vectors = empty_vectors(alloc, self.counts.recovery_count, self.shard_bytes)?;
-        self.encode(encoder, &mut vectors)?;
+        self.encode(engine, encoder, &mut vectors)?;
         Ok(vectors)
     }
 }

@@ -1,75 +1,93 @@
 //! Checking strip by strip that received shards belong to one message, if all originals were received: each strip is
 //! encoded, and the recovery bytes are compared with the received ones. The work area has room for one strip of each
 //! shard, so it stays in the cache.
-ghost use Rattle.std.specs.Prelude.{◌≡◌, ◌⊎◌, ◌↔◌, ◌<◌, ◌≤◌, length, IsTrue, IfOk, IfErr, MatchResult};
+ghost use Rattle.std.specs.Prelude.{◌≡◌, ◌↔◌, ◌-◌, ◌<◌, ◌≤◌, [], length, IsTrue, IfOk, IfErr, unwrap_or};
 ghost use Rattle.rs_field.specs.code.Column.{shard_at};
 ghost use Rattle.rs_field.specs.code.Counts.{default_rate};
-ghost use Rattle.rs_field.specs.code.Decoder.{IsDecoder, originals_given, recovery_given, IsConsistent, NoneAgrees};
-ghost use Rattle.rs_field.specs.code.Encoder.{fresh_encoder};
-ghost use Rattle.rs_field.specs.code.Given.{AreAmong, items_below};
-ghost use Rattle.rs_field.specs.code.OneCall.{with_shards};
+ghost use Rattle.rs_field.specs.code.Decoder.{IsDecoder, originals_given, recovery_given, IsConsistent};
+ghost use Rattle.rs_field.specs.code.Given.{AreAmong, nothing};
 ghost use Rattle.rs_field.specs.code.Pieces.{IsStrip};
-ghost use Rattle.rs_field.specs.code.PieceStates.{pieces_of, state_of_pieces, shards_listed};
-ghost use Rattle.rs_rate.specs.rows.EncoderView.{encoder_state};
-ghost use Rattle.rs_rate.specs.objects.Giving.{Reaches};
+ghost use Rattle.rs_field.specs.code.PieceStates.{pieces_of, state_of_pieces};
 ghost use Rattle.rs_rate.specs.objects.ResultView.{recovery_shards};
+ghost use Rattle.reed_solomon_simd.specs.Making.{AreRooms, Makes};
+ghost use Rattle.reed_solomon_simd.specs.Rounds.{IsReadyToEncode, own_piece, own_message};
 
 use crate::pieces::Pieces;
 use crate::shard_index::ShardIndex;
+use crate::store::Store;
 use crate::strip_bytes::ENCODE_STRIP_BYTES;
-use rs_field::engine::{Engine, Steps};
+use crate::strip_message::{StripMessage, encode_message};
+use crate::strips::{Way, make_strips};
+use rs_field::engine::Engine;
 use rs_field::error::Error;
 use rs_rate::EncoderResult;
-use rs_rate::rate::split_rounds::{encode_round, lent_recovery};
-use rs_rate::rate::{DefaultRateEncoder, RateEncoder};
+use rs_rate::rate::split_rounds::lent_recovery;
+use rs_rate::rate::strips::StripEncoder;
 use std::alloc::Global;
 
 /// Checks that some message agrees with all received shards. All originals were received. `recovery_received_count` is
-/// the number of received recovery shards, and is not zero.
+/// the number of received recovery shards, and is not zero. The store has no room.
 ///
 /// # Errors
 ///
 /// - [`Error::OutOfMemory`] if the work area cannot be allocated.
 /// - [`Error::InconsistentShards`] if no message agrees with all received shards.
-pub fn check_by_encoding<E: Engine, P: Pieces>(
+pub(crate) fn check_by_encoding<E: Engine, S: Store>(
     alloc: Global,
-    engine: E,
+    engine: &E,
     recovery_received_count: usize,
-    received: &P,
+    store: &mut S,
 ) -> Result<(), Error>
-    requires set_up { IsDecoder default_rate (P.received received.now) }
-    requires all { originals_given (P.received received.now)
-        ≡ (P.received received.now).configuration.original_count }
-    requires number { recovery_given (P.received received.now) ≡ recovery_received_count }
+    requires set_up { IsDecoder default_rate (S.received store.old) }
+    requires all { originals_given (S.received store.old)
+        ≡ (S.received store.old).configuration.original_count }
+    requires number { recovery_given (S.received store.old) ≡ recovery_received_count }
     requires some { 0 < recovery_received_count }
-    ensures { MatchResult result (λ _. IsConsistent (P.received received.now))
-        (λ e. NoneAgrees (P.received received.now) e ⊎ (e ≡ Error.OutOfMemory)) }
+    requires rooms { AreRooms S.grows 0 (S.received store.old).configuration.shard_bytes 0
+        (S.held store.old) }
+    ensures { Makes S.grows (S.received store.old) [] (S.held store.old) (S.held store.new) result }
 {
-    let counts = received.counts();
-    let shard_bytes = received.shard_bytes();
-    let width = ENCODE_STRIP_BYTES.min(shard_bytes);
-    let mut encoder = DefaultRateEncoder::with_counts(alloc, counts, width, engine, None)?;
-    let mut start = 0;
-    while start < shard_bytes {
-        let left = shard_bytes - start;
-        if left < width {
-            encoder.reset(counts.original_count, counts.recovery_count, left)?;
-        }
-        let end = start + width.min(left);
-        if !agree_in_strip(&mut encoder, received, start, end)? {
+    let width = ENCODE_STRIP_BYTES.min(store.shard_bytes());
+    let encoder = StripEncoder::with_counts(alloc, store.counts(), width, (), None)?;
+    let mut way = Compare {
+        engine,
+        encoder,
+        recovery_received_count,
+    };
+    make_strips(ENCODE_STRIP_BYTES, &mut way, store)
+}
+
+/// Rounds of an encoder, whose recovery pieces are compared with the received ones. They make no shard.
+#[derive(Drop)]
+struct Compare<'a, E: Engine> {
+    engine: &'a E,
+    encoder: StripEncoder,
+    recovery_received_count: usize,
+}
+
+impl<'a, E: Engine> Way for Compare<'a, E> {
+    ghost use Rattle.std.specs.Prelude.{[]};
+    ghost use Rattle.reed_solomon_simd.specs.Rounds.{IsReadyToCompare};
+
+    ghost wanted = { λ _ _. [] };
+
+    ghost ready = { λ x s n. IsReadyToCompare x.encoder.rows x.recovery_received_count s n };
+
+    fn strip<S: Store>(&mut self, start: usize, end: usize, store: &mut S) -> Result<(), Error> {
+        if !agree_in_strip(self.engine, &mut self.encoder, &*store, start, end)? {
             return Err(Error::InconsistentShards {
-                original_received_count: counts.original_count,
-                recovery_received_count,
+                original_received_count: store.counts().original_count,
+                recovery_received_count: self.recovery_received_count,
             });
         }
-        start = end;
+        Ok(())
     }
-    Ok(())
 }
 
 // All originals are there, so the recovery shards are known: the strip is encoded and compared. This never fails.
 fn agree_in_strip<E: Engine, P: Pieces>(
-    encoder: &mut DefaultRateEncoder<E>,
+    engine: &E,
+    encoder: &mut StripEncoder,
     received: &P,
     start: usize,
     end: usize,
@@ -77,42 +95,61 @@ fn agree_in_strip<E: Engine, P: Pieces>(
     requires set_up { IsDecoder default_rate (P.received received.now) }
     requires all { originals_given (P.received received.now)
         ≡ (P.received received.now).configuration.original_count }
-    requires fresh { encoder_state default_rate encoder.old.rows
-        ≡ fresh_encoder (state_of_pieces start end (P.received received.now)).configuration }
+    requires ready { IsReadyToEncode encoder.old.rows (P.received received.now) (end - start) }
     requires strip { IsStrip start end (P.received received.now).configuration.shard_bytes }
+    requires some { start < end }
     ensures answer { IfOk result (λ agree.
         IsTrue agree ↔ IsConsistent (state_of_pieces start end (P.received received.now))) }
     ensures refused { IfErr result (λ _. ⊥) }
-    ensures fresh { encoder_state default_rate encoder.new.rows
-        ≡ encoder_state default_rate encoder.old.rows }
+    ensures ready { IsReadyToEncode encoder.new.rows (P.received received.now) (end - start) }
 {
-    add_received_originals(encoder, received, start, end)?;
-    encode_round(encoder, &mut Steps::new())?;
+    let strip = ReceivedStrip {
+        received,
+        start,
+        end,
+    };
+    encode_message(engine, encoder, end - start, &strip)?;
     Ok(are_encoded(&lent_recovery(encoder), received, start, end))
 }
 
-// Adds a strip of each received original to an encoder, in order of index.
-fn add_received_originals<E: Engine, P: Pieces>(
-    encoder: &mut DefaultRateEncoder<E>,
-    received: &P,
+/// One strip of the originals of a message, all of which were received.
+#[derive(Drop)]
+struct ReceivedStrip<'a, P: Pieces> {
+    received: &'a P,
     start: usize,
     end: usize,
-) -> Result<(), Error>
+    ghost set_up: { IsDecoder default_rate (P.received received.now) },
+    ghost all: { originals_given (P.received received.now)
+        ≡ (P.received received.now).configuration.original_count },
+    ghost order: { start ≤ end },
+    ghost inside: { end ≤ (P.received received.now).configuration.shard_bytes },
+}
+
+impl<'a, P: Pieces> StripMessage for ReceivedStrip<'a, P> {
+    ghost shards = { λ x. own_message (state_of_pieces x.start x.end (P.received x.received.now)) nothing };
+
+    fn count(&self) -> usize {
+        self.received.counts().original_count
+    }
+
+    fn piece(&self, index: usize) -> &[u8] {
+        received_piece(self.received, index, self.start, self.end)
+    }
+}
+
+// Returns the piece of an original, if it was received.
+fn received_piece<P: Pieces>(received: &P, index: usize, start: usize, end: usize) -> &[u8]
     requires set_up { IsDecoder default_rate (P.received received.now) }
+    requires index { index < (P.received received.now).configuration.original_count }
     requires order { start ≤ end }
     requires inside { end ≤ (P.received received.now).configuration.shard_bytes }
-    ensures { Reaches (with_shards (encoder_state default_rate encoder.old.rows)
-        (shards_listed (items_below (P.received received.now).configuration.original_count
-        (pieces_of start end (P.received received.now).originals))))
-        result
-        (λ s. encoder_state default_rate encoder.new.rows ≡ s) }
+    ensures { result.now
+        ≡ unwrap_or (own_piece (state_of_pieces start end (P.received received.now)) nothing index)
+        [] }
 {
-    for index in 0..received.counts().original_count {
-        if let Some(piece) = received.piece(ShardIndex::Original(index), start, end) {
-            encoder.add_original_shard(piece)?;
-        }
-    }
-    Ok(())
+    received
+        .piece(ShardIndex::Original(index), start, end)
+        .unwrap_or(&[])
 }
 
 fn are_encoded<P: Pieces>(

@@ -1,27 +1,28 @@
 //! Encoding strip by strip. The work area has room for one strip of each shard, so it stays in the cache. For each
 //! strip, the bytes of the originals are copied into the work area, and the recovery bytes are copied from there into
 //! the rooms.
-ghost use Rattle.std.specs.Prelude.{◌≡◌, ℕ, List, ◌-◌, ◌+◌, ◌≤◌, All, true, false, length, min, Ok, Err};
+ghost use Rattle.std.specs.Prelude.{◌≡◌, ℕ, List, ◌-◌, ◌%◌, ◌<◌, ◌≤◌, All, true, false, length, min, Ok, Err};
 ghost use Rattle.std.specs.Prelude.{OnOk, OnErr, IfOk, IfErr};
 ghost use Rattle.rs_field.specs.code.Code.{AreRecovery};
 ghost use Rattle.rs_field.specs.code.Column.{Shard};
 ghost use Rattle.rs_field.specs.code.Configuration.{validation_outcome};
 ghost use Rattle.rs_field.specs.code.Counts.{default_rate};
 ghost use Rattle.rs_field.specs.code.Encoder.{fresh_encoder};
-ghost use Rattle.rs_field.specs.code.OneCall.{default_of, with_shards};
+ghost use Rattle.rs_field.specs.code.OneCall.{default_of};
 ghost use Rattle.rs_field.specs.code.Pieces.{pieces, ArePut, room_length};
 ghost use Rattle.rs_rate.specs.rows.EncoderView.{encoder_state};
-ghost use Rattle.rs_rate.specs.objects.Giving.{Reaches};
 ghost use Rattle.rs_rate.specs.objects.ResultView.{recovery_shards};
 
 use crate::originals::Originals;
 use crate::rooms::Rooms;
 use crate::strip_bytes::ENCODE_STRIP_BYTES;
-use rs_field::engine::{Engine, Steps};
+use crate::strip_message::{StripMessage, encode_message};
+use rs_field::engine::Engine;
 use rs_field::error::Error;
 use rs_rate::EncoderResult;
-use rs_rate::rate::split_rounds::{encode_round, lent_recovery};
-use rs_rate::rate::{DefaultRateCounts, DefaultRateEncoder, RateEncoder};
+use rs_rate::rate::DefaultRateCounts;
+use rs_rate::rate::split_rounds::lent_recovery;
+use rs_rate::rate::strips::StripEncoder;
 use std::alloc::Global;
 
 /// Writes the recovery shards of originals of one size into rooms.
@@ -53,8 +54,8 @@ pub fn encode_strips<E: Engine, O: Originals, R: Rooms>(
     ensures places { R.places rooms.new ≡ R.places rooms.old }
     ensures loan { R.loan rooms.new ≡ R.loan rooms.old }
 {
-    let mut encoder = strip_encoder(alloc, counts, shard_bytes, engine)?;
-    encode_strips_with(&mut encoder, counts, shard_bytes, originals, rooms)
+    let mut encoder = strip_encoder(alloc, counts, shard_bytes)?;
+    encode_strips_with(&engine, &mut encoder, shard_bytes, originals, rooms)
 }
 
 /// Makes an encoder for the strips of shards of this size. It has no original.
@@ -62,12 +63,11 @@ pub fn encode_strips<E: Engine, O: Originals, R: Rooms>(
 /// # Errors
 ///
 /// [`Error::OutOfMemory`] if the work area cannot be allocated.
-pub fn strip_encoder<E: Engine>(
+pub(crate) fn strip_encoder(
     alloc: Global,
     counts: DefaultRateCounts,
     shard_bytes: usize,
-    engine: E,
-) -> Result<DefaultRateEncoder<E>, Error>
+) -> Result<StripEncoder, Error>
     requires { validation_outcome
         (default_of counts.original_count counts.recovery_count shard_bytes)
         ≡ Ok tt }
@@ -76,13 +76,7 @@ pub fn strip_encoder<E: Engine>(
         (min 4096 shard_bytes))) }
     ensures refused { IfErr result (λ e. e ≡ Error.OutOfMemory) }
 {
-    DefaultRateEncoder::with_counts(
-        alloc,
-        counts,
-        ENCODE_STRIP_BYTES.min(shard_bytes),
-        engine,
-        None,
-    )
+    StripEncoder::with_counts(alloc, counts, ENCODE_STRIP_BYTES.min(shard_bytes), (), None)
 }
 
 /// Writes the recovery shards of originals of one size into rooms, with an encoder from [`strip_encoder`].
@@ -90,27 +84,25 @@ pub fn strip_encoder<E: Engine>(
 /// # Errors
 ///
 /// [`Error::OutOfMemory`] if a room cannot grow.
-pub fn encode_strips_with<E: Engine, O: Originals, R: Rooms>(
-    encoder: &mut DefaultRateEncoder<E>,
-    counts: DefaultRateCounts,
+pub(crate) fn encode_strips_with<E: Engine, O: Originals, R: Rooms>(
+    engine: &E,
+    encoder: &mut StripEncoder,
     shard_bytes: usize,
     originals: &O,
     rooms: &mut R,
 ) -> Result<(), Error>
     requires fresh { encoder_state default_rate encoder.old.rows
-        ≡ fresh_encoder (default_of counts.original_count counts.recovery_count
+        ≡ fresh_encoder (default_of (length (O.shards originals.now)) (length (R.held rooms.old))
         (min 4096 shard_bytes)) }
-    requires originals { length (O.shards originals.now) ≡ counts.original_count }
-    requires number { length (R.held rooms.old) ≡ counts.recovery_count }
     requires valid { validation_outcome
-        (default_of counts.original_count counts.recovery_count shard_bytes)
+        (default_of (length (O.shards originals.now)) (length (R.held rooms.old)) shard_bytes)
         ≡ Ok tt }
     requires sized { All (λ shard. length shard ≡ shard_bytes) (O.shards originals.now) }
     requires fit { All (λ room. length room ≡ room_length R.grows 0 shard_bytes)
         (R.held rooms.old) }
     ensures coded { OnOk result
-        (AreRecovery (default_of counts.original_count counts.recovery_count shard_bytes)
-        (O.shards originals.now) (R.held rooms.new)) }
+        (AreRecovery (default_of (length (O.shards originals.now)) (length (R.held rooms.old))
+        shard_bytes) (O.shards originals.now) (R.held rooms.new)) }
     ensures refused { OnErr result (result ≡ Err Error.OutOfMemory) }
     ensures untouched { R.grows ≡ false → OnErr result (R.held rooms.new ≡ R.held rooms.old) }
     ensures places { R.places rooms.new ≡ R.places rooms.old }
@@ -119,12 +111,8 @@ pub fn encode_strips_with<E: Engine, O: Originals, R: Rooms>(
     let width = ENCODE_STRIP_BYTES.min(shard_bytes);
     let mut start = 0;
     while start < shard_bytes {
-        let left = shard_bytes - start;
-        if left < width {
-            encoder.reset(counts.original_count, counts.recovery_count, left)?;
-        }
-        let end = start + width.min(left);
-        encode_strip(encoder, originals, start, end, rooms)?;
+        let end = start + width.min(shard_bytes - start);
+        encode_strip(engine, encoder, originals, start, end, rooms)?;
         start = end;
     }
     Ok(())
@@ -132,22 +120,26 @@ pub fn encode_strips_with<E: Engine, O: Originals, R: Rooms>(
 
 // Encodes one strip of the originals, and writes this strip of the recovery shards into the rooms.
 fn encode_strip<E: Engine, O: Originals, R: Rooms>(
-    encoder: &mut DefaultRateEncoder<E>,
+    engine: &E,
+    encoder: &mut StripEncoder,
     originals: &O,
     start: usize,
     end: usize,
     rooms: &mut R,
 ) -> Result<(), Error>
-    requires fresh { encoder_state default_rate encoder.old.rows
+    requires fresh { (n : ℕ) × (end - start ≤ n)
+        × (encoder_state default_rate encoder.old.rows
         ≡ fresh_encoder (default_of (length (O.shards originals.now))
-        (length (R.held rooms.old)) (end - start)) }
-    requires order { start ≤ end }
+        (length (R.held rooms.old)) n)) }
+    requires some { start < end }
+    requires even { (end - start) % 2 ≡ 0 }
     requires originals { All (λ shard. end ≤ length shard) (O.shards originals.now) }
     requires fit { (size : ℕ) × (end ≤ size)
         × All (λ room. length room ≡ room_length R.grows start size) (R.held rooms.old) }
     ensures refused { OnErr result ((R.grows ≡ true) × (result ≡ Err Error.OutOfMemory)) }
     ensures fresh { encoder_state default_rate encoder.new.rows
-        ≡ encoder_state default_rate encoder.old.rows }
+        ≡ fresh_encoder (default_of (length (O.shards originals.now))
+        (length (R.held rooms.old)) (end - start)) }
     ensures coded { OnOk result ((made : List Shard)
         × AreRecovery (default_of (length (O.shards originals.now)) (length (R.held rooms.old))
         (end - start)) (pieces start end (O.shards originals.now)) made
@@ -155,29 +147,35 @@ fn encode_strip<E: Engine, O: Originals, R: Rooms>(
     ensures places { R.places rooms.new ≡ R.places rooms.old }
     ensures loan { R.loan rooms.new ≡ R.loan rooms.old }
 {
-    add_pieces(encoder, originals, start, end)?;
-    encode_round(encoder, &mut Steps::new())?;
+    let strip = OriginalsStrip {
+        originals,
+        start,
+        end,
+    };
+    encode_message(engine, encoder, end - start, &strip)?;
     put_pieces(&lent_recovery(encoder), start, end, rooms)
 }
 
-// Adds a strip of each original to an encoder.
-fn add_pieces<E: Engine, O: Originals>(
-    encoder: &mut DefaultRateEncoder<E>,
-    originals: &O,
+/// One strip of each original.
+#[derive(Drop)]
+struct OriginalsStrip<'a, O: Originals> {
+    originals: &'a O,
     start: usize,
     end: usize,
-) -> Result<(), Error>
-    requires order { start ≤ end }
-    requires inside { All (λ shard. end ≤ length shard) (O.shards originals.now) }
-    ensures { Reaches (with_shards (encoder_state default_rate encoder.old.rows)
-        (pieces start end (O.shards originals.now)))
-        result
-        (λ s. encoder_state default_rate encoder.new.rows ≡ s) }
-{
-    for index in 0..originals.count() {
-        encoder.add_original_shard(originals.piece(index, start, end))?;
+    ghost order: { start ≤ end },
+    ghost inside: { All (λ shard. end ≤ length shard) (O.shards originals.now) },
+}
+
+impl<'a, O: Originals> StripMessage for OriginalsStrip<'a, O> {
+    ghost shards = { λ x. pieces x.start x.end (O.shards x.originals.now) };
+
+    fn count(&self) -> usize {
+        self.originals.count()
     }
-    Ok(())
+
+    fn piece(&self, index: usize) -> &[u8] {
+        self.originals.piece(index, self.start, self.end)
+    }
 }
 
 // Writes the recovery shards of a result into rooms, after the first `start` bytes.

@@ -2,7 +2,7 @@
 //! each strip are decoded. If a recovery shard is wanted, the originals are then encoded. The wanted pieces are copied
 //! into the rooms.
 ghost use Rattle.std.specs.Prelude.{◌≡◌, ℕ, ◌+◌, ◌-◌, ◌<◌, ◌≤◌, All, true, List, length, map, Ok, Some};
-ghost use Rattle.std.specs.Prelude.{OnOk, IfOk, IfErr, IfSome, is_some, option_copied};
+ghost use Rattle.std.specs.Prelude.{[], OnOk, IfOk, IfErr, IfSome, is_some, option_copied, unwrap_or};
 ghost use Rattle.std.specs.Option.{option_map};
 ghost use Rattle.std.specs.List.{list_any};
 ghost use Rattle.rs_field.specs.code.Code.{AreRecovery};
@@ -11,15 +11,14 @@ ghost use Rattle.rs_field.specs.code.Counts.{default_rate};
 ghost use Rattle.rs_field.specs.code.Decoder.{IsDecoder, IsAgreeing, Restored, originals_given, recovery_given};
 ghost use Rattle.rs_field.specs.code.Configuration.{validation_outcome};
 ghost use Rattle.rs_field.specs.code.Encoder.{fresh_encoder};
-ghost use Rattle.rs_field.specs.code.OneCall.{default_of, with_shards};
+ghost use Rattle.rs_field.specs.code.OneCall.{default_of};
 ghost use Rattle.rs_field.specs.code.Pieces.{IsStrip, ArePut, room_length};
 ghost use Rattle.rs_field.specs.code.PieceStates.{state_of_pieces};
 ghost use Rattle.rs_rate.specs.rows.EncoderView.{encoder_state, lent_shards};
-ghost use Rattle.rs_rate.specs.objects.Giving.{Reaches};
 ghost use Rattle.rs_rate.specs.objects.ResultView.{restored_originals};
 ghost use Rattle.reed_solomon_simd.specs.Making.{CanMake, AreRooms, Makes};
 ghost use Rattle.reed_solomon_simd.specs.Reconstructed.{lent_at};
-ghost use Rattle.reed_solomon_simd.specs.Rounds.{IsReadyToEncode, lent_by};
+ghost use Rattle.reed_solomon_simd.specs.Rounds.{IsReadyToEncode, lent_by, own_piece, own_message};
 ghost use Rattle.reed_solomon_simd.specs.ShardNames.{is_recovery};
 
 use crate::pieces::Pieces;
@@ -27,10 +26,11 @@ use crate::rooms::Rooms;
 use crate::shard_index::ShardIndex;
 use crate::store::Store;
 use crate::strip_bytes::DECODE_STRIP_BYTES;
+use crate::strip_message::{StripMessage, encode_message};
 use crate::strip_rounds::decode_pieces;
 use crate::strip_summer::sum_listed;
 use crate::strips::{Way, make_strips};
-use rs_field::engine::{Engine, Steps};
+use rs_field::engine::Engine;
 use rs_field::error::Error;
 use rs_rate::DecoderResult;
 use rs_rate::rate::split_rounds::lent_originals;
@@ -179,14 +179,14 @@ fn encode_if_made<'a, E: Engine, P: Pieces>(
         (λ e. IsReadyToEncode e.rows (P.received received.now) (end - start)) }
 {
     if let Some(encoder) = encoder {
-        encode_message(engine, encoder, received, restored, start, end)?;
+        encode_restored(engine, encoder, received, restored, start, end)?;
     }
     Ok(())
 }
 
 // Encodes one strip of all originals, received or restored. The recovery pieces are then in the encoder. This never
 // fails.
-fn encode_message<'a, E: Engine, P: Pieces>(
+fn encode_restored<'a, E: Engine, P: Pieces>(
     engine: &E,
     encoder: &mut StripEncoder,
     received: &'a P,
@@ -207,43 +207,38 @@ fn encode_message<'a, E: Engine, P: Pieces>(
     ensures answer { result ≡ Ok tt }
     ensures ready { IsReadyToEncode encoder.new.rows (P.received received.now) (end - start) }
 {
-    encoder.narrow(end - start)?;
-    add_message(encoder, received, restored, start, end)?;
-    encoder.encode(engine, &mut Steps::new())?;
-    Ok(())
+    let strip = RestoredStrip {
+        received,
+        restored,
+        start,
+        end,
+    };
+    encode_message(engine, encoder, end - start, &strip)
 }
 
-// Returns whether a recovery shard is among the wanted shards.
-fn wants_recovery(wanted: &[ShardIndex]) -> bool
-    ensures { result ≡ list_any is_recovery wanted.now }
-{
-    wanted.iter().any(|shard| shard.is_recovery())
-}
-
-// Adds a strip of each original to an encoder, in order of index.
-fn add_message<'a, P: Pieces>(
-    encoder: &mut StripEncoder,
+/// One strip of the originals of a message, each of which was received or restored.
+#[derive(Drop)]
+struct RestoredStrip<'a, P: Pieces> {
     received: &'a P,
     restored: &'a DecoderResult<'a>,
     start: usize,
     end: usize,
-) -> Result<(), Error>
-    requires set_up { IsDecoder default_rate (P.received received.now) }
-    requires order { start ≤ end }
-    requires inside { end ≤ (P.received received.now).configuration.shard_bytes }
-    requires restored { Restored (state_of_pieces start end (P.received received.now))
-        (restored_originals restored.now) }
-    ensures { (message : List Shard)
-        → IsAgreeing (state_of_pieces start end (P.received received.now)) message
-        → Reaches (with_shards (encoder_state default_rate encoder.old.rows) message) result
-        (λ s. encoder_state default_rate encoder.new.rows ≡ s) }
-{
-    for index in 0..received.counts().original_count {
-        if let Some(piece) = message_piece(received, restored, index, start, end) {
-            encoder.take(piece)?;
-        }
+    ghost set_up: { IsDecoder default_rate (P.received received.now) },
+    ghost order: { start ≤ end },
+    ghost inside: { end ≤ (P.received received.now).configuration.shard_bytes },
+}
+
+impl<'a, P: Pieces> StripMessage for RestoredStrip<'a, P> {
+    ghost shards = { λ x. own_message (state_of_pieces x.start x.end (P.received x.received.now))
+        (restored_originals x.restored.now) };
+
+    fn count(&self) -> usize {
+        self.received.counts().original_count
     }
-    Ok(())
+
+    fn piece(&self, index: usize) -> &[u8] {
+        message_piece(self.received, self.restored, index, self.start, self.end)
+    }
 }
 
 // Returns the piece of an original, received or restored.
@@ -253,21 +248,26 @@ fn message_piece<'a, P: Pieces>(
     index: usize,
     start: usize,
     end: usize,
-) -> Option<&'a [u8]>
+) -> &'a [u8]
     requires set_up { IsDecoder default_rate (P.received received.now) }
     requires index { index < (P.received received.now).configuration.original_count }
     requires order { start ≤ end }
     requires inside { end ≤ (P.received received.now).configuration.shard_bytes }
-    requires restored { Restored (state_of_pieces start end (P.received received.now))
-        (restored_originals restored.now) }
-    ensures { (message : List Shard)
-        → IsAgreeing (state_of_pieces start end (P.received received.now)) message
-        → option_copied result ≡ Some (shard_at message index) }
+    ensures { result.now
+        ≡ unwrap_or (own_piece (state_of_pieces start end (P.received received.now))
+        (restored_originals restored.now) index) [] }
 {
     match received.piece(ShardIndex::Original(index), start, end) {
-        Some(piece) => Some(piece),
-        None => restored.restored_original(index),
+        Some(piece) => piece,
+        None => restored.restored_original(index).unwrap_or(&[]),
     }
+}
+
+// Returns whether a recovery shard is among the wanted shards.
+fn wants_recovery(wanted: &[ShardIndex]) -> bool
+    ensures { result ≡ list_any is_recovery wanted.now }
+{
+    wanted.iter().any(|shard| shard.is_recovery())
 }
 
 // Writes the wanted pieces into the rooms, after the first `start` bytes.

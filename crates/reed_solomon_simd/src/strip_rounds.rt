@@ -37,62 +37,57 @@ pub(crate) fn decode_pieces<E: Engine, P: Pieces>(
     ensures ready { IsReadyToDecode decoder.new.rows (P.received received.now) (end - start) }
 {
     decoder.narrow(end - start)?;
-    add_original_pieces(decoder, received, start, end)?;
-    add_recovery_pieces(decoder, received, start, end)?;
-    let restored_count = decoder.decode(engine, &mut Steps::new())?;
-    Ok(restored_count)
+    add_original_pieces(decoder, received, start, end);
+    add_recovery_pieces(decoder, received, start, end);
+    decoder.decode(engine, &mut Steps::new())
 }
 
-// Adds a strip of each received original to a decoder that has no original. This never fails.
+// Adds a strip of each received original to a decoder that has no original.
 fn add_original_pieces<P: Pieces>(
     decoder: &mut StripDecoder,
     received: &P,
     start: usize,
     end: usize,
-) -> Result<(), Error>
+)
     requires set_up { IsDecoder default_rate (P.received received.now) }
     requires none { (decoder_state default_rate decoder.old.rows).originals ≡ nothing }
     requires configured { (decoder_state default_rate decoder.old.rows).configuration
         ≡ (state_of_pieces start end (P.received received.now)).configuration }
     requires order { start ≤ end }
     requires inside { end ≤ (P.received received.now).configuration.shard_bytes }
-    ensures answer { result ≡ Ok tt }
-    ensures added { decoder_state default_rate decoder.new.rows
+    ensures { decoder_state default_rate decoder.new.rows
         ≡ record (decoder_state default_rate decoder.old.rows) {
           originals = pieces_of start end (P.received received.now).originals;
         } }
 {
     for index in 0..received.counts().original_count {
         if let Some(piece) = received.piece(ShardIndex::Original(index), start, end) {
-            decoder.take_original(index, piece)?;
+            decoder.take_original(index, piece);
         }
     }
-    Ok(())
 }
 
-// Adds a strip of each received recovery shard to a decoder that has no recovery shard. This never fails.
+// Adds a strip of each received recovery shard to a decoder that has no recovery shard.
 fn add_recovery_pieces<P: Pieces>(
     decoder: &mut StripDecoder,
     received: &P,
     start: usize,
     end: usize,
-) -> Result<(), Error>
+)
     requires set_up { IsDecoder default_rate (P.received received.now) }
     requires none { (decoder_state default_rate decoder.old.rows).recovery ≡ nothing }
     requires configured { (decoder_state default_rate decoder.old.rows).configuration
         ≡ (state_of_pieces start end (P.received received.now)).configuration }
     requires order { start ≤ end }
     requires inside { end ≤ (P.received received.now).configuration.shard_bytes }
-    ensures answer { result ≡ Ok tt }
-    ensures added { decoder_state default_rate decoder.new.rows
+    ensures { decoder_state default_rate decoder.new.rows
         ≡ record (decoder_state default_rate decoder.old.rows) {
           recovery = pieces_of start end (P.received received.now).recovery;
         } }
 {
     for index in 0..received.counts().recovery_count {
         if let Some(piece) = received.piece(ShardIndex::Recovery(index), start, end) {
-            decoder.take_recovery(index, piece)?;
+            decoder.take_recovery(index, piece);
         }
     }
-    Ok(())
 }

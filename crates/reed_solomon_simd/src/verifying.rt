@@ -110,14 +110,14 @@ pub fn check_consistent<E: Engine, P: Pieces>(
     if surplus == 0 {
         return Ok(());
     }
-    if missing == 0 {
-        return check_by_encoding(alloc, engine, surplus, received);
-    }
     let mut rooms: Vec<Vec<u8>> = Vec::new(alloc);
     let mut store = SeparateStore {
         pieces: received,
         rooms: &mut rooms,
     };
+    if missing == 0 {
+        return check_by_encoding(alloc, &engine, surplus, &mut store);
+    }
     make_listed(alloc, &engine, &[], surplus, &mut store)
 }
 

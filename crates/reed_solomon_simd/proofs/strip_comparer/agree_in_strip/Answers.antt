@@ -1,89 +1,55 @@
-use Rattle.std.proofs.Common.{◌≡◌, ℕ, List, length, sym, ap, subst, ◌∙◌}
-use Rattle.rs_field.specs.code.Column.{Shard}
-use Rattle.rs_field.specs.code.Counts.{default_rate}
+use Rattle.std.proofs.Common.{◌-◌, length, sym, ap, subst, ◌∙◌}
+use Rattle.rs_field.specs.code.Code.{AreRecovery}
+use Rattle.rs_field.specs.code.Configuration.{configuration}
 use Rattle.rs_field.specs.code.Decoder.{DecoderState}
+use Rattle.rs_field.specs.code.Encoder.{EncoderState}
 use Rattle.rs_field.specs.code.Given.{AreAmong}
 use Rattle.rs_field.specs.code.PieceStates.{pieces_of, state_of_pieces}
-use Rattle.rs_rate.proofs.objects_lemmas.Giving.{reached-ok}
-use Rattle.rs_rate.specs.rows.EncoderView.{encoder_state, lent_shards}
-use Rattle.rs_rate.specs.objects.ObjectLaws.{is_encoder}
-use Rattle.reed_solomon_simd.proofs.ComparedStrips.{listed_pieces, listed-number, listed-sized, compared-consistent}
+use Rattle.rs_rate.specs.rows.EncoderView.{lent_shards}
+use Rattle.reed_solomon_simd.proofs.ComparedStrips.{received_strip, received-are, received-sized, compared-consistent}
 use Rattle.reed_solomon_simd.proofs.ComparedStrips.{consistent-compared}
-use Rattle.reed_solomon_simd.proofs.ObjectRoundTrip.{codes-given, gives-all, encodes, round-ends}
+use Rattle.reed_solomon_simd.proofs.strip_comparer.agree_in_strip.Given.{Over}
+use Rattle.reed_solomon_simd.proofs.strip_comparer.agree_in_strip.Goals.{After-lent_recovery}
 use Rattle.reed_solomon_simd.proofs.strip_comparer.agree_in_strip.Goals as goal
 
-pub returns-in_err-add_received_originals : goal.returns-in_err-add_received_originals
-returns-in_err-add_received_originals g c =
+pub encode_message-requires-clause-number : goal.encode_message-requires-clause-number
+encode_message-requires-clause-number g c =
     let x : DecoderState = g.P.Pieces.received c.args.received.now in
-    let start : ℕ = c.args.start in let end : ℕ = c.args.end in
-    absurd (gives-all (state_of_pieces start end x).configuration
-    (listed_pieces x c.requires.set_up c.requires.all start end c.requires.strip)
-    (encoder_state default_rate c.args.encoder.now.rows) c.requires.fresh
-    (listed-number x c.requires.set_up c.requires.all start end c.requires.strip)
-    (listed-sized x c.requires.set_up c.requires.all start end c.requires.strip)
-    (λ s. encoder_state default_rate c.add_received_originals.new.encoder.rows ≡ s)
-    c.in_err-add_received_originals.field-0.0 c.in_err-add_received_originals.ensures)
+    (received-are x c.requires.set_up c.requires.all c.args.start c.args.end c.requires.strip).length_is
+    ∙ sym (ap (λ (s : EncoderState). s.configuration.original_count) c.requires.ready.fresh)
 
-pub returns-in_err-encode_round : goal.returns-in_err-encode_round
-returns-in_err-encode_round g c =
+pub encode_message-requires-clause-sized : goal.encode_message-requires-clause-sized
+encode_message-requires-clause-sized g c =
+    received-sized (g.P.Pieces.received c.args.received.now) c.requires.set_up c.requires.all c.args.start c.args.end
+    c.requires.strip
+
+-- The encoder has the recovery pieces of the received originals.
+coded : (g : Over) (c : After-lent_recovery g) → let x : DecoderState = g.P.Pieces.received c.args.received.now in
+    AreRecovery (state_of_pieces c.args.start c.args.end x).configuration
+    (received_strip x c.requires.set_up c.requires.all c.args.start c.args.end c.requires.strip)
+    (lent_shards c.encode_message.new.encoder.rows)
+coded g c =
     let x : DecoderState = g.P.Pieces.received c.args.received.now in
-    let start : ℕ = c.args.start in let end : ℕ = c.args.end in
-    let led = reached-ok _ (encoder_state default_rate c.add_received_originals.new.encoder.rows)
-    c.in_ok-add_received_originals.ensures in
-    absurd (encodes (state_of_pieces start end x).configuration
-    (listed_pieces x c.requires.set_up c.requires.all start end c.requires.strip)
-    (encoder_state default_rate c.args.encoder.now.rows) c.requires.fresh
-    (listed-number x c.requires.set_up c.requires.all start end c.requires.strip)
-    (listed-sized x c.requires.set_up c.requires.all start end c.requires.strip)
-    (encoder_state default_rate c.add_received_originals.new.encoder.rows)
-    c.in_err-encode_round.field-0.0 led c.in_err-encode_round.ensures.answer)
+    subst (λ (s : EncoderState). AreRecovery (configuration s.configuration.rate s.configuration.original_count
+    s.configuration.recovery_count (c.args.end - c.args.start))
+    (received_strip x c.requires.set_up c.requires.all c.args.start c.args.end c.requires.strip)
+    (lent_shards c.encode_message.new.encoder.rows)) c.requires.ready.fresh c.in_ok-encode_message.ensures.coded
 
 pub are_encoded-requires-clause-number : goal.are_encoded-requires-clause-number
 are_encoded-requires-clause-number g c =
-    let x : DecoderState = g.P.Pieces.received c.args.received.now in
-    let start : ℕ = c.args.start in let end : ℕ = c.args.end in
-    let led = reached-ok _ (encoder_state default_rate c.add_received_originals.new.encoder.rows)
-    c.in_ok-add_received_originals.ensures in
-    let object = c.add_received_originals.new.encoder in
-    let coded = codes-given default_rate (state_of_pieces start end x).configuration
-    (listed_pieces x c.requires.set_up c.requires.all start end c.requires.strip)
-    (lent_shards c.encode_round.new.encoder.rows) (encoder_state default_rate c.args.encoder.now.rows)
-    (encoder_state default_rate c.add_received_originals.new.encoder.rows) c.requires.fresh led
-    (is_encoder default_rate object.rows object.set_up) c.in_ok-encode_round.ensures.answer in
-    ap length c.lent_recovery.ensures ∙ coded.1.shards.length_is
+    ap length c.lent_recovery.ensures
+    ∙ (coded g (goal.at.are_encoded-requires-clause-number g c).After-lent_recovery).shards.length_is
 
 pub returns-clause-answer : goal.returns-clause-answer
 returns-clause-answer g c =
     let x : DecoderState = g.P.Pieces.received c.args.received.now in
-    let start : ℕ = c.args.start in let end : ℕ = c.args.end in
-    let led = reached-ok _ (encoder_state default_rate c.add_received_originals.new.encoder.rows)
-    c.in_ok-add_received_originals.ensures in
-    let object = c.add_received_originals.new.encoder in
-    let made : List Shard = lent_shards c.encode_round.new.encoder.rows in
-    let coded = codes-given default_rate (state_of_pieces start end x).configuration
-    (listed_pieces x c.requires.set_up c.requires.all start end c.requires.strip) made
-    (encoder_state default_rate c.args.encoder.now.rows)
-    (encoder_state default_rate c.add_received_originals.new.encoder.rows) c.requires.fresh led
-    (is_encoder default_rate object.rows object.set_up) c.in_ok-encode_round.ensures.answer in
-    let same = c.lent_recovery.ensures in (
-      λ agree. compared-consistent x c.requires.set_up c.requires.all start end c.requires.strip made coded.1
-          (subst (AreAmong (pieces_of start end x.recovery)) same (c.are_encoded.ensures.0 agree)),
+    let made = lent_shards c.encode_message.new.encoder.rows in
+    let coded = coded g (goal.at.returns-clause-answer g c).After-lent_recovery in
+    let among = AreAmong (pieces_of c.args.start c.args.end x.recovery) in (
+      λ agree. compared-consistent x c.requires.set_up c.requires.all c.args.start c.args.end c.requires.strip made coded
+          (subst among c.lent_recovery.ensures (c.are_encoded.ensures.0 agree)),
       λ consistent. c.are_encoded.ensures.1
-          (subst (AreAmong (pieces_of start end x.recovery)) (sym same)
-          (consistent-compared x c.requires.set_up c.requires.all start end c.requires.strip made coded.1
+          (subst among (sym c.lent_recovery.ensures)
+          (consistent-compared x c.requires.set_up c.requires.all c.args.start c.args.end c.requires.strip made coded
           consistent)),
     )
-
-pub returns-clause-fresh : goal.returns-clause-fresh
-returns-clause-fresh g c =
-    let x : DecoderState = g.P.Pieces.received c.args.received.now in
-    let start : ℕ = c.args.start in let end : ℕ = c.args.end in
-    let led = reached-ok _ (encoder_state default_rate c.add_received_originals.new.encoder.rows)
-    c.in_ok-add_received_originals.ensures in
-    c.in_ok-encode_round.ensures.state
-    ∙ round-ends (state_of_pieces start end x).configuration
-    (listed_pieces x c.requires.set_up c.requires.all start end c.requires.strip)
-    (encoder_state default_rate c.args.encoder.now.rows) c.requires.fresh
-    (listed-number x c.requires.set_up c.requires.all start end c.requires.strip)
-    (listed-sized x c.requires.set_up c.requires.all start end c.requires.strip)
-    (encoder_state default_rate c.add_received_originals.new.encoder.rows) led

@@ -1,14 +1,13 @@
-use Rattle.std.proofs.Common.{◌≡◌, ◌-◌, length, ◌∙◌}
+use Rattle.std.proofs.Common.{◌-◌, length, sym, ap, subst, ◌∙◌, arith}
 use Rattle.std.proofs.lemmas.Result.{on_ok_weaker}
 use Rattle.rs_field.specs.code.Code.{AreRecovery}
-use Rattle.rs_field.specs.code.Counts.{default_rate}
+use Rattle.rs_field.specs.code.Configuration.{Configuration, configuration}
+use Rattle.rs_field.specs.code.Encoder.{EncoderState, fresh_encoder}
 use Rattle.rs_field.specs.code.OneCall.{default_of}
 use Rattle.rs_field.specs.code.Pieces.{pieces}
-use Rattle.rs_rate.proofs.objects_lemmas.Giving.{reached-ok}
-use Rattle.rs_rate.specs.rows.EncoderView.{encoder_state, lent_shards}
-use Rattle.rs_rate.specs.objects.ObjectLaws.{is_encoder}
+use Rattle.rs_field.proofs.code_lemmas.Pieces.{pieces-count, pieces-sized}
+use Rattle.rs_rate.specs.rows.EncoderView.{lent_shards}
 use Rattle.rs_rate.specs.objects.ResultView.{recovery_shards}
-use Rattle.reed_solomon_simd.proofs.StripLemmas.{strip-added, strip-encoded, strip-ends, strip-codes}
 use Rattle.reed_solomon_simd.proofs.strip_encoder.encode_strip.Given.{Over}
 use Rattle.reed_solomon_simd.proofs.strip_encoder.encode_strip.Goals.{After-lent_recovery}
 use Rattle.reed_solomon_simd.proofs.strip_encoder.encode_strip.Goals as goal
@@ -20,24 +19,28 @@ recoded : (g : Over) (c : After-lent_recovery g)
     (pieces c.args.start c.args.end (g.O.Originals.shards c.args.originals.now))
     (recovery_shards c.lent_recovery.result)
 recoded g c =
-    let object = c.add_pieces.new.encoder in
+    let (n, most, fresh) = c.requires.fresh in
     rw c.lent_recovery.ensures
-    (strip-codes c.args.start c.args.end _ _ c.requires.order c.requires.originals _ c.requires.fresh _
-    (reached-ok _ _ c.in_ok-add_pieces.ensures) (lent_shards c.encode_round.new.encoder.rows)
-    (is_encoder default_rate object.rows object.set_up) c.in_ok-encode_round.ensures.answer)
+    (subst (λ (d : Configuration). AreRecovery
+    (configuration d.rate d.original_count d.recovery_count (c.args.end - c.args.start))
+    (pieces c.args.start c.args.end (g.O.Originals.shards c.args.originals.now))
+    (lent_shards c.encode_message.new.encoder.rows)) (ap (λ (s : EncoderState). s.configuration) fresh)
+    c.in_ok-encode_message.ensures.coded)
 
-pub returns-in_err-add_pieces : goal.returns-in_err-add_pieces
-returns-in_err-add_pieces g c =
-    absurd (strip-added c.args.start c.args.end _ _ c.requires.order c.requires.originals _ c.requires.fresh
-    (λ s. encoder_state default_rate c.add_pieces.new.encoder.rows ≡ s)
-    c.in_err-add_pieces.field-0.0 c.in_err-add_pieces.ensures)
-
-pub returns-in_err-encode_round : goal.returns-in_err-encode_round
-returns-in_err-encode_round g c =
-    let led = reached-ok _ (encoder_state default_rate c.add_pieces.new.encoder.rows) c.in_ok-add_pieces.ensures in
-    absurd (strip-encoded c.args.start c.args.end _ _ c.requires.order c.requires.originals _ c.requires.fresh
-    (encoder_state default_rate c.add_pieces.new.encoder.rows) led
-    c.in_err-encode_round.field-0.0 c.in_err-encode_round.ensures.answer)
+pub encode_message-requires : goal.encode_message-requires
+encode_message-requires g c =
+    let (n, most, fresh) = c.requires.fresh in
+    let originals = g.O.Originals.shards c.args.originals.now in
+    let own = ap (λ (s : EncoderState). s.configuration.shard_bytes) fresh in
+    record {
+      none = ap (λ (s : EncoderState). s.given) fresh;
+      shorter = omega (arith, most, own);
+      some = omega (arith, c.requires.some);
+      even = c.requires.even;
+      number = pieces-count c.args.start c.args.end originals
+          ∙ sym (ap (λ (s : EncoderState). s.configuration.original_count) fresh);
+      sized = pieces-sized c.args.start c.args.end originals (omega (arith, c.requires.some)) c.requires.originals;
+    }
 
 pub put_pieces-requires-clause-number : goal.put_pieces-requires-clause-number
 put_pieces-requires-clause-number g c =
@@ -51,10 +54,10 @@ put_pieces-requires-clause-sized g c =
 
 pub returns-clause-fresh : goal.returns-clause-fresh
 returns-clause-fresh g c =
-    let led = reached-ok _ (encoder_state default_rate c.add_pieces.new.encoder.rows) c.in_ok-add_pieces.ensures in
-    c.in_ok-encode_round.ensures.state
-    ∙ strip-ends c.args.start c.args.end _ _ c.requires.order c.requires.originals _ c.requires.fresh
-    (encoder_state default_rate c.add_pieces.new.encoder.rows) led
+    let (n, most, fresh) = c.requires.fresh in
+    c.in_ok-encode_message.ensures.fresh
+    ∙ ap (λ (s : EncoderState). fresh_encoder (configuration s.configuration.rate s.configuration.original_count
+    s.configuration.recovery_count (c.args.end - c.args.start))) fresh
 
 pub returns-clause-coded : goal.returns-clause-coded
 returns-clause-coded g c =

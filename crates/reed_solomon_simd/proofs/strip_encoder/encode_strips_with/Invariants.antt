@@ -1,4 +1,4 @@
-use Rattle.std.proofs.Common.{◌≡◌, ◌-◌, ◌<◌}
+use Rattle.std.proofs.Common.{◌≡◌, ℕ, ◌-◌, ◌≤◌, length, min}
 use Rattle.rs_field.specs.code.Counts.{default_rate}
 use Rattle.rs_field.specs.code.Encoder.{fresh_encoder}
 use Rattle.rs_field.specs.code.OneCall.{default_of}
@@ -7,17 +7,18 @@ use Rattle.rs_rate.specs.rows.EncoderView.{encoder_state}
 use Rattle.reed_solomon_simd.proofs.StripLoops.{IsCut}
 use Rattle.reed_solomon_simd.proofs.strip_encoder.encode_strips_with.Given as goal
 
--- All bytes before `start` are coded. A chunk begins at `start`, or the shards end there. If bytes are left, the
--- encoder is ready for the next strip.
+-- All bytes before `start` are coded. A chunk begins at `start`, or the shards end there. The encoder has room for the
+-- next strip.
 abbrev pub invariant-loop-start : goal.invariant-loop-start
 invariant-loop-start g l =
     record {
       cut : IsCut l.start l.shard_bytes;
-      fresh : l.start < l.shard_bytes
-          → encoder_state default_rate l.encoder.rows
-          ≡ fresh_encoder (default_of l.counts.original_count l.counts.recovery_count l.width);
-      done : IsDone l.counts.original_count l.counts.recovery_count l.shard_bytes l.start g.R.Rooms.grows default_rate
-          (g.O.Originals.shards l.originals) (g.R.Rooms.held l.rooms);
+      fresh : (n : ℕ) × (min l.width (l.shard_bytes - l.start) ≤ n)
+          × (encoder_state default_rate l.encoder.rows
+          ≡ fresh_encoder (default_of (length (g.O.Originals.shards l.originals))
+          (length (g.R.Rooms.held l.initial.rooms)) n));
+      done : IsDone (length (g.O.Originals.shards l.originals)) (length (g.R.Rooms.held l.initial.rooms)) l.shard_bytes
+          l.start g.R.Rooms.grows default_rate (g.O.Originals.shards l.originals) (g.R.Rooms.held l.rooms);
       places : g.R.Rooms.places l.rooms ≡ g.R.Rooms.places l.initial.rooms;
       loan : g.R.Rooms.loan l.rooms ≡ g.R.Rooms.loan l.initial.rooms;
     }

@@ -1,0 +1,20 @@
+use Rattle.std.proofs.Common.{ℕ, ◌<◌, [], sym, ◌∙◌, subst}
+use Rattle.std.specs.Prelude.{unwrap_or}
+use Rattle.rs_field.specs.code.Decoder.{DecoderState}
+use Rattle.rs_field.specs.code.Given.{nothing}
+use Rattle.rs_field.specs.code.PieceStates.{state_of_pieces}
+use Rattle.rs_field.proofs.words_lemmas.UpTo.{length-up_to, get-up_to}
+use Rattle.reed_solomon_simd.specs.Rounds.{own_piece}
+use Rattle.reed_solomon_simd.proofs.strip_comparer.ReceivedStripStripMessage.piece.Goals as goal
+
+pub received_piece-requires-clause-index : goal.received_piece-requires-clause-index
+received_piece-requires-clause-index g c = subst (λ (n : ℕ). c.args.index < n) (length-up_to _ _) c.requires
+
+pub returns : goal.returns
+returns g c =
+    let own = c.args.self.now in
+    let x : DecoderState = g.P.Pieces.received own.received.now in
+    c.received_piece.ensures
+    ∙ sym (get-up_to x.configuration.original_count
+    (λ i. unwrap_or (own_piece (state_of_pieces own.start own.end x) nothing i) []) c.args.index []
+    (subst (λ (n : ℕ). c.args.index < n) (length-up_to _ _) c.requires))
