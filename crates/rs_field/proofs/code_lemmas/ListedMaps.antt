@@ -1,8 +1,7 @@
 -- The list of the shards of a map: it is unique, and follows changes of all shards.
-use Rattle.std.proofs.Common.{◌≡◌, ℕ, zero, suc, ◌+◌, ◌-◌, ◌≤◌, List, [], ◌++◌, map, All, refl, sym, ap, ap₂, ◌∙◌}
+use Rattle.std.proofs.Common.{◌≡◌, ℕ, zero, suc, ◌+◌, ◌-◌, ◌≤◌, List, [], ◌++◌, map, All, refl, sym, ap, ◌∙◌}
 use Rattle.std.proofs.Common.{subst, inl, inr, arith}
 use Rattle.std.specs.Prelude.{Option, Some, None}
-use Rattle.std.specs.Option.{option_map}
 use Rattle.std.proofs.lemmas.Bool.{cases_lt}
 use Rattle.std.proofs.lemmas.List.{map-append}
 use Rattle.std.proofs.lemmas.List.Elements.{All-append, All-nil, All-cons}
@@ -43,26 +42,6 @@ lists-same {given} first second = elim (cases_lt first.count second.count) [
     longer n m h none =
         ap (λ (l : ℕ). items_from 0 l given) (let e : m ≡ n + (m - n) = omega (arith, h) in e)
         ∙ items_below-longer n (m - n) 0 given (λ i past. none i (omega (arith, past)))
-
--- Changing each shard of a map changes each listed shard in the same way.
-pub listed-changed : (f : Shard → Shard) (n from : ℕ) (given : Shards)
-    → shards_listed (items_from from n (λ i. option_map f (given i))) ≡ map f (shards_listed (items_from from n given))
-listed-changed f zero from given =
-    ap shards_listed (items_from-zero from (λ i. option_map f (given i)))
-    ∙ sym (ap (λ l. map f (shards_listed l)) (items_from-zero from given))
-listed-changed f (suc n) from given =
-    ap shards_listed (items_from-suc from n (λ i. option_map f (given i)))
-    ∙ map-append (λ item. item.1) (items_at from (option_map f (given from)))
-    (items_from (suc from) n (λ i. option_map f (given i)))
-    ∙ ap₂ (λ (a b : List Shard). a ++ b) (by_option (given from)) (listed-changed f n (suc from) given)
-    ∙ sym (map-append f (shards_listed (items_at from (given from))) (shards_listed (items_from (suc from) n given)))
-    ∙ sym (ap (map f) (map-append (λ item. item.1) (items_at from (given from)) (items_from (suc from) n given)))
-    ∙ sym (ap (λ l. map f (shards_listed l)) (items_from-suc from n given))
-  where
-    by_option : (o : Option Shard)
-        → shards_listed (items_at from (option_map f o)) ≡ map f (shards_listed (items_at from o))
-    by_option (Some s) = refl
-    by_option None = refl
 
 -- A property of each shard of a map is a property of each listed shard.
 pub listed-all : (P : Shard → Type 0) (n from : ℕ) (given : Shards)

@@ -5,15 +5,10 @@ use Rattle.std.proofs.Common.{All}
 use Rattle.std.specs.List.{between}
 use Rattle.std.proofs.lemmas.Bool.{cases_lt}
 use Rattle.std.proofs.lemmas.List.{get_or-take, get_or-drop, get_or-map, get_or_default, length-take-le, length-drop}
-use Rattle.std.proofs.lemmas.List.{length-map, length-append, take_all, take_at, drop_at, take_more, drop_more}
-use Rattle.std.proofs.lemmas.List.{take-append-drop, map-append, append_assoc, ext_get_or as same_from}
-use Rattle.std.specs.Prelude.{Result, Ok, Err}
+use Rattle.std.proofs.lemmas.List.{length-map, length-append, take_all, take_at, drop_at}
+use Rattle.std.proofs.lemmas.List.{append_assoc, ext_get_or as same_from}
 use Rattle.std.proofs.lemmas.List.Elements.{All-map, All-append, All-nil}
-use Rattle.rs_field.specs.declared.code.error.Error.{Error}
 use Rattle.rs_field.specs.code.Column.{Shard, AreShards, column, columns, chunk_words}
-use Rattle.rs_field.specs.code.Encoder.{EncoderState, with_shard}
-use Rattle.rs_field.specs.code.OneCall.{with_shards}
-use Rattle.rs_field.specs.code.Outcome.{result_and_then}
 use Rattle.rs_field.specs.code.Configuration.{Configuration, configuration}
 use Rattle.rs_field.specs.code.Counts.{Rate}
 use Rattle.rs_field.specs.code.Code.{AreRecovery, AreRecoveryWords}
@@ -314,38 +309,3 @@ pieces-sized start end xs order inside =
     let room = inside i d h in
     let left = length-drop start (get_or xs i d) in
     length-take-le (end - start) (drop start (get_or xs i d)) (omega (arith, left, room, order)))
-
--- Adding two lists of shards is adding the second list after the first.
-adds-append : (s t : EncoderState) (xs ys : List Shard) → with_shards s xs ≡ Ok t
-    → with_shards s (xs ++ ys) ≡ with_shards t ys
-adds-append s t [] ys is = (let same : s ≡ t = cc in ap (λ (u : EncoderState). with_shards u ys) same)
-adds-append s t (x ∷ xs) ys is = by_outcome (with_shard s x) (λ n led. adds-append n t xs ys led) is
-  where
-    by_outcome : (o : Result EncoderState Error)
-        → ((n : EncoderState) → with_shards n xs ≡ Ok t → with_shards n (xs ++ ys) ≡ with_shards t ys)
-        → result_and_then (λ n. with_shards n xs) o ≡ Ok t
-        → result_and_then (λ n. with_shards n (xs ++ ys)) o ≡ with_shards t ys
-    by_outcome (Ok n) more is = more n is
-    by_outcome (Err e) more is = absurd (let no : ⊥ = cc in no)
-
-module _ (start end i : ℕ) (xs : List Shard) (first now : EncoderState) (inside : i < length xs)
-    (led : with_shards first (pieces start end (take i xs)) ≡ Ok now) where
-  -- Adding the next piece adds the pieces of one more shard.
-  pub given-next : (next : EncoderState) → with_shard now (between start end (get_or xs i [])) ≡ Ok next
-      → with_shards first (pieces start end (take (i + 1) xs)) ≡ Ok next
-  given-next next taken =
-      ap (λ (l : List Shard). with_shards first (pieces start end l)) (take_more xs i [] inside)
-      ∙ ap (with_shards first) (map-append (λ (s : Shard). between start end s) (take i xs) (get_or xs i [] ∷ []))
-      ∙ adds-append first now (pieces start end (take i xs)) (pieces start end (get_or xs i [] ∷ [])) led
-      ∙ ap (result_and_then (λ (s : EncoderState). Ok s)) taken
-
-  -- The error of the first piece that cannot be added is the outcome of adding all pieces.
-  pub given-refused : (e : Error) → with_shard now (between start end (get_or xs i [])) ≡ Err e
-      → with_shards first (pieces start end xs) ≡ Err e
-  given-refused e refused =
-      ap (λ (l : List Shard). with_shards first (pieces start end l))
-      (sym (take-append-drop i xs) ∙ ap (λ (l : List Shard). take i xs ++ l) (drop_more xs i [] inside))
-      ∙ ap (with_shards first)
-      (map-append (λ (s : Shard). between start end s) (take i xs) (get_or xs i [] ∷ drop (i + 1) xs))
-      ∙ adds-append first now (pieces start end (take i xs)) (pieces start end (get_or xs i [] ∷ drop (i + 1) xs)) led
-      ∙ ap (result_and_then (λ (s : EncoderState). with_shards s (pieces start end (drop (i + 1) xs)))) refused
