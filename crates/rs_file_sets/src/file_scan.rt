@@ -7,9 +7,8 @@ use rs_folders::runs::places_in;
 use rs_folders::source::{Opened, Origin};
 use rs_volume_files::scanner::{Scanner, State};
 use rs_volumes::description::{Description, Entry, Kind};
-use rs_volumes::digest::is_digest;
+use rs_volumes::hasher::{ByteHasher, ComputedDigest};
 use rs_volumes::placement::Place;
-use sha2::{Digest, Sha256};
 use std::alloc::Global;
 use std::io::{ErrorKind, Seek, SeekFrom};
 use std::rt::{Clock, Files};
@@ -183,11 +182,12 @@ impl<'a, R: Files + Clock + Eprint> EntryScan<'a, R> {
         }
         let own = self.hash_block(places, size);
         self.scanner.progress.advance(self.rt, size);
-        match own {
-            Some(own) if is_digest(self.description.digests.as_slice(), block, &own) => {
-                self.scanner.note(block, Origin::Files)
-            }
-            _ => self.doubt(places),
+        let is_right = match own {
+            Some(own) => self.scanner.found.note(block, &own, Origin::Files),
+            None => false,
+        };
+        if !is_right {
+            self.doubt(places);
         }
     }
 
@@ -207,8 +207,8 @@ impl<'a, R: Files + Clock + Eprint> EntryScan<'a, R> {
 
     // Returns the SHA-256 of a block: of the bytes of files at its places, and zeros elsewhere. Returns `None` if bytes
     // of a file cannot be read.
-    fn hash_block(&mut self, places: &[Place], size: u64) -> Option<[u8; 32]> {
-        let mut hasher = Sha256::new();
+    fn hash_block(&mut self, places: &[Place], size: u64) -> Option<ComputedDigest> {
+        let mut hasher = ByteHasher::new();
         let mut next = 0;
         for place in places {
             add_zeros(&mut hasher, place.at.saturating_sub(next));
@@ -222,11 +222,11 @@ impl<'a, R: Files + Clock + Eprint> EntryScan<'a, R> {
             next = place.at.saturating_add(place.bytes);
         }
         add_zeros(&mut hasher, size.saturating_sub(next));
-        Some(hasher.finalize())
+        Some(hasher.finish())
     }
 
     // Adds the bytes of a place to a hasher.
-    fn add_place(&mut self, hasher: &mut Sha256, place: &Place) -> io::Result<()> {
+    fn add_place(&mut self, hasher: &mut ByteHasher, place: &Place) -> io::Result<()> {
         self.open(place.file)?;
         match &mut self.opened {
             Some(opened) => {

@@ -15,10 +15,10 @@ use rs_folders::source::{FileBlocks, Holders, failure_of};
 use rs_volumes::coding_error::CodingError;
 use rs_volumes::description::Version;
 use rs_volumes::digest::is_digest;
+use rs_volumes::hasher::ByteHasher;
 use rs_volumes::pieces::BlockSink;
 use rs_volumes::placement::Place;
-use rs_volumes::restoring::{Plan, restore};
-use sha2::{Digest, Sha256};
+use rs_volumes::restoring::{Plan, restore_found};
 use std::alloc::{AllocError, Global};
 use std::io;
 use std::io::{ErrorKind, Read, Seek, SeekFrom};
@@ -97,7 +97,7 @@ fn plan_for(alloc: Global, scan: &Scan, wanted: Vec<bool>) -> Result<Plan, Alloc
 
 // Returns whether an original block was found.
 fn is_found(scan: &Scan, index: usize) -> bool {
-    matches!(scan.origins.get(index), Some(Some(_)))
+    scan.found.has(index)
 }
 
 // Returns whether one of the original blocks that must be written was not found.
@@ -148,7 +148,7 @@ fn recovery_blocks(
     count: usize,
 ) -> Result<Vec<usize>, AllocError> {
     let mut recovery = Vec::new(alloc);
-    for (index, origin) in scan.origins.iter().enumerate() {
+    for (index, origin) in scan.found.places.iter().enumerate() {
         if index >= k && origin.is_some() && recovery.len() < count {
             recovery.push(index - k)?;
         }
@@ -185,7 +185,7 @@ pub fn write_blocks<'a, R: Files + Clock + Eprint>(
         paths: scan.paths.as_slice(),
         follows: &[],
         places: scan.places.as_slice(),
-        origins: scan.origins.as_slice(),
+        origins: scan.found.places.as_slice(),
     };
     let mut source = FileBlocks::new(rt, alloc, holders, progress);
     let are_right = restore_blocks(alloc, scan, &plan, memory, &mut source, &mut sink)?;
@@ -223,7 +223,7 @@ pub fn restore_lost<'a, R: Files + Clock + Eprint, W: BlockSink>(
         paths: scan.paths.as_slice(),
         follows: &[],
         places: scan.places.as_slice(),
-        origins: scan.origins.as_slice(),
+        origins: scan.found.places.as_slice(),
     };
     let mut source = FileBlocks::new(rt, alloc, holders, progress);
     if restore_blocks(alloc, scan, &plan, memory, &mut source, sink)? {
@@ -254,8 +254,7 @@ fn restore_blocks<R: Files + Clock + Eprint, W: BlockSink>(
     let engine = DefaultEngine::new(&tables, EngineKind::Ssse3);
     let shape = shape_of(scan.description());
     let piece = piece_bytes(&shape, memory);
-    let digests = scan.description().digests.as_slice();
-    let outcome = restore(alloc, shape, piece, engine, plan, digests, source, sink);
+    let outcome = restore_found(alloc, shape, piece, engine, plan, &scan.found, source, sink);
     source.end();
     match outcome {
         Ok(()) => Ok(true),
@@ -314,7 +313,7 @@ fn has_digests<F: Read + Seek>(
     let description = scan.description();
     if description.version == Version::Second {
         return match description.entries.get(file) {
-            Some(entry) => Ok(hash_at(handle, 0, entry.size, buffer)? == entry.digest),
+            Some(entry) => Ok(hash_at(handle, 0, entry.size, buffer)?.bytes == entry.digest),
             None => Ok(false),
         };
     }
@@ -323,7 +322,7 @@ fn has_digests<F: Read + Seek>(
         if place.file != file {
             break;
         }
-        let mut hasher = Sha256::new();
+        let mut hasher = ByteHasher::new();
         handle.seek(SeekFrom::Start(place.offset))?;
         add_bytes(&mut hasher, handle, place.bytes, buffer)?;
         add_zeros(
@@ -333,7 +332,7 @@ fn has_digests<F: Read + Seek>(
         if !is_digest(
             description.digests.as_slice(),
             place.block,
-            &hasher.finalize(),
+            &hasher.finish().bytes,
         ) {
             return Ok(false);
         }

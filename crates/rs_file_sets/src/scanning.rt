@@ -9,6 +9,7 @@ use rs_volume_files::scanner::{Scanner, State};
 use rs_volume_files::volume::{Volume, Volumes, open_sized, open_volumes};
 use rs_volume_files::volume_scan::{Damage, VolumeScan};
 use rs_volumes::description::{Description, Version};
+use rs_volumes::found::FoundBlocks;
 use rs_volumes::placement::{Place, places_of};
 use std::alloc::{AllocError, Global};
 use std::rt::{Clock, Files};
@@ -20,9 +21,8 @@ pub struct Scan {
     pub set: Set,
     /// Where the original blocks lie in the files.
     pub places: Vec<Place>,
-    /// Where each block was found: first the original blocks, then the recovery blocks. `None` means that the block was
-    /// not found.
-    pub origins: Vec<Option<Origin>>,
+    /// The blocks that were found, with the place of each: first the original blocks, then the recovery blocks.
+    pub found: FoundBlocks<Origin>,
     /// The state of each entry.
     pub states: Vec<State>,
     /// The paths of the entries, and then of the volumes. The path of an entry is empty if its name is not UTF-8, or if
@@ -110,11 +110,11 @@ pub fn scan_opened<R: Files + Clock + Eprint>(
     };
     let volumes = scan_volumes(alloc, &mut scan, read, &mut paths)?;
     scanner.progress.end(rt);
-    let Scanner { origins, .. } = scanner;
+    let Scanner { found, .. } = scanner;
     Ok(Scan {
         set,
         places,
-        origins,
+        found,
         states,
         paths,
         volumes,
@@ -203,8 +203,9 @@ impl Scan {
 
     // Returns where the original blocks and where the recovery blocks were found.
     fn origins(&self) -> (&[Option<Origin>], &[Option<Origin>]) {
-        let k = (self.description().original_count as usize).min(self.origins.len());
-        self.origins.split_at(k)
+        let places = self.found.places.as_slice();
+        let k = (self.description().original_count as usize).min(places.len());
+        places.split_at(k)
     }
 
     /// Counts the blocks that were found.
@@ -230,7 +231,7 @@ impl Scan {
             return Ok(restorable);
         }
         for place in &self.places {
-            if !matches!(self.origins.get(place.block), Some(Some(_))) {
+            if !self.found.has(place.block) {
                 if let Some(own) = restorable.get_mut(place.file) {
                     *own = false;
                 }

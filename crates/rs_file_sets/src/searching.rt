@@ -10,9 +10,8 @@ use rs_folders::runs::places_in;
 use rs_folders::source::{FileBlocks, Holders, Origin, read_at};
 use rs_volume_files::scanner::State;
 use rs_volumes::description::Kind;
-use rs_volumes::digest::is_digest;
+use rs_volumes::hasher::{ByteHasher, ComputedDigest};
 use rs_volumes::pieces::BlockSource;
-use sha2::{Digest, Sha256};
 use std::alloc::{AllocError, Global};
 use std::collections::BTreeMap;
 use std::io::{Read, Seek};
@@ -344,15 +343,15 @@ impl<'a, R: Runtime> Search<'a, R> {
         let k = self.scan.description().original_count as usize;
         let in_files = vec![in self.alloc; Some(Origin::Files); k]?;
         for block in self.scan.lost(self.alloc)? {
-            if self.has_digest(block, in_files.as_slice()) {
-                self.note(block, Origin::Files);
+            if let Some(own) = self.hash_block(block, in_files.as_slice()) {
+                self.scan.found.note(block, &own, Origin::Files);
             }
         }
         Ok(())
     }
 
-    // Returns whether a block has its digest at its origin.
-    fn has_digest(&self, block: usize, origins: &[Option<Origin>]) -> bool {
+    // Returns the digest of the bytes of a block at its origin. Returns `None` if they cannot be read.
+    fn hash_block(&self, block: usize, origins: &[Option<Origin>]) -> Option<ComputedDigest> {
         let holders = Holders {
             paths: self.scan.paths.as_slice(),
             follows: &[],
@@ -362,7 +361,7 @@ impl<'a, R: Runtime> Search<'a, R> {
         let size = self.scan.description().block_bytes;
         let progress = Progress::new(self.rt, false, 0);
         let mut source = FileBlocks::new(self.rt, self.alloc, holders, progress);
-        let mut hasher = Sha256::new();
+        let mut hasher = ByteHasher::new();
         let mut start = 0u64;
         for _ in 0..u64::MAX {
             let end = start.saturating_add(CHUNK as u64).min(size);
@@ -371,21 +370,11 @@ impl<'a, R: Runtime> Search<'a, R> {
             }
             match source.piece(block, start as usize, end as usize) {
                 Ok(piece) => hasher.update(piece.as_slice()),
-                Err(_) => return false,
+                Err(_) => return None,
             }
             start = end;
         }
-        let own = hasher.finalize();
-        is_digest(self.scan.description().digests.as_slice(), block, &own)
-    }
-
-    // Records where a block was found.
-    fn note(&mut self, block: usize, origin: Origin) {
-        if let Some(own) = self.scan.origins.get_mut(block) {
-            if own.is_none() {
-                *own = Some(origin);
-            }
-        }
+        Some(hasher.finish())
     }
 
     // Returns the digest of a block.
@@ -397,7 +386,7 @@ impl<'a, R: Runtime> Search<'a, R> {
 
     // Returns the place of a block that was found, if all its bytes lie one after another in one file or volume.
     fn single_place(&self, block: usize) -> Option<Origin> {
-        match self.scan.origins.get(block).copied()?? {
+        match self.scan.found.places.get(block).copied()?? {
             Origin::Files => match places_in(self.scan.places.as_slice(), block) {
                 [place] if place.bytes == self.scan.description().block_bytes => {
                     Some(Origin::Volume {
@@ -418,21 +407,26 @@ impl<'a, R: Runtime> Search<'a, R> {
             return Ok(());
         }
         let mut found = Vec::new(self.alloc);
-        for block in 0..self.scan.origins.len() {
+        for block in 0..self.scan.found.places.len() {
             if let Some(origin) = self.single_place(block) {
                 found.push((block, origin))?;
             }
         }
         found.sort_by(|one, other| self.digest(one.0).cmp(self.digest(other.0)))?;
         for block in lost {
-            let digest = self.digest(block);
-            let at = found.partition_point(|(other, _)| self.digest(*other) < digest);
-            match found.get(at).copied() {
-                Some((other, origin)) if self.digest(other) == digest => self.note(block, origin),
-                _ => {}
+            if let Some((other, origin)) = self.equal_block(found.as_slice(), block) {
+                self.scan.found.note_equal(block, other, origin);
             }
         }
         Ok(())
+    }
+
+    // Returns the first of these blocks, which are in order of their digests, whose digest is not below that of a
+    // block.
+    fn equal_block(&self, found: &[(usize, Origin)], block: usize) -> Option<(usize, Origin)> {
+        let digest = self.digest(block);
+        let at = found.partition_point(|(other, _)| self.digest(*other) < digest);
+        found.get(at).copied()
     }
 
     // Looks for the blocks that are still lost at any byte of the candidates, unless enough recovery blocks are left.
@@ -482,11 +476,7 @@ impl<'a, R: Runtime> Search<'a, R> {
             if tries == 0 || !windows.find(sums) {
                 break;
             }
-            let blocks = self.blocks_in(&mut windows, sums)?;
-            for block in &blocks {
-                let offset = windows.at;
-                self.note(*block, Origin::Volume { holder, offset });
-            }
+            let blocks = self.blocks_in(&mut windows, sums, holder)?;
             if blocks.is_empty() {
                 tries -= 1;
             } else {
@@ -503,19 +493,26 @@ impl<'a, R: Runtime> Search<'a, R> {
         Ok(())
     }
 
-    // Returns the lost blocks that are in the window: those with its digest.
+    // Notes and returns the lost blocks that are in the window: those with its digest. `holder` is the index that the
+    // file gets in the list of paths.
     fn blocks_in<F: Read + Seek + Drop>(
         &mut self,
         windows: &mut Windows<F>,
         sums: &Sums,
+        holder: usize,
     ) -> Result<Vec<usize>, AllocError> {
         let mut blocks = Vec::new(self.alloc);
+        let offset = windows.at;
         let size = self.scan.description().block_bytes;
-        let Ok(own) = hash_at(&mut windows.file, windows.at, size, &mut self.buffer) else {
+        let Ok(own) = hash_at(&mut windows.file, offset, size, &mut self.buffer) else {
             return Ok(blocks);
         };
         for (_, block) in sums.blocks_of(&windows.sum) {
-            if is_digest(self.scan.description().digests.as_slice(), *block, &own) {
+            if self
+                .scan
+                .found
+                .note(*block, &own, Origin::Volume { holder, offset })
+            {
                 blocks.push(*block)?;
             }
         }

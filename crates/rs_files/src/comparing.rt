@@ -75,7 +75,7 @@ impl Known {
         for block in 0..new.original_count as usize {
             let was = places_in(old.places.as_slice(), block);
             let is = places_in(places, block);
-            let is_whole = matches!(old.origins.get(block), Some(Some(Origin::Files)));
+            let is_whole = matches!(old.found.places.get(block), Some(Some(Origin::Files)));
             let mut pairs = was.iter().zip(is);
             let is_same = was.len() == is.len()
                 && pairs.all(|(was, is)| is_same_place(old.description(), was, new, is, linked));

@@ -23,9 +23,9 @@ use rs_volumes::coding_error::CodingError;
 use rs_volumes::creating::{Work, create_except};
 use rs_volumes::description::{CREATOR, Description, Entry, Field, Kind, Version};
 use rs_volumes::digest::digest_of;
+use rs_volumes::hasher::ByteHasher;
 use rs_volumes::placement::places_of;
 use rs_volumes::write_description;
-use sha2::{Digest, Sha256};
 use std::alloc::{AllocError, Global};
 use std::io::ErrorKind;
 use std::rt::{Clock, Files, Runtime};
@@ -209,7 +209,7 @@ impl<'a, R: Files + Clock + Eprint> Making<'a, R> {
         }
         let follows = self.linked.get(index).copied().unwrap_or(false);
         let mut file = open_regular(self.rt, path.as_str(), follows)?;
-        let mut hasher = Sha256::new();
+        let mut hasher = ByteHasher::new();
         let mut left = entry.size;
         for _ in 0..u64::MAX {
             let part = left.min(CHUNK as u64);
@@ -220,7 +220,7 @@ impl<'a, R: Files + Clock + Eprint> Making<'a, R> {
             progress.advance(self.rt, part);
             left = left.saturating_sub(part);
         }
-        Ok(hasher.finalize())
+        Ok(hasher.finish().bytes)
     }
 
     // Makes the recovery blocks, and writes blocks into the sink. Sets the digests and the sums of all blocks. A set

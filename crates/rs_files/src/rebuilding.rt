@@ -108,18 +108,16 @@ pub fn rebuild<R: Runtime>(
         _ => return Ok(found.has_whole_volumes()),
     };
     if counts.lost == 0 {
-        return rebuild_found(rt, alloc, request, found, log);
+        let origins = Vec::from_slice(alloc, found.found.places.as_slice())?;
+        return rebuild_from(rt, alloc, request, found, origins.as_slice(), log);
     }
     let lost = found.lost(alloc)?;
     let size = (lost.len() as u64).saturating_mul(found.description().block_bytes);
     let path = numbered_part_of(alloc, first.as_str(), 3)?;
     let mut part = Part::begin(rt, alloc, path.as_str(), path.clone()?, size, LOST_MODE)?;
-    let mut outcome = restore_into(rt, alloc, request, found, lost.as_slice(), &mut part);
-    if outcome.is_ok() {
-        outcome = note_restored(found, lost.as_slice(), path);
-    }
-    let outcome = match outcome {
-        Ok(()) => rebuild_found(rt, alloc, request, found, log),
+    let outcome = restore_into(rt, alloc, request, found, lost.as_slice(), &mut part);
+    let outcome = match outcome.and_then(|_| with_restored(alloc, found, lost.as_slice(), path)) {
+        Ok(origins) => rebuild_from(rt, alloc, request, found, origins.as_slice(), log),
         Err(failure) => Err(failure),
     };
     part.remove(rt);
@@ -151,25 +149,33 @@ fn restore_into<R: Runtime>(
     )
 }
 
-// Notes in a scan that lost blocks are in the file at a path now.
-fn note_restored(found: &mut Scan, lost: &[usize], path: String) -> Result<()> {
+// Returns where each block is, now that lost blocks are in the file at a path. Adds the path to those of the scan.
+fn with_restored(
+    alloc: Global,
+    found: &mut Scan,
+    lost: &[usize],
+    path: String,
+) -> Result<Vec<Option<Origin>>> {
     let (holder, block_bytes) = (found.paths.len(), found.description().block_bytes);
+    let mut origins = Vec::from_slice(alloc, found.found.places.as_slice())?;
     for (number, block) in lost.iter().enumerate() {
-        if let Some(origin) = found.origins.get_mut(*block) {
+        if let Some(origin) = origins.get_mut(*block) {
             let offset = (number as u64).saturating_mul(block_bytes);
             *origin = Some(Origin::Volume { holder, offset });
         }
     }
-    Ok(found.paths.push(path)?)
+    found.paths.push(path)?;
+    Ok(origins)
 }
 
-// Writes the damaged volumes of a scan again that has found all original blocks. Returns whether all volumes are whole
-// now. Fails as [`rebuild`] does.
-fn rebuild_found<R: Runtime>(
+// Writes the damaged volumes of a scan again. `origins` says where each original block is. Returns whether all volumes
+// are whole now. Fails as [`rebuild`] does.
+fn rebuild_from<R: Runtime>(
     rt: &R,
     alloc: Global,
     request: &Request,
     found: &Scan,
+    origins: &[Option<Origin>],
     log: &mut Log,
 ) -> Result<bool> {
     let paths = damaged_paths(alloc, found)?;
@@ -186,6 +192,7 @@ fn rebuild_found<R: Runtime>(
             alloc,
             request,
             found,
+            origins,
             description.as_slice(),
             &mut volumes,
         );
@@ -241,6 +248,7 @@ fn code<R: Runtime>(
     alloc: Global,
     request: &Request,
     found: &Scan,
+    origins: &[Option<Origin>],
     description: &[u8],
     volumes: &mut Volumes<'_, R>,
 ) -> Result<()> {
@@ -253,7 +261,7 @@ fn code<R: Runtime>(
             paths: found.paths.as_slice(),
             follows: &[],
             places: found.places.as_slice(),
-            origins: found.origins.as_slice(),
+            origins,
         };
         let mut source = FileBlocks::new(rt, alloc, holders, progress);
         let tables = Tables::new(alloc)?;

@@ -1,6 +1,6 @@
 //! The SHA-256 of the bytes of files.
 use crate::identity::open_regular;
-use sha2::{Digest, Sha256};
+use rs_volumes::hasher::{ByteHasher, ComputedDigest};
 use std::io;
 use std::io::{Read, Seek, SeekFrom};
 use std::rt::Files;
@@ -14,7 +14,7 @@ pub const CHUNK: usize = 1 << 18;
 ///
 /// Any error of the system. [`std::io::ErrorKind::UnexpectedEof`] if the file ends before.
 pub fn add_bytes<F: Read>(
-    hasher: &mut Sha256,
+    hasher: &mut ByteHasher,
     file: &mut F,
     count: u64,
     buffer: &mut [u8],
@@ -34,7 +34,7 @@ pub fn add_bytes<F: Read>(
 }
 
 /// Adds `count` zero bytes to a hasher.
-pub fn add_zeros(hasher: &mut Sha256, count: u64) {
+pub fn add_zeros(hasher: &mut ByteHasher, count: u64) {
     let zeros = [0u8; 4096];
     let mut left = count;
     for _ in 0..u64::MAX {
@@ -57,11 +57,11 @@ pub fn hash_at<F: Read + Seek>(
     offset: u64,
     count: u64,
     buffer: &mut [u8],
-) -> io::Result<[u8; 32]> {
-    let mut hasher = Sha256::new();
+) -> io::Result<ComputedDigest> {
+    let mut hasher = ByteHasher::new();
     file.seek(SeekFrom::Start(offset))?;
     add_bytes(&mut hasher, file, count, buffer)?;
-    Ok(hasher.finalize())
+    Ok(hasher.finish())
 }
 
 /// Returns the SHA-256 of the first `size` bytes of the regular file at a path. `follows` says whether a symbolic link
@@ -78,5 +78,5 @@ pub fn hash_path<R: Files>(
     buffer: &mut [u8],
 ) -> io::Result<[u8; 32]> {
     let mut file = open_regular(rt, path, follows)?;
-    hash_at(&mut file, 0, size, buffer)
+    Ok(hash_at(&mut file, 0, size, buffer)?.bytes)
 }

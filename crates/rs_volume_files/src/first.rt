@@ -5,6 +5,7 @@ use rs_folders::hashing::{CHUNK, hash_at};
 use rs_folders::source::read_at;
 use rs_volumes::digest::{digest_of, is_digest};
 use rs_volumes::first::{HEAD_BYTES, Head, read_description, read_head};
+use rs_volumes::hasher::ComputedDigest;
 use std::alloc::Global;
 use std::io;
 use std::io::{Read, Seek};
@@ -243,8 +244,10 @@ impl<'a, F: Read + Seek> Source<'a, F> {
         let digests = volume.set.description.digests.as_slice();
         for number in 0..volume.records.count {
             let at = record_at(&volume.records, block_bytes, number);
-            if let Ok(Some(_)) = block_in(self.file, at, block_bytes, digests, &mut buffer) {
-                return Ok(volume);
+            if let Ok((index, own)) = block_in(self.file, at, block_bytes, &mut buffer) {
+                if is_digest(digests, index, &own.bytes) {
+                    return Ok(volume);
+                }
             }
         }
         Err(Failure::of("its heads are damaged, and no block has the digest in its description"))
@@ -257,7 +260,7 @@ pub fn record_at(records: &Records, block_bytes: u64, number: u64) -> u64 {
     records.at.saturating_add(number.saturating_mul(record))
 }
 
-/// Returns the index of the block in the record at an offset, if the block has the digest with this index.
+/// Returns the index in the record at an offset, and the digest of the bytes of its block.
 ///
 /// # Errors
 ///
@@ -266,9 +269,8 @@ pub fn block_in<F: Read + Seek>(
     file: &mut F,
     at: u64,
     block_bytes: u64,
-    digests: &[u8],
     buffer: &mut [u8],
-) -> io::Result<Option<usize>> {
+) -> io::Result<(usize, ComputedDigest)> {
     let mut bytes = [0u8; 4];
     read_at(file, at, &mut bytes)?;
     let index = u32::from_le_bytes(bytes) as usize;
@@ -278,11 +280,7 @@ pub fn block_in<F: Read + Seek>(
         block_bytes,
         buffer,
     )?;
-    Ok(if is_digest(digests, index, &own) {
-        Some(index)
-    } else {
-        None
-    })
+    Ok((index, own))
 }
 
 // Returns whether bytes begin as a description does, with the numbers of the code and of the digest.

@@ -5,6 +5,7 @@ use rs_folders::hashing::CHUNK;
 use rs_folders::progress::Progress;
 use rs_folders::source::Origin;
 use rs_volumes::description::Description;
+use rs_volumes::found::FoundBlocks;
 use std::alloc::{AllocError, Global};
 use std::io;
 use std::io::ErrorKind;
@@ -28,8 +29,8 @@ fn blocks_of(description: &Description) -> usize {
 /// The state of a scan, without the entries and the volumes.
 #[derive(Drop)]
 pub struct Scanner {
-    /// Where each block was found.
-    pub origins: Vec<Option<Origin>>,
+    /// The blocks that were found: first the original blocks, then the recovery blocks.
+    pub found: FoundBlocks<Origin>,
     /// The memory into which files are read.
     pub buffer: Vec<u8>,
     /// The progress of the scan.
@@ -51,7 +52,11 @@ impl Scanner {
         progress: Progress,
     ) -> Result<Scanner, AllocError> {
         Ok(Scanner {
-            origins: vec![in alloc; None; blocks_of(description)]?,
+            found: FoundBlocks::new(
+                alloc,
+                description.digests.as_slice(),
+                blocks_of(description),
+            )?,
             buffer: vec![in alloc; 0u8; CHUNK]?,
             progress,
             unread: 0,
@@ -59,13 +64,9 @@ impl Scanner {
         })
     }
 
-    /// Records where a block was found. If the block was found before, the first place is kept.
-    pub fn note(&mut self, index: usize, origin: Origin) {
-        if let Some(place) = self.origins.get_mut(index) {
-            if place.is_none() {
-                *place = Some(origin);
-            }
-        }
+    /// Returns the number of blocks of the set.
+    pub fn block_count(&self) -> usize {
+        self.found.places.len()
     }
 
     /// Notes that a block cannot be read. If the file ends before the block does, this is no error of the system.

@@ -8,10 +8,9 @@ use crate::volume::{Form, open_sized, part_in};
 use rs_folders::failure::Result;
 use rs_folders::runs::{is_padded, places_in};
 use rs_folders::source::{Origin, read_at};
-use rs_volumes::digest::is_digest;
+use rs_volumes::hasher::{ByteHasher, ComputedDigest};
 use rs_volumes::placement::Place;
 use rs_volumes::record::{BLOCK, PART};
-use sha2::{Digest, Sha256};
 use std::alloc::Global;
 use std::io;
 use std::io::{Read, Seek, SeekFrom};
@@ -107,15 +106,14 @@ impl<'a, R: Files + Clock + Eprint> VolumeScan<'a, R> {
             number: None,
         };
         let block_bytes = self.set.description.block_bytes;
-        let digests = self.set.description.digests.as_slice();
         for number in 0..records.count {
             let at = record_at(records, block_bytes, number);
             let end = record_at(records, block_bytes, number.saturating_add(1));
             let offset = end.saturating_sub(block_bytes);
-            match block_in(file, at, block_bytes, digests, &mut self.scanner.buffer) {
-                Ok(Some(index)) => self.scanner.note(index, Origin::Volume { holder, offset }),
-                Ok(None) if end > size.saturating_sub(records.at) => {}
-                Ok(None) => damage.blocks = damage.blocks.saturating_add(1),
+            match block_in(file, at, block_bytes, &mut self.scanner.buffer) {
+                Ok((index, own)) if self.is_block(index, &own, holder, offset) => {}
+                Ok(_) if end > size.saturating_sub(records.at) => {}
+                Ok(_) => damage.blocks = damage.blocks.saturating_add(1),
                 Err(error) => {
                     damage.blocks = damage.blocks.saturating_add(1);
                     self.scanner.note_unread(error);
@@ -135,7 +133,7 @@ impl<'a, R: Files + Clock + Eprint> VolumeScan<'a, R> {
         let mut found = Found {
             holder,
             number: None,
-            blocks: vec![in self.alloc; false; self.scanner.origins.len()]?,
+            blocks: vec![in self.alloc; false; self.scanner.block_count()]?,
             parts: 0,
             wrong_blocks: 0,
             wrong_parts: 0,
@@ -210,10 +208,8 @@ impl<'a, R: Files + Clock + Eprint> VolumeScan<'a, R> {
             Ok(None)
         };
         match own {
-            Ok(Some(own)) if is_digest(self.set.description.digests.as_slice(), index, &own) => {
+            Ok(Some(own)) if self.is_block(index, &own, found.holder, record.at) => {
                 walk.pass(record);
-                let (holder, offset) = (found.holder, record.at);
-                self.scanner.note(index, Origin::Volume { holder, offset });
                 if let Some(here) = found.blocks.get_mut(index) {
                     *here = true;
                 }
@@ -223,6 +219,13 @@ impl<'a, R: Files + Clock + Eprint> VolumeScan<'a, R> {
             Err(error) => self.scanner.note_unread(error),
         }
         found.wrong_blocks = found.wrong_blocks.saturating_add(1);
+    }
+
+    // Returns whether the bytes at an offset of a volume are a block: their digest is that of the block. Notes where
+    // the block is.
+    fn is_block(&mut self, index: usize, own: &ComputedDigest, holder: usize, offset: u64) -> bool {
+        let origin = Origin::Volume { holder, offset };
+        self.scanner.found.note(index, own, origin)
     }
 
     // Returns how the blocks of the set are dealt to the volumes.
@@ -238,7 +241,7 @@ impl<'a, R: Files + Clock + Eprint> VolumeScan<'a, R> {
     // Returns whether a record has the length and the index of a block.
     fn can_be_block(&self, record: &Record) -> bool {
         record.head.body_bytes == self.set.description.block_bytes
-            && (record.head.index as usize) < self.scanner.origins.len()
+            && (record.head.index as usize) < self.scanner.block_count()
     }
 
     // Returns the SHA-256 of the block in a record. Returns `None` if a byte of the block that is in no file is not
@@ -247,8 +250,8 @@ impl<'a, R: Files + Clock + Eprint> VolumeScan<'a, R> {
         &mut self,
         file: &mut F,
         record: &Record,
-    ) -> io::Result<Option<[u8; 32]>> {
-        let mut hasher = Sha256::new();
+    ) -> io::Result<Option<ComputedDigest>> {
+        let mut hasher = ByteHasher::new();
         let index = record.head.index;
         let is_original = index < self.set.description.original_count;
         let places = places_in(self.places, index as usize);
@@ -269,7 +272,7 @@ impl<'a, R: Files + Clock + Eprint> VolumeScan<'a, R> {
             hasher.update(bytes);
             start = start.saturating_add(part as u64);
         }
-        Ok(Some(hasher.finalize()))
+        Ok(Some(hasher.finish()))
     }
 
     // Returns how many records are damaged or missing, compared with a whole volume that this program writes.

@@ -23,3 +23,4 @@ pub mod Created
 pub mod Restored
 pub mod Written
 pub mod Originals
+pub mod Founds

@@ -13,3 +13,5 @@ pub mod Failing
 pub mod Holding
 pub mod Creating
 pub mod Restoring
+pub mod Computed
+pub mod Found

@@ -11,6 +11,8 @@ pub mod description;
 pub mod digest;
 pub mod fault;
 pub mod first;
+pub mod found;
+pub mod hasher;
 pub mod hashing;
 mod names;
 mod numbers;

@@ -1,5 +1,5 @@
 //! Restores blocks of a set from any k of its blocks, piece by piece.
-ghost use Rattle.std.specs.Prelude.{◌≡◌, ℕ, ◌+◌, ◌<◌, ◌≤◌, ◌%◌, ◌⊎◌, true, false, List, IfOk, IfErr, OnOk, length};
+ghost use Rattle.std.specs.Prelude.{◌≡◌, ℕ, ◌+◌, ◌<◌, ◌≤◌, ◌%◌, ◌⊎◌, true, false, List, IfOk, IfErr, OnOk, length, All, Err, IfNone};
 ghost use Rattle.std.specs.Prelude.{slice_index_or};
 ghost use Rattle.sha2.specs.Hashers.{Holds256};
 ghost use Rattle.sha2.specs.declared.Sha256.{Sha256 as Hasher};
@@ -7,7 +7,9 @@ ghost use Rattle.rs_field.specs.code.Column.{Shard};
 ghost use Rattle.rs_field.specs.code.Given.{Shards};
 ghost use Rattle.rs_field.specs.code.OneCall.{shards_in};
 ghost use Rattle.rs_volumes.specs.Failing.{PuttingFails};
+ghost use Rattle.rs_volumes.specs.Found.{IsFound, ReadsRight};
 ghost use Rattle.rs_volumes.specs.Holding.{AreFor, AreHeld};
+ghost use Rattle.rs_volumes.specs.declared.coding_error.CodingError.TheVariants.{Missing};
 ghost use Rattle.rs_volumes.specs.Restoring.{AreOriginals, AreRead, AreRestored, HasDigest, ReadsSet, WritesAll};
 ghost use Rattle.rs_volumes.specs.Restoring.{DigestFails, NumbersFail, RestoringFails, StripFails};
 ghost use Rattle.rs_volumes.specs.Restoring.{Gets, PutsBack, items_of, bytes_of, piece_of};
@@ -15,6 +17,7 @@ ghost use Rattle.rs_volumes.specs.Restoring.{Gets, PutsBack, items_of, bytes_of,
 use crate::coding_error::CodingError;
 use crate::creating::Shape;
 use crate::digest::is_digest;
+use crate::found::FoundBlocks;
 use crate::hashing::finish_one;
 use crate::outputs::{Outputs, new_outputs, put_one};
 use crate::pieces::{BlockSink, BlockSource};
@@ -100,6 +103,73 @@ pub fn restore<S: BlockSource, W: BlockSink>(
         start = end;
     }
     compare(wanted, digests, &mut outputs.hashers)
+}
+
+/// Does what [`restore`] does, and uses a block only if its digest is right: each block of the plan must be in `found`.
+///
+/// # Errors
+///
+/// - [`CodingError::Missing`] for the first original block of the plan that was not found, then for the first recovery
+///   block, by its number. Then nothing was read or written.
+/// - The errors of [`restore`].
+pub fn restore_found<P: Copy, S: BlockSource, W: BlockSink>(
+    alloc: Global,
+    shape: Shape,
+    piece_bytes: usize,
+    engine: DefaultEngine<'_>,
+    plan: &Plan,
+    found: &FoundBlocks<P>,
+    source: &mut S,
+    sink: &mut W,
+) -> Result<(), CodingError>
+    requires some { 0 < piece_bytes }
+    requires chunks { piece_bytes % 64 ≡ 0 }
+    // The digest of each block that is read was computed from bytes, or nothing is read.
+    ensures right { ((n : ℕ) × (result ≡ Err (Missing n)))
+        ⊎ ReadsRight shape plan.now found.now.digests.items found.now.places.items }
+    ensures digests { OnOk result
+        (AreRestored plan.now.wanted.items found.now.digests.items (W.written sink.old)
+        (W.written sink.new)) }
+    ensures originals { WritesAll result → (originals recovery : List Shard)
+        → ReadsSet shape plan.now (S.blocks source.old) originals recovery
+        → AreOriginals plan.now originals (W.written sink.old) (W.written sink.new) }
+    ensures fails { ((n : ℕ) × (result ≡ Err (Missing n)))
+        ⊎ IfErr result (RestoringFails shape plan.now found.now.digests.items S.read_may_fail
+        W.write_may_fail (S.blocks source.old) (W.written sink.old) (W.written sink.new)) }
+    ensures others { (i : ℕ) → slice_index_or plan.now.wanted.items i false ≡ false
+        → W.written sink.new i ≡ W.written sink.old i }
+{
+    if let Some(number) = first_lost(plan.originals.as_slice(), 0, found) {
+        return Err(CodingError::Missing(number));
+    }
+    if let Some(number) = first_lost(plan.recovery.as_slice(), shape.original_count, found) {
+        return Err(CodingError::Missing(number));
+    }
+    let digests = found.digests.as_slice();
+    restore(
+        alloc,
+        shape,
+        piece_bytes,
+        engine,
+        plan,
+        digests,
+        source,
+        sink,
+    )
+}
+
+// Returns the first of these numbers whose block was not found. The block `number` has the index `first` + `number`.
+fn first_lost<P: Copy>(numbers: &[usize], first: usize, found: &FoundBlocks<P>) -> Option<usize>
+    ensures { IfNone result
+        (All (λ n. IsFound found.now.places.items (first + n)) numbers.now) }
+{
+    for number in numbers {
+        match first.checked_add(*number) {
+            Some(index) if found.has(index) => {}
+            _ => return Some(*number),
+        }
+    }
+    None
 }
 
 // Reads the bytes from `start` to `end` - 1 of each block of the plan.
