@@ -1,6 +1,9 @@
 //! The state of one entry, without the blocks of its set.
 use crate::file_scan::look;
+use rs_folders::failure::Result;
 use rs_folders::hashing::hash_path;
+use rs_folders::names::{path_in, text_of};
+use rs_folders::placing::leads_away;
 use rs_volume_files::scanner::State;
 use rs_volumes::description::{Entry, Kind, Version};
 use std::alloc::Global;
@@ -52,4 +55,30 @@ pub fn is_whole<R: Files>(
         return true;
     }
     hash_path(rt, path, true, entry.size, buffer).is_ok_and(|own| own == entry.digest)
+}
+
+/// Returns whether an entry of a set of version 2 is below a folder, under its name and with the right bytes, so that
+/// nothing has to be written. A file does not count if its name, or a folder of its name, is a symbolic link. `buffer`
+/// is memory for its bytes.
+///
+/// # Errors
+///
+/// Fails if memory cannot be allocated.
+pub fn is_there<R: Files>(
+    rt: &R,
+    alloc: Global,
+    folder: &str,
+    entry: &Entry,
+    buffer: &mut [u8],
+) -> Result<bool> {
+    let Some(name) = text_of(entry.name.as_slice()) else {
+        return Ok(false);
+    };
+    if leads_away(rt, alloc, folder, name)? {
+        return Ok(false);
+    }
+    let path = path_in(alloc, folder, name)?;
+    let is_link = fs::symlink_metadata(rt, path.as_str()).is_ok_and(|found| found.is_symlink());
+    let may_be = is_link == (entry.kind == Kind::Link);
+    Ok(may_be && is_whole(rt, alloc, entry, path.as_str(), buffer))
 }

@@ -185,6 +185,11 @@ impl Scan {
         &self.set.description
     }
 
+    /// Returns the number of blocks of the set.
+    pub fn block_count(&self) -> usize {
+        self.found.places.len()
+    }
+
     /// Returns the original blocks that were not found.
     ///
     /// # Errors

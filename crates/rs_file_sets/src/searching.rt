@@ -407,7 +407,7 @@ impl<'a, R: Runtime> Search<'a, R> {
             return Ok(());
         }
         let mut found = Vec::new(self.alloc);
-        for block in 0..self.scan.found.places.len() {
+        for block in 0..self.scan.block_count() {
             if let Some(origin) = self.single_place(block) {
                 found.push((block, origin))?;
             }

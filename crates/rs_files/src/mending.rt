@@ -5,11 +5,13 @@ use crate::looking::{Look, folder_for, look_for, open_request};
 use crate::rebuilding::rebuild;
 use crate::settings::{Request, STATUS_DAMAGED, STATUS_FAILED, STATUS_LOST, STATUS_WHOLE};
 use crate::verifying::{add_counts, report, tell_lost, tell_volumes};
+use rs_file_sets::one_entry::is_there;
 use rs_file_sets::restoring::write_blocks;
 use rs_file_sets::scanning::{Scan, scan_paths};
 use rs_file_sets::targets::{Outcome, Targets};
 use rs_folders::counted::{Counted, Kinds};
 use rs_folders::failure::{Failure, Result};
+use rs_folders::hashing::CHUNK;
 use rs_folders::names::{Name, Shown};
 use rs_folders::placing::Goal;
 use rs_volumes::description::Entry;
@@ -18,7 +20,7 @@ use std::io;
 use std::rt::Runtime;
 
 /// The lists of the object that `repair` and `restore` print with `--json`.
-const LISTS: [&str; 5] = ["restored", "failed", "lost", "moved", "written"];
+const LISTS: [&str; 6] = ["restored", "existing", "failed", "lost", "moved", "written"];
 
 // What is restored, and where.
 #[derive(Drop)]
@@ -193,7 +195,8 @@ pub fn restore<R: Runtime>(rt: &R, alloc: Global, request: &Request) -> Result<u
 fn mend<R: Runtime>(job: &Job<'_, R>, log: &mut Log) -> Result<u8> {
     let (rt, found) = (job.rt, job.found);
     found.note_moved(log)?;
-    let (wanted, lost) = divided(job.alloc, found)?;
+    let (mut wanted, lost) = divided(job.alloc, found)?;
+    let existing = leave_existing(job, &mut wanted, log)?;
     let loses = lost.contains(&true);
     // If nothing of the set is in its folder, the folder is probably another one.
     let is_nowhere = loses && !found.scan.has_files() && !found.scan.is_spread();
@@ -208,11 +211,7 @@ fn mend<R: Runtime>(job: &Job<'_, R>, log: &mut Log) -> Result<u8> {
         return Err(Failure::at(job.alloc, job.folder, reason));
     }
     if is_left && !loses {
-        report(rt, found, job.folder, log, STATUS_WHOLE)?;
-        if !job.goal.in_place && log.is_told() {
-            let to = Shown(job.goal.folder);
-            println!(rt; "nothing was written into {to}, because nothing is damaged or missing")?;
-        }
+        tell_nothing(job, existing, log)?;
         return Ok(STATUS_WHOLE);
     }
     if log.is_told() {
@@ -239,6 +238,45 @@ fn divided(alloc: Global, found: &Look) -> Result<(Vec<bool>, Vec<bool>), AllocE
         lost.push(!*can && found.is_broken(index))?;
     }
     Ok((wanted, lost))
+}
+
+// Unmarks the entries that are already in the folder into which files are restored, with the right bytes, and names
+// them. Returns whether there are some. With `--force`, all entries are written again.
+fn leave_existing<R: Runtime>(
+    job: &Job<'_, R>,
+    wanted: &mut [bool],
+    log: &mut Log,
+) -> Result<bool> {
+    let (rt, alloc, goal) = (job.rt, job.alloc, job.goal);
+    let mut existing = false;
+    if goal.in_place || goal.force {
+        return Ok(existing);
+    }
+    let mut buffer = vec![in alloc; 0u8; CHUNK]?;
+    for (entry, is_wanted) in goal.set.entries.iter().zip(wanted) {
+        if *is_wanted && is_there(rt, alloc, goal.folder, entry, &mut buffer)? {
+            *is_wanted = false;
+            existing = true;
+            log.note(rt, "existing", entry.name.as_slice())?;
+        }
+    }
+    Ok(existing)
+}
+
+// Prints that nothing was written, and why: `existing` says whether the entries are already where `restore` writes them.
+fn tell_nothing<R: Runtime>(job: &Job<'_, R>, existing: bool, log: &Log) -> Result<()> {
+    let (rt, to) = (job.rt, Shown(job.goal.folder));
+    if existing {
+        log.end_lists(rt)?;
+    } else {
+        report(rt, job.found, job.folder, log, STATUS_WHOLE)?;
+    }
+    if log.is_told() && existing {
+        println!(rt; "nothing was written into {to}, because all files are there already")?;
+    } else if log.is_told() && !job.goal.in_place {
+        println!(rt; "nothing was written into {to}, because nothing is damaged or missing")?;
+    }
+    Ok(())
 }
 
 // Prints which entries cannot be restored, unless `is_short` is set, which volumes are damaged, and how many blocks are

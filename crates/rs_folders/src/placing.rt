@@ -300,9 +300,13 @@ fn obstacle(goal: Goal<'_>, kind: Kind, is_folder: bool, is_input: bool) -> Opti
     }
 }
 
-// Returns whether a folder of a name is a symbolic link. The name is relative to `folder`, which may itself be a
-// symbolic link.
-fn leads_away<R: Files>(rt: &R, alloc: Global, folder: &str, name: &str) -> Result<bool> {
+/// Returns whether a folder of a name is a symbolic link. The name is relative to `folder`, which may itself be a
+/// symbolic link.
+///
+/// # Errors
+///
+/// Fails if memory cannot be allocated.
+pub fn leads_away<R: Files>(rt: &R, alloc: Global, folder: &str, name: &str) -> Result<bool> {
     for end in 0..name.len() {
         if let Some((front, rest)) = name.split_at_checked(end) {
             if rest.starts_with('/') && is_link(rt, path_in(alloc, folder, front)?.as_str()) {
