@@ -95,6 +95,68 @@ def one_command():
             wrong("a command line that is wrong")
 
 
+def restored_twice():
+    """A second `restore` into a folder names the entries that are already there, with the right bytes, writes only the others, and ends with
+    status 0. Something else with the name of an entry is an error, and is not changed."""
+    with Folder() as at, Folder() as far:
+        files = made(at, {"a": RANDOM.randbytes(3000), "b": RANDOM.randbytes(700), "deep/c": RANDOM.randbytes(600), "empty": b""}, "-r", "100%")
+        os.mkdir(at("set", "folder"))
+        os.symlink("a", at("set", "link"))
+        run("split", at("set"), "-n", "3", "-o", far("parts"), *CREATE)
+        restore = ("restore", far("parts", "volume0001.rsv"), far("parts", "volume0003.rsv"), "--to", far("new"))
+        run(*restore, "-q")
+        names = [f"set/{name}" for name in ("a", "b", "deep/c", "empty", "folder", "link")]
+        nothing = f"nothing was written into {far('new')}, because all files are there already"
+        times = {name: os.lstat(far("new", name)).st_mtime_ns for name in names}
+        if printed(*restore) != ("".join(f"existing: {name}\n" for name in names) + nothing + "\n", ""):
+            wrong(f"a second restore prints {printed(*restore)}")
+        found = object_of(*restore)
+        if names_in(found, "existing", "restored", "failed", "lost") != (names, [], [], []):
+            wrong(f"a second restore --json prints {found}")
+        if printed(*restore, "-q") != ("", "") or {name: os.lstat(far("new", name)).st_mtime_ns for name in names} != times:
+            wrong("a second restore changes something, or prints something with -q")
+        # What is missing is restored, and what has other bytes is an error.
+        os.remove(far("new", "set", "b"))
+        out, error = printed(*restore)
+        if out.splitlines() != [*(f"existing: {name}" for name in names if name != "set/b"), "restored: set/b", "restored 1 file"] or error:
+            wrong(f"a restore of a missing file prints {(out, error)}")
+        os.remove(far("new", "set", "b"))
+        os.remove(far("new", "set", "link"))
+        os.symlink("b", far("new", "set", "link"))
+        write(far("new", "set", "a"), rotated(files["a"]))
+        out, error = printed(*restore, status=4)
+        if any(f"{far('new', 'set', name)}: it exists: use --force to overwrite it\n" not in error for name in ("a", "link")) or "2 files could not be restored" not in error:
+            wrong(f"a restore over other bytes says {error!r}")
+        if "restored: set/b\n" not in out or files_in(far("new", "set")) != {**files, "a": rotated(files["a"])} or os.readlink(far("new", "set", "link")) != "b":
+            wrong(f"a restore over other bytes prints {out!r}, and makes {sorted(tree(far('new')))}")
+        # A file behind a symbolic link is not there, also if its bytes are right.
+        shutil.rmtree(far("new"))
+        run(*restore, "-q")
+        os.rename(far("new", "set", "deep"), far("deep"))
+        os.symlink(far("deep"), far("new", "set", "deep"))
+        os.rename(far("new", "set", "b"), far("b"))
+        os.symlink(far("b"), far("new", "set", "b"))
+        error = printed(*restore, status=4)[1]
+        if "set/deep/c: a folder of its path is a symbolic link" not in error or "set/b: it exists" not in error:
+            wrong(f"a restore of files behind symbolic links says {error!r}")
+        if (read(far("b")), read(far("deep", "c"))) != (files["b"], files["deep/c"]):
+            wrong("a restore writes through symbolic links")
+        # With --force, all is written again. With only some blocks, the other files are there.
+        os.remove(far("new", "set", "deep"))
+        if "existing" in printed(*restore, "--force")[0] or files_in(far("new", "set")) != files:
+            wrong("restore --force")
+        os.remove(far("new", "set", "a"))
+        found = object_of("restore", far("parts", "volume0001.rsv"), "--to", far("new"), "--only", "set/a", "--only", "set/empty", status=3)
+        if names_in(found, "existing", "restored", "lost") != (["set/empty"], [], ["set/a"]):
+            wrong(f"a second restore of too few blocks prints {found}")
+    with Folder() as at:
+        # A set of version 1 has no digests of files.
+        write(at("set.rsv"), Made([Item(b"a", b"bytes"), Item(b"b", b"")], 64, 2, version=1).volume(range(3)))
+        run("restore", at("set.rsv"), "--to", at("new"), "-q")
+        if "new/a: it exists: use --force" not in printed("restore", at("set.rsv"), "--to", at("new"), status=4)[1]:
+            wrong("a second restore of version 1")
+
+
 def restored_parts():
     """If blocks of some files are lost, `restore` makes the other files, names those that cannot be restored, ends with status 3, and leaves no
     empty folder."""
@@ -556,4 +618,4 @@ def said_by_create():
             wrong(f"the help text of {command} has an option that means nothing, or lacks one")
 
 
-TESTS = (one_command, restored_parts, repaired_parts_of_sets, unlike_digests, named, quick, nothing_to_do, left_out, closed_early, objects, wrong_words, lists_and_hints, cut_lists, next_steps, said_by_create)
+TESTS = (one_command, restored_twice, restored_parts, repaired_parts_of_sets, unlike_digests, named, quick, nothing_to_do, left_out, closed_early, objects, wrong_words, lists_and_hints, cut_lists, next_steps, said_by_create)

@@ -238,8 +238,9 @@ const RESTORE: Form = Form {
     name: "restore",
     paths: VOLUMES,
     about: "Restore files into another folder",
-    after: "Volumes of split give all files. A volume of create gives those that are damaged or missing.\n\n\
-            Status 0: all these files are restored. 3: files cannot be restored. All others are restored.\n\n\
+    after: "Volumes of split give all files. A volume of create gives those that are damaged or missing.\n\
+            Files that are already there, with the right bytes, are named and not written again.\n\n\
+            Status 0: all these files are there now. 3: files cannot be restored. All others are restored.\n\n\
             Examples:\n  rs_files restore parts/*.rsv --to restored\n  \
             rs_files restore photos.rsv --to restored --only photos/2024",
     options: &[
