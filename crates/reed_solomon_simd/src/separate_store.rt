@@ -1,4 +1,4 @@
-//! A store of received shards, and of rooms for the missing originals in other memory.
+//! A store of received shards, and of rooms in other memory for the shards that are made of them.
 use crate::pieces::Pieces;
 use crate::rooms::Rooms;
 use crate::shard_index::ShardIndex;
@@ -11,7 +11,7 @@ use rs_rate::rate::DefaultRateCounts;
 pub struct SeparateStore<'a, 'b, P, R> {
     /// The received shards.
     pub pieces: &'a P,
-    /// The rooms for the missing originals.
+    /// The rooms for the shards that are made of the received ones.
     pub rooms: &'b mut R,
 }
 
