@@ -263,7 +263,8 @@ fn leave_existing<R: Runtime>(
     Ok(existing)
 }
 
-// Prints that nothing was written, and why: `existing` says whether the entries are already where `restore` writes them.
+// Prints that nothing was written, and why: `existing` says whether the entries are already where `restore` writes
+// them.
 fn tell_nothing<R: Runtime>(job: &Job<'_, R>, existing: bool, log: &Log) -> Result<()> {
     let (rt, to) = (job.rt, Shown(job.goal.folder));
     if existing {

@@ -1,6 +1,6 @@
 -- Blocks that are noted as found.
-use Rattle.std.proofs.Common.{ℕ, ◌+◌, zero, suc, List, Option, Some, None, replicate, slice_set, subst, sym, inl, inr, All, get_or}
-use Rattle.std.proofs.Common.{get_or-set_other}
+use Rattle.std.proofs.Common.{ℕ, ◌+◌, zero, suc, List, Option, Some, None, replicate, slice_set, subst, sym, inl, inr, All}
+use Rattle.std.proofs.Common.{get_or, get_or-set_other}
 use Rattle.std.proofs.lemmas.Bool.{cases_eq}
 use Rattle.std.specs.Prelude.{IsSome}
 use Rattle.rs_volumes.specs.Computed.{IsComputed, digest_at}

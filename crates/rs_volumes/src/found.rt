@@ -62,8 +62,8 @@ impl<P: Copy> FoundBlocks<P> {
         is_right
     }
 
-    /// Notes that a block is at a place, if the block `other` was found and has the same digest. The bytes at this place
-    /// are those of the block `other`.
+    /// Notes that a block is at a place, if the block `other` was found and has the same digest. The bytes at this
+    /// place are those of the block `other`.
     pub fn note_equal(&mut self, index: usize, other: usize, place: P)
         ensures others { (i : ℕ) → i ≢ index → slice_index_or self.new.places.items i None
             ≡ slice_index_or self.old.places.items i None }

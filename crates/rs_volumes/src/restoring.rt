@@ -1,6 +1,6 @@
 //! Restores blocks of a set from any k of its blocks, piece by piece.
-ghost use Rattle.std.specs.Prelude.{◌≡◌, ℕ, ◌+◌, ◌<◌, ◌≤◌, ◌%◌, ◌⊎◌, true, false, List, IfOk, IfErr, OnOk, length, All, Err, IfNone};
-ghost use Rattle.std.specs.Prelude.{slice_index_or};
+ghost use Rattle.std.specs.Prelude.{◌≡◌, ℕ, ◌+◌, ◌<◌, ◌≤◌, ◌%◌, ◌⊎◌, true, false, List, IfOk, IfErr, OnOk, length};
+ghost use Rattle.std.specs.Prelude.{slice_index_or, All, Err, IfNone};
 ghost use Rattle.sha2.specs.Hashers.{Holds256};
 ghost use Rattle.sha2.specs.declared.Sha256.{Sha256 as Hasher};
 ghost use Rattle.rs_field.specs.code.Column.{Shard};
