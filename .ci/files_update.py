@@ -366,6 +366,31 @@ def edited_and_rotten():
         run("verify", at("set.rsv"))
 
 
+def rotten_lengths():
+    """A file that was cut or got longer is rotten if its time has not changed, so that no volume is made. It is edited if its time is a whole
+    second, which archives and builds give to many files, or if its time changed by a nanosecond."""
+    with Folder() as at:
+        second = 1_700_000_000 * 10 ** 9
+        for name, change, time, later, rotten in (("cut", -1000, second + 7, 0, True), ("long", 1, second + 999_999_999, 0, True),
+                                                  ("whole", -1000, second, 0, False), ("touched", 1, second + 7, 1, False)):
+            path = at(name, "file")
+            write(path, RANDOM.randbytes(3000))
+            os.utime(path, ns=(time, time))
+            run("create", at(name), "-o", at(name + ".rsv"), *CREATE)
+            volume = read(at(name + ".rsv"))
+            write(path, read(path)[:change] if change < 0 else b"x" + read(path))
+            os.utime(path, ns=(time + later, time + later))
+            out, errors = printed("update", at(name + ".rsv"), status=3 if rotten else 0)
+            named = [line for line in errors.splitlines() if "rotten: " in line]
+            if rotten and (named != [f"rs_files: rotten: {name}/file"] or read(at(name + ".rsv")) != volume):
+                wrong(f"update after a file was changed, whose time was kept: {out!r} {errors!r}")
+            if not rotten and changes_in(out) != [f"edited: {name}/file"]:
+                wrong(f"update after a file with a time of its own was changed: {out!r} {errors!r}")
+            if rotten:
+                run("repair", at(name + ".rsv"), "--only", f"{name}/file", status=0)
+                run("verify", at(name + ".rsv"))
+
+
 def refused_updates():
     """`update` refuses a volume of `split`, several volumes, and a volume that it cannot read. `create --force` says that it cannot compare
     the files with an old volume, and replaces it."""
@@ -630,5 +655,5 @@ def unwritten_volumes():
             run("verify", *paths, "--folder", at(), status=1)
 
 
-TESTS = (updated, shares, rotten, rotten_moved, rotten_copies, moved_whole, moved_first, taken_over, kept_blocks, accepted_names, nothing_there, edited_and_rotten,
+TESTS = (updated, shares, rotten, rotten_moved, rotten_copies, moved_whole, moved_first, taken_over, kept_blocks, accepted_names, nothing_there, edited_and_rotten, rotten_lengths,
          refused_updates, repaired_volumes, kept_volumes, repaired_parts, parts_alone, foreign_bytes, failed_rewrites, unwritten_volumes)

@@ -14,12 +14,17 @@ use std::rt::Files;
 
 /// Returns whether a file has the length and the time of an entry. Version 1 has no nanoseconds.
 pub fn has_time(entry: &Entry, metadata: &Metadata, version: Version) -> bool {
+    metadata.len() == entry.size && has_own_time(entry, metadata, version)
+}
+
+/// Returns whether a file has the time of an entry, whatever its length is. Version 1 has no nanoseconds.
+pub fn has_own_time(entry: &Entry, metadata: &Metadata, version: Version) -> bool {
     let seconds = u64::from_le_bytes(metadata.mtime().to_le_bytes());
     let has_nanoseconds = match version {
         Version::First => true,
         Version::Second => metadata.mtime_nsec() == i64::from(entry.nanoseconds),
     };
-    metadata.len() == entry.size && seconds == entry.seconds && has_nanoseconds
+    seconds == entry.seconds && has_nanoseconds
 }
 
 /// Returns the state of an entry by the length and the time of a file, the target of a symbolic link, and the existence

@@ -2,7 +2,7 @@
 //! by themselves.
 use crate::log::Log;
 use crate::settings::Request;
-use rs_file_sets::one_entry::has_time;
+use rs_file_sets::one_entry::{has_own_time, has_time};
 use rs_file_sets::scanning::{Scan, scan_paths};
 use rs_folders::failure::{Failure, Result, warn};
 use rs_folders::hashing::{CHUNK, hash_path};
@@ -16,6 +16,7 @@ use rs_volumes::description::{Description, Entry, Kind, Version};
 use rs_volumes::placement::Place;
 use std::alloc::{AllocError, Global};
 use std::fs;
+use std::fs::Metadata;
 use std::rt::{Files, Runtime};
 
 /// How an entry of an old set has changed.
@@ -23,7 +24,7 @@ use std::rt::{Files, Runtime};
 enum Change {
     /// It has not changed.
     None,
-    /// Its bytes have changed, but its length and the time of its last change have not.
+    /// Its bytes have changed, but the time of its last change has not: see `is_rotten`.
     Rotten,
     /// Its bytes, its target or its kind have changed.
     Edited,
@@ -116,6 +117,14 @@ fn is_same_place(
         && (was.offset, was.at, was.bytes) == (is.offset, is.at, is.bytes)
 }
 
+// Returns whether a file whose bytes have changed is rotten: its length and the time of its last change have not. A file
+// that was cut or got longer is rotten, too, if its time has not changed and is not a whole second, which archives and
+// builds give to many files.
+fn is_rotten(entry: &Entry, metadata: &Metadata, version: Version) -> bool {
+    has_time(entry, metadata, version)
+        || (entry.nanoseconds > 0 && has_own_time(entry, metadata, version))
+}
+
 // Returns how an entry has changed, which is at a path now and has a state.
 fn change_of<R: Files>(
     rt: &R,
@@ -127,7 +136,7 @@ fn change_of<R: Files>(
     match state {
         State::Whole => Change::None,
         State::Damaged if entry.kind == Kind::File => match fs::metadata(rt, path) {
-            Ok(metadata) if has_time(entry, &metadata, version) => Change::Rotten,
+            Ok(metadata) if is_rotten(entry, &metadata, version) => Change::Rotten,
             _ => Change::Edited,
         },
         State::Damaged => Change::Edited,

@@ -429,6 +429,12 @@ pub fn make<R: Runtime>(rt: &R, alloc: Global, task: Task<'_>) -> Result<u8> {
     if log.is_told() {
         tell(rt, task, &made)?;
     }
+    if made.status == STATUS_FAILED {
+        eprintln!(rt;
+            "rs_files: all else is protected. The status is 4 because of what was left out, and 0 with \
+             --skip-names"
+        )?;
+    }
     log.end(rt, made.status)
 }
 

@@ -110,7 +110,9 @@ const CREATE: Form = Form {
     name: "create",
     paths: FILES,
     about: "Make a volume with recovery blocks beside the files",
-    after: "Example:\n  rs_files create photos -r 20%      writes photos.rsv",
+    after: "Status 0: the volume was made. 3: the old volume was kept, because a file is rotten.\n\
+            4: an error, or the volume was made and protects all but names that are not UTF-8.\n\n\
+            Example:\n  rs_files create photos -r 20%      writes photos.rsv",
     options: &[
         Choice(
             "output",
@@ -139,7 +141,9 @@ const SPLIT: Form = Form {
     name: "split",
     paths: FILES,
     about: "Spread the files over volumes",
-    after: "Example:\n  rs_files split photos -n 5 --lose 2 -o parts      \
+    after: "Status 0: the volumes were made. 3: the old volumes were kept, because a file is rotten.\n\
+            4: an error, or the volumes were made and have all but names that are not UTF-8.\n\n\
+            Example:\n  rs_files split photos -n 5 --lose 2 -o parts      \
             writes parts/volume0001.rsv to parts/volume0005.rsv",
     options: &[
         Choice(
@@ -175,7 +179,9 @@ const UPDATE: Form = Form {
     name: "update",
     paths: ("VOLUME", "The volume that create made"),
     about: "Make the volume of create again after files were changed",
-    after: "Example:\n  rs_files update photos.rsv",
+    after: "Status 0: the volume was made. 3: the old volume was kept, because a file is rotten.\n\
+            4: an error, or the volume was made and protects all but names that are not UTF-8.\n\n\
+            Example:\n  rs_files update photos.rsv",
     options: &[
         Choice(
             "recovery",
@@ -240,7 +246,8 @@ const RESTORE: Form = Form {
     about: "Restore files into another folder",
     after: "Volumes of split give all files. A volume of create gives those that are damaged or missing.\n\
             Files that are already there, with the right bytes, are named and not written again.\n\n\
-            Status 0: all these files are there now. 3: files cannot be restored. All others are restored.\n\n\
+            Status 0: all these files are there now. 3: blocks are lacking for some files. 4: another error, for example\n\
+            a file with other bytes is in the way. All other files are restored.\n\n\
             Examples:\n  rs_files restore parts/*.rsv --to restored\n  \
             rs_files restore photos.rsv --to restored --only photos/2024",
     options: &[

@@ -8,7 +8,7 @@ use std::rt::Files;
 /// What is said of such a file.
 pub const LEFT_PART: &str =
     "an rs_files that was killed left this file, or another one is writing it: if none is at work, \
-     delete it, but not the part of a volume (its page says what that means)";
+     delete it. Only the parts of new volumes of split may be needed";
 
 /// Prints a warning for each file that a run of the program has not finished, and that would have got one of these
 /// paths.
