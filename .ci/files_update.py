@@ -376,7 +376,7 @@ def rotten_lengths():
             path = at(name, "file")
             write(path, RANDOM.randbytes(3000))
             os.utime(path, ns=(time, time))
-            run("create", at(name), "-o", at(name + ".rsv"), *CREATE)
+            run("create", at(name), "-o", at(name + ".rsv"), "--block", "512", "-r", "100%")
             volume = read(at(name + ".rsv"))
             write(path, read(path)[:change] if change < 0 else b"x" + read(path))
             os.utime(path, ns=(time + later, time + later))
