@@ -55,6 +55,14 @@ static size_t factor_bytes(struct shape shape) {
     return block_bytes(shape.decoder_rows, 1) + 2 * block_bytes(shape.decoder_rows, 2);
 }
 
+/* A decode from syndromes requests the rows of an encode, what the factors are made of, further marks for each row of a
+   decode, and a list of the rows of as many recovery shards as originals are lost. At least eight are lost. */
+static size_t syndrome_bytes(struct shape shape, size_t shard_bytes, size_t lost) {
+    if (lost < 8) return 0;
+    return row_bytes(shape.encoder_rows, shard_bytes, 2048) + factor_bytes(shape) + block_bytes(shape.decoder_rows, 1) +
+           block_bytes(lost, 2);
+}
+
 /* A call that sums shards has no rows. It requests what the factors are made of, and a list of the rows that it sums. */
 static size_t summed_bytes(struct shape shape, size_t original_count) {
     return factor_bytes(shape) + block_bytes(original_count, 2);
@@ -67,14 +75,17 @@ static bool is_counted(size_t original_count, size_t recovery_count, size_t shar
            shard_bytes <= SIZE_MAX / 2 / (restored + 1);
 }
 
-/* An encode requests its rows. A decode requests the lists, and either its rows or, if few shards are lost, what sums
-   need with 16 bytes for each lost shard. That is less, but not for one original and one recovery shard of at most 64
-   bytes. */
+/* An encode requests its rows. A decode requests the lists. It also requests its rows, or what syndromes need, or, if
+   few shards are lost, what sums need with 16 bytes for each lost shard. The rows take most, with two exceptions: sums
+   need more for one original and one recovery shard of at most 64 bytes, and syndromes can need more for many short
+   shards, if an encode has nearly as many rows as a decode. */
 size_t rs_work_bytes(size_t original_count, size_t recovery_count, size_t shard_bytes, size_t restored) {
     if (!is_counted(original_count, recovery_count, shard_bytes, restored) || restored > original_count) return 0;
     struct shape shape = shape_of(original_count, recovery_count);
-    size_t lost = block_bytes(least(original_count, recovery_count), 16);
-    size_t decode = greatest(coded_bytes(shape, shard_bytes), summed_bytes(shape, original_count) + lost);
+    size_t lost = least(original_count, recovery_count);
+    size_t summed = summed_bytes(shape, original_count) + block_bytes(lost, 16);
+    size_t sums = greatest(summed, syndrome_bytes(shape, shard_bytes, lost));
+    size_t decode = greatest(coded_bytes(shape, shard_bytes), sums);
     return greatest(row_bytes(shape.encoder_rows, shard_bytes, 4096),
                     shape.lists + decode + restored_bytes(restored, shard_bytes)) +
            UNIT - 1;

@@ -178,11 +178,11 @@ static void shape(size_t k, size_t r, size_t size) {
 static void shapes(int few) {
     static const size_t counts[][2] = {{1, 1},   {1, 2},  {2, 1},    {2, 2},    {3, 2},   {2, 3},    {4, 3},
                                        {5, 4},   {10, 4}, {7, 9},    {1, 33},   {33, 1},  {31, 33},  {32, 32},
-                                       {33, 31}, {64, 3}, {100, 30}, {30, 100}, {255, 1}, {128, 128}};
+                                       {33, 31}, {64, 3}, {60, 8},   {100, 30}, {30, 100}, {255, 1}, {128, 128}};
     static const size_t sizes[] = {2, 62, 64, 66, 130, 2046, 2048, 2050, 4094, 4096, 4098, 10000};
     size_t number = 0;
-    static const size_t large[][3] = {{1000, 200, 1024}, {3000, 5000, 2},   {65535, 1, 2},
-                                      {1, 65535, 2},     {32768, 32768, 2}, {10, 4, 1 << 20}};
+    static const size_t large[][3] = {{1000, 200, 1024}, {3000, 5000, 2},   {65535, 1, 2},    {1, 65535, 2},
+                                      {4080, 16, 2},     {32768, 32768, 2}, {10, 4, 1 << 20}};
     for (size_t i = 0; i < sizeof counts / sizeof *counts; i++)
         for (size_t n = 0; n < sizeof sizes / sizeof *sizes; n++)
             if (!few || counts[i][0] + counts[i][1] < 10) shape(counts[i][0], counts[i][1], sizes[n]), number++;

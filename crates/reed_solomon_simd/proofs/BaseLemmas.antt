@@ -1,5 +1,5 @@
 -- Direct sums over a base of received shards: the shards in rows, the base, and the words of the sums.
-use Rattle.std.proofs.Common.{rules, ◌≡◌, ℕ, ◌+◌, ◌<◌, Bool, true, cond, List, sym, ap}
+use Rattle.std.proofs.Common.{rules, ◌≡◌, ℕ, ◌+◌, ◌<◌, Bool, true, cond, List, length, sym, ap}
 use Rattle.std.proofs.Common.{ap₂, ◌∙◌, inl, inr, arith}
 use Rattle.std.proofs.lemmas.Grind.{common_steps}
 use Rattle.std.specs.Prelude.{None, is_some, slice_index}
@@ -23,6 +23,7 @@ use Rattle.rs_field.proofs.code_lemmas.MissingShards.{count-pieces}
 use Rattle.rs_field.proofs.words_lemmas.Combination.{sum_below-same}
 use Rattle.rs_rate.specs.declared.passes.sums.SumBase.{SumBase}
 use Rattle.rs_rate.specs.passes.BaseSum.{base_sum as sum_of}
+use Rattle.rs_rate.specs.passes.Decoding.{IsLocatorOf}
 use Rattle.rs_rate.specs.passes.Sums.{AreMarksOf}
 use Rattle.rs_rate.proofs.rows_lemmas.StateLemmas.{valid-supported}
 use Rattle.rs_rate.proofs.passes_lemmas.SumLemmas.{factor_at}
@@ -89,29 +90,35 @@ base-pieces start end marks s base = search (rules, some-pieces, marked-pieces, 
 
 -- ---- the sums
 
--- The direct sum over the words of the shards in rows is that over the base.
-pub sum-same : (s : DecoderState) (base : SumBase) (j y : ℕ) → IsBase s base
-    → y < row_count (frame_at s.configuration)
-    → sum_of base (λ x. word_of j (shard_in_row s x)) y ≡ base_sum base.marks.now s j y
+-- The direct sum over the words of the shards in rows is that over the shards of marked rows, if these are a base.
+pub sum-over : (s : DecoderState) (marks : List Bool) (locator : List ℕ) (j y : ℕ) → MarkBase s marks
+    → IsLocatorOf (frame_at s.configuration) marks locator → y < row_count (frame_at s.configuration)
+    → direct_sum (length locator) (is_marked marks) (λ z. slice_index locator z) (λ x. word_of j (shard_in_row s x)) y
+    ≡ base_sum marks s j y
 unfolding summed_word direct_sum word_at
-sum-same s base j y is inside =
+sum-over s marks locator j y marked located inside =
     let frame = frame_at s.configuration in
     let k = s.configuration.original_count in
     let r = s.configuration.recovery_count in
-    let marks = base.marks.now in
     let b = marked_state marks s in
-    let exact = base_marks marks s is.marked in
-    ap (λ n. sum_below n (direct_term (is_marked marks) (λ z. slice_index base.locator.now z)
-    (λ x. word_of j (shard_in_row s x)) y)) is.located.entries
+    let exact = base_marks marks s marked in
+    ap (λ n. sum_below n (direct_term (is_marked marks) (λ z. slice_index locator z)
+    (λ x. word_of j (shard_in_row s x)) y)) located.entries
     ∙ sum_below-same (row_count (frame_at s.configuration)) _
     (direct_term (λ x. is_some (shard_in_row (marked_state marks s) x))
     (locator_at frame k r b.originals b.recovery) (word_at frame k r b.originals b.recovery j) y)
     (λ x hx. terms (is_marked marks x) (is_some (shard_in_row (marked_state marks s) x)) _ _ (exact x hx)
     (λ there. ap₂ (λ w l. product w (power l)) (sym (ap (word_of j) (in_row-marked marks s x true there)))
-    (factor_at frame k r b.originals b.recovery marks exact base.locator.now is.located x y hx inside)))
+    (factor_at frame k r b.originals b.recovery marks exact locator located x y hx inside)))
   where
     terms : (a b : Bool) (m n : ℕ) → a ≡ b → (a ≡ true → m ≡ n) → cond a m 0 ≡ cond b n 0
     terms a b m n same equal = elim (cases_Bool a) [
       | inl is ↦ ap (λ c. cond c m 0) is ∙ equal is ∙ sym (ap (λ c. cond c n 0) (sym same ∙ is))
       | inr not ↦ ap (λ c. cond c m 0) not ∙ sym (ap (λ c. cond c n 0) (sym same ∙ not))
     ]
+
+-- The direct sum over the words of the shards in rows is that over the base.
+pub sum-same : (s : DecoderState) (base : SumBase) (j y : ℕ) → IsBase s base
+    → y < row_count (frame_at s.configuration)
+    → sum_of base (λ x. word_of j (shard_in_row s x)) y ≡ base_sum base.marks.now s j y
+sum-same s base j y is inside = sum-over s base.marks.now base.locator.now j y is.marked is.located inside

@@ -1,5 +1,5 @@
 -- Marking a base: the first received shards, as many as there are originals.
-use Rattle.std.proofs.Common.{◌≡◌, ℕ, ◌+◌, ◌≤◌, Bool, true, false, List, length, rules}
+use Rattle.std.proofs.Common.{◌≡◌, ℕ, ◌+◌, ◌<◌, ◌≤◌, Bool, true, false, List, length, rules}
 use Rattle.std.proofs.Common.{sym, ap, ap₂, ◌∙◌, inl, inr, arith, take, true≢false}
 use Rattle.std.specs.Prelude.{Ok, Option, is_some, option_copied}
 use Rattle.std.specs.Borrow.{Bor}
@@ -78,3 +78,8 @@ module _ (s : DecoderState) (is : IsDecoder default_rate s) where
       → MarkBase s (take n marks)
   first-marks marks n rows exact fit lists many =
       search (rules, get_or-take, get_or_past, length-take-le, cases_lt, true≢false, base-count)
+
+  -- Up to the last one of them, the marked rows are those in which a shard was received.
+  pub first-exact : (marks : List Bool) (n : ℕ) → MarksReceived s marks → n ≤ length marks
+      → (x : ℕ) → x < length (take n marks) → is_marked (take n marks) x ≡ is_some (shard_in_row s x)
+  first-exact marks n exact fit x inside = search (rules, get_or-take, length-take-le)

@@ -48,11 +48,11 @@ within-pieces start end n size given strip within = search (rules, piece-cut)
 
 -- ---- the marked part of a map
 
-part-of : (marks : List Bool) (from : ℕ) (given : Shards) → IsPartOf (marked_part marks from given) given
+pub part-of : (marks : List Bool) (from : ℕ) (given : Shards) → IsPartOf (marked_part marks from given) given
 part-of marks from given = search (rules, marked_part-at)
 
 -- A shard that is not given is not in the marked part.
-part-missing : (marks : List Bool) (from i : ℕ) (given : Shards) → given i ≡ None
+pub part-missing : (marks : List Bool) (from i : ℕ) (given : Shards) → given i ≡ None
     → is_some (marked_part marks from given i) ≡ false
 part-missing marks from i given none = search (rules, marked_part-at)
 
@@ -71,7 +71,7 @@ module _ (s : DecoderState) (is : IsDecoder default_rate s) (start end : ℕ)
       within-pieces start end s.configuration.recovery_count s.configuration.shard_bytes s.recovery strip
       is.recovery_within
 
-  given : AreGiven (state_of_pieces start end s)
+  pub given : AreGiven (state_of_pieces start end s)
   given =
       let t = state_of_pieces start end s in
       given_within t.configuration t.originals t.recovery supported own_within coded_within

@@ -26,8 +26,14 @@ pub mod ComparedStrips
 pub mod RebuiltStrips
 pub mod Making
 pub mod RoundLemmas
+pub mod RoundLocators
 pub mod BaseLemmas
 pub mod BaseSums
+pub mod SyndromeSums
+pub mod SyndromeRounds
+pub mod SyndromeMarks
+pub mod SyndromeBases
+pub mod SyndromeChecks
 pub mod BaseMarks
 pub mod WantedLemmas
 pub mod MissingLemmas

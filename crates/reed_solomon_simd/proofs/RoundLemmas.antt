@@ -5,18 +5,19 @@ use Rattle.std.specs.Option.{option_map}
 use Rattle.rs_field.specs.declared.code.error.Error.{Error}
 use Rattle.rs_field.specs.code.Column.{Shard}
 use Rattle.rs_field.specs.code.Decoder.{DecoderState}
-use Rattle.rs_rate.specs.declared.rows.decoder_work.DecoderRows.{DecoderRows}
 use Rattle.rs_rate.specs.declared.rows.encoder_work.EncoderRows.{EncoderRows}
 use Rattle.rs_rate.specs.rows.EncoderView.{lent_shards}
+use Rattle.reed_solomon_simd.specs.declared.strip_rounds.Rounds.{Rounds}
 use Rattle.reed_solomon_simd.specs.Rounds.{IsReadyToDecode, IsReadyToEncode, lent_by}
 
 -- What is ready for strips of n bytes is ready for shorter strips.
-pub decode-shorter : {rows : DecoderRows} {s : DecoderState} {m n : ℕ} → m ≤ n → IsReadyToDecode rows s n
-    → IsReadyToDecode rows s m
+pub decode-shorter : {rounds : Rounds} {s : DecoderState} {m n : ℕ} → m ≤ n → IsReadyToDecode rounds s n
+    → IsReadyToDecode rounds s m
 decode-shorter most ready = record {
   size = ready.size;
   room = let room = ready.room in omega (arith, room, most);
   fresh = ready.fresh;
+  located = ready.located;
 }
 
 pub encode-shorter : {rows : EncoderRows} {s : DecoderState} {m n : ℕ} → m ≤ n → IsReadyToEncode rows s n

@@ -1,21 +1,18 @@
 -- A round of a decoder over a strip of each received shard.
-use Rattle.std.proofs.Common.{rules, ◌≡◌, ℕ, suc, ◌+◌, ◌-◌, ◌<◌, ◌≤◌, [], ◌∷◌, length, drop, get_or}
+use Rattle.std.proofs.Common.{rules, ◌≡◌, ℕ, suc, ◌+◌, ◌-◌, ◌<◌, ◌≤◌, [], ◌∷◌, length, drop, get_or, subst}
 use Rattle.std.proofs.Common.{Result, Ok, Err, Some, sym, ap, ◌∙◌, arith}
 use Rattle.std.specs.Prelude.{MatchResult, IfOk, IfErr}
-use Rattle.std.specs.Result.{result_map_both}
 use Rattle.std.proofs.lemmas.List.{length-drop, get_or-map, drop_more}
 use Rattle.rs_field.specs.declared.code.error.Error.{Error}
 use Rattle.rs_field.specs.code.Column.{Shard}
 use Rattle.rs_field.specs.code.Configuration.{Configuration, configuration}
 use Rattle.rs_field.specs.code.Counts.{default_rate}
 use Rattle.rs_field.specs.code.Decoder.{DecoderState, IsDecoder, fresh_decoder, with_original, with_recovery}
-use Rattle.rs_field.specs.code.Decoder.{enough_given, Restored, NoneAgrees, DecodeAnswers, after_decode}
+use Rattle.rs_field.specs.code.Decoder.{Restored, NoneAgrees}
 use Rattle.rs_field.specs.code.Given.{Shards, AreWithin}
 use Rattle.rs_field.specs.code.PieceStates.{pieces_of, state_of_pieces, shards_listed}
 use Rattle.rs_field.specs.code.OneCall.{Items}
-use Rattle.rs_field.proofs.code_lemmas.MissingShards.{enough-pieces}
 use Rattle.rs_rate.proofs.rows_lemmas.FirstShards.{first, original-taken, recovery-taken}
-use Rattle.reed_solomon_simd.proofs.CallerLemmas.{ended}
 
 -- The pieces of a strip of shards that are within bounds.
 module _ (start end n count size : ℕ) (given : Shards) (within : AreWithin count size given) where
@@ -84,27 +81,15 @@ pub pieces-added : (start end : ℕ) (x : DecoderState) {zero one two : DecoderS
     → two ≡ state_of_pieces start end x
 pieces-added start end x fresh first second = search rules
 
+-- A round that succeeds restores the missing pieces, and a round fails only if no message agrees with the pieces.
 module _ (start end : ℕ) (x : DecoderState) {state : DecoderState} (is : state ≡ state_of_pieces start end x)
-    (enough : enough_given x ≡ Ok tt) where
-  enough-here : enough_given (state_of_pieces start end x) ≡ Ok tt
-  enough-here = enough-pieces start end x ∙ enough
+    (out : Shards) where
+  pub round-restored : (result : Result ℕ Error) → MatchResult result (λ _. Restored state out) (NoneAgrees state)
+      → IfOk result (λ _. Restored (state_of_pieces start end x) out)
+  round-restored (Ok n) made = subst (λ (s : DecoderState). Restored s out) is made
+  round-restored (Err e) none = tt
 
-  answers-here : (result : Result Shards Error) → DecodeAnswers state result
-      → MatchResult result (Restored (state_of_pieces start end x)) (NoneAgrees (state_of_pieces start end x))
-  answers-here result answers = search (rules, enough-here)
-
-  -- A round that succeeds restores the missing pieces, and a round fails only if no message agrees with the pieces.
-  module _ (out : Shards) where
-    pub round-restored : (result : Result ℕ Error) → DecodeAnswers state (result_map_both (λ _. out) (λ e. e) result)
-        → IfOk result (λ _. Restored (state_of_pieces start end x) out)
-    round-restored (Ok n) answers = answers-here (Ok out) answers
-    round-restored (Err e) answers = tt
-
-    pub round-refused : (result : Result ℕ Error) → DecodeAnswers state (result_map_both (λ _. out) (λ e. e) result)
-        → IfErr result (NoneAgrees (state_of_pieces start end x))
-    round-refused (Ok n) answers = tt
-    round-refused (Err e) answers = answers-here (Err e) answers
-
-  -- After a round, the decoder has no shards.
-  pub round-ends : after_decode state ≡ fresh_decoder (state_of_pieces start end x).configuration
-  round-ends = ap after_decode is ∙ ended (state_of_pieces start end x) enough-here
+  pub round-refused : (result : Result ℕ Error) → MatchResult result (λ _. Restored state out) (NoneAgrees state)
+      → IfErr result (NoneAgrees (state_of_pieces start end x))
+  round-refused (Ok n) made = tt
+  round-refused (Err e) none = subst (λ (s : DecoderState). NoneAgrees s e) is none

@@ -37,16 +37,17 @@ pub record MarksReceived (s : DecoderState) (marks : List Bool) : Type 0 where
   pub count : length marks ≡ row_count (frame_at s.configuration)
   pub exact : (x : ℕ) → x < length marks → is_marked marks x ≡ is_some (shard_in_row s x)
 
--- marks of the first rows mark a base: the shards that were received in them, as many as there are originals
+-- the shards that were received in marked rows are a base: as many as there are originals
 pub record MarkBase (s : DecoderState) (marks : List Bool) : Type 0 where
-  pub exact : (x : ℕ) → x < length marks → is_marked marks x ≡ is_some (shard_in_row s x)
   pub received : (x : ℕ) → is_marked marks x ≡ true → is_some (shard_in_row s x) ≡ true
   pub enough : originals_given (marked_state marks s) + recovery_given (marked_state marks s)
       ≡ s.configuration.original_count
 
--- a base of the received shards, with the locator of all other rows
+-- a base of the first received shards, with the locator of all other rows: up to the last row of the base, the marked
+-- rows are those in which a shard was received
 pub record IsBase (s : DecoderState) (base : SumBase) : Type 0 where
   pub marked : MarkBase s base.marks.now
+  pub exact : (x : ℕ) → x < length base.marks.now → is_marked base.marks.now x ≡ is_some (shard_in_row s x)
   pub located : IsLocatorOf (frame_at s.configuration) base.marks.now base.locator.now
 
 -- the conditions of summing a strip of the received shards

@@ -55,3 +55,4 @@ pub use Rattle.rs_field.specs.code.CountLaws
 pub use Rattle.rs_rate.specs.objects.Calls
 pub use Rattle.rs_rate.specs.objects.Giving
 pub mod Base
+pub mod Syndromes

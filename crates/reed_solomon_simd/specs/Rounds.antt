@@ -1,22 +1,32 @@
 -- Encoders and decoders that are ready for strips of received shards, and the messages that encoders take.
-use Rattle.std.specs.Prelude.{◌≡◌, ℕ, ◌<◌, ◌≤◌, List, [], Option, Some, None, unwrap_or}
+use Rattle.std.specs.Prelude.{◌≡◌, ℕ, ◌<◌, ◌≤◌, Bool, true, List, [], Option, Some, None, unwrap_or}
 use Rattle.rs_field.specs.code.Column.{Shard}
 use Rattle.rs_field.specs.code.Counts.{default_rate}
 use Rattle.rs_field.specs.code.Decoder.{DecoderState, fresh_decoder, originals_given, recovery_given}
 use Rattle.rs_field.specs.code.Encoder.{fresh_encoder}
+use Rattle.rs_field.specs.code.Frame.{frame_at}
 use Rattle.rs_field.specs.code.Given.{Shards}
 use Rattle.rs_field.specs.words.UpTo.{up_to}
 use Rattle.rs_rate.specs.declared.rows.decoder_work.DecoderRows.{DecoderRows}
 use Rattle.rs_rate.specs.declared.rows.encoder_work.EncoderRows.{EncoderRows}
+use Rattle.rs_rate.specs.passes.Decoding.{IsLocatorOf}
 use Rattle.rs_rate.specs.rows.DecoderView.{decoder_state}
 use Rattle.rs_rate.specs.rows.EncoderView.{encoder_state, lent_shards}
+use Rattle.reed_solomon_simd.specs.declared.strip_rounds.Rounds.{Rounds}
+use Rattle.reed_solomon_simd.specs.Base.{MarksReceived}
 use Rattle.reed_solomon_simd.specs.Making.{strip_configuration}
 
--- a decoder without shards has room for strips of n bytes of received shards
-pub record IsReadyToDecode (rows : DecoderRows) (s : DecoderState) (n : ℕ) : Type 0 where
+-- rows have the locator for rounds in which the shards with the indexes of the received ones are given
+abbrev pub HasLocator : DecoderRows → DecoderState → Type 0
+HasLocator rows s =
+    (marks : List Bool) × MarksReceived s marks × IsLocatorOf (frame_at s.configuration) marks rows.memory.entries.items
+
+-- a decoder without shards has room for strips of n bytes of received shards; after the first round it has the locator
+pub record IsReadyToDecode (rounds : Rounds) (s : DecoderState) (n : ℕ) : Type 0 where
   pub size : ℕ
   pub room : n ≤ size
-  pub fresh : decoder_state default_rate rows ≡ fresh_decoder (strip_configuration s size)
+  pub fresh : decoder_state default_rate rounds.decoder.rows ≡ fresh_decoder (strip_configuration s size)
+  pub located : rounds.is_located ≡ true → HasLocator rounds.decoder.rows s
 
 -- an encoder without originals has room for strips of n bytes of received shards
 pub record IsReadyToEncode (rows : EncoderRows) (s : DecoderState) (n : ℕ) : Type 0 where

@@ -105,7 +105,7 @@ fn encode_lent<E: Engine>(
 ///
 /// The call allocates two lists of references to shards. If few originals are missing, it sums received shards, and
 /// also allocates short lists of rows and logarithms. Otherwise it allocates a work area for at most 2048 bytes of each
-/// shard. If there are more shards than originals, it also allocates memory for the missing originals, because a later
+/// shard, and for a middle number of missing originals such lists as well. If there are more shards than originals, it also allocates memory for the missing originals, because a later
 /// strip may show that no message agrees with all shards. It does so too if the rooms do not fit. After an error the
 /// rooms hold what they held before the call.
 ///

@@ -46,7 +46,7 @@ use std::alloc::Global;
 /// - [`Error::OutOfMemory`] if the marks of the wanted shards cannot be allocated.
 /// - For each wanted shard in order: [`ReconstructError::WantedIndexTooLarge`] if its index is not below the number of
 ///   shards of its kind, [`ReconstructError::WantedTwice`], [`ReconstructError::WantedReceived`].
-/// - [`Error::OutOfMemory`] if the logarithms or the work areas cannot be allocated.
+/// - [`Error::OutOfMemory`] if the work areas, or the lists for direct sums, cannot be allocated.
 /// - [`Error::InconsistentShards`] if no message agrees with all received shards.
 /// - [`Error::OutOfMemory`] if the vectors cannot be allocated.
 ///

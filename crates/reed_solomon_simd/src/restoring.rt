@@ -191,12 +191,13 @@ pub fn restore_into<E: Engine>(
 {
     let surplus = received.surplus()?;
     if can_be_written(surplus, received, rooms) {
-        return restore_directly(alloc, received, engine, rooms);
+        restore_lent(alloc, received, engine, rooms)?;
+        return Ok(());
     }
     restore_by_vectors(alloc, received, surplus, engine, rooms)
 }
 
-// Returns true if the missing originals can be written into the rooms strip by strip: there are as many shards as
+// Returns true only if the missing originals can be written into the rooms strip by strip: there are as many shards as
 // originals, so they belong to a message, and each missing original has a room of its size.
 fn can_be_written(surplus: usize, received: &ReceivedShards<'_>, rooms: &[&mut [u8]]) -> bool
     ensures exact { result ≡ true → surplus ≡ 0 }
@@ -207,27 +208,6 @@ fn can_be_written(surplus: usize, received: &ReceivedShards<'_>, rooms: &[&mut [
         → All (λ room. length room ≡ received.now.shard_bytes) (bytes_in rooms.now) }
 {
     surplus == 0 && check_rooms(received.missing(), received.shard_bytes, rooms).is_ok()
-}
-
-// Writes the missing originals into rooms, strip by strip.
-fn restore_directly<E: Engine>(
-    alloc: Global,
-    received: &ReceivedShards<'_>,
-    engine: E,
-    rooms: &mut [&mut [u8]],
-) -> Result<(), RoomError>
-    requires enough { enough_given (received_state received.now) ≡ Ok tt }
-    requires exact { originals_given (received_state received.now)
-        + recovery_given (received_state received.now) ≡ received.now.counts.original_count }
-    requires number { length rooms.old + originals_given (received_state received.now)
-        ≡ received.now.counts.original_count }
-    requires fit { All (λ room. length room ≡ received.now.shard_bytes) (bytes_in rooms.old) }
-    ensures answer { RestoresInto (received_state received.now) (bytes_in rooms.old)
-        (bytes_in rooms.new) result }
-    ensures kept { loans_of rooms.new ≡ loans_of rooms.old }
-{
-    restore_lent(alloc, received, engine, rooms)?;
-    Ok(())
 }
 
 // Restores all missing originals into vectors, and then copies them into the rooms.

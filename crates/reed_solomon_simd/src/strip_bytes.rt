@@ -1,6 +1,6 @@
-//! The sizes of strips. The work area has room for one strip of each shard only, and for up to about a thousand shards
-//! these strips fit into the processor's caches. Of the sizes that were measured with counts from 10:4 to 1000:200,
-//! these were the fastest or close to it. A size that depends on the counts was not worth its code.
+//! The sizes of strips. The work area has room for one strip only, and for up to about a thousand shards it fits into
+//! the processor's caches. Of the sizes that were measured with counts from 10:4 to 1000:200, those for encodes and for
+//! decodes by rounds were the fastest or close to it. A size that depends on the counts was not worth its code.
 
 /// The number of bytes of each shard that are encoded at a time.
 pub(crate) const ENCODE_STRIP_BYTES: usize = 4096;

@@ -1,7 +1,7 @@
 //! Checking strip by strip that received shards belong to one message, if all originals were received: each strip is
-//! encoded, and the recovery bytes are compared with the received ones. The work area has room for one strip of each
-//! shard, so it stays in the cache.
-ghost use Rattle.std.specs.Prelude.{◌≡◌, ◌↔◌, ◌-◌, ◌<◌, ◌≤◌, [], length, IsTrue, IfOk, IfErr, unwrap_or};
+//! encoded, and the recovery pieces are compared with the received ones. The work area has room for one strip, so it
+//! stays in the cache.
+ghost use Rattle.std.specs.Prelude.{◌≡◌, ◌↔◌, ◌-◌, ◌<◌, ◌≤◌, [], length, IsTrue, unwrap_or};
 ghost use Rattle.rs_field.specs.code.Column.{shard_at};
 ghost use Rattle.rs_field.specs.code.Counts.{default_rate};
 ghost use Rattle.rs_field.specs.code.Decoder.{IsDecoder, originals_given, recovery_given, IsConsistent};
@@ -16,6 +16,7 @@ use crate::pieces::Pieces;
 use crate::shard_index::ShardIndex;
 use crate::store::Store;
 use crate::strip_bytes::ENCODE_STRIP_BYTES;
+use crate::strip_encoder::strip_encoder;
 use crate::strip_message::{StripMessage, encode_message};
 use crate::strips::{Way, make_strips};
 use rs_field::engine::Engine;
@@ -47,8 +48,7 @@ pub(crate) fn check_by_encoding<E: Engine, S: Store>(
         (S.held store.old) }
     ensures { Makes S.grows (S.received store.old) [] (S.held store.old) (S.held store.new) result }
 {
-    let width = ENCODE_STRIP_BYTES.min(store.shard_bytes());
-    let encoder = StripEncoder::with_counts(alloc, store.counts(), width, (), None)?;
+    let encoder = strip_encoder(alloc, store.counts(), store.shard_bytes())?;
     let mut way = Compare {
         engine,
         encoder,
@@ -74,7 +74,7 @@ impl<'a, E: Engine> Way for Compare<'a, E> {
     ghost ready = { λ x s n. IsReadyToCompare x.encoder.rows x.recovery_received_count s n };
 
     fn strip<S: Store>(&mut self, start: usize, end: usize, store: &mut S) -> Result<(), Error> {
-        if !agree_in_strip(self.engine, &mut self.encoder, &*store, start, end)? {
+        if !agree_in_strip(self.engine, &mut self.encoder, &*store, start, end) {
             return Err(Error::InconsistentShards {
                 original_received_count: store.counts().original_count,
                 recovery_received_count: self.recovery_received_count,
@@ -84,23 +84,22 @@ impl<'a, E: Engine> Way for Compare<'a, E> {
     }
 }
 
-// All originals are there, so the recovery shards are known: the strip is encoded and compared. This never fails.
+// All originals are there, so the recovery shards are known: the strip is encoded and compared.
 fn agree_in_strip<E: Engine, P: Pieces>(
     engine: &E,
     encoder: &mut StripEncoder,
     received: &P,
     start: usize,
     end: usize,
-) -> Result<bool, Error>
+) -> bool
     requires set_up { IsDecoder default_rate (P.received received.now) }
     requires all { originals_given (P.received received.now)
         ≡ (P.received received.now).configuration.original_count }
     requires ready { IsReadyToEncode encoder.old.rows (P.received received.now) (end - start) }
     requires strip { IsStrip start end (P.received received.now).configuration.shard_bytes }
     requires some { start < end }
-    ensures answer { IfOk result (λ agree.
-        IsTrue agree ↔ IsConsistent (state_of_pieces start end (P.received received.now))) }
-    ensures refused { IfErr result (λ _. ⊥) }
+    ensures answer { IsTrue result
+        ↔ IsConsistent (state_of_pieces start end (P.received received.now)) }
     ensures ready { IsReadyToEncode encoder.new.rows (P.received received.now) (end - start) }
 {
     let strip = ReceivedStrip {
@@ -108,11 +107,11 @@ fn agree_in_strip<E: Engine, P: Pieces>(
         start,
         end,
     };
-    encode_message(engine, encoder, end - start, &strip)?;
-    Ok(are_encoded(&lent_recovery(encoder), received, start, end))
+    encode_message(engine, encoder, end - start, &strip);
+    are_encoded(&lent_recovery(encoder), received, start, end)
 }
 
-/// One strip of the originals of a message, all of which were received.
+/// The pieces of the originals of a message in one strip, if all originals were received.
 #[derive(Drop)]
 struct ReceivedStrip<'a, P: Pieces> {
     received: &'a P,
@@ -152,6 +151,7 @@ fn received_piece<P: Pieces>(received: &P, index: usize, start: usize, end: usiz
         .unwrap_or(&[])
 }
 
+// Returns whether each received recovery shard is the encoded one in this strip.
 fn are_encoded<P: Pieces>(
     encoded: &EncoderResult<'_>,
     received: &P,
@@ -177,6 +177,7 @@ fn are_encoded<P: Pieces>(
     true
 }
 
+// Returns whether the recovery piece with this index is the encoded one.
 fn is_encoded(encoded: &EncoderResult<'_>, index: usize, piece: &[u8]) -> bool
     requires inside { index < length (recovery_shards encoded.now) }
     ensures { IsTrue result ↔ (shard_at (recovery_shards encoded.now) index ≡ piece.now) }

@@ -1,5 +1,5 @@
-//! Making the missing originals of received shards, strip by strip. Few of them are made by direct sums. Otherwise the
-//! received shards of each strip are decoded.
+//! Making the missing originals of received shards, strip by strip. Few of them are made by direct sums, and a middle
+//! number of them from syndromes. Otherwise the received shards of each strip are decoded.
 ghost use Rattle.std.specs.Prelude.{◌≡◌, ◌-◌, ◌+◌, ◌≤◌, ℕ, All, true, length, Ok, OnOk, IfErr};
 ghost use Rattle.rs_field.specs.code.Counts.{default_rate};
 ghost use Rattle.rs_field.specs.code.Decoder.{IsDecoder, enough_given, originals_given, recovery_given};
@@ -13,15 +13,15 @@ ghost use Rattle.reed_solomon_simd.specs.Making.{AreRooms, MakesMissing, missing
 use crate::rooms::Rooms;
 use crate::store::Store;
 use crate::strip_bytes::DECODE_STRIP_BYTES;
-use crate::strip_rounds::decode_pieces;
+use crate::strip_rounds::Rounds;
 use crate::strip_summer::sum_missing;
+use crate::strip_syndromes::restore_by_syndromes;
 use crate::strips::{Way, make_strips};
 use rs_field::engine::Engine;
 use rs_field::error::Error;
 use rs_rate::DecoderResult;
-use rs_rate::rate::are_sums_cheaper;
-use rs_rate::rate::split_rounds::lent_originals;
 use rs_rate::rate::strips::StripDecoder;
+use rs_rate::rate::{are_sums_cheaper, are_syndromes_cheapest};
 use std::alloc::Global;
 
 /// Writes the missing originals into the rooms of a store, in order of index. `missing` is the number of missing
@@ -29,7 +29,7 @@ use std::alloc::Global;
 ///
 /// # Errors
 ///
-/// - [`Error::OutOfMemory`] if the work area, or the lists and factors of direct sums, cannot be allocated.
+/// - [`Error::OutOfMemory`] if the work area, or the lists for sums, cannot be allocated.
 /// - For each strip in order: [`Error::InconsistentShards`] if no message agrees with all received shards, and then
 ///   [`Error::OutOfMemory`] if a room cannot grow. The rooms may then hold some strips.
 pub fn make_missing<E: Engine, S: Store>(
@@ -52,6 +52,9 @@ pub fn make_missing<E: Engine, S: Store>(
     ensures loan { S.loan store.new ≡ S.loan store.old }
 {
     let counts = store.counts();
+    if are_syndromes_cheapest(counts.frame, counts.original_count, missing, surplus) {
+        return restore_by_syndromes(alloc, engine, missing, surplus, store);
+    }
     let sums = missing.saturating_add(surplus);
     if are_sums_cheaper(counts.frame, counts.original_count, sums) {
         return sum_missing(alloc, engine, missing, surplus, store);
@@ -77,7 +80,10 @@ fn restore_by_rounds<E: Engine, S: Store>(
 {
     let width = DECODE_STRIP_BYTES.min(store.shard_bytes());
     let decoder = StripDecoder::with_counts(alloc, store.counts(), width, (), None)?;
-    let mut way = Restore { engine, decoder };
+    let mut way = Restore {
+        engine,
+        rounds: Rounds::new(decoder),
+    };
     make_strips(DECODE_STRIP_BYTES, &mut way, store)
 }
 
@@ -85,7 +91,7 @@ fn restore_by_rounds<E: Engine, S: Store>(
 #[derive(Drop)]
 struct Restore<'a, E: Engine> {
     engine: &'a E,
-    decoder: StripDecoder,
+    rounds: Rounds,
 }
 
 impl<'a, E: Engine> Way for Restore<'a, E> {
@@ -93,16 +99,11 @@ impl<'a, E: Engine> Way for Restore<'a, E> {
 
     ghost wanted = { λ _ s. missing_names s };
 
-    ghost ready = { λ x s n. IsReadyToDecode x.decoder.rows s n };
+    ghost ready = { λ x s n. IsReadyToDecode x.rounds s n };
 
     fn strip<S: Store>(&mut self, start: usize, end: usize, store: &mut S) -> Result<(), Error> {
-        let restored_count = decode_pieces(self.engine, &mut self.decoder, &*store, start, end)?;
-        put_pieces(
-            &lent_originals(&self.decoder, restored_count),
-            start,
-            end,
-            store,
-        )
+        let restored_count = self.rounds.decode(self.engine, &*store, start, end)?;
+        put_pieces(&self.rounds.restored(restored_count), start, end, store)
     }
 }
 

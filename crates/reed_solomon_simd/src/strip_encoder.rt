@@ -1,6 +1,5 @@
-//! Encoding strip by strip. The work area has room for one strip of each shard, so it stays in the cache. For each
-//! strip, the bytes of the originals are copied into the work area, and the recovery bytes are copied from there into
-//! the rooms.
+//! Encoding strip by strip. The work area has room for one strip, so it stays in the cache. For each strip, the pieces
+//! of the originals are copied into the work area, and the recovery pieces are copied from there into the rooms.
 ghost use Rattle.std.specs.Prelude.{◌≡◌, ℕ, List, ◌-◌, ◌%◌, ◌<◌, ◌≤◌, All, true, false, length, min, Ok, Err};
 ghost use Rattle.std.specs.Prelude.{OnOk, OnErr, IfOk, IfErr};
 ghost use Rattle.rs_field.specs.code.Code.{AreRecovery};
@@ -118,7 +117,7 @@ pub(crate) fn encode_strips_with<E: Engine, O: Originals, R: Rooms>(
     Ok(())
 }
 
-// Encodes one strip of the originals, and writes this strip of the recovery shards into the rooms.
+// Encodes one strip of the originals, and writes the recovery pieces into the rooms.
 fn encode_strip<E: Engine, O: Originals, R: Rooms>(
     engine: &E,
     encoder: &mut StripEncoder,
@@ -152,11 +151,11 @@ fn encode_strip<E: Engine, O: Originals, R: Rooms>(
         start,
         end,
     };
-    encode_message(engine, encoder, end - start, &strip)?;
+    encode_message(engine, encoder, end - start, &strip);
     put_pieces(&lent_recovery(encoder), start, end, rooms)
 }
 
-/// One strip of each original.
+/// The pieces of the originals in one strip.
 #[derive(Drop)]
 struct OriginalsStrip<'a, O: Originals> {
     originals: &'a O,

@@ -1,5 +1,5 @@
-//! Encoding one strip of a message, wherever the strips of its originals lie.
-ghost use Rattle.std.specs.Prelude.{◌≡◌, ◌%◌, ◌<◌, ◌≤◌, [], All, length, Ok};
+//! Encoding one strip of a message, wherever the pieces of its originals lie.
+ghost use Rattle.std.specs.Prelude.{◌≡◌, ◌%◌, ◌<◌, ◌≤◌, [], All, length};
 ghost use Rattle.rs_field.specs.code.Code.{AreRecovery};
 ghost use Rattle.rs_field.specs.code.Configuration.{configuration};
 ghost use Rattle.rs_field.specs.code.Counts.{default_rate};
@@ -7,35 +7,34 @@ ghost use Rattle.rs_field.specs.code.Encoder.{fresh_encoder};
 ghost use Rattle.rs_rate.specs.rows.EncoderView.{encoder_state, lent_shards};
 
 use rs_field::engine::{Engine, Steps};
-use rs_field::error::Error;
 use rs_rate::rate::strips::StripEncoder;
 
-/// One strip of each original of a message.
+/// The pieces of the originals of a message in one strip.
 pub(crate) trait StripMessage {
     ghost use Rattle.std.specs.Prelude.{◌≡◌, ◌<◌, List, length};
     ghost use Rattle.rs_field.specs.code.Column.{Shard, shard_at};
 
-    /// The strip of each original.
+    /// The piece of each original.
     ghost shards: { Self → List Shard };
 
     /// Returns the number of originals.
     fn count(&self) -> usize
         ensures { result ≡ length (shards self.now) };
 
-    /// Returns the strip of an original.
+    /// Returns the piece of an original.
     fn piece(&self, index: usize) -> &[u8]
         requires { index < length (shards self.now) }
         ensures { result.now ≡ shard_at (shards self.now) index };
 }
 
 /// Encodes a strip of a message, which has `bytes` bytes of each original, with an encoder that has no original. The
-/// recovery pieces are then in the encoder. This never fails.
+/// recovery pieces are then in the encoder.
 pub(crate) fn encode_message<E: Engine, M: StripMessage>(
     engine: &E,
     encoder: &mut StripEncoder,
     bytes: usize,
     message: &M,
-) -> Result<(), Error>
+)
     requires none { (encoder_state default_rate encoder.old.rows).given ≡ [] }
     requires shorter { bytes
         ≤ (encoder_state default_rate encoder.old.rows).configuration.shard_bytes }
@@ -44,7 +43,6 @@ pub(crate) fn encode_message<E: Engine, M: StripMessage>(
     requires number { length (M.shards message.now)
         ≡ (encoder_state default_rate encoder.old.rows).configuration.original_count }
     requires sized { All (λ piece. length piece ≡ bytes) (M.shards message.now) }
-    ensures answer { result ≡ Ok tt }
     ensures coded { let c = (encoder_state default_rate encoder.old.rows).configuration in
         AreRecovery (configuration c.rate c.original_count c.recovery_count bytes)
         (M.shards message.now) (lent_shards encoder.new.rows) }
@@ -52,13 +50,12 @@ pub(crate) fn encode_message<E: Engine, M: StripMessage>(
         encoder_state default_rate encoder.new.rows
         ≡ fresh_encoder (configuration c.rate c.original_count c.recovery_count bytes) }
 {
-    encoder.narrow(bytes)?;
+    encoder.narrow(bytes);
     take_message(encoder, message);
     encoder.encode(engine, &mut Steps::new());
-    Ok(())
 }
 
-// Adds a strip of each original to an encoder without originals.
+// Adds the piece of each original to an encoder without originals.
 fn take_message<M: StripMessage>(encoder: &mut StripEncoder, message: &M)
     requires none { (encoder_state default_rate encoder.old.rows).given ≡ [] }
     requires number { length (M.shards message.now)

@@ -6,7 +6,7 @@ ghost use Rattle.std.specs.Prelude.{[], OnOk, IfOk, IfErr, IfSome, is_some, opti
 ghost use Rattle.std.specs.Option.{option_map};
 ghost use Rattle.std.specs.List.{list_any};
 ghost use Rattle.rs_field.specs.code.Code.{AreRecovery};
-ghost use Rattle.rs_field.specs.code.Column.{Shard, shard_at};
+ghost use Rattle.rs_field.specs.code.Column.{Shard};
 ghost use Rattle.rs_field.specs.code.Counts.{default_rate};
 ghost use Rattle.rs_field.specs.code.Decoder.{IsDecoder, IsAgreeing, Restored, originals_given, recovery_given};
 ghost use Rattle.rs_field.specs.code.Configuration.{validation_outcome};
@@ -27,13 +27,12 @@ use crate::shard_index::ShardIndex;
 use crate::store::Store;
 use crate::strip_bytes::DECODE_STRIP_BYTES;
 use crate::strip_message::{StripMessage, encode_message};
-use crate::strip_rounds::decode_pieces;
+use crate::strip_rounds::Rounds;
 use crate::strip_summer::sum_listed;
 use crate::strips::{Way, make_strips};
 use rs_field::engine::Engine;
 use rs_field::error::Error;
 use rs_rate::DecoderResult;
-use rs_rate::rate::split_rounds::lent_originals;
 use rs_rate::rate::strips::{StripDecoder, StripEncoder};
 use rs_rate::rate::{DefaultRateCounts, are_sums_cheaper};
 use std::alloc::Global;
@@ -43,7 +42,7 @@ use std::alloc::Global;
 ///
 /// # Errors
 ///
-/// - [`Error::OutOfMemory`] if the marks, the logarithms or the work areas cannot be allocated.
+/// - [`Error::OutOfMemory`] if the work areas, or the lists for direct sums, cannot be allocated.
 /// - For each strip in order: [`Error::InconsistentShards`] if no message agrees with all received shards, and then
 ///   [`Error::OutOfMemory`] if a room cannot grow. The rooms may then hold some strips.
 pub fn make_listed<E: Engine, S: Store>(
@@ -95,7 +94,7 @@ fn rebuild_by_rounds<E: Engine, S: Store>(
     let mut way = Rebuild {
         engine,
         wanted,
-        decoder,
+        rounds: Rounds::new(decoder),
         encoder,
     };
     make_strips(DECODE_STRIP_BYTES, &mut way, store)
@@ -127,7 +126,7 @@ fn encoder_if_wanted(
 struct Rebuild<'a, E: Engine> {
     engine: &'a E,
     wanted: &'a [ShardIndex],
-    decoder: StripDecoder,
+    rounds: Rounds,
     encoder: Option<StripEncoder>,
 }
 
@@ -139,21 +138,21 @@ impl<'a, E: Engine> Way for Rebuild<'a, E> {
 
     ghost wanted = { λ x _. x.wanted.now };
 
-    ghost ready = { λ x s n. IsReadyToDecode x.decoder.rows s n
+    ghost ready = { λ x s n. IsReadyToDecode x.rounds s n
         × (list_any is_recovery x.wanted.now ≡ is_some x.encoder)
         × IfSome x.encoder (λ e. IsReadyToEncode e.rows s n) };
 
     fn strip<S: Store>(&mut self, start: usize, end: usize, store: &mut S) -> Result<(), Error> {
-        let restored_count = decode_pieces(self.engine, &mut self.decoder, &*store, start, end)?;
-        let restored = lent_originals(&self.decoder, restored_count);
+        let restored_count = self.rounds.decode(self.engine, &*store, start, end)?;
+        let restored = self.rounds.restored(restored_count);
         let encoder = &mut self.encoder;
-        encode_if_made(self.engine, encoder, &*store, &restored, start, end)?;
+        encode_if_made(self.engine, encoder, &*store, &restored, start, end);
         put_wanted(&restored, encoder, self.wanted, start, end, store)
     }
 }
 
 // Encodes one strip of all originals, received or restored, if there is an encoder. The recovery pieces are then in the
-// encoder. This never fails.
+// encoder.
 fn encode_if_made<'a, E: Engine, P: Pieces>(
     engine: &E,
     encoder: &mut Option<StripEncoder>,
@@ -161,7 +160,7 @@ fn encode_if_made<'a, E: Engine, P: Pieces>(
     restored: &'a DecoderResult<'a>,
     start: usize,
     end: usize,
-) -> Result<(), Error>
+)
     requires set_up { IsDecoder default_rate (P.received received.now) }
     requires ready { IfSome encoder.old
         (λ e. IsReadyToEncode e.rows (P.received received.now) (end - start)) }
@@ -173,19 +172,16 @@ fn encode_if_made<'a, E: Engine, P: Pieces>(
         → IsAgreeing (state_of_pieces start end (P.received received.now)) message
         → AreRecovery (state_of_pieces start end (P.received received.now)).configuration message
         (lent_shards e.rows)) }
-    ensures answer { result ≡ Ok tt }
     ensures same { is_some encoder.new ≡ is_some encoder.old }
     ensures ready { IfSome encoder.new
         (λ e. IsReadyToEncode e.rows (P.received received.now) (end - start)) }
 {
     if let Some(encoder) = encoder {
-        encode_restored(engine, encoder, received, restored, start, end)?;
+        encode_restored(engine, encoder, received, restored, start, end);
     }
-    Ok(())
 }
 
-// Encodes one strip of all originals, received or restored. The recovery pieces are then in the encoder. This never
-// fails.
+// Encodes one strip of all originals, received or restored. The recovery pieces are then in the encoder.
 fn encode_restored<'a, E: Engine, P: Pieces>(
     engine: &E,
     encoder: &mut StripEncoder,
@@ -193,7 +189,7 @@ fn encode_restored<'a, E: Engine, P: Pieces>(
     restored: &'a DecoderResult<'a>,
     start: usize,
     end: usize,
-) -> Result<(), Error>
+)
     requires set_up { IsDecoder default_rate (P.received received.now) }
     requires ready { IsReadyToEncode encoder.old.rows (P.received received.now) (end - start) }
     requires strip { IsStrip start end (P.received received.now).configuration.shard_bytes }
@@ -204,7 +200,6 @@ fn encode_restored<'a, E: Engine, P: Pieces>(
         → IsAgreeing (state_of_pieces start end (P.received received.now)) message
         → AreRecovery (state_of_pieces start end (P.received received.now)).configuration message
         (lent_shards encoder.new.rows) }
-    ensures answer { result ≡ Ok tt }
     ensures ready { IsReadyToEncode encoder.new.rows (P.received received.now) (end - start) }
 {
     let strip = RestoredStrip {
@@ -213,10 +208,10 @@ fn encode_restored<'a, E: Engine, P: Pieces>(
         start,
         end,
     };
-    encode_message(engine, encoder, end - start, &strip)
+    encode_message(engine, encoder, end - start, &strip);
 }
 
-/// One strip of the originals of a message, each of which was received or restored.
+/// The pieces of the originals of a message in one strip. Each of them was received or restored.
 #[derive(Drop)]
 struct RestoredStrip<'a, P: Pieces> {
     received: &'a P,

@@ -83,7 +83,7 @@ fn index_of(row: usize, from: usize, count: usize) -> Option<usize>
 ///
 /// # Errors
 ///
-/// - [`Error::OutOfMemory`] if the lists or the factors cannot be allocated.
+/// - [`Error::OutOfMemory`] if the lists for direct sums cannot be allocated.
 /// - For each strip in order: [`Error::InconsistentShards`] if no message agrees with all received shards, and then
 ///   [`Error::OutOfMemory`] if a room cannot grow. The rooms may then hold some strips.
 pub(crate) fn sum_missing<E: Engine, S: Store>(
@@ -135,7 +135,7 @@ fn missing_originals<P: Pieces>(
 ///
 /// # Errors
 ///
-/// - [`Error::OutOfMemory`] if the marks or the factors cannot be allocated.
+/// - [`Error::OutOfMemory`] if the lists for direct sums cannot be allocated.
 /// - For each strip in order: [`Error::InconsistentShards`] if no message agrees with all received shards, and then
 ///   [`Error::OutOfMemory`] if a room cannot grow. The rooms may then hold some strips.
 pub(crate) fn sum_listed<'a, E: Engine, S: Store>(
@@ -259,7 +259,7 @@ impl<'a, 'b, E: Engine> Sums<'a, 'b, E> {
         true
     }
 
-    // Returns whether a strip of the shard that was received in a row outside of the base, if there is one, is the
+    // Returns whether the piece of the shard that was received in a row outside of the base, if there is one, is the
     // direct sum.
     fn agrees_in_row<P: Pieces>(
         &self,
@@ -283,7 +283,7 @@ impl<'a, 'b, E: Engine> Sums<'a, 'b, E> {
         summed_piece(sum, end - start) == piece
     }
 
-    // Writes a strip of each wanted shard into its room, after the first `start` bytes.
+    // Writes the piece of each wanted shard into its room, after the first `start` bytes.
     fn put_sums<S: Store>(
         &self,
         start: usize,

@@ -26,10 +26,11 @@ use std::alloc::Global;
 /// were received, and at least one but at most t of the received shards are damaged, the call fails with
 /// [`Error::InconsistentShards`].
 ///
-/// The call allocates two lists of references to shards. If all originals were received, it encodes them and compares,
-/// with a work area for at most 4096 bytes of each shard. Otherwise it does the work of a decode. If there are few more
-/// shards than originals, it sums shards, and allocates short lists of rows and logarithms. If there are more, it
-/// allocates a work area for at most 2048 bytes of each shard.
+/// The call allocates two lists of references to shards. If there are not more shards than originals, it does nothing
+/// else. If there are more and all originals were received, it encodes them and compares, with a work area for at most
+/// 4096 bytes of each shard. Otherwise it does the work of a decode: if there are few more shards than originals, it
+/// sums shards, and allocates short lists of rows and logarithms; if there are many more, it allocates a work area for
+/// at most 2048 bytes of each shard.
 ///
 /// # Errors
 ///

@@ -7,3 +7,4 @@ pub mod AddedShards
 pub mod FirstShards
 pub mod DecoderRows
 pub mod ResultLemmas
+pub mod ByteSums

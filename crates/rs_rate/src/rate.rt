@@ -8,5 +8,5 @@ pub use crate::passes::{base_sums, changes, sums};
 pub use crate::rows::decoder_work::DecoderWork;
 pub use crate::rows::encoder_work::EncoderWork;
 pub use crate::values::configuration::{check_decoder_rows, check_encoder_rows};
-pub use crate::values::frames::are_sums_cheaper;
+pub use crate::values::frames::{are_sums_cheaper, are_syndromes_cheapest};
 pub use crate::values::supported_counts::{DefaultRateCounts, HighRateCounts, LowRateCounts};

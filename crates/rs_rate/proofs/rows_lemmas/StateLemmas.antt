@@ -36,7 +36,7 @@ pub accepted-shard : (s : EncoderState) (shard : Shard) → answer_of (with_shar
 accepted-shard s shard accepted = search rules
 
 -- If the size of chunks in bytes fits a `usize`, the outcome of allocating them is a success.
-memory_outcome-fits : (chunks : ℕ) → chunks * 64 < 2 ^ 64 → memory_outcome chunks ≡ Ok tt
+pub memory_outcome-fits : (chunks : ℕ) → chunks * 64 < 2 ^ 64 → memory_outcome chunks ≡ Ok tt
 memory_outcome-fits chunks fits =
     ap (λ (b : Bool). cond b (Err OutOfMemory) (Ok tt)) (lt-leb (2 ^ 64) (chunks * 64) fits)
 

@@ -1,5 +1,5 @@
 -- Rows of chunks, and the shards in them.
-use Rattle.std.specs.Prelude.{ℕ, ◌+◌, ◌*◌, List}
+use Rattle.std.specs.Prelude.{◌≡◌, ℕ, ◌+◌, ◌*◌, ◌<◌, List, length, slice_index, bit_xor}
 use Rattle.rs_field.specs.code.Column.{Shard}
 use Rattle.rs_field.specs.rows.Rows.{Chunks, chunk, symbol}
 use Rattle.rs_field.specs.rows.Layout.{row_len, laid_out, in_order}
@@ -19,3 +19,8 @@ shard_in_order chunks size i = in_order size (row_chunk chunks size i)
 -- symbol s of chunk k of row i, in rows of n chunks
 abbrev pub word_in : Chunks → ℕ → ℕ → ℕ → ℕ → ℕ
 word_in chunks n k s i = symbol (chunk chunks (i * n + k)) s
+
+-- a shard is the sum of two shards of its size, byte by byte
+pub record IsByteSum (one other sum : Shard) : Type 0 where
+  pub length_is : length sum ≡ length other
+  pub bytes : (b : ℕ) → b < length other → slice_index sum b ≡ bit_xor (slice_index one b) (slice_index other b)

@@ -1,7 +1,7 @@
 //! The decoding of a round, for every rate: the locator of the erased rows, the rows over the chunks, the tails, and
 //! the round's end.
 ghost use Rattle.std.specs.Prelude.{◌≡◌, ℕ, ◌+◌, ◌<◌, ◌≤◌};
-ghost use Rattle.std.specs.Prelude.{true, length, IfNone, IfOk, IfSome, MatchResult};
+ghost use Rattle.std.specs.Prelude.{true, false, length, IfNone, IfOk, IfSome, MatchResult};
 ghost use Rattle.rs_field.specs.words.StepBounds.{CountsUpTo};
 ghost use Rattle.rs_field.specs.code.Bounds.{DecodeCounts};
 ghost use Rattle.rs_field.specs.code.Counts.{Rate};
@@ -11,7 +11,8 @@ ghost use Rattle.rs_rate.specs.rows.DecoderRoom.{memory_room};
 ghost use Rattle.rs_field.specs.code.Frame.{original_row, row_count};
 ghost use Rattle.rs_rate.specs.values.Configured.{configuration_at, IsConfigured, rows_to_decode};
 ghost use Rattle.rs_rate.specs.rows.DecoderView.{decoder_state, restored_by_rows, restored_from};
-ghost use Rattle.rs_rate.specs.passes.Decoding.{find_steps, FindsWords, RestoresShards};
+ghost use Rattle.rs_rate.specs.passes.Located.{IsLocated};
+ghost use Rattle.rs_rate.specs.passes.Decoding.{find_steps, FindsWords, IsLocatorOf, RestoresShards};
 ghost use Rattle.rs_rate.specs.rows.Marks.{CanBeRestored};
 ghost use Rattle.rs_field.specs.rows.Layout.{row_len};
 ghost use Rattle.rs_rate.specs.rows.Marks.{given_marks, restored_marks, mark_count, WantsMissing};
@@ -20,7 +21,7 @@ ghost use Rattle.rs_rate.specs.values.ChunkCounts.{chunk_count};
 ghost use Rattle.rs_rate.specs.rows.ShardRows.{word_in, shard_laid_out, shard_in_order};
 
 use crate::passes::direct::{MOST_ROWS, are_sums_used, sum_rows};
-use crate::passes::locators::make_locator;
+use crate::passes::locators::{make_locator, make_locator_once};
 use crate::passes::restoring_rows::restore_rows;
 use crate::passes::sums::{SumBase, list_base};
 use crate::rows::decoder_work::DecoderRows;
@@ -32,14 +33,16 @@ use rs_field::engine::{Engine, GfElement, ShardsRefMut, Steps};
 use rs_field::error::Error;
 
 // Restores the missing originals and returns their number, or fails if no message agrees with all given shards. The
-// round ends.
+// round ends. If `is_located`, the entries are the locator for these shards, and they stay.
 pub(crate) fn decode_rows<E: Engine>(
     engine: &E,
     steps: &mut Steps,
     rows: &mut DecoderRows,
+    is_located: bool,
 ) -> Result<usize, Error>
     requires enough { rows.old.configuration.original_count
         ≤ rows.old.originals_given + rows.old.recovery_given }
+    requires located { is_located ≡ true → IsLocated rows.old }
     ensures state { (rate : Rate)
         → decoder_state rate rows.new
         ≡ fresh_decoder (configuration_at rate rows.old.configuration) }
@@ -51,8 +54,10 @@ pub(crate) fn decode_rows<E: Engine>(
     ensures configuration { rows.new.configuration ≡ rows.old.configuration }
     ensures room { memory_room rows.new.memory ≡ memory_room rows.old.memory }
     ensures counts { DecodeCounts (rows_to_decode rows.old.configuration) steps.old steps.new }
+    ensures locator { is_located ≡ true
+        → rows.new.memory.entries.items ≡ rows.old.memory.entries.items }
 {
-    let tally = rows.tally();
+    let tally = rows.tally(is_located);
     let memory = &mut rows.memory;
     let chunks = memory.chunks.as_mut_slice();
     let entries = memory.entries.as_mut_slice();
@@ -77,7 +82,7 @@ pub(crate) fn decode_rows<E: Engine>(
 
 // Restores the missing originals in their rows if some message agrees with all given shards, and returns whether one
 // does. If all originals and no recovery shards are given, there is nothing to restore. Afterwards the marks are those
-// of restored originals. `entries` is memory for the locator.
+// of restored originals. `entries` is memory for the locator, or the locator.
 #[tactic(auto, unfolding(crate::specs::values::ChunkCounts::chunk_count))]
 fn restore<E: Engine>(
     engine: &E,
@@ -91,12 +96,15 @@ fn restore<E: Engine>(
         (rows_to_decode tally.configuration) tally.configuration.shard_bytes ≤ length chunks.old }
     requires facts { CanBeRestored tally marks.old }
     requires entries { length entries.old ≡ rows_to_decode tally.configuration }
+    requires located { tally.is_located ≡ true
+        → IsLocatorOf tally.configuration.frame (given_marks marks.old) entries.old }
     ensures marks { WantsMissing tally.configuration marks.old marks.new }
     ensures nothing { tally.missing ≡ 0 → tally.surplus ≡ 0 → result ≡ true }
     ensures restored { 0 < tally.missing + tally.surplus
         → RestoresShards tally.configuration (given_marks marks.old) tally.surplus
         chunks.old chunks.new result }
     ensures counts { DecodeCounts (rows_to_decode tally.configuration) steps.old steps.new }
+    ensures locator { tally.is_located ≡ true → entries.new ≡ entries.old }
 {
     let configuration = tally.configuration;
     if tally.missing == 0 && tally.surplus == 0 {
@@ -125,25 +133,29 @@ fn find_words<E: Engine>(
         (rows_to_decode tally.configuration) tally.configuration.shard_bytes ≤ length chunks.old }
     requires facts { CanBeRestored tally marks.old }
     requires entries { length entries.old ≡ rows_to_decode tally.configuration }
+    requires located { tally.is_located ≡ true
+        → IsLocatorOf tally.configuration.frame (given_marks marks.old) entries.old }
     ensures marks { WantsMissing tally.configuration marks.old marks.new }
     ensures words { let n = row_len tally.configuration.shard_bytes in
         FindsWords tally.configuration (given_marks marks.old) tally.surplus
         (word_in chunks.old n) (word_in chunks.new n) result }
     ensures counts { CountsUpTo (find_steps tally.configuration) 1048576 65536 steps.old steps.new }
+    ensures locator { tally.is_located ≡ true → entries.new ≡ entries.old }
 {
     if let Some(agrees) = find_by_sums(engine, steps, chunks, marks, entries, tally) {
         return agrees;
     }
     let configuration = tally.configuration;
-    make_locator(engine, steps, entries, marks.given(), configuration.frame);
+    make_locator_once(engine, steps, entries, marks.given(), tally);
     let len = row_len(configuration.shard_bytes);
     let mut rows = ShardsRefMut::new(configuration.frame.row_count(), len, chunks);
     restore_rows(engine, steps, &mut rows, marks, entries, tally)
 }
 
 // Restores the words of the missing originals by direct sums over k given shards, if the other given shards agree with
-// these. Returns whether they do. Afterwards the marks are those of restored originals. Returns `None` if transforms
-// cost less, if sums could take more steps, or if the engine has no logarithms. Then nothing has changed.
+// these. Returns whether they do. Afterwards the marks are those of restored originals. Returns `None` if the locator
+// for transforms was made already, if `are_sums_used` returns false, or if the engine has no logarithms. Then nothing
+// has changed.
 #[tactic(auto, unfolding(crate::specs::values::ChunkCounts::chunk_count))]
 fn find_by_sums<E: Engine>(
     engine: &E,
@@ -165,8 +177,9 @@ fn find_by_sums<E: Engine>(
         tally.surplus (word_in chunks.old n) (word_in chunks.new n) agrees) }
     ensures counts { IfSome result (λ _. CountsUpTo (find_steps tally.configuration) 1048576 65536
         steps.old steps.new) }
+    ensures locator { IfSome result (λ _. tally.is_located ≡ false) }
 {
-    if !are_sums_used(tally) {
+    if tally.is_located || !are_sums_used(tally) {
         return None;
     }
     let configuration = tally.configuration;

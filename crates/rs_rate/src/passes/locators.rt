@@ -1,11 +1,12 @@
 //! The locator of the erased rows of a decoder.
-ghost use Rattle.std.specs.Prelude.{◌≡◌, ℕ, ◌<◌, ◌≤◌, [], length, slice_index, if◌then◌else◌};
+ghost use Rattle.std.specs.Prelude.{◌≡◌, ℕ, ◌<◌, ◌≤◌, true, [], length, slice_index, if◌then◌else◌};
 ghost use Rattle.rs_field.specs.code.Frame.{row_count};
 ghost use Rattle.rs_field.specs.rows.MarkedRows.{is_marked};
 ghost use Rattle.rs_field.specs.words.StepBounds.{LocatorCounts};
 ghost use Rattle.rs_rate.specs.passes.Decoding.{IsLocatorOf};
 ghost use Rattle.rs_rate.specs.rows.Marks.{erasure};
 
+use crate::values::configuration::Tally;
 use rs_field::bytes::are_words;
 use rs_field::engine::{Engine, GfElement, Steps};
 use rs_field::frame::Frame;
@@ -26,6 +27,27 @@ pub(crate) fn make_locator<E: Engine>(
     mark_erased(entries, given, frame);
     engine.locate(steps, entries);
     are_words(entries);
+}
+
+// Computes the locator of the erased rows, unless the entries are this locator already.
+pub(crate) fn make_locator_once<E: Engine>(
+    engine: &E,
+    steps: &mut Steps,
+    entries: &mut [GfElement],
+    given: &[bool],
+    tally: Tally,
+)
+    requires few { tally.configuration.frame.exponent ≤ 16 }
+    requires entries { length entries.old ≡ row_count tally.configuration.frame }
+    requires located { tally.is_located ≡ true
+        → IsLocatorOf tally.configuration.frame given.now entries.old }
+    ensures locator { IsLocatorOf tally.configuration.frame given.now entries.new }
+    ensures kept { tally.is_located ≡ true → entries.new ≡ entries.old }
+    ensures counts { LocatorCounts steps.old steps.new }
+{
+    if !tally.is_located {
+        make_locator(engine, steps, entries, given, tally.configuration.frame);
+    }
 }
 
 // Sets the entries of the erased rows to 1 and all other entries to 0. A row is erased if it is not known to be zero

@@ -30,7 +30,8 @@ pub struct SumBase<'a> {
     pub marks: &'a [bool],
     /// The rows of the base, from the lowest one on.
     pub rows: &'a [GfElement],
-    /// The locator of the rows outside of the base, at each row.
+    /// The locator of the rows outside of the base, at each row. Rows whose words are known to be zero in each sum may be
+    /// missing in `marks` and `rows`, and count as rows of the base here.
     pub locator: &'a [GfElement],
     /// The logarithm of each word except for the word 0, modulo 65535.
     pub logs: &'a [GfElement],

@@ -1,5 +1,5 @@
 //! The work of a decoder, which is the memory that decoders pass on, and the rows of a decoder in this memory.
-ghost use Rattle.std.specs.Prelude.{◌≡◌, ℕ, ◌+◌, ◌%◌, ◌<◌, ◌≤◌, true, false, length, vec_len};
+ghost use Rattle.std.specs.Prelude.{◌≡◌, ℕ, ◌+◌, ◌%◌, ◌<◌, ◌≤◌, false, length, vec_len};
 ghost use Rattle.std.specs.Prelude.{None, IfOk, IfErr, IfSome, OnOk, OnErr, IsOk, MatchOption, [], ◌∷◌, option_copied};
 ghost use Rattle.std.specs.Vec.{vec_capacity};
 ghost use Rattle.rs_field.specs.code.Column.{IsShard};
@@ -10,7 +10,7 @@ ghost use Rattle.rs_field.specs.code.Decoder.{fresh_decoder, enough_given, with_
 ghost use Rattle.rs_field.specs.code.Frame.{original_row, recovery_row};
 ghost use Rattle.rs_field.specs.code.Given.{with_entry};
 ghost use Rattle.rs_field.specs.rows.MarkedRows.{is_marked};
-ghost use Rattle.rs_rate.specs.values.Configured.{IsConfigured, rows_to_decode};
+ghost use Rattle.rs_rate.specs.values.Configured.{configuration_at, IsConfigured, rows_to_decode};
 ghost use Rattle.rs_rate.specs.rows.Entering.{given_rows, entry_outcome};
 ghost use Rattle.rs_rate.specs.values.ChunkCounts.{memory_outcome, chunk_count};
 ghost use Rattle.rs_rate.specs.rows.Marks.{given_marks, mark_count, mark_room, AreSameMarks, HoldGiven};
@@ -160,8 +160,8 @@ impl DecoderMemory {
         make_room(&mut self.entries, rows)
     }
 
-    // Lays the memory out for a configuration, without given shards. All memory is allocated first. The entries of the
-    // locator may have any values, because each decode writes them.
+    // Lays the memory out for a configuration, without given shards. All memory is allocated first. If there are as many
+    // entries as before, they stay: the rounds of a `StripDecoder` share them.
     fn lay_out(&mut self, configuration: Configuration) -> Result<(), Error>
         requires { IsConfigured configuration }
         ensures laid_out { OnOk result (IsLaidOut configuration self.new) }
@@ -175,6 +175,8 @@ impl DecoderMemory {
         ensures roomy { HasRoom
             (memory_room self.old) (rows_to_decode configuration) configuration.shard_bytes
             → result ≡ memory_outcome (decoder_chunks configuration) }
+        ensures locator { vec_len self.old.entries ≡ rows_to_decode configuration
+            → self.new.entries.items ≡ self.old.entries.items }
     {
         let rows = configuration.frame.row_count();
         let chunks = chunk_count(rows, configuration.shard_bytes)?;
@@ -223,6 +225,7 @@ impl DecoderMemory {
         ensures shard { IsShard (length shard.now) shard.now }
         ensures laid { (c : Configuration) → IsLaidOut c self.old → IsLaidOut c self.new }
         ensures grown { memory_room self.new ≡ memory_room self.old }
+        ensures locator { self.new.entries ≡ self.old.entries }
     {
         are_bytes(shard);
         insert_at(self.chunks.as_mut_slice(), shard, row);
@@ -308,6 +311,29 @@ impl DecoderRows {
     ghost use Rattle.rs_rate.specs.rows.DecoderView.{decoder_state, restored_by_rows, restored_from};
     ghost use Rattle.rs_rate.specs.rows.Marks.{CanBeRestored};
 
+    // Sets rows up for shards of this size, which is not larger than their own, without given shards. The entries of
+    // the locator stay.
+    pub(crate) fn narrow(&mut self, shard_bytes: usize)
+        requires shorter { shard_bytes ≤ self.old.configuration.shard_bytes }
+        requires some { 0 < shard_bytes }
+        requires even { shard_bytes % 2 ≡ 0 }
+        ensures state { (rate : Rate) → decoder_state rate self.new
+            ≡ fresh_decoder (configuration_at rate
+            (record self.old.configuration { shard_bytes = shard_bytes })) }
+        ensures configuration { self.new.configuration
+            ≡ record self.old.configuration { shard_bytes = shard_bytes } }
+        ensures locator { self.new.memory.entries.items ≡ self.old.memory.entries.items }
+    {
+        let configuration = Configuration {
+            shard_bytes,
+            ..self.configuration
+        };
+        let _ = self.memory.lay_out(configuration);
+        self.configuration = configuration;
+        self.originals_given = 0;
+        self.recovery_given = 0;
+    }
+
     // Adds an original: copies it into its row and marks the row. Fails with `InvalidOriginalShardIndex`, then with
     // `DuplicateOriginalShardIndex`, then with `DifferentShardSize`.
     pub(crate) fn add_original_shard(&mut self, index: usize, shard: &[u8]) -> Result<(), Error>
@@ -334,8 +360,8 @@ impl DecoderRows {
         Ok(())
     }
 
-    // Takes an original: copies it into its row and marks the row. The index is valid, no shard has it yet, and the shard
-    // has the size.
+    // Takes an original: copies it into its row and marks the row. The index is valid, no shard has it yet, and the
+    // shard has the size.
     pub(crate) fn take_original_shard(&mut self, index: usize, shard: &[u8])
         requires index { index < self.old.configuration.original_count }
         requires free { given_rows self.old.memory self.old.configuration.shard_bytes
@@ -346,6 +372,7 @@ impl DecoderRows {
             (with_original (decoder_state rate self.old) index shard.now) }
         ensures configuration { self.new.configuration ≡ self.old.configuration }
         ensures room { memory_room self.new.memory ≡ memory_room self.old.memory }
+        ensures locator { self.new.memory.entries ≡ self.old.memory.entries }
     {
         let row = self.configuration.frame.original_row(index);
         self.memory.enter(row, shard);
@@ -378,8 +405,8 @@ impl DecoderRows {
         Ok(())
     }
 
-    // Takes a recovery shard: copies it into its row and marks the row. The index is valid, no shard has it yet, and the shard
-    // has the size.
+    // Takes a recovery shard: copies it into its row and marks the row. The index is valid, no shard has it yet, and
+    // the shard has the size.
     pub(crate) fn take_recovery_shard(&mut self, index: usize, shard: &[u8])
         requires index { index < self.old.configuration.recovery_count }
         requires free { given_rows self.old.memory self.old.configuration.shard_bytes
@@ -390,13 +417,16 @@ impl DecoderRows {
             (with_recovery (decoder_state rate self.old) index shard.now) }
         ensures configuration { self.new.configuration ≡ self.old.configuration }
         ensures room { memory_room self.new.memory ≡ memory_room self.old.memory }
+        ensures locator { self.new.memory.entries ≡ self.old.memory.entries }
     {
         let row = self.configuration.frame.recovery_row(index);
         self.memory.enter(row, shard);
         self.recovery_given += 1;
     }
 
-    pub(crate) fn tally(&self) -> Tally
+    // Counts the missing originals and the surplus shards. `is_located` says whether the entries of the locator were
+    // made for these shards.
+    pub(crate) fn tally(&self, is_located: bool) -> Tally
         requires { self.now.configuration.original_count
             ≤ self.now.originals_given + self.now.recovery_given }
         ensures configuration { result.configuration ≡ self.now.configuration }
@@ -405,12 +435,14 @@ impl DecoderRows {
         ensures surplus { self.now.originals_given + self.now.recovery_given
             ≡ self.now.configuration.original_count + result.surplus }
         ensures facts { CanBeRestored result self.now.memory.marks }
+        ensures located { result.is_located ≡ is_located }
     {
         let given = self.originals_given + self.recovery_given;
         Tally {
             configuration: self.configuration,
             missing: self.configuration.original_count - self.originals_given,
             surplus: given - self.configuration.original_count,
+            is_located,
         }
     }
 

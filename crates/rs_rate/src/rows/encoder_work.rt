@@ -1,5 +1,5 @@
 //! The work of an encoder, which is the memory that encoders pass on, and the rows of an encoder in this memory.
-ghost use Rattle.std.specs.Prelude.{◌≡◌, ℕ, ◌*◌, ◌^◌, ◌<◌, ◌≤◌, length, vec_len, IfSome, MatchOption};
+ghost use Rattle.std.specs.Prelude.{◌≡◌, ◌≢◌, ℕ, ◌*◌, ◌^◌, ◌<◌, ◌≤◌, length, vec_len, IfSome, MatchOption};
 ghost use Rattle.std.specs.Vec.{vec_capacity};
 ghost use Rattle.rs_field.specs.code.Column.{IsShard};
 ghost use Rattle.rs_field.specs.code.Counts.{Rate};
@@ -7,11 +7,11 @@ ghost use Rattle.rs_field.specs.code.Outcome.{answer_of, state_after};
 ghost use Rattle.rs_field.specs.code.Encoder.{fresh_encoder, with_shard, message_of};
 ghost use Rattle.rs_rate.specs.values.Configured.{IsConfigured, rows_to_encode};
 ghost use Rattle.rs_rate.specs.values.ChunkCounts.{chunk_count};
-ghost use Rattle.rs_rate.specs.rows.ShardRows.{shard_laid_out, shard_in_order};
+ghost use Rattle.rs_rate.specs.rows.ShardRows.{shard_laid_out, shard_in_order, IsByteSum};
 
 use crate::rows::memory::{make_room, set_chunks, vec_of};
 use crate::rows::object_rows::ObjectRows;
-use crate::rows::shard_rows::{insert_at, shard_at};
+use crate::rows::shard_rows::{add_at, insert_at, shard_at};
 use crate::values::configuration::{Configuration, chunk_count};
 use rs_field::bytes::are_bytes;
 use rs_field::error::Error;
@@ -181,11 +181,9 @@ impl EncoderRows {
         ensures room { vec_capacity self.new.chunks ≡ vec_capacity self.old.chunks }
     {
         are_bytes(original_shard);
-        insert_at(
-            self.chunks.as_mut_slice(),
-            original_shard,
-            self.originals_given,
-        );
+        // With the size from here, the compiler computes the length of a row once for all shards.
+        let shard = &original_shard[..self.configuration.shard_bytes];
+        insert_at(self.chunks.as_mut_slice(), shard, self.originals_given);
         self.originals_given += 1;
     }
 
@@ -217,5 +215,22 @@ impl EncoderRows {
             self.configuration.shard_bytes,
             index,
         ))
+    }
+
+    // Adds a shard, byte by byte, to the recovery shard with this index. No original was added since the last round.
+    pub(crate) fn add_to_recovery(&mut self, index: usize, shard: &[u8])
+        requires ended { self.old.originals_given ≡ 0 }
+        requires index { index < self.old.configuration.recovery_count }
+        requires sized { length shard.now ≡ self.old.configuration.shard_bytes }
+        ensures sum { IsByteSum (shard_in_order self.old.chunks.items
+            self.old.configuration.shard_bytes index) shard.now
+            (shard_in_order self.new.chunks.items self.old.configuration.shard_bytes index) }
+        ensures others { (i : ℕ) → i ≢ index
+            → shard_in_order self.new.chunks.items self.old.configuration.shard_bytes i
+            ≡ shard_in_order self.old.chunks.items self.old.configuration.shard_bytes i }
+        ensures configuration { self.new.configuration ≡ self.old.configuration }
+        ensures ended { self.new.originals_given ≡ 0 }
+    {
+        add_at(self.chunks.as_mut_slice(), shard, index);
     }
 }

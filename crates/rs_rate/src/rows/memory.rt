@@ -35,6 +35,7 @@ pub(crate) fn set_length<T: Copy>(items: &mut Vec<T>, count: usize, item: T)
     ensures length { vec_len items.new ≡ count }
     ensures added { (i : ℕ) (other : T) → vec_len items.old ≤ i → i < count
         → slice_index_or items.new.items i other ≡ item }
+    ensures same { vec_len items.old ≡ count → items.new.items ≡ items.old.items }
     ensures room { vec_capacity items.old ≤ vec_capacity items.new }
 {
     let _ = items.resize(count, item);

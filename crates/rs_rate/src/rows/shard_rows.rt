@@ -1,14 +1,16 @@
 //! Shards in rows of chunks: how a shard is written into a row, how its tail is moved, and how it is read.
-ghost use Rattle.std.specs.Prelude.{◌≡◌, ◌≢◌, ℕ, ◌+◌, ◌*◌, ◌%◌, ◌<◌, ◌≤◌, length};
+ghost use Rattle.std.specs.Prelude.{◌≡◌, ◌≢◌, ℕ, ◌+◌, ◌*◌, ◌/◌, ◌%◌, ◌<◌, ◌≤◌, length, slice_index, bit_xor};
 ghost use Rattle.rs_field.specs.code.Column.{IsShard};
 ghost use Rattle.rs_field.specs.rows.Layout.{row_len};
+ghost use Rattle.rs_field.specs.rows.Rows.{chunk};
 ghost use Rattle.rs_field.specs.words.StepBounds.{CountsRows};
 ghost use Rattle.rs_rate.specs.values.ChunkCounts.{chunk_count};
-ghost use Rattle.rs_rate.specs.rows.ShardRows.{row_chunk, shard_laid_out, shard_in_order};
+ghost use Rattle.rs_rate.specs.rows.ShardRows.{row_chunk, shard_laid_out, shard_in_order, IsByteSum};
 
 use rs_field::bytes::are_bytes;
 use rs_field::engine::Steps;
 use rs_field::engine::layout::{insert, row_len, shard_of, undo_last_chunk_encoding};
+use rs_field::engine::utils::xor;
 
 // Writes a shard into row `index` of rows for shards of its size.
 #[tactic(auto, using(crate::proofs::rows_lemmas::ShardRowsLemmas::row_end))]
@@ -80,4 +82,44 @@ pub(crate) fn rows_are_bytes(chunks: &[[u8; 64]], count: usize, shard_bytes: usi
         → IsShard shard_bytes (shard_in_order chunks.now shard_bytes i) }
 {
     are_bytes(chunks.as_flattened());
+}
+
+// Adds a shard, byte by byte, to the shard in row `index`, of which the tail has been moved.
+#[tactic(auto, using(crate::proofs::rows_lemmas::ShardRowsLemmas::row_end))]
+pub(crate) fn add_at(chunks: &mut [[u8; 64]], shard: &[u8], index: usize)
+    requires room { chunk_count (index + 1) (length shard.now) ≤ length chunks.old }
+    ensures here { IsByteSum (shard_in_order chunks.old (length shard.now) index) shard.now
+        (shard_in_order chunks.new (length shard.now) index) }
+    ensures others { (i : ℕ) → i ≢ index
+        → shard_in_order chunks.new (length shard.now) i
+        ≡ shard_in_order chunks.old (length shard.now) i }
+{
+    let len = row_len(shard.len());
+    let start = index * len;
+    add_bytes(&mut chunks[start..start + len], shard);
+}
+
+// Adds a shard, byte by byte, to the first bytes of a row.
+fn add_bytes(row: &mut [[u8; 64]], shard: &[u8])
+    requires { length row.old ≡ row_len (length shard.now) }
+    ensures { (b : ℕ) → b < length shard.now
+        → slice_index (chunk row.new (b / 64)) (b % 64)
+        ≡ bit_xor (slice_index (chunk row.old (b / 64)) (b % 64)) (slice_index shard.now b) }
+{
+    let (whole, tail) = shard.as_chunks::<64>();
+    let (chunks, last) = row.split_at_mut(whole.len());
+    xor(chunks, whole);
+    if !tail.is_empty() {
+        xor(last, &[chunk_of(tail)]);
+    }
+}
+
+// Returns a chunk that begins with these bytes.
+fn chunk_of(bytes: &[u8]) -> [u8; 64]
+    requires { length bytes.now ≤ 64 }
+    ensures { (i : ℕ) → i < length bytes.now → slice_index result i ≡ slice_index bytes.now i }
+{
+    let mut chunk = [0; 64];
+    chunk[..bytes.len()].copy_from_slice(bytes);
+    chunk
 }

@@ -35,6 +35,8 @@ pub(crate) struct Tally {
     pub(crate) missing: usize,
     // The number of shards that were added beyond the number of originals.
     pub(crate) surplus: usize,
+    // True if the entries of the locator were made for these shards.
+    pub(crate) is_located: bool,
 }
 
 impl Configuration {

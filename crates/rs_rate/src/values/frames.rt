@@ -135,7 +135,7 @@ pub(crate) fn default_frame(original_count: usize, recovery_count: usize) -> Opt
     }
 }
 
-/// Returns whether a decode uses direct sums instead of transforms, if it needs this number of sums. A sum takes one
+/// Returns whether a call uses direct sums instead of transforms, if it needs this number of sums. A sum takes one
 /// product of a row for each original. With long shards, both ways take about the same time if there are four times as
 /// many products as rows of a decoder.
 #[tactic(auto, unfolding(crate::specs::values::SumCosts::AreSumsCheaper))]
@@ -144,4 +144,31 @@ pub fn are_sums_cheaper(frame: Frame, original_count: usize, sums: usize) -> boo
     ensures { IsTrue result ↔ AreSumsCheaper frame original_count sums }
 {
     sums.saturating_mul(original_count) < 4 * frame.row_count()
+}
+
+/// Returns whether a decode makes the missing originals from syndromes, if it has this number of missing originals and
+/// of surplus shards. The cost of syndromes is the number of butterflies of an encode, plus one product in each sum for
+/// each missing original. Syndromes are used only at the high rate, for at least eight missing originals, if direct sums
+/// take more than one and a half times this cost in products, and two transforms of a decoder more than three times this
+/// cost in butterflies.
+pub fn are_syndromes_cheapest(
+    frame: Frame,
+    original_count: usize,
+    missing: usize,
+    surplus: usize,
+) -> bool
+    requires { frame.exponent ≤ 16 }
+{
+    if frame.is_low || missing < 8 {
+        return false;
+    }
+    let block_rows = frame.originals_from.max(1);
+    let blocks = original_count.div_ceil(block_rows).saturating_add(1);
+    let layers = block_rows.ilog2() as usize;
+    let butterflies = blocks.saturating_mul(block_rows).saturating_mul(layers) / 2;
+    let sums = missing.saturating_add(surplus);
+    let products = sums.saturating_mul(missing);
+    let cost = butterflies.saturating_add(products).saturating_mul(3);
+    cost < sums.saturating_mul(original_count).saturating_mul(2)
+        && cost < frame.row_count() * frame.exponent
 }

@@ -33,7 +33,7 @@ coded g c =
     subst (λ (s : EncoderState). AreRecovery (configuration s.configuration.rate s.configuration.original_count
     s.configuration.recovery_count (c.args.end - c.args.start))
     (received_strip x c.requires.set_up c.requires.all c.args.start c.args.end c.requires.strip)
-    (lent_shards c.encode_message.new.encoder.rows)) c.requires.ready.fresh c.in_ok-encode_message.ensures.coded
+    (lent_shards c.encode_message.new.encoder.rows)) c.requires.ready.fresh c.encode_message.ensures.coded
 
 pub are_encoded-requires-clause-number : goal.are_encoded-requires-clause-number
 are_encoded-requires-clause-number g c =

@@ -25,7 +25,7 @@ recoded g c =
     (configuration d.rate d.original_count d.recovery_count (c.args.end - c.args.start))
     (pieces c.args.start c.args.end (g.O.Originals.shards c.args.originals.now))
     (lent_shards c.encode_message.new.encoder.rows)) (ap (λ (s : EncoderState). s.configuration) fresh)
-    c.in_ok-encode_message.ensures.coded)
+    c.encode_message.ensures.coded)
 
 pub encode_message-requires : goal.encode_message-requires
 encode_message-requires g c =
@@ -55,7 +55,7 @@ put_pieces-requires-clause-sized g c =
 pub returns-clause-fresh : goal.returns-clause-fresh
 returns-clause-fresh g c =
     let (n, most, fresh) = c.requires.fresh in
-    c.in_ok-encode_message.ensures.fresh
+    c.encode_message.ensures.fresh
     ∙ ap (λ (s : EncoderState). fresh_encoder (configuration s.configuration.rate s.configuration.original_count
     s.configuration.recovery_count (c.args.end - c.args.start))) fresh
 

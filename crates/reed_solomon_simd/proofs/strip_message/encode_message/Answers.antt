@@ -6,14 +6,14 @@ use Rattle.rs_field.specs.code.Encoder.{EncoderState, fresh_encoder}
 use Rattle.rs_rate.specs.rows.EncoderView.{encoder_state, lent_shards}
 use Rattle.reed_solomon_simd.proofs.StripLemmas.{fresh-is, message-there}
 use Rattle.reed_solomon_simd.proofs.strip_message.encode_message.Given.{Over}
-use Rattle.reed_solomon_simd.proofs.strip_message.encode_message.Goals.{In_ok-narrow, After-take_message}
+use Rattle.reed_solomon_simd.proofs.strip_message.encode_message.Goals.{After-narrow, After-take_message}
 use Rattle.reed_solomon_simd.proofs.strip_message.encode_message.Goals as goal
 
 -- The encoder is set up for the strip, without originals.
-narrowed : (g : Over) (c : In_ok-narrow g) → let own = (encoder_state default_rate c.args.encoder.now.rows).configuration in
+narrowed : (g : Over) (c : After-narrow g) → let own = (encoder_state default_rate c.args.encoder.now.rows).configuration in
     encoder_state default_rate c.narrow.new.self.rows
     ≡ fresh_encoder (configuration own.rate own.original_count own.recovery_count c.args.bytes)
-narrowed g c = c.in_ok-narrow.ensures.fresh _ (fresh-is (encoder_state default_rate c.args.encoder.now.rows) c.requires.none)
+narrowed g c = c.narrow.ensures _ (fresh-is (encoder_state default_rate c.args.encoder.now.rows) c.requires.none)
 
 -- The encoder has the strip of each original.
 taken : (g : Over) (c : After-take_message g) → let own = (encoder_state default_rate c.args.encoder.now.rows).configuration in
@@ -25,23 +25,23 @@ taken : (g : Over) (c : After-take_message g) → let own = (encoder_state defau
 taken g c =
     c.take_message.ensures
     ∙ ap (λ (s : EncoderState). record s { given = g.M.StripMessage.shards c.args.message.now })
-    (c.in_ok-narrow.ensures.fresh _ (fresh-is (encoder_state default_rate c.args.encoder.now.rows) c.requires.none))
+    (c.narrow.ensures _ (fresh-is (encoder_state default_rate c.args.encoder.now.rows) c.requires.none))
 
 pub take_message-requires-clause-none : goal.take_message-requires-clause-none
 take_message-requires-clause-none g c =
-    ap (λ (s : EncoderState). s.given) (narrowed g (goal.at.take_message-requires-clause-none g c).In_ok-narrow)
+    ap (λ (s : EncoderState). s.given) (narrowed g (goal.at.take_message-requires-clause-none g c).After-narrow)
 
 pub take_message-requires-clause-number : goal.take_message-requires-clause-number
 take_message-requires-clause-number g c =
     c.requires.number
     ∙ sym (ap (λ (s : EncoderState). s.configuration.original_count)
-    (narrowed g (goal.at.take_message-requires-clause-number g c).In_ok-narrow))
+    (narrowed g (goal.at.take_message-requires-clause-number g c).After-narrow))
 
 pub take_message-requires-clause-sized : goal.take_message-requires-clause-sized
 take_message-requires-clause-sized g c i d inside =
     c.requires.sized i d inside
     ∙ sym (ap (λ (s : EncoderState). s.configuration.shard_bytes)
-    (narrowed g (goal.at.take_message-requires-clause-sized g c).In_ok-narrow))
+    (narrowed g (goal.at.take_message-requires-clause-sized g c).After-narrow))
 
 pub encode-requires : goal.encode-requires
 encode-requires g c =

@@ -1,5 +1,5 @@
 use Rattle.std.proofs.lemmas.Grind.{common_steps}
-use Rattle.std.proofs.Common.{sym, ap, ◌∙◌, arith}
+use Rattle.std.proofs.Common.{refl, sym, ap, ◌∙◌, arith}
 use Rattle.rs_field.specs.code.Counts.{default_rate}
 use Rattle.rs_field.specs.code.Decoder.{DecoderState}
 use Rattle.rs_field.specs.code.Given.{Shards}
@@ -16,7 +16,7 @@ given_to s given = record s { originals = given }
 
 pub loop-index-init : goal.loop-index-init
 loop-index-init g c =
-    ap (given_to (decoder_state default_rate c.args.decoder.now.rows)) (c.requires.none ∙ first-none _)
+    (ap (given_to (decoder_state default_rate c.args.decoder.now.rows)) (c.requires.none ∙ first-none _), refl)
 
 pub take_original-requires : goal.take_original-requires
 take_original-requires g c =
@@ -25,7 +25,7 @@ take_original-requires g c =
     ap answer_of
     (original-piece-taken _ _ c.loop-index.index x s (decoder_state default_rate c.loop-index.decoder.rows) _
     c.requires.order c.requires.inside c.requires.set_up
-    c.requires.configured c.loop-index.invariant
+    c.requires.configured c.loop-index.invariant.0
     (omega (arith, c.counts-index-end.ensures.originals, c.loop-index-test.true)) (sym c.in-Some.ensures))
 
 pub loop-index-preserved : goal.loop-index-preserved
@@ -33,17 +33,21 @@ loop-index-preserved g c =
     let s : DecoderState = decoder_state default_rate c.args.decoder.now.rows in
     let x : DecoderState = g.P.Pieces.received c.args.received.now in
     elim c.match-piece.branch [
-      | in-Some w ↦
-          ap (λ d. decoder_state default_rate d.rows) w.decoder-is ∙ w.take_original.ensures
-          ∙ ap (state_after (decoder_state default_rate c.loop-index.decoder.rows))
-          (original-piece-taken _ _ c.loop-index.index x s (decoder_state default_rate c.loop-index.decoder.rows) _
-          c.requires.order c.requires.inside c.requires.set_up
-          c.requires.configured c.loop-index.invariant
-          (omega (arith, c.counts-index-end.ensures.originals, c.loop-index-test.true)) (sym w.in-Some.ensures))
-      | in_default w ↦
-          ap (λ d. decoder_state default_rate d.rows) w.decoder-is ∙ c.loop-index.invariant
-          ∙ ap (given_to s) (first-skipped c.loop-index.index _ (sym w.in_default.ensures))
+      | in-Some w ↦ (
+        ap (λ d. decoder_state default_rate d.rows) w.decoder-is ∙ w.take_original.ensures.left
+            ∙ ap (state_after (decoder_state default_rate c.loop-index.decoder.rows))
+            (original-piece-taken _ _ c.loop-index.index x s (decoder_state default_rate c.loop-index.decoder.rows) _
+            c.requires.order c.requires.inside c.requires.set_up
+            c.requires.configured c.loop-index.invariant.0
+            (omega (arith, c.counts-index-end.ensures.originals, c.loop-index-test.true)) (sym w.in-Some.ensures)),
+        ap (λ d. d.rows.memory.entries) w.decoder-is ∙ w.take_original.ensures.locator ∙ c.loop-index.invariant.1,
+      )
+      | in_default w ↦ (
+        ap (λ d. decoder_state default_rate d.rows) w.decoder-is ∙ c.loop-index.invariant.0
+            ∙ ap (given_to s) (first-skipped c.loop-index.index _ (sym w.in_default.ensures)),
+        ap (λ d. d.rows.memory.entries) w.decoder-is ∙ c.loop-index.invariant.1,
+      )
     ]
 
-pub returns : goal.returns
-returns g c = grind (arith, common_steps)
+pub returns-clause-added : goal.returns-clause-added
+returns-clause-added g c = grind (arith, common_steps)

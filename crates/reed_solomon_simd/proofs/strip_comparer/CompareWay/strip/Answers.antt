@@ -5,8 +5,8 @@ use Rattle.rs_field.proofs.code_lemmas.MissingShards.{count-pieces}
 use Rattle.reed_solomon_simd.proofs.ComparedStrips.{made-nothing, put-nothing}
 use Rattle.reed_solomon_simd.proofs.strip_comparer.CompareWay.strip.Goals as goal
 
-pub returns-then-not-branch-clause-made : goal.returns-then-not-branch-clause-made
-returns-then-not-branch-clause-made g c =
+pub returns-then-not-agree_in_strip-clause-made : goal.returns-then-not-agree_in_strip-clause-made
+returns-then-not-agree_in_strip-clause-made g c =
     let x : DecoderState = g.S.Pieces.received c.args.store.now in
     let k = x.configuration.original_count in
     let (n, most, held) = c.requires.ready in
@@ -16,8 +16,8 @@ returns-then-not-branch-clause-made g c =
       refusal = ap₂ InconsistentShards (c.counts.ensures.originals ∙ sym held.all ∙ sym own) (sym held.number ∙ sym other);
       surplus = omega (arith, held.all, held.number, held.some, own, other);
       none = λ some.
-          let agree = c.in_ok-agree_in_strip.ensures.answer.1 some in
-          let other = c.if-not-branch.true in
+          let agree = c.agree_in_strip.ensures.answer.1 some in
+          let other = c.if-not-agree_in_strip.true in
           let no : ⊥ = cc in no;
     })
 
@@ -27,6 +27,6 @@ returns-clause-made g c =
     let (n, most, held) = c.requires.ready in (
       [],
       made-nothing x c.requires.can.set_up held.all c.args.start c.args.end c.requires.strip
-          (c.in_ok-agree_in_strip.ensures.answer.0 (search rules)),
+          (c.agree_in_strip.ensures.answer.0 (search rules)),
       put-nothing c.args.start c.args.end (g.S.Rooms.held c.args.store.now) c.requires.rooms.number,
     )

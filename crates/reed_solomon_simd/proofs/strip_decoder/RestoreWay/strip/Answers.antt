@@ -9,9 +9,9 @@ use Rattle.reed_solomon_simd.proofs.MissingLemmas.{names-all, restored-named}
 use Rattle.reed_solomon_simd.proofs.RoundLemmas.{decode-shorter, matched, ok-anyway}
 use Rattle.reed_solomon_simd.proofs.strip_decoder.RestoreWay.strip.Goals as goal
 
-pub decode_pieces-requires-clause-ready : goal.decode_pieces-requires-clause-ready
-decode_pieces-requires-clause-ready g c =
-    let (n, most, decoder) = c.requires.ready in decode-shorter most decoder
+pub decode-requires-clause-ready : goal.decode-requires-clause-ready
+decode-requires-clause-ready g c =
+    let (n, most, rounds) = c.requires.ready in decode-shorter most rounds
 
 pub put_pieces-requires-clause-pieces : goal.put_pieces-requires-clause-pieces
 put_pieces-requires-clause-pieces g c =
@@ -19,8 +19,8 @@ put_pieces-requires-clause-pieces g c =
     let x : DecoderState = g.S.Pieces.received c.args.store.now in
     let made = c.in_ok-restored_count.ensures.restored in
     λ items listing.
-    let here : Lists (restored_by_rows c.decode_pieces.new.decoder.rows) items =
-    subst (λ (out : Shards). Lists out items) c.lent_originals.ensures listing in
+    let here : Lists (restored_by_rows c.decode.new.self.decoder.rows) items =
+    subst (λ (out : Shards). Lists out items) c.restored.ensures listing in
     let number = pieces-number x start end made here in
     let names = (names-all x).number in (
       omega (arith, number, names, c.requires.rooms.number),
@@ -32,8 +32,8 @@ returns-clause-made g c =
     matched _ _ _ c.put_pieces.result (on_ok_weaker c.put_pieces.result (λ all. (
       shards_listed all.0,
       restored-named c.args.start c.args.end (g.S.Pieces.received c.args.store.now)
-          (restored_by_rows c.decode_pieces.new.decoder.rows) all.0 c.in_ok-restored_count.ensures.restored
-          (subst (λ (out : Shards). Lists out all.0) c.lent_originals.ensures all.1),
+          (restored_by_rows c.decode.new.self.decoder.rows) all.0 c.in_ok-restored_count.ensures.restored
+          (subst (λ (out : Shards). Lists out all.0) c.restored.ensures all.1),
       all.2,
     )) c.put_pieces.ensures.put) c.put_pieces.ensures.refused (λ e short. inr short)
 

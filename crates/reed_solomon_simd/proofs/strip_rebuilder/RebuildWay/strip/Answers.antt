@@ -19,18 +19,18 @@ use Rattle.reed_solomon_simd.proofs.strip_rebuilder.RebuildWay.strip.Given.{Over
 use Rattle.reed_solomon_simd.proofs.strip_rebuilder.RebuildWay.strip.Goals.{After-encode_if_made}
 use Rattle.reed_solomon_simd.proofs.strip_rebuilder.RebuildWay.strip.Goals as goal
 
-pub decode_pieces-requires-clause-ready : goal.decode_pieces-requires-clause-ready
-decode_pieces-requires-clause-ready g c =
-    let (n, most, (decoder, wants, encoder)) = c.requires.ready in decode-shorter most decoder
+pub decode-requires-clause-ready : goal.decode-requires-clause-ready
+decode-requires-clause-ready g c =
+    let (n, most, (rounds, wants, encoder)) = c.requires.ready in decode-shorter most rounds
 
 pub encode_if_made-requires-clause-ready : goal.encode_if_made-requires-clause-ready
 encode_if_made-requires-clause-ready g c =
-    let (n, most, (decoder, wants, encoder)) = c.requires.ready in
+    let (n, most, (rounds, wants, encoder)) = c.requires.ready in
     some-weaker c.args.self.now.encoder (λ e. encode-shorter most) encoder
 
 -- The lent pieces are the wanted pieces of the message.
 named : (g : Over) (c : After-encode_if_made g) → let restored = c.in_ok-restored_count.ensures.restored in
-    map (lent_at (restored_originals c.lent_originals-restored.result)
+    map (lent_at (restored_originals c.restored-restored.result)
     (lent_by (option_map (λ e. e.rows) c.encode_if_made.new.encoder))) c.args.self.now.wanted.now
     ≡ map (λ x. Some x) (named_shards restored.message restored.agrees.coded.0 c.args.self.now.wanted.now)
 named g c =
@@ -38,11 +38,11 @@ named g c =
     let t : DecoderState = state_of_pieces c.args.start c.args.end x in
     let restored = c.in_ok-restored_count.ensures.restored in
     let can = c.requires.can in
-    let (n, most, (decoder, wants, encoder)) = c.requires.ready in
+    let (n, most, (rounds, wants, encoder)) = c.requires.ready in
     let coded = c.encode_if_made.ensures in
     ap (λ (o : Shards). map (lent_at o (lent_by (option_map (λ e. e.rows) c.encode_if_made.new.encoder)))
-    c.args.self.now.wanted.now) c.lent_originals-restored.ensures
-    ∙ lent-named t (restored_by_rows c.decode_pieces.new.decoder.rows)
+    c.args.self.now.wanted.now) c.restored-restored.ensures
+    ∙ lent-named t (restored_by_rows c.decode.new.self.decoder.rows)
     (lent_by (option_map (λ e. e.rows) c.encode_if_made.new.encoder)) restored.message restored.agrees restored
     c.args.self.now.wanted.now (can-pieces x c.args.start c.args.end c.args.self.now.wanted.now can.can)
     (λ wanted. recovery_unique (few-originals x can.set_up)
@@ -81,7 +81,7 @@ returns-clause-made g c =
 
 pub returns-clause-ready : goal.returns-clause-ready
 returns-clause-ready g c =
-    let (n, most, (decoder, wants, encoder)) = c.requires.ready in
+    let (n, most, (rounds, wants, encoder)) = c.requires.ready in
     let coded = c.encode_if_made.ensures in
     ok-anyway _ c.put_wanted.result
     (c.in_ok-restored_count.ensures.ready, wants ∙ sym coded.same, coded.ready)

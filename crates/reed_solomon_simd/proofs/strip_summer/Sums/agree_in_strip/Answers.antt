@@ -1,7 +1,7 @@
 use Rattle.std.proofs.Common.{rules, ℕ, refl, arith, below_more, true≢false}
 use Rattle.std.specs.Prelude.{false}
 use Rattle.std.proofs.lemmas.List.{get_or_past}
-use Rattle.reed_solomon_simd.proofs.BaseLemmas.{base-pieces}
+use Rattle.reed_solomon_simd.proofs.BaseLemmas.{some-pieces}
 use Rattle.rs_field.specs.code.DirectLaws.{entry_in, given_at}
 use Rattle.rs_field.specs.code.PieceStates.{state_of_pieces}
 use Rattle.reed_solomon_simd.specs.Base.{AgreesInRow}
@@ -10,7 +10,7 @@ use Rattle.reed_solomon_simd.proofs.strip_summer.Sums.agree_in_strip.Goals as go
 
 pub loop-row-init : goal.loop-row-init
 unfolding given_at entry_in
-loop-row-init g c = search (rules, base-pieces, true≢false)
+loop-row-init g c = search (rules, some-pieces, true≢false)
 
 pub agrees_in_row-requires-clause-outside : goal.agrees_in_row-requires-clause-outside
 agrees_in_row-requires-clause-outside g c =

@@ -1,9 +1,9 @@
-use Rattle.std.proofs.Common.{rules, ℕ, ap, ◌∙◌, bit_xor}
+use Rattle.std.proofs.Common.{rules, ℕ, sym, ap, ◌∙◌, bit_xor}
 use Rattle.std.specs.Int.Bits.{xor_zero_l}
 use Rattle.rs_field.specs.code.DirectLaws.{shard_in_row, word_of}
 use Rattle.rs_field.specs.code.PieceStates.{state_of_pieces}
 use Rattle.rs_rate.specs.passes.BaseSum.{base_sum as sum_of}
-use Rattle.reed_solomon_simd.proofs.BaseLemmas.{base-pieces, sum-same}
+use Rattle.reed_solomon_simd.proofs.BaseLemmas.{base-pieces, some-pieces, sum-same}
 use Rattle.reed_solomon_simd.proofs.strip_summer.Sums.sum_piece.Goals as goal
 
 pub returns : goal.returns
@@ -22,6 +22,7 @@ returns g c =
           ∙ xor_zero_l (sum_of base (words j) c.args.row)
           ∙ sum-same t base j c.args.row (record {
             marked = base-pieces c.args.start c.args.end base.marks.now s based.marked;
+            exact = λ x inside. based.exact x inside ∙ sym (some-pieces c.args.start c.args.end s x);
             located = based.located;
           }) c.requires.row;
     }

@@ -18,8 +18,8 @@ returns-in_err-check_enough_given-clause-state g c =
     after_decode-refused (decoder_state g.C.RateMarker.rate c.args.decoder.now.rows) _
     (c.in_err-check_enough_given.ensures g.C.RateMarker.rate)
 
-pub decode_rows-requires : goal.decode_rows-requires
-decode_rows-requires g c =
+pub decode_rows-requires-clause-enough : goal.decode_rows-requires-clause-enough
+decode_rows-requires-clause-enough g c =
     let rows = c.args.decoder.now.rows in
     let least = enough-least (decoder_state g.C.RateMarker.rate rows)
     (c.in_ok-check_enough_given.ensures g.C.RateMarker.rate) in

@@ -12,4 +12,4 @@ returns-clause-words g c =
     found_read s (given_marks c.args.marks.now) c.args.tally.surplus n c.args.chunks.now _ c.new-rows.result
     c.restore_rows.new.rows c.restore_rows.result len (c.restore_rows.ensures.extent.len_64 ∙ len)
     (search rules) (search rules)
-    (inl (c.make_locator.new.entries, search rules, search rules))
+    (inl (c.make_locator_once.new.entries, search rules, search rules))

@@ -1,0 +1,15 @@
+use Rattle.std.proofs.Common.{◌≡◌}
+use Rattle.rs_field.specs.code.Counts.{default_rate}
+use Rattle.rs_field.specs.code.PieceStates.{state_of_pieces}
+use Rattle.rs_rate.specs.rows.EncoderView.{encoder_state, lent_shards}
+use Rattle.reed_solomon_simd.proofs.SyndromeRounds.{AddedBelow}
+use Rattle.reed_solomon_simd.proofs.strip_syndromes.add_received.Given as goal
+
+-- The shards below the index are syndromes, and the others are as they were before the loop.
+abbrev pub invariant-loop-index : goal.invariant-loop-index
+invariant-loop-index g l =
+    record {
+      fresh : encoder_state default_rate l.encoder.rows ≡ encoder_state default_rate l.initial.encoder.rows;
+      added : AddedBelow l.index (state_of_pieces l.start l.end (g.P.Pieces.received l.received)).recovery
+          (lent_shards l.initial.encoder.rows) (lent_shards l.encoder.rows);
+    }

@@ -1,0 +1,447 @@
+//! Making the missing originals of received shards, strip by strip, from syndromes. The received originals of a strip
+//! are encoded, with zeros for the missing ones. The syndrome of a received recovery shard is its XOR with the encoded
+//! one. The missing originals are direct sums over the syndromes alone: the base of these sums has all received
+//! originals, but in their rows the received word and the encoded word are the same.
+ghost use Rattle.std.specs.Prelude.{◌≡◌, ◌↔◌, ℕ, ◌+◌, ◌-◌, ◌<◌, ◌≤◌, true, false, List, length, vec_len, IsTrue};
+ghost use Rattle.std.specs.Prelude.{OnOk, IfOk, IfErr, replicate, unwrap_or};
+ghost use Rattle.rs_field.specs.code.Code.{AreRecovery};
+ghost use Rattle.rs_field.specs.code.Column.{Shard, shard_at};
+ghost use Rattle.rs_field.specs.code.Counts.{default_rate};
+ghost use Rattle.rs_field.specs.code.Decoder.{IsDecoder, originals_given, recovery_given, IsConsistent};
+ghost use Rattle.rs_field.specs.code.Encoder.{fresh_encoder};
+ghost use Rattle.rs_field.specs.code.Frame.{frame_at, row_count};
+ghost use Rattle.rs_field.specs.code.Pieces.{IsStrip, ArePut};
+ghost use Rattle.rs_field.specs.code.PieceStates.{state_of_pieces};
+ghost use Rattle.rs_field.specs.rows.Layout.{row_len};
+ghost use Rattle.rs_field.specs.rows.MarkedRows.{is_marked};
+ghost use Rattle.rs_rate.specs.rows.EncoderView.{encoder_state, lent_shards};
+ghost use Rattle.rs_rate.specs.rows.ShardRows.{shard_in_order};
+ghost use Rattle.reed_solomon_simd.specs.Making.{AreRooms, MakesMissing, missing_names};
+ghost use Rattle.reed_solomon_simd.specs.Reconstructed.{AreReconstructed};
+ghost use Rattle.reed_solomon_simd.specs.Rounds.{IsReadyToEncode};
+ghost use Rattle.reed_solomon_simd.specs.Syndromes.{zeroed, AreSyndromes, MarksRecovery, AddsOriginals, AgreesAt};
+ghost use Rattle.reed_solomon_simd.specs.Syndromes.{CanSumSyndromes, IsSyndromeSum};
+
+use crate::pieces::Pieces;
+use crate::shard_index::ShardIndex;
+use crate::store::Store;
+use crate::strip_bytes::DECODE_STRIP_BYTES;
+use crate::strip_message::{StripMessage, encode_message};
+use crate::strips::{Way, make_strips};
+use crate::wanted_shards::no_marks;
+use rs_field::engine::layout::row_len;
+use rs_field::engine::{Engine, Steps};
+use rs_field::error::Error;
+use rs_rate::rate::base_sums::{BasePieces, add_base_sum};
+use rs_rate::rate::strips::StripEncoder;
+use rs_rate::rate::sums::{SumBase, clear_sum, finish_sum, list_base, locate_base, summed_piece};
+use std::alloc::Global;
+
+/// Writes the missing originals into the rooms of a store, in order of index, by sums of syndromes. `missing` is the
+/// number of missing originals, and `surplus` is the number of received shards beyond the number of originals.
+///
+/// # Errors
+///
+/// - [`Error::OutOfMemory`] if the work area, the marks or the factors cannot be allocated.
+/// - For each strip in order: [`Error::InconsistentShards`] if no message agrees with all received shards, and then
+///   [`Error::OutOfMemory`] if a room cannot grow. The rooms may then hold some strips.
+pub(crate) fn restore_by_syndromes<E: Engine, S: Store>(
+    alloc: Global,
+    engine: &E,
+    missing: usize,
+    surplus: usize,
+    store: &mut S,
+) -> Result<(), Error>
+    requires set_up { IsDecoder default_rate (S.received store.old) }
+    requires enough { originals_given (S.received store.old) + recovery_given (S.received store.old)
+        ≡ (S.received store.old).configuration.original_count + surplus }
+    requires missing { missing + originals_given (S.received store.old)
+        ≡ (S.received store.old).configuration.original_count }
+    requires rooms { AreRooms S.grows 0 (S.received store.old).configuration.shard_bytes missing
+        (S.held store.old) }
+    ensures made { MakesMissing S.grows (S.received store.old) (S.held store.old) (S.held store.new)
+        result }
+    ensures places { S.places store.new ≡ S.places store.old }
+    ensures loan { S.loan store.new ≡ S.loan store.old }
+{
+    let counts = store.counts();
+    let frame = counts.frame;
+    let width = DECODE_STRIP_BYTES.min(store.shard_bytes());
+    let encoder = StripEncoder::with_counts(alloc, counts, width, (), None)?;
+    let received = recovery_marks(alloc, &*store)?;
+    let mut rows = vec![in alloc; 0; missing]?;
+    let end = list_base(&mut rows, &received);
+    let marks = &received[..end];
+    let all = with_originals(alloc, &*store, marks)?;
+    let mut locator = vec![in alloc; 0; frame.row_count()]?;
+    let mut logs = vec![in alloc; 0; frame.row_count()]?;
+    locate_base(
+        engine,
+        &mut Steps::new(),
+        frame,
+        &all,
+        &mut locator,
+        &mut logs,
+    );
+    let base = SumBase {
+        marks,
+        rows: &rows,
+        locator: &locator,
+        logs: &logs,
+    };
+    let mut way = Syndromes {
+        engine,
+        encoder,
+        base,
+        missing,
+        surplus,
+    };
+    make_strips(DECODE_STRIP_BYTES, &mut way, store)
+}
+
+// Returns a mark for each row: whether a recovery shard was received in it. Fails with `OutOfMemory`.
+fn recovery_marks<P: Pieces>(alloc: Global, received: &P) -> Result<Vec<bool>, Error>
+    requires { IsDecoder default_rate (P.received received.now) }
+    ensures marks { IfOk result (λ marks. MarksRecovery (P.received received.now) marks.items) }
+    ensures refused { IfErr result (λ e. e ≡ Error.OutOfMemory) }
+{
+    let counts = received.counts();
+    let mut marks = no_marks(alloc, counts.frame.row_count())?;
+    for index in 0..counts.recovery_count {
+        let is_received = received.piece(ShardIndex::Recovery(index), 0, 0).is_some();
+        marks[counts.frame.recovery_row(index)] = is_received;
+    }
+    Ok(marks)
+}
+
+// Returns a mark for each row: for the row of an original, whether the original was received, and for any other row,
+// whether it is marked in `marks`. Fails with `OutOfMemory`.
+fn with_originals<P: Pieces>(
+    alloc: Global,
+    received: &P,
+    marks: &[bool],
+) -> Result<Vec<bool>, Error>
+    requires set_up { IsDecoder default_rate (P.received received.now) }
+    requires fit { length marks.now ≤ row_count (frame_at (P.received received.now).configuration) }
+    ensures length { IfOk result (λ all. vec_len all
+        ≡ row_count (frame_at (P.received received.now).configuration)) }
+    ensures marks { IfOk result (λ all.
+        AddsOriginals (P.received received.now) marks.now all.items) }
+    ensures refused { IfErr result (λ e. e ≡ Error.OutOfMemory) }
+{
+    let counts = received.counts();
+    let mut all = widened(alloc, marks, counts.frame.row_count())?;
+    for index in 0..counts.original_count {
+        let is_received = received.piece(ShardIndex::Original(index), 0, 0).is_some();
+        all[counts.frame.original_row(index)] = is_received;
+    }
+    Ok(all)
+}
+
+// Returns marks for `count` rows, of which the first ones are `marks`, and the others mark no row. Fails with
+// `OutOfMemory`.
+fn widened(alloc: Global, marks: &[bool], count: usize) -> Result<Vec<bool>, Error>
+    requires { length marks.now ≤ count }
+    ensures length { IfOk result (λ all. vec_len all ≡ count) }
+    ensures same { IfOk result (λ all. (x : ℕ) → is_marked all.items x ≡ is_marked marks.now x) }
+    ensures refused { IfErr result (λ e. e ≡ Error.OutOfMemory) }
+{
+    let mut all = no_marks(alloc, count)?;
+    for row in 0..marks.len() {
+        all[row] = marks[row];
+    }
+    Ok(all)
+}
+
+/// An encoder for the syndromes of a strip, and a base for their sums, which make the missing originals.
+#[derive(Drop)]
+struct Syndromes<'a, 'b, E: Engine> {
+    engine: &'a E,
+    encoder: StripEncoder,
+    /// The recovery rows of the base. The factors are those of a base to which all received originals belong, too.
+    base: SumBase<'b>,
+    missing: usize,
+    surplus: usize,
+}
+
+impl<'a, 'b, E: Engine> Way for Syndromes<'a, 'b, E> {
+    ghost use Rattle.reed_solomon_simd.specs.Making.{missing_names};
+    ghost use Rattle.reed_solomon_simd.specs.Syndromes.{AreSyndromesReady};
+
+    ghost wanted = { λ _ s. missing_names s };
+
+    ghost ready = { λ x s n. AreSyndromesReady x.encoder.rows x.base x.missing x.surplus s n };
+
+    fn strip<S: Store>(&mut self, start: usize, end: usize, store: &mut S) -> Result<(), Error> {
+        make_syndromes(self.engine, &mut self.encoder, &*store, start, end);
+        let len = row_len(end - start);
+        let mut sum = [[0; 64]; DECODE_STRIP_BYTES / 64];
+        let sum = &mut sum[..len];
+        if self.surplus > 0 && !self.agree_in_strip(&*store, start, end, sum) {
+            return Err(Error::InconsistentShards {
+                original_received_count: store.counts().original_count - self.missing,
+                recovery_received_count: self.missing + self.surplus,
+            });
+        }
+        self.put_sums(start, end, sum, store)
+    }
+}
+
+// Makes the syndromes of a strip of the received shards. They are then in the encoder, at the indexes of the received
+// recovery shards.
+fn make_syndromes<E: Engine, P: Pieces>(
+    engine: &E,
+    encoder: &mut StripEncoder,
+    received: &P,
+    start: usize,
+    end: usize,
+)
+    requires set_up { IsDecoder default_rate (P.received received.now) }
+    requires ready { IsReadyToEncode encoder.old.rows (P.received received.now) (end - start) }
+    requires strip { IsStrip start end (P.received received.now).configuration.shard_bytes }
+    requires some { start < end }
+    requires few { end - start ≤ 2048 }
+    ensures made { AreSyndromes (state_of_pieces start end (P.received received.now))
+        (lent_shards encoder.new.rows) }
+    ensures fresh { encoder_state default_rate encoder.new.rows
+        ≡ fresh_encoder (state_of_pieces start end (P.received received.now)).configuration }
+{
+    let zeros = [0; DECODE_STRIP_BYTES];
+    let strip = ZeroedStrip {
+        received,
+        zeros: &zeros[..end - start],
+        start,
+        end,
+    };
+    encode_message(engine, encoder, end - start, &strip);
+    add_received(encoder, received, start, end);
+}
+
+/// One strip of the received originals of a message, with zeros for the missing ones.
+#[derive(Drop)]
+struct ZeroedStrip<'a, P: Pieces> {
+    received: &'a P,
+    /// As many zeros as a strip has bytes.
+    zeros: &'a [u8],
+    start: usize,
+    end: usize,
+    ghost set_up: { IsDecoder default_rate (P.received received.now) },
+    ghost blank: { zeros.now ≡ replicate (end - start) 0 },
+    ghost order: { start ≤ end },
+    ghost inside: { end ≤ (P.received received.now).configuration.shard_bytes },
+}
+
+impl<'a, P: Pieces> StripMessage for ZeroedStrip<'a, P> {
+    ghost shards = { λ x. zeroed (state_of_pieces x.start x.end (P.received x.received.now)) };
+
+    fn count(&self) -> usize {
+        self.received.counts().original_count
+    }
+
+    fn piece(&self, index: usize) -> &[u8] {
+        zeroed_piece(self.received, self.zeros, index, self.start, self.end)
+    }
+}
+
+// Returns the piece of an original, or zeros if it was not received.
+fn zeroed_piece<'a, P: Pieces>(
+    received: &'a P,
+    zeros: &'a [u8],
+    index: usize,
+    start: usize,
+    end: usize,
+) -> &'a [u8]
+    requires set_up { IsDecoder default_rate (P.received received.now) }
+    requires index { index < (P.received received.now).configuration.original_count }
+    requires blank { zeros.now ≡ replicate (end - start) 0 }
+    requires order { start ≤ end }
+    requires inside { end ≤ (P.received received.now).configuration.shard_bytes }
+    ensures { result.now
+        ≡ unwrap_or ((state_of_pieces start end (P.received received.now)).originals index)
+        (replicate (end - start) 0) }
+{
+    let piece = received.piece(ShardIndex::Original(index), start, end);
+    piece.unwrap_or(zeros)
+}
+
+// Adds a strip of each received recovery shard to the encoded recovery shard with its index.
+fn add_received<P: Pieces>(encoder: &mut StripEncoder, received: &P, start: usize, end: usize)
+    requires set_up { IsDecoder default_rate (P.received received.now) }
+    requires fresh { encoder_state default_rate encoder.old.rows
+        ≡ fresh_encoder (state_of_pieces start end (P.received received.now)).configuration }
+    requires strip { IsStrip start end (P.received received.now).configuration.shard_bytes }
+    requires coded { AreRecovery
+        (state_of_pieces start end (P.received received.now)).configuration
+        (zeroed (state_of_pieces start end (P.received received.now)))
+        (lent_shards encoder.old.rows) }
+    ensures made { AreSyndromes (state_of_pieces start end (P.received received.now))
+        (lent_shards encoder.new.rows) }
+    ensures fresh { encoder_state default_rate encoder.new.rows
+        ≡ encoder_state default_rate encoder.old.rows }
+{
+    for index in 0..received.counts().recovery_count {
+        if let Some(piece) = received.piece(ShardIndex::Recovery(index), start, end) {
+            encoder.add_to_recovery(index, piece);
+        }
+    }
+}
+
+impl<'a, 'b, E: Engine> Syndromes<'a, 'b, E> {
+    // Returns whether some message agrees with a strip of all received shards: each syndrome outside of the base is the
+    // sum of those of the base.
+    fn agree_in_strip<P: Pieces>(
+        &self,
+        received: &P,
+        start: usize,
+        end: usize,
+        sum: &mut [[u8; 64]],
+    ) -> bool
+        requires ready { CanSumSyndromes (P.received received.now) self.now.base
+            self.now.encoder.rows start end }
+        requires room { length sum.old ≡ row_len (end - start) }
+        ensures { IsTrue result
+            ↔ IsConsistent (state_of_pieces start end (P.received received.now)) }
+    {
+        for index in 0..received.counts().recovery_count {
+            if !self.agrees(received, index, start, end, sum) {
+                return false;
+            }
+        }
+        true
+    }
+
+    // Returns whether the syndrome of a received recovery shard outside of the base is the sum of those of the base.
+    fn agrees<P: Pieces>(
+        &self,
+        received: &P,
+        index: usize,
+        start: usize,
+        end: usize,
+        sum: &mut [[u8; 64]],
+    ) -> bool
+        requires ready { CanSumSyndromes (P.received received.now) self.now.base
+            self.now.encoder.rows start end }
+        requires index { index < (P.received received.now).configuration.recovery_count }
+        requires room { length sum.old ≡ row_len (end - start) }
+        ensures { IsTrue result ↔ AgreesAt (state_of_pieces start end (P.received received.now))
+            self.now.base (lent_shards self.now.encoder.rows) index }
+    {
+        if received
+            .piece(ShardIndex::Recovery(index), start, end)
+            .is_none()
+        {
+            return true;
+        }
+        let row = received.counts().frame.recovery_row(index);
+        if row < self.base.marks.len() {
+            return true;
+        }
+        self.sum_syndromes(received, row, start, end, sum);
+        summed_piece(sum, end - start) == syndrome_at(&self.encoder, index)
+    }
+
+    // Writes a strip of each missing original into its room, after the first `start` bytes.
+    fn put_sums<S: Store>(
+        &self,
+        start: usize,
+        end: usize,
+        sum: &mut [[u8; 64]],
+        store: &mut S,
+    ) -> Result<(), Error>
+        requires ready { CanSumSyndromes (S.received store.old) self.now.base
+            self.now.encoder.rows start end }
+        requires consistent { IsConsistent (state_of_pieces start end (S.received store.old)) }
+        requires room { length sum.old ≡ row_len (end - start) }
+        requires rooms { AreRooms S.grows start (S.received store.old).configuration.shard_bytes
+            (length (missing_names (S.received store.old))) (S.held store.old) }
+        ensures put { OnOk result ((made : List Shard)
+            × AreReconstructed (state_of_pieces start end (S.received store.old))
+            (missing_names (S.received store.old)) made
+            × ArePut start end made (S.held store.old) (S.held store.new)) }
+        ensures refused { IfErr result (λ e. (S.grows ≡ true) × (e ≡ Error.OutOfMemory)) }
+        ensures places { S.places store.new ≡ S.places store.old }
+        ensures loan { S.loan store.new ≡ S.loan store.old }
+    {
+        let counts = store.counts();
+        let mut room = 0;
+        for index in 0..counts.original_count {
+            if store.piece(ShardIndex::Original(index), 0, 0).is_none() {
+                let row = counts.frame.original_row(index);
+                self.sum_syndromes(&*store, row, start, end, sum);
+                store.put(room, start, summed_piece(sum, end - start))?;
+                room += 1;
+            }
+        }
+        Ok(())
+    }
+
+    // Sets a sum to the sum of the syndromes of the base, for a row outside of the base.
+    fn sum_syndromes<P: Pieces>(
+        &self,
+        received: &P,
+        row: usize,
+        start: usize,
+        end: usize,
+        sum: &mut [[u8; 64]],
+    )
+        requires ready { CanSumSyndromes (P.received received.now) self.now.base
+            self.now.encoder.rows start end }
+        requires row { row < row_count (frame_at (P.received received.now).configuration) }
+        requires outside { is_marked self.now.base.marks.now row ≡ false }
+        requires room { length sum.old ≡ row_len (end - start) }
+        ensures { IsSyndromeSum (state_of_pieces start end (P.received received.now))
+            self.now.base (lent_shards self.now.encoder.rows) row
+            (shard_in_order sum.new (end - start) 0) }
+    {
+        clear_sum(sum);
+        let pieces = SyndromePieces {
+            encoder: &self.encoder,
+            recovery_from: received.counts().frame.recovery_from,
+        };
+        add_base_sum(
+            self.engine,
+            &mut Steps::new(),
+            sum,
+            &self.base,
+            &pieces,
+            row,
+        );
+        finish_sum(sum, end - start);
+    }
+}
+
+/// The syndromes of a strip, by the rows of their recovery shards.
+#[derive(Drop)]
+struct SyndromePieces<'a> {
+    /// The encoder in which the syndromes are.
+    encoder: &'a StripEncoder,
+    /// The row of the first recovery shard.
+    recovery_from: usize,
+}
+
+impl<'a> BasePieces for SyndromePieces<'a> {
+    ghost use Rattle.std.specs.Prelude.{◌-◌, ◌≤◌, ◌<◌, length};
+    ghost use Rattle.rs_field.specs.code.Column.{column, shard_at};
+    ghost use Rattle.rs_rate.specs.rows.EncoderView.{lent_shards};
+
+    ghost size = { λ x. x.encoder.now.rows.configuration.shard_bytes };
+
+    ghost word = { λ x j row.
+        column j (shard_at (lent_shards x.encoder.now.rows) (row - x.recovery_from)) };
+
+    ghost has = { λ x row. (x.recovery_from ≤ row)
+        × (row - x.recovery_from < length (lent_shards x.encoder.now.rows)) };
+
+    fn piece(&self, row: usize) -> &[u8] {
+        syndrome_at(self.encoder, row - self.recovery_from)
+    }
+}
+
+// Returns the syndrome at an index.
+fn syndrome_at(encoder: &StripEncoder, index: usize) -> &[u8]
+    requires { index < length (lent_shards encoder.now.rows) }
+    ensures { result.now ≡ shard_at (lent_shards encoder.now.rows) index }
+{
+    let syndrome = encoder.recovery(index);
+    syndrome.unwrap_or(&[])
+}
