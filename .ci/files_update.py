@@ -261,8 +261,9 @@ def moved_first():
 
 
 def taken_over():
-    """`update` takes over the digests of blocks that the old volume has at the same places, and computes those of all others: if a file reads as
-    other bytes after it was compared, its old blocks keep their digests. Without an old volume, all digests are those of the bytes."""
+    """`update` takes over the digests of blocks that have the same bytes of the same files in the old volume, and computes those of all others: if
+    a file reads as other bytes after it was compared, its old blocks keep their digests. If files before it in the data are added, removed or
+    have other lengths, a block has the same bytes only if it moves by a multiple of the block size."""
     with Folder() as at:
         size, block = 40_960, 4096
         files = {name: RANDOM.randbytes(size) for name in ("a", "b", "c")}
@@ -271,24 +272,30 @@ def taken_over():
         made = ("--block", str(block), "-r", "3", "-q")
         run("create", at("d"), *made)
         old = read(at("d.rsv"))
-        for name, more, others in (("a", (), 0), ("b", (), 0), ("c", (), 0), ("a", ("bb",), 0), ("b", ("bb",), 0), ("c", ("bb",), 10), ("b", ("a0",), 10)):
+        cases = (("a", "", 0, 0), ("b", "", 0, 0), ("c", "", 0, 0), ("a", "bb", size, 0), ("b", "bb", size, 0), ("c", "bb", size, 0), ("a", "0", size, 0),
+                 ("c", "0", 3 * block - 1, 0), ("c", "bb", 64, 11), ("c", "0", block + 1, 11), ("a", "0", 3 * block + 64, 11), ("b", "bb", 100, 0))
+        for name, new, bytes_of_new, others in cases:
             write(at("d.rsv"), old)
-            for new in more:
-                write(at("d", new), RANDOM.randbytes(size))
+            if new:
+                write(at("d", new), RANDOM.randbytes(bytes_of_new))
             changing = preloaded("change_reads", READ_NAME=f"/d/{name}", READ_AFTER=size)
             if changing is None:
                 return
             run("update", at("d.rsv"), *made, env=changing)
             found = json.loads(run("verify", at("d.rsv"), "--json", status=(0, 1, 3)))
             if found["lost_blocks"] != others:
-                wrong(f"update of {name} with the new files {more} computes the digests of {found['lost_blocks']} of its blocks instead of {others}")
-            for new in more:
+                wrong(f"update of {name} with {bytes_of_new} bytes in {new!r} computes the digests of {found['lost_blocks']} of its blocks instead of {others}")
+            if new:
                 os.remove(at("d", new))
         # With another size of blocks, no block is at the same place.
         write(at("d.rsv"), old)
         run("update", at("d.rsv"), "--block", "8192", "-r", "3", "-q", env=preloaded("change_reads", READ_NAME="/d/a", READ_AFTER=size))
         if json.loads(run("verify", at("d.rsv"), "--json", status=3))["lost_blocks"] != 5:
             wrong("update with another size of blocks takes over digests")
+        write(at("d.rsv"), old)
+        os.remove(at("d", "a"))
+        run("update", at("d.rsv"), *made, env=preloaded("change_reads", READ_NAME="/d/c", READ_AFTER=size))
+        run("verify", at("d.rsv"), status=0)
 
 
 def kept_blocks():

@@ -11,7 +11,7 @@ use rs_folders::hashing::{CHUNK, add_bytes, add_zeros, hash_at};
 use rs_folders::output::Part;
 use rs_folders::progress::Progress;
 use rs_folders::runs::{Run, is_padded, places_in, places_of_piece, run_of};
-use rs_folders::source::{FileBlocks, Holders, failure_of};
+use rs_folders::source::{FileBlocks, failure_of};
 use rs_volumes::coding_error::CodingError;
 use rs_volumes::description::Version;
 use rs_volumes::digest::is_digest;
@@ -180,16 +180,8 @@ pub fn write_blocks<'a, R: Files + Clock + Eprint>(
         is_padded: scan.description().version == Version::Second,
         unpadded: vec![in alloc; false; plan.wanted.len()]?,
     };
-    let progress = progress_of(rt, scan, &plan, shown);
-    let holders = Holders {
-        paths: scan.paths.as_slice(),
-        follows: &[],
-        places: scan.places.as_slice(),
-        origins: scan.found.places.as_slice(),
-    };
-    let mut source = FileBlocks::new(rt, alloc, holders, progress);
-    let are_right = restore_blocks(alloc, scan, &plan, memory, &mut source, &mut sink)?;
-    if !are_right {
+    let mut source = source_of(rt, alloc, scan, &plan, shown);
+    if !restore_blocks(alloc, scan, &plan, memory, &mut source, &mut sink)? {
         give_up_wrong(rt, alloc, scan, sink.targets)?;
     }
     sink.give_up_unpadded();
@@ -218,14 +210,7 @@ pub fn restore_lost<'a, R: Files + Clock + Eprint, W: BlockSink>(
         }
     }
     let plan = plan_for(alloc, scan, wanted)?;
-    let progress = progress_of(rt, scan, &plan, shown);
-    let holders = Holders {
-        paths: scan.paths.as_slice(),
-        follows: &[],
-        places: scan.places.as_slice(),
-        origins: scan.found.places.as_slice(),
-    };
-    let mut source = FileBlocks::new(rt, alloc, holders, progress);
+    let mut source = source_of(rt, alloc, scan, &plan, shown);
     if restore_blocks(alloc, scan, &plan, memory, &mut source, sink)? {
         Ok(())
     } else {
@@ -233,11 +218,18 @@ pub fn restore_lost<'a, R: Files + Clock + Eprint, W: BlockSink>(
     }
 }
 
-// Begins to count the bytes of the blocks that a plan reads.
-fn progress_of<R: Clock>(rt: &R, scan: &Scan, plan: &Plan, shown: bool) -> Progress {
+// Returns the blocks that were found, which counts the bytes of those that a plan reads.
+fn source_of<'a, R: Files + Clock + Eprint>(
+    rt: &'a R,
+    alloc: Global,
+    scan: &'a Scan,
+    plan: &Plan,
+    shown: bool,
+) -> FileBlocks<'a, R> {
     let blocks = (plan.originals.len() as u64).saturating_add(plan.recovery.len() as u64);
     let total = blocks.saturating_mul(scan.description().block_bytes);
-    Progress::new(rt, shown, total)
+    let holders = scan.holders(scan.found.places.as_slice());
+    FileBlocks::new(rt, alloc, holders, Progress::new(rt, shown, total))
 }
 
 // Restores the blocks of a plan: reads the blocks of a source, and writes blocks into the sink. Returns whether all
@@ -254,7 +246,8 @@ fn restore_blocks<R: Files + Clock + Eprint, W: BlockSink>(
     let engine = DefaultEngine::new(&tables, EngineKind::Ssse3);
     let shape = shape_of(scan.description());
     let piece = piece_bytes(&shape, memory);
-    let outcome = restore_found(alloc, shape, piece, engine, plan, &scan.found, source, sink);
+    let found = &scan.found;
+    let outcome = restore_found(alloc, shape, piece, engine, plan, found, source, sink);
     source.end();
     match outcome {
         Ok(()) => Ok(true),

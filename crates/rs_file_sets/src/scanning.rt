@@ -3,7 +3,7 @@ use crate::file_scan::scan_entries;
 use rs_folders::failure::{Failure, Result};
 use rs_folders::names::paths_of;
 use rs_folders::progress::Progress;
-use rs_folders::source::Origin;
+use rs_folders::source::{Holders, Origin};
 use rs_volume_files::assembly::Set;
 use rs_volume_files::scanner::{Scanner, State};
 use rs_volume_files::volume::{Volume, Volumes, open_sized, open_volumes};
@@ -183,6 +183,16 @@ impl Scan {
     /// Returns the description of the set.
     pub fn description(&self) -> &Description {
         &self.set.description
+    }
+
+    /// Returns the files and volumes from which blocks are read. `origins` says where each block is.
+    pub fn holders<'a>(&'a self, origins: &'a [Option<Origin>]) -> Holders<'a> {
+        Holders {
+            paths: self.paths.as_slice(),
+            follows: &[],
+            places: self.places.as_slice(),
+            origins,
+        }
     }
 
     /// Returns the number of blocks of the set.

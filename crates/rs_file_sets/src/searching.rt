@@ -7,7 +7,7 @@ use rs_folders::identity::{Identity, identity_of, open_regular};
 use rs_folders::names::{Shown, folder_to_open, path_in};
 use rs_folders::progress::Progress;
 use rs_folders::runs::places_in;
-use rs_folders::source::{FileBlocks, Holders, Origin, read_at};
+use rs_folders::source::{FileBlocks, Origin, read_at};
 use rs_volume_files::scanner::State;
 use rs_volumes::description::Kind;
 use rs_volumes::hasher::{ByteHasher, ComputedDigest};
@@ -352,12 +352,7 @@ impl<'a, R: Runtime> Search<'a, R> {
 
     // Returns the digest of the bytes of a block at its origin. Returns `None` if they cannot be read.
     fn hash_block(&self, block: usize, origins: &[Option<Origin>]) -> Option<ComputedDigest> {
-        let holders = Holders {
-            paths: self.scan.paths.as_slice(),
-            follows: &[],
-            places: self.scan.places.as_slice(),
-            origins,
-        };
+        let holders = self.scan.holders(origins);
         let size = self.scan.description().block_bytes;
         let progress = Progress::new(self.rt, false, 0);
         let mut source = FileBlocks::new(self.rt, self.alloc, holders, progress);

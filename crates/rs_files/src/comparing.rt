@@ -52,9 +52,9 @@ impl Known {
         }
     }
 
-    /// Returns for each original block of a new set whether its digest is known: the block with its index in the old
-    /// set has the same bytes of the same files, and has its digest. `places` are the places of the new blocks. For a
-    /// file with a mark in `linked`, nothing is known.
+    /// Returns the original blocks of a new set whose digests are known: a block of the old set has the same bytes of
+    /// the same files, and has its digest. `places` are the places of the new blocks. For a file with a mark in
+    /// `linked`, nothing is known.
     ///
     /// # Errors
     ///
@@ -65,8 +65,11 @@ impl Known {
         new: &Description,
         places: &[Place],
         linked: &[bool],
-    ) -> Result<Vec<bool>, AllocError> {
-        let mut known = Vec::new(alloc);
+    ) -> Result<KnownBlocks, AllocError> {
+        let mut known = KnownBlocks {
+            marks: Vec::new(alloc),
+            digests: Vec::new(alloc),
+        };
         let Some(old) = &self.old else {
             return Ok(known);
         };
@@ -74,29 +77,64 @@ impl Known {
             return Ok(known);
         }
         for block in 0..new.original_count as usize {
-            let was = places_in(old.places.as_slice(), block);
-            let is = places_in(places, block);
-            let is_whole = matches!(old.found.places.get(block), Some(Some(Origin::Files)));
-            let mut pairs = was.iter().zip(is);
-            let is_same = was.len() == is.len()
-                && pairs.all(|(was, is)| is_same_place(old.description(), was, new, is, linked));
-            known.push(is_whole && is_same)?;
+            let own = old_digest(old, new, places_in(places, block), linked);
+            known.marks.push(own.is_some())?;
+            known.digests.push(own.unwrap_or([0; 32]))?;
         }
         Ok(known)
     }
+}
 
-    /// Puts the digests of the blocks that are known into the list of the digests of all blocks.
-    pub fn take_over(&self, known: &[bool], digests: &mut Vec<u8>) {
-        let Some(old) = &self.old else {
-            return;
-        };
-        let was = old.description().digests.as_slice().chunks_exact(32);
-        let is = digests.chunks_exact_mut(32);
-        for ((was, is), is_known) in was.zip(is).zip(known) {
+/// The original blocks of a new set whose digests are known from an old set.
+#[derive(Drop)]
+pub struct KnownBlocks {
+    /// For each block, whether its digest is known. If the list is empty, no digest is known.
+    pub marks: Vec<bool>,
+    // The digest of each of these blocks, and 32 zeros for one whose digest is not known.
+    digests: Vec<[u8; 32]>,
+}
+
+impl KnownBlocks {
+    /// Puts the digests that are known into the list of the digests of all blocks.
+    pub fn take_over(&self, digests: &mut Vec<u8>) {
+        let pairs = digests.chunks_exact_mut(32).zip(self.digests.as_slice());
+        for ((is, was), is_known) in pairs.zip(self.marks.as_slice()) {
             if *is_known {
                 is.copy_from_slice(was);
             }
         }
+    }
+}
+
+// Returns the digest of a new block with these places, if it is known: a block of the old set has the same bytes of the
+// same files, and was found in them. This is the block with the first of these bytes. Its index is another one if the
+// data before it became longer or shorter.
+fn old_digest(
+    old: &Scan,
+    new: &Description,
+    places: &[Place],
+    linked: &[bool],
+) -> Option<[u8; 32]> {
+    let (set, old_places) = (old.description(), old.places.as_slice());
+    let first = places.first()?;
+    let file = index_in(set, new.entries.get(first.file)?.name.as_slice())?;
+    let key = (file, first.offset);
+    let from = old_places.partition_point(|place| (place.file, place.offset) < key);
+    let block = old_places.get(from)?.block;
+    let was = places_in(old_places, block);
+    let is_whole = matches!(old.found.places.get(block), Some(Some(Origin::Files)));
+    let mut pairs = was.iter().zip(places);
+    let is_same = was.len() == places.len()
+        && pairs.all(|(was, is)| is_same_place(set, was, new, is, linked));
+    if is_whole && is_same {
+        set.digests
+            .as_slice()
+            .as_chunks::<32>()
+            .0
+            .get(block)
+            .copied()
+    } else {
+        None
     }
 }
 

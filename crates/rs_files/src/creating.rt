@@ -248,13 +248,13 @@ impl<'a, R: Files + Clock + Eprint> Making<'a, R> {
             .blocks(self.alloc, &self.description, places.as_slice(), linked)?;
         let work = Work {
             piece_bytes: piece_bytes(&shape, self.request.memory),
-            known: known.as_slice(),
+            known: known.marks.as_slice(),
         };
         let outcome = create_except(self.alloc, shape, work, engine, &mut source, sink);
         source.blocks.end();
         match outcome {
             Ok(mut digests) => {
-                self.known.take_over(known.as_slice(), &mut digests);
+                known.take_over(&mut digests);
                 self.description.digests = digests;
                 self.description.sums = source.sums(self.alloc)?;
                 Ok(())

@@ -13,7 +13,7 @@ use rs_folders::failure::{Failure, Result};
 use rs_folders::names::Shown;
 use rs_folders::output::Part;
 use rs_folders::progress::Progress;
-use rs_folders::source::{FileBlocks, Holders, Origin, failure_of};
+use rs_folders::source::{FileBlocks, Origin, failure_of};
 use rs_volume_files::layout::Deal;
 use rs_volume_files::volume_sink::{Volumes, numbered_part_of};
 use rs_volumes::creating::create as create_blocks;
@@ -187,15 +187,10 @@ fn rebuild_from<R: Runtime>(
     let mut kept = Vec::new(alloc);
     let mut outcome = begin(alloc, &paths, &mut volumes);
     if outcome.is_ok() {
-        outcome = code(
-            rt,
-            alloc,
-            request,
-            found,
-            origins,
-            description.as_slice(),
-            &mut volumes,
-        );
+        outcome = code(rt, alloc, request, found, origins, &mut volumes);
+    }
+    if outcome.is_ok() {
+        outcome = volumes.describe(description.as_slice());
     }
     if outcome.is_ok() {
         outcome = volumes.replace(&mut kept);
@@ -249,7 +244,6 @@ fn code<R: Runtime>(
     request: &Request,
     found: &Scan,
     origins: &[Option<Origin>],
-    description: &[u8],
     volumes: &mut Volumes<'_, R>,
 ) -> Result<()> {
     let shape = shape_of(found.description());
@@ -257,13 +251,7 @@ fn code<R: Runtime>(
         let blocks = shape.original_count as u64;
         let total = blocks.saturating_mul(found.description().block_bytes);
         let progress = Progress::new(rt, request.progress, total);
-        let holders = Holders {
-            paths: found.paths.as_slice(),
-            follows: &[],
-            places: found.places.as_slice(),
-            origins,
-        };
-        let mut source = FileBlocks::new(rt, alloc, holders, progress);
+        let mut source = FileBlocks::new(rt, alloc, found.holders(origins), progress);
         let tables = Tables::new(alloc)?;
         let engine = DefaultEngine::new(&tables, EngineKind::Ssse3);
         let piece = piece_bytes(&shape, request.memory);
@@ -278,5 +266,5 @@ fn code<R: Runtime>(
             }
         }
     }
-    volumes.describe(description)
+    Ok(())
 }

@@ -159,6 +159,7 @@ module _ {marks : List Bool} {shape : Shape} (reads writes : Option Shard → �
         answers = fails.2;
       }
   creating_fails (errors.Missing n) order strip old fails = fails
+  creating_fails (errors.NotFound i) order strip old fails = fails
   creating_fails (errors.Digest i) order strip old fails = fails
 
 module _ {marks : List Bool} {shape : Shape} {start : ℕ} {known before now : Shards} {h r : List Sha256}

@@ -1,10 +1,10 @@
 -- Blocks that are noted as found.
-use Rattle.std.proofs.Common.{ℕ, ◌+◌, zero, suc, List, Option, Some, None, replicate, slice_set, subst, sym, inl, inr, All}
-use Rattle.std.proofs.Common.{get_or, get_or-set_other}
+use Rattle.std.proofs.Common.{ℕ, zero, suc, List, Option, Some, None, replicate, slice_set, subst, sym, inl, inr}
+use Rattle.std.proofs.Common.{get_or-set_other}
 use Rattle.std.proofs.lemmas.Bool.{cases_eq}
 use Rattle.std.specs.Prelude.{IsSome}
 use Rattle.rs_volumes.specs.Computed.{IsComputed, digest_at}
-use Rattle.rs_volumes.specs.Found.{AreRight, IsFound, IsRight}
+use Rattle.rs_volumes.specs.Found.{AreRight, IsFound}
 
 -- the digest of a block was computed, and the block is noted as found
 pub right_set : {P : Type 0} (digests : List ℕ) (places : List (Option P)) (index : ℕ) (place : P)
@@ -24,10 +24,3 @@ pub none_found : (P : Type 0) (count i : ℕ) → IsFound (none_of P count) i �
 none_found P zero i found = let no : ⊥ = cc in no
 none_found P (suc count) zero found = let no : ⊥ = cc in no
 none_found P (suc count) (suc i) found = none_found P count i found
-
--- blocks that were found are right
-pub right_found : {P : Type 0} (digests : List ℕ) (places : List (Option P)) (first : ℕ) (numbers : List ℕ)
-    → AreRight digests places → All (λ n. IsFound places (first + n)) numbers
-    → All (λ n. IsRight digests places (first + n)) numbers
-right_found digests places first numbers right found k d inside =
-    let own = found k d inside in (own, right (first + get_or numbers k d) own)

@@ -148,6 +148,8 @@ strip_fails shape plan digests reads writes known before after {start = start} {
     }
 strip_fails shape plan digests reads writes known before after (errors.Missing n) order strip read received fails =
     absurd fails
+strip_fails shape plan digests reads writes known before after (errors.NotFound i) order strip read received fails =
+    absurd fails
 strip_fails shape plan digests reads writes known before after (errors.Digest i) order strip read received fails =
     absurd fails
 
@@ -167,6 +169,8 @@ digest_fails shape plan digests reads writes known before after hashers held (er
 digest_fails shape plan digests reads writes known before after hashers held (errors.Code e) room hashed written fails =
     absurd fails
 digest_fails shape plan digests reads writes known before after hashers held (errors.Missing n) room hashed written
+    fails = absurd fails
+digest_fails shape plan digests reads writes known before after hashers held (errors.NotFound i) room hashed written
     fails = absurd fails
 digest_fails shape plan digests reads writes known before after [] held (errors.Digest i) room hashed written fails =
     absurd (omega (arith, room, fails.0))

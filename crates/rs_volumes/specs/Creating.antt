@@ -70,6 +70,7 @@ CreatingFails shape reads writes known before (errors.Write i e) =
     (i < shape.original_count + shape.recovery_count) × FailsToWrite writes (before i) e
 CreatingFails shape reads writes known before (errors.Code e) = FailsToEncode shape known e
 CreatingFails shape reads writes known before (errors.Missing n) = ⊥
+CreatingFails shape reads writes known before (errors.NotFound i) = ⊥
 CreatingFails shape reads writes known before (errors.Digest i) = ⊥
 
 -- a piece of each block, up to byte `end`, was not created because of this error
@@ -84,6 +85,7 @@ PieceFails shape reads writes start end known before (errors.Code e) =
     (pieces : List Shard) × ArePieces shape.original_count start end known pieces
     × OneEncodeAnswers shape.original_count shape.recovery_count pieces (Err e)
 PieceFails shape reads writes start end known before (errors.Missing n) = ⊥
+PieceFails shape reads writes start end known before (errors.NotFound i) = ⊥
 PieceFails shape reads writes start end known before (errors.Digest i) = ⊥
 
 -- a piece of each block was read, coded, hashed and written: the bytes from `start` on, up to but without `end`; of a

@@ -25,6 +25,7 @@ ReadingFails may_fail count end known (errors.Read i e) = (i < count) × may_fai
 ReadingFails may_fail count end known (errors.Write i e) = ⊥
 ReadingFails may_fail count end known (errors.Code e) = ⊥
 ReadingFails may_fail count end known (errors.Missing n) = ⊥
+ReadingFails may_fail count end known (errors.NotFound i) = ⊥
 ReadingFails may_fail count end known (errors.Digest i) = ⊥
 
 -- pieces of `count` blocks from the block `first` on, which begin at byte `start`, were not written because of this
@@ -36,6 +37,7 @@ WritingFails may_fail first count start before (errors.Write i e) =
     (first ≤ i) × (i < first + count) × may_fail (before i) start e
 WritingFails may_fail first count start before (errors.Code e) = ⊥
 WritingFails may_fail first count start before (errors.Missing n) = ⊥
+WritingFails may_fail first count start before (errors.NotFound i) = ⊥
 WritingFails may_fail first count start before (errors.Digest i) = ⊥
 
 -- a piece of a block, one that may be written, was not written because of this error
@@ -45,4 +47,5 @@ PuttingFails may_fail MayBe before (errors.Read i e) = ⊥
 PuttingFails may_fail MayBe before (errors.Write i e) = MayBe i × FailsToWrite may_fail (before i) e
 PuttingFails may_fail MayBe before (errors.Code e) = ⊥
 PuttingFails may_fail MayBe before (errors.Missing n) = ⊥
+PuttingFails may_fail MayBe before (errors.NotFound i) = ⊥
 PuttingFails may_fail MayBe before (errors.Digest i) = ⊥

@@ -1,6 +1,10 @@
 -- Blocks that were found: bytes with their digests were read.
-use Rattle.std.specs.Prelude.{ℕ, ◌+◌, List, Option, None, IsSome, slice_index_or, All}
+use Rattle.std.specs.Prelude.{◌≡◌, ℕ, ◌+◌, ◌/◌, ◌^◌, ◌<◌, ◌≤◌, ◌⊎◌, List, length, Option, None, IsSome, slice_index_or}
+use Rattle.std.specs.Prelude.{All, Contains}
 use Rattle.rs_volumes.specs.Computed.{IsComputed, digest_at}
+use Rattle.rs_volumes.specs.Restoring.{Names}
+use Rattle.rs_volumes.specs.declared.coding_error.CodingError.{CodingError}
+use Rattle.rs_volumes.specs.declared.coding_error.CodingError.TheVariants as errors
 use Rattle.rs_volumes.specs.declared.creating.Shape.{Shape}
 use Rattle.rs_volumes.specs.declared.restoring.Plan.{Plan}
 
@@ -16,8 +20,29 @@ AreRight digests places = (i : ℕ) → IsFound places i → IsComputed (digest_
 abbrev pub IsRight : {P : Type 0} → List ℕ → List (Option P) → ℕ → Type 0
 IsRight digests places i = IsFound places i × IsComputed (digest_at digests i)
 
+-- digests i and j are there, and are the same
+abbrev pub HaveSameDigest : List ℕ → ℕ → ℕ → Type 0
+HaveSameDigest digests i j =
+    (i < length digests / 32) × (j < length digests / 32) × (digest_at digests i ≡ digest_at digests j)
+
 -- each block that a plan reads was found, and its digest is the SHA-256 of some bytes
 pub record ReadsRight {P : Type 0} (shape : Shape) (plan : Plan) (digests : List ℕ) (places : List (Option P)) : Type 0
   where
     pub originals : All (λ n. IsRight digests places (0 + n)) plan.originals.items
     pub recovery : All (λ n. IsRight digests places (shape.original_count + n)) plan.recovery.items
+
+-- one of the blocks with these numbers, counted from `first` on, was not found: the error has its index, or its number
+-- if its index does not fit into 64 bits
+abbrev pub NamesLost : {P : Type 0} → List (Option P) → ℕ → List ℕ → CodingError → Type 0
+NamesLost places first numbers errors.Memory = ⊥
+NamesLost places first numbers (errors.Read i e) = ⊥
+NamesLost places first numbers (errors.Write i e) = ⊥
+NamesLost places first numbers (errors.Code e) = ⊥
+NamesLost places first numbers (errors.Missing n) = Contains numbers n × (n < 2 ^ 64) × (2 ^ 64 ≤ first + n)
+NamesLost places first numbers (errors.NotFound i) = Names first numbers i × (IsFound places i → ⊥)
+NamesLost places first numbers (errors.Digest i) = ⊥
+
+-- the error names a block that a plan reads, and that was not found
+abbrev pub NamesLostOf : {P : Type 0} → Shape → Plan → List (Option P) → CodingError → Type 0
+NamesLostOf shape plan places e =
+    NamesLost places 0 plan.originals.items e ⊎ NamesLost places shape.original_count plan.recovery.items e

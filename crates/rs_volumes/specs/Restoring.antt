@@ -128,6 +128,7 @@ RestoringFails shape plan digests reads writes known before after (errors.Write 
 RestoringFails shape plan digests reads writes known before after (errors.Code e) = FailsToDecode shape plan known e
 RestoringFails shape plan digests reads writes known before after (errors.Missing n) =
     Contains plan.recovery.items n × (2 ^ 64 ≤ shape.original_count + n)
+RestoringFails shape plan digests reads writes known before after (errors.NotFound i) = ⊥
 RestoringFails shape plan digests reads writes known before after (errors.Digest i) =
     (slice_index_or plan.wanted.items i false ≡ true) × WrongDigest digests (before i) (after i) i
 
@@ -139,6 +140,7 @@ WritesAll (Err (errors.Read i e)) = ⊥
 WritesAll (Err (errors.Write i e)) = ⊥
 WritesAll (Err (errors.Code e)) = ⊥
 WritesAll (Err (errors.Missing n)) = ⊥
+WritesAll (Err (errors.NotFound i)) = ⊥
 WritesAll (Err (errors.Digest i)) = Unit {0}
 
 -- the pieces of blocks with these numbers, counted from `first` on, up to byte `end`, were not read because of this
@@ -150,6 +152,7 @@ NumbersFail may_fail first numbers end known (errors.Write i e) = ⊥
 NumbersFail may_fail first numbers end known (errors.Code e) = ⊥
 NumbersFail may_fail first numbers end known (errors.Missing n) =
     Contains numbers n × (n < 2 ^ 64) × (2 ^ 64 ≤ first + n)
+NumbersFail may_fail first numbers end known (errors.NotFound i) = ⊥
 NumbersFail may_fail first numbers end known (errors.Digest i) = ⊥
 
 -- a piece of each wanted block was not written because of this error
@@ -163,6 +166,7 @@ StripFails shape wanted read received writes before (errors.Code e) =
     (0 < length received)
     × OneDecodeAnswers shape.original_count shape.recovery_count read received (Err e)
 StripFails shape wanted read received writes before (errors.Missing n) = ⊥
+StripFails shape wanted read received writes before (errors.NotFound i) = ⊥
 StripFails shape wanted read received writes before (errors.Digest i) = ⊥
 
 -- the hasher of a wanted block does not give its digest
@@ -172,6 +176,7 @@ DigestFails wanted digests hashers (errors.Read i e) = ⊥
 DigestFails wanted digests hashers (errors.Write i e) = ⊥
 DigestFails wanted digests hashers (errors.Code e) = ⊥
 DigestFails wanted digests hashers (errors.Missing n) = ⊥
+DigestFails wanted digests hashers (errors.NotFound i) = ⊥
 DigestFails wanted digests hashers (errors.Digest i) =
     (i < length wanted) × (slice_index_or wanted i false ≡ true)
     × ((d : Sha256) (bytes : Shard) → Holds256 (slice_index_or hashers i d) bytes → HasDigest digests i bytes → ⊥)

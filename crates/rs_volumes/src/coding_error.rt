@@ -20,6 +20,9 @@ pub enum CodingError {
     Code(reed_solomon_simd::Error),
     /// The recovery block with this number has an index that does not fit into a `usize`.
     Missing(usize),
+    /// The block with this index was not found. Only [`restore_found`](crate::restoring::restore_found) fails with this
+    /// error.
+    NotFound(usize),
     /// The bytes that were written of the block with this index do not have the digest in the description.
     Digest(usize),
 }
@@ -37,6 +40,7 @@ impl fmt::Display for CodingError {
                 f,
                 "the index of recovery block {number} is too large"
             ),
+            CodingError::NotFound(index) => write!(f, "block {index} was not found"),
             CodingError::Digest(index) => write!(
                 f,
                 "block {index} does not have its digest: a file changed while it was read"

@@ -1,8 +1,8 @@
 //! The blocks of a set that may be used: those whose bytes had the right digest.
-ghost use Rattle.std.specs.Prelude.{◌≡◌, ◌≢◌, ◌↔◌, ◌/◌, ◌<◌, ℕ, None, IsTrue, IsFalse};
+ghost use Rattle.std.specs.Prelude.{◌≡◌, ◌≢◌, ◌↔◌, ◌/◌, ◌<◌, ℕ, Some, None, IsTrue, IsFalse};
 ghost use Rattle.std.specs.Prelude.{IfOk, length, slice_index_or};
 ghost use Rattle.rs_volumes.specs.Computed.{digest_at};
-ghost use Rattle.rs_volumes.specs.Found.{AreRight, IsFound};
+ghost use Rattle.rs_volumes.specs.Found.{AreRight, HaveSameDigest, IsFound};
 
 use crate::digest::is_digest;
 use crate::hasher::ComputedDigest;
@@ -31,6 +31,7 @@ impl<P: Copy> FoundBlocks<P> {
     /// [`AllocError`] if memory cannot be allocated.
     pub fn new(alloc: Global, digests: &[u8], count: usize) -> Result<FoundBlocks<P>, AllocError>
         ensures digests { IfOk result (λ found. found.digests.items ≡ digests.now) }
+        ensures count { IfOk result (λ found. length found.places.items ≡ count) }
         ensures none { IfOk result (λ found. (i : ℕ) → IsFound found.places.items i → ⊥) }
     {
         let digests = Vec::from_slice(alloc, digests)?;
@@ -50,9 +51,14 @@ impl<P: Copy> FoundBlocks<P> {
     pub fn note(&mut self, index: usize, own: &ComputedDigest, place: P) -> bool
         ensures right { IsTrue result ↔ (index < length self.old.digests.items / 32)
             × (digest_at self.old.digests.items index ≡ own.now.bytes) }
+        ensures noted { IsTrue result → index < length self.old.places.items
+            → (IsFound self.old.places.items index → ⊥)
+            → slice_index_or self.new.places.items index None ≡ Some place }
+        ensures kept { IsFound self.old.places.items index → self.new ≡ self.old }
         ensures others { (i : ℕ) → i ≢ index → slice_index_or self.new.places.items i None
             ≡ slice_index_or self.old.places.items i None }
         ensures wrong { IsFalse result → self.new ≡ self.old }
+        ensures count { length self.new.places.items ≡ length self.old.places.items }
         ensures digests { self.new.digests ≡ self.old.digests }
     {
         let is_right = is_digest(self.digests.as_slice(), index, &own.bytes);
@@ -63,10 +69,18 @@ impl<P: Copy> FoundBlocks<P> {
     }
 
     /// Notes that a block is at a place, if the block `other` was found and has the same digest. The bytes at this
-    /// place are those of the block `other`.
+    /// place are those of the block `other`. If the block `index` was found before, its first place is kept.
     pub fn note_equal(&mut self, index: usize, other: usize, place: P)
+        ensures noted { IsFound self.old.places.items other
+            → HaveSameDigest self.old.digests.items index other
+            → index < length self.old.places.items → (IsFound self.old.places.items index → ⊥)
+            → slice_index_or self.new.places.items index None ≡ Some place }
+        ensures kept { IsFound self.old.places.items index → self.new ≡ self.old }
+        ensures wrong { (IsFound self.old.places.items other
+            × HaveSameDigest self.old.digests.items index other → ⊥) → self.new ≡ self.old }
         ensures others { (i : ℕ) → i ≢ index → slice_index_or self.new.places.items i None
             ≡ slice_index_or self.old.places.items i None }
+        ensures count { length self.new.places.items ≡ length self.old.places.items }
         ensures digests { self.new.digests ≡ self.old.digests }
     {
         if !self.has(other) || index >= self.places.len() || self.places[index].is_some() {
@@ -78,9 +92,9 @@ impl<P: Copy> FoundBlocks<P> {
     }
 }
 
-// Returns whether two blocks have the same digest.
+// Returns whether two blocks have the same digest. Returns false if `digests` has no digest with one of these indexes.
 fn has_same_digest(digests: &[u8], one: usize, other: usize) -> bool
-    ensures { IsTrue result → digest_at digests.now one ≡ digest_at digests.now other }
+    ensures { IsTrue result ↔ HaveSameDigest digests.now one other }
 {
     let count = digests.len() / 32;
     one < count

@@ -1,15 +1,15 @@
 //! Restores blocks of a set from any k of its blocks, piece by piece.
 ghost use Rattle.std.specs.Prelude.{◌≡◌, ℕ, ◌+◌, ◌<◌, ◌≤◌, ◌%◌, ◌⊎◌, true, false, List, IfOk, IfErr, OnOk, length};
-ghost use Rattle.std.specs.Prelude.{slice_index_or, All, Err, IfNone};
+ghost use Rattle.std.specs.Prelude.{slice_index_or, All, Err, IfNone, IfSome};
 ghost use Rattle.sha2.specs.Hashers.{Holds256};
 ghost use Rattle.sha2.specs.declared.Sha256.{Sha256 as Hasher};
 ghost use Rattle.rs_field.specs.code.Column.{Shard};
 ghost use Rattle.rs_field.specs.code.Given.{Shards};
 ghost use Rattle.rs_field.specs.code.OneCall.{shards_in};
 ghost use Rattle.rs_volumes.specs.Failing.{PuttingFails};
-ghost use Rattle.rs_volumes.specs.Found.{IsFound, ReadsRight};
+ghost use Rattle.rs_volumes.specs.Found.{IsFound, NamesLost, NamesLostOf, ReadsRight};
 ghost use Rattle.rs_volumes.specs.Holding.{AreFor, AreHeld};
-ghost use Rattle.rs_volumes.specs.declared.coding_error.CodingError.TheVariants.{Missing};
+ghost use Rattle.rs_volumes.specs.declared.coding_error.CodingError.{CodingError};
 ghost use Rattle.rs_volumes.specs.Restoring.{AreOriginals, AreRead, AreRestored, HasDigest, ReadsSet, WritesAll};
 ghost use Rattle.rs_volumes.specs.Restoring.{DigestFails, NumbersFail, RestoringFails, StripFails};
 ghost use Rattle.rs_volumes.specs.Restoring.{Gets, PutsBack, items_of, bytes_of, piece_of};
@@ -109,9 +109,9 @@ pub fn restore<S: BlockSource, W: BlockSink>(
 ///
 /// # Errors
 ///
-/// - [`CodingError::Missing`] for the first original block of the plan that was not found, then for the first recovery
-///   block, by its number. Then nothing was read or written.
-/// - The errors of [`restore`].
+/// - [`CodingError::NotFound`] for the first original block of the plan that was not found, then for the first recovery
+///   block. Then nothing was read or written.
+/// - The errors of [`restore`]. If the error is [`CodingError::Missing`], nothing was read or written either.
 pub fn restore_found<P: Copy, S: BlockSource, W: BlockSink>(
     alloc: Global,
     shape: Shape,
@@ -124,8 +124,9 @@ pub fn restore_found<P: Copy, S: BlockSource, W: BlockSink>(
 ) -> Result<(), CodingError>
     requires some { 0 < piece_bytes }
     requires chunks { piece_bytes % 64 ≡ 0 }
-    // The digest of each block that is read was computed from bytes, or nothing is read.
-    ensures right { ((n : ℕ) × (result ≡ Err (Missing n)))
+    // The digest of each block that is read was computed from bytes, or a block was not found.
+    ensures right { ((error : CodingError) × (result ≡ Err error)
+        × NamesLostOf shape plan.now found.now.places.items error)
         ⊎ ReadsRight shape plan.now found.now.digests.items found.now.places.items }
     ensures digests { OnOk result
         (AreRestored plan.now.wanted.items found.now.digests.items (W.written sink.old)
@@ -133,17 +134,18 @@ pub fn restore_found<P: Copy, S: BlockSource, W: BlockSink>(
     ensures originals { WritesAll result → (originals recovery : List Shard)
         → ReadsSet shape plan.now (S.blocks source.old) originals recovery
         → AreOriginals plan.now originals (W.written sink.old) (W.written sink.new) }
-    ensures fails { ((n : ℕ) × (result ≡ Err (Missing n)))
-        ⊎ IfErr result (RestoringFails shape plan.now found.now.digests.items S.read_may_fail
-        W.write_may_fail (S.blocks source.old) (W.written sink.old) (W.written sink.new)) }
+    ensures fails { IfErr result (λ error. (NamesLostOf shape plan.now found.now.places.items error
+        × (source.new ≡ source.old) × (sink.new ≡ sink.old))
+        ⊎ RestoringFails shape plan.now found.now.digests.items S.read_may_fail W.write_may_fail
+        (S.blocks source.old) (W.written sink.old) (W.written sink.new) error) }
     ensures others { (i : ℕ) → slice_index_or plan.now.wanted.items i false ≡ false
         → W.written sink.new i ≡ W.written sink.old i }
 {
-    if let Some(number) = first_lost(plan.originals.as_slice(), 0, found) {
-        return Err(CodingError::Missing(number));
+    if let Some(error) = first_lost(plan.originals.as_slice(), 0, found) {
+        return Err(error);
     }
-    if let Some(number) = first_lost(plan.recovery.as_slice(), shape.original_count, found) {
-        return Err(CodingError::Missing(number));
+    if let Some(error) = first_lost(plan.recovery.as_slice(), shape.original_count, found) {
+        return Err(error);
     }
     let digests = found.digests.as_slice();
     restore(
@@ -158,15 +160,23 @@ pub fn restore_found<P: Copy, S: BlockSource, W: BlockSink>(
     )
 }
 
-// Returns the first of these numbers whose block was not found. The block `number` has the index `first` + `number`.
-fn first_lost<P: Copy>(numbers: &[usize], first: usize, found: &FoundBlocks<P>) -> Option<usize>
-    ensures { IfNone result
+// Returns the error that names the first block of these numbers that was not found. The block `number` has the index
+// `first` + `number`.
+fn first_lost<P: Copy>(
+    numbers: &[usize],
+    first: usize,
+    found: &FoundBlocks<P>,
+) -> Option<CodingError>
+    ensures all { IfNone result
         (All (λ n. IsFound found.now.places.items (first + n)) numbers.now) }
+    ensures lost { IfSome result (NamesLost found.now.places.items first numbers.now) }
 {
     for number in numbers {
-        match first.checked_add(*number) {
-            Some(index) if found.has(index) => {}
-            _ => return Some(*number),
+        let Some(index) = first.checked_add(*number) else {
+            return Some(CodingError::Missing(*number));
+        };
+        if !found.has(index) {
+            return Some(CodingError::NotFound(index));
         }
     }
     None
