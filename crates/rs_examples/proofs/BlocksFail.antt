@@ -56,6 +56,7 @@ module _ (shape : Shape) (valid : validation_outcome
       fails.strip valid)
       fails.are.number fails.are.sized fails.answers
   creating_lacks known before (errors.Missing n) whole none fails = fails
+  creating_lacks known before (errors.NotFound i) whole none fails = fails
   creating_lacks known before (errors.Digest i) whole none fails = fails
 
   module _ {plan : Plan} (digests : List ℕ) {known : Shards} (before after : Shards) {originals recovery : List Shard}
@@ -140,6 +141,7 @@ module _ (shape : Shape) (valid : validation_outcome
         (λ n. (n < length recovery) × (known (shape.original_count + n) ≡ Some (shard_at recovery n)))
         plan.recovery.items n set.recovery_known.each fails.0 in
         omega (arith, own.0, set.coded.shards.length_is, fails.1, few)
+    restoring_lacks (errors.NotFound i) none written same fails = fails
     restoring_lacks (errors.Digest i) none written same fails =
         let (bytes, is, other) = fails.1 (none i fails.0) in
         let own : shard_at originals i ≡ bytes = cc (written tt i fails.0) in

@@ -39,6 +39,7 @@ SaysNoMemory (errors.Read i e) = error_kind e ≡ kinds.OutOfMemory
 SaysNoMemory (errors.Write i e) = error_kind e ≡ kinds.OutOfMemory
 SaysNoMemory (errors.Code e) = e ≡ code.OutOfMemory
 SaysNoMemory (errors.Missing n) = ⊥
+SaysNoMemory (errors.NotFound i) = ⊥
 SaysNoMemory (errors.Digest i) = ⊥
 
 -- a list has exactly the numbers n below `count` of blocks that are not lost, where block n has the index `first` + n

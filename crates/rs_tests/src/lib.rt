@@ -26,6 +26,8 @@ mod stripes;
 #[cfg(test)]
 mod summing;
 #[cfg(test)]
+mod syndromes;
+#[cfg(test)]
 mod tables;
 #[cfg(test)]
 mod updating;

@@ -61,8 +61,12 @@ fn a_sum_calls_its_engine_so_often(rt: HostRuntime) {
         let calls = Cell::new(AddCalls::default());
         let engine = Additions::new(&tables, &calls);
         let restored = is_restored(&rt, rt.alloc(), &tables, original_count, size, engine);
-        let in_place = 0;
-        let wanted = AddCalls { one, two, in_place };
+        let wanted = AddCalls {
+            one,
+            two,
+            in_place: 0,
+            locators: 1,
+        };
         assert_eq!(rt;
             (original_count, size, restored, calls.get()),
             (original_count, size, true, wanted)
@@ -86,6 +90,7 @@ fn an_object_adds_two_rows_at_a_time(rt: HostRuntime) {
             one: 0,
             two: added / 2,
             in_place: 0,
+            locators: 1,
         };
         assert_eq!(rt; calls.get(), wanted);
     }

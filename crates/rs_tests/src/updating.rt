@@ -14,14 +14,14 @@ use std::process::Abort;
 // Sizes of shards: without a whole chunk, with and without a tail, and with one to three strips of 2048 bytes.
 const SIZES: [usize; 8] = [2, 62, 64, 66, 2046, 2048, 2050, 4226];
 
-/// The plain engine, which counts the calls that add rows.
+/// The plain engine, which counts the calls that add rows or compute a locator.
 #[derive(Drop)]
 pub struct Additions<'t> {
     naive: Naive<'t>,
     calls: &'t Cell<AddCalls>,
 }
 
-/// How often an engine adds rows.
+/// How often an engine adds rows, and computes a locator.
 #[derive(Clone, Copy, Debug, Default, PartialEq, Eq)]
 pub struct AddCalls {
     /// The number of calls that add one row.
@@ -30,6 +30,8 @@ pub struct AddCalls {
     pub two: u32,
     /// The number of calls that add a row to a shard in place.
     pub in_place: u32,
+    /// The number of calls that compute a locator.
+    pub locators: u32,
 }
 
 impl<'t> Additions<'t> {
@@ -72,6 +74,9 @@ impl Engine for Additions<'_> {
     }
 
     fn eval_poly(&self, steps: &mut Steps, entries: &mut [GfElement], truncated_size: usize) {
+        let calls = self.calls.get();
+        let locators = calls.locators.saturating_add(1);
+        self.calls.set(AddCalls { locators, ..calls });
         self.naive.eval_poly(steps, entries, truncated_size);
     }
 
