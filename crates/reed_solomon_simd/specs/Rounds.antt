@@ -39,12 +39,11 @@ abbrev pub lent_by : Option EncoderRows → List Shard
 lent_by (Some rows) = lent_shards rows
 lent_by None = []
 
--- an encoder is ready for strips of n bytes, and all originals and some recovery shards, this many, were received
-pub record IsReadyToCompare (rows : EncoderRows) (received_count : ℕ) (s : DecoderState) (n : ℕ) : Type 0 where
+-- an encoder is ready for strips of n bytes, and all originals and some recovery shards were received
+pub record IsReadyToCompare (rows : EncoderRows) (s : DecoderState) (n : ℕ) : Type 0 where
   pub encoder : IsReadyToEncode rows s n
   pub all : originals_given s ≡ s.configuration.original_count
-  pub number : recovery_given s ≡ received_count
-  pub some : 0 < received_count
+  pub some : 0 < recovery_given s
 
 -- the first of two optional shards that is there
 abbrev pub first_of : Option Shard → Option Shard → Option Shard

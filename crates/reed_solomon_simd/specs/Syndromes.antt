@@ -74,13 +74,10 @@ pub record CanSumSyndromes (s : DecoderState) (base : SumBase) (rows : EncoderRo
   pub fresh : encoder_state default_rate rows ≡ fresh_encoder (strip_configuration s (end - start))
   pub made : AreSyndromes (state_of_pieces start end s) (lent_shards rows)
 
--- an encoder and a base for the syndromes of strips of n bytes, with the numbers of missing originals and of surplus
--- shards
-pub record AreSyndromesReady (rows : EncoderRows) (base : SumBase) (missing surplus : ℕ) (s : DecoderState)
-    (n : ℕ) : Type 0 where
+-- an encoder and a base for the syndromes of strips of n bytes, with the number of surplus shards
+pub record AreSyndromesReady (rows : EncoderRows) (base : SumBase) (surplus : ℕ) (s : DecoderState) (n : ℕ) : Type 0 where
   pub encoder : IsReadyToEncode rows s n
   pub based : IsSyndromeBase s base
-  pub missing_is : missing + originals_given s ≡ s.configuration.original_count
   pub surplus_is : originals_given s + recovery_given s ≡ s.configuration.original_count + surplus
   pub few : n ≤ 2048
 

@@ -105,9 +105,9 @@ fn encode_lent<E: Engine>(
 ///
 /// The call allocates two lists of references to shards. If few originals are missing, it sums received shards, and
 /// also allocates short lists of rows and logarithms. Otherwise it allocates a work area for at most 2048 bytes of each
-/// shard, and for a middle number of missing originals such lists as well. If there are more shards than originals, it also allocates memory for the missing originals, because a later
-/// strip may show that no message agrees with all shards. It does so too if the rooms do not fit. After an error the
-/// rooms hold what they held before the call.
+/// shard, and for a middle number of missing originals such lists as well. If there are more shards than originals, it
+/// also allocates memory for the missing originals, because a later strip may show that no message agrees with all
+/// shards. It does so too if the rooms do not fit. After an error the rooms hold what they held before the call.
 ///
 /// If there is no recovery shard, nothing can be restored. Then the call checks only the indexes of the originals, and
 /// no size.
@@ -148,9 +148,9 @@ pub fn decode_into<E: Engine>(
     ensures kept { loans_of restored.new ≡ loans_of restored.old }
 {
     let counts = DefaultRateCounts::new(original_count, recovery_count)?;
-    let own = original.iter().map(|item| *item);
-    let other = recovery.iter().map(|item| *item);
-    let Some(received) = received_shards(alloc, counts, own, other)? else {
+    let lent_originals = original.iter().map(|item| *item);
+    let lent_recovery = recovery.iter().map(|item| *item);
+    let Some(received) = received_shards(alloc, counts, lent_originals, lent_recovery)? else {
         return check_rooms(0, 0, restored);
     };
     restore_into(alloc, &received, engine, restored)

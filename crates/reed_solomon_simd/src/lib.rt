@@ -120,8 +120,8 @@ pub use rs_rate::{DecoderResult, EncoderResult, Recovery, RestoredOriginal};
 /// functions meet for their users, so a program in Rattle needs none of them.
 pub mod ffi {
     pub use crate::originals::Originals;
-    pub use crate::pieces::{Pieces, piece_of};
-    pub use crate::received_shards::{ReceivedShards, surplus_of};
+    pub use crate::pieces::{Pieces, check_enough, piece_of};
+    pub use crate::received_shards::ReceivedShards;
     pub use crate::receiving::{received_of_size, received_shards};
     pub use crate::reconstructing::reconstruct_received;
     pub use crate::restoring::{restore_in_place, restore_into};

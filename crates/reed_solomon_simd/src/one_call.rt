@@ -9,6 +9,7 @@ ghost use Rattle.rs_field.specs.code.RoundTrip.{AreCoded};
 ghost use Rattle.rs_rate.specs.objects.Calls.{Calls, BeginsWith, BeginsWithItems};
 
 use crate::lent_originals::LentOriginals;
+use crate::pieces::check_enough;
 use crate::receiving::received_shards;
 use crate::restoring::{by_index, restore_vectors};
 use rs_engines::engine_default::DefaultEngine;
@@ -149,7 +150,7 @@ where
     let Some(received) = received_shards(alloc, counts, original, recovery)? else {
         return Ok(BTreeMap::new(alloc));
     };
-    let surplus = received.surplus()?;
-    let restored = restore_vectors(alloc, engine, received.missing(), surplus, &received)?;
+    check_enough(&received)?;
+    let restored = restore_vectors(alloc, engine, &received)?;
     by_index(alloc, &received, restored)
 }

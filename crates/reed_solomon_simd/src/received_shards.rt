@@ -152,61 +152,6 @@ impl<'a> ReceivedShards<'a> {
         self.recovery.enter(index, shard);
         Ok(())
     }
-
-    /// Returns how many shards were received beyond the number of originals.
-    ///
-    /// # Errors
-    ///
-    /// [`Error::NotEnoughShards`] if fewer shards than originals were received.
-    pub fn surplus(&self) -> Result<usize, Error>
-        ensures answer { answer_of result ≡ enough_given (received_state self.now) }
-        ensures number { IfOk result
-            (λ n. originals_given (received_state self.now)
-            + recovery_given (received_state self.now) ≡ self.now.counts.original_count + n) }
-    {
-        surplus_of(
-            self.counts.original_count,
-            self.originals.number,
-            self.recovery.number,
-        )
-    }
-
-    /// Returns how many originals are missing.
-    pub fn missing(&self) -> usize
-        ensures { result + originals_given (received_state self.now)
-            ≡ self.now.counts.original_count }
-    {
-        self.counts.original_count - self.originals.number
-    }
-}
-
-/// Returns how many shards were received beyond the number of originals.
-///
-/// # Errors
-///
-/// [`Error::NotEnoughShards`] if fewer shards than originals were received.
-pub fn surplus_of(
-    original_count: usize,
-    original_received_count: usize,
-    recovery_received_count: usize,
-) -> Result<usize, Error>
-    requires total { original_received_count + recovery_received_count ≤ 131072 }
-    ensures answer { answer_of result
-        ≡ (if nat_lt (original_received_count + recovery_received_count) original_count
-        then Err (Error.NotEnoughShards
-        original_count original_received_count recovery_received_count) else Ok tt) }
-    ensures number { IfOk result
-        (λ n. original_received_count + recovery_received_count ≡ original_count + n) }
-{
-    let received = original_received_count + recovery_received_count;
-    if received < original_count {
-        return Err(Error::NotEnoughShards {
-            original_count,
-            original_received_count,
-            recovery_received_count,
-        });
-    }
-    Ok(received - original_count)
 }
 
 // Fails with `DifferentShardSize` if the shard does not have `shard_bytes` bytes.

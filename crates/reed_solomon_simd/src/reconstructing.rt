@@ -12,7 +12,7 @@ ghost use Rattle.reed_solomon_simd.specs.Rooms.{bytes_in, loans_of};
 
 use crate::Error;
 use crate::lent_originals::empty_vectors;
-use crate::pieces::Pieces;
+use crate::pieces::{Pieces, check_enough, surplus_count};
 use crate::received_shards::ReceivedShards;
 use crate::receiving::received_in_slices;
 use crate::reconstruct_error::ReconstructError;
@@ -83,9 +83,9 @@ pub fn reconstruct<E: Engine>(
 {
     let counts = DefaultRateCounts::new(original_count, recovery_count)?;
     let received = received_in_slices(alloc, counts, original, recovery)?;
-    let surplus = received.surplus()?;
+    check_enough(&received)?;
     check_wanted(alloc, &received, wanted)?;
-    let vectors = rebuild_vectors(alloc, engine, surplus, &received, wanted)?;
+    let vectors = rebuild_vectors(alloc, engine, &received, wanted)?;
     Ok(vectors)
 }
 
@@ -163,14 +163,14 @@ pub fn reconstruct_received<E: Engine>(
         (bytes_in rooms.old) (bytes_in rooms.new) result }
     ensures kept { loans_of rooms.new ≡ loans_of rooms.old }
 {
-    let surplus = received.surplus()?;
+    check_enough(received)?;
     check_wanted(alloc, received, wanted)?;
     check_rooms(wanted.len(), received.shard_bytes, rooms)?;
-    if surplus == 0 {
+    if surplus_count(received) == 0 {
         rebuild_lent(alloc, engine, received, wanted, rooms)?;
         return Ok(());
     }
-    let vectors = rebuild_vectors(alloc, engine, surplus, received, wanted)?;
+    let vectors = rebuild_vectors(alloc, engine, received, wanted)?;
     fill_rooms(vectors.as_slice(), received.shard_bytes, rooms);
     Ok(())
 }
@@ -202,7 +202,7 @@ fn rebuild_lent<E: Engine, P: Pieces>(
     ensures kept { loans_of rooms.new ≡ loans_of rooms.old }
 {
     let mut lent = LentRooms { rooms };
-    rebuild_apart(alloc, &engine, received, wanted, 0, &mut lent)
+    rebuild_apart(alloc, &engine, received, wanted, &mut lent)
 }
 
 // Writes wanted shards into rooms that share no memory with the received shards, in order. Fails with `OutOfMemory`,
@@ -212,14 +212,10 @@ fn rebuild_apart<E: Engine, P: Pieces, R: Rooms>(
     engine: &E,
     received: &P,
     wanted: &[ShardIndex],
-    surplus: usize,
     rooms: &mut R,
 ) -> Result<(), Error>
     requires set_up { IsDecoder default_rate (P.received received.now) }
     requires enough { enough_given (P.received received.now) ≡ Ok tt }
-    requires surplus { originals_given (P.received received.now)
-        + recovery_given (P.received received.now)
-        ≡ (P.received received.now).configuration.original_count + surplus }
     requires can { All (CanBeRebuilt (P.received received.now)) wanted.now }
     requires number { length (R.held rooms.old) ≡ length wanted.now }
     requires fit { All
@@ -239,31 +235,26 @@ fn rebuild_apart<E: Engine, P: Pieces, R: Rooms>(
         pieces: received,
         rooms,
     };
-    make_listed(alloc, engine, wanted, surplus, &mut store)
+    make_listed(alloc, engine, wanted, &mut store)
 }
 
-// Returns the wanted shards as vectors, in order. `surplus` is the number of received shards beyond the number of
-// originals. Fails with `InconsistentShards` if no message agrees with all received shards, and with `OutOfMemory`.
+// Returns the wanted shards as vectors, in order. Enough shards were received. Fails with `InconsistentShards` if no
+// message agrees with all received shards, and with `OutOfMemory`.
 fn rebuild_vectors<E: Engine>(
     alloc: Global,
     engine: E,
-    surplus: usize,
     received: &ReceivedShards<'_>,
     wanted: &[ShardIndex],
 ) -> Result<Vec<Vec<u8>>, Error>
-    requires enough { originals_given (received_state received.now)
-        + recovery_given (received_state received.now)
-        ≡ received.now.counts.original_count + surplus }
+    requires enough { enough_given (received_state received.now) ≡ Ok tt }
     requires can { All (CanBeRebuilt (received_state received.now)) wanted.now }
     ensures { MatchResult (collected_shards result)
         (AreReconstructed (received_state received.now) wanted.now)
         (λ e. NoneAgrees (received_state received.now) e ⊎ (e ≡ Error.OutOfMemory)) }
 {
     let Ok(mut vectors) = empty_vectors(alloc, wanted.len(), received.shard_bytes) else {
-        let missing = received.missing();
-        let error = error_without_results(alloc, engine, missing, surplus, received);
-        return Err(error);
+        return Err(error_without_results(alloc, engine, received));
     };
-    rebuild_apart(alloc, &engine, received, wanted, surplus, &mut vectors)?;
+    rebuild_apart(alloc, &engine, received, wanted, &mut vectors)?;
     Ok(vectors)
 }

@@ -13,7 +13,7 @@ ghost use Rattle.reed_solomon_simd.specs.Rooms.{bytes_in, loans_of};
 
 use crate::RoomError;
 use crate::lent_originals::empty_vectors;
-use crate::pieces::Pieces;
+use crate::pieces::{Pieces, check_enough, missing_count, surplus_count};
 use crate::received_shards::ReceivedShards;
 use crate::rooms::{LentRooms, Rooms, check_rooms};
 use crate::separate_store::SeparateStore;
@@ -25,8 +25,7 @@ use rs_field::error::Error;
 use std::alloc::Global;
 use std::collections::BTreeMap;
 
-/// Returns the missing originals as vectors, in order of index. `missing` is their number, and `surplus` is the number
-/// of received shards beyond the number of originals.
+/// Returns the missing originals as vectors, in order of index. Enough shards were received.
 ///
 /// # Errors
 ///
@@ -36,24 +35,18 @@ use std::collections::BTreeMap;
 pub fn restore_vectors<E: Engine, P: Pieces>(
     alloc: Global,
     engine: E,
-    missing: usize,
-    surplus: usize,
     received: &P,
 ) -> Result<Vec<Vec<u8>>, Error>
     requires set_up { IsDecoder default_rate (P.received received.now) }
-    requires enough { originals_given (P.received received.now)
-        + recovery_given (P.received received.now)
-        ≡ (P.received received.now).configuration.original_count + surplus }
-    requires missing { missing + originals_given (P.received received.now)
-        ≡ (P.received received.now).configuration.original_count }
+    requires enough { enough_given (P.received received.now) ≡ Ok tt }
     ensures { MatchResult (collected_shards result) (HoldRestored (P.received received.now))
         (λ e. NoneAgrees (P.received received.now) e ⊎ (e ≡ Error.OutOfMemory)) }
 {
+    let missing = missing_count(received);
     let Ok(mut vectors) = empty_vectors(alloc, missing, received.shard_bytes()) else {
-        let error = error_without_results(alloc, engine, missing, surplus, received);
-        return Err(error);
+        return Err(error_without_results(alloc, engine, received));
     };
-    restore_apart(alloc, engine, missing, surplus, received, &mut vectors)?;
+    restore_apart(alloc, engine, received, &mut vectors)?;
     Ok(vectors)
 }
 
@@ -62,18 +55,13 @@ pub fn restore_vectors<E: Engine, P: Pieces>(
 fn restore_apart<E: Engine, P: Pieces, R: Rooms>(
     alloc: Global,
     engine: E,
-    missing: usize,
-    surplus: usize,
     received: &P,
     rooms: &mut R,
 ) -> Result<(), Error>
     requires set_up { IsDecoder default_rate (P.received received.now) }
-    requires enough { originals_given (P.received received.now)
-        + recovery_given (P.received received.now)
-        ≡ (P.received received.now).configuration.original_count + surplus }
-    requires missing { missing + originals_given (P.received received.now)
+    requires enough { enough_given (P.received received.now) ≡ Ok tt }
+    requires number { length (R.held rooms.old) + originals_given (P.received received.now)
         ≡ (P.received received.now).configuration.original_count }
-    requires number { length (R.held rooms.old) ≡ missing }
     requires fit { All
         (λ room. length room
         ≡ room_length R.grows 0 (P.received received.now).configuration.shard_bytes)
@@ -90,7 +78,7 @@ fn restore_apart<E: Engine, P: Pieces, R: Rooms>(
         pieces: received,
         rooms,
     };
-    make_missing(alloc, &engine, missing, surplus, &mut store)
+    make_missing(alloc, &engine, &mut store)
 }
 
 /// Writes the missing originals into rooms of their size, in order of index. As many shards as originals were received,
@@ -117,15 +105,13 @@ pub fn restore_lent<E: Engine>(
     ensures untouched { OnErr result (bytes_in rooms.new ≡ bytes_in rooms.old) }
     ensures kept { loans_of rooms.new ≡ loans_of rooms.old }
 {
-    let missing = rooms.len();
     let mut lent = LentRooms { rooms };
-    restore_apart(alloc, engine, missing, 0, received, &mut lent)
+    restore_apart(alloc, engine, received, &mut lent)
 }
 
-/// Writes the missing originals into rooms that are part of the store. `missing` is the number of missing originals,
-/// and `surplus` is the number of received shards beyond the number of originals. If `surplus` is above zero, the
-/// originals are restored into vectors first, because a later strip may show that no message agrees with all received
-/// shards.
+/// Writes the missing originals into rooms that are part of the store. Enough shards were received. If there are more
+/// shards than originals, the originals are restored into vectors first, because a later strip may show that no message
+/// agrees with all received shards.
 ///
 /// # Errors
 ///
@@ -137,16 +123,12 @@ pub fn restore_lent<E: Engine>(
 pub fn restore_in_place<E: Engine, S: Store>(
     alloc: Global,
     engine: E,
-    missing: usize,
-    surplus: usize,
     store: &mut S,
 ) -> Result<(), Error>
     requires set_up { IsDecoder default_rate (S.received store.old) }
-    requires enough { originals_given (S.received store.old) + recovery_given (S.received store.old)
-        ≡ (S.received store.old).configuration.original_count + surplus }
-    requires missing { missing + originals_given (S.received store.old)
+    requires enough { enough_given (S.received store.old) ≡ Ok tt }
+    requires number { length (S.held store.old) + originals_given (S.received store.old)
         ≡ (S.received store.old).configuration.original_count }
-    requires number { length (S.held store.old) ≡ missing }
     requires fixed { S.grows ≡ false }
     requires fit { All
         (λ room. length room ≡ (S.received store.old).configuration.shard_bytes)
@@ -158,10 +140,10 @@ pub fn restore_in_place<E: Engine, S: Store>(
     ensures places { S.places store.new ≡ S.places store.old }
     ensures loan { S.loan store.new ≡ S.loan store.old }
 {
-    if surplus == 0 {
-        return make_missing(alloc, &engine, missing, 0, store);
+    if surplus_count(&*store) == 0 {
+        return make_missing(alloc, &engine, store);
     }
-    let vectors = restore_vectors(alloc, engine, missing, surplus, &*store)?;
+    let vectors = restore_vectors(alloc, engine, &*store)?;
     let shard_bytes = store.shard_bytes();
     put_all(vectors.as_slice(), shard_bytes, store)
 }
@@ -189,45 +171,45 @@ pub fn restore_into<E: Engine>(
         (bytes_in rooms.new) result }
     ensures kept { loans_of rooms.new ≡ loans_of rooms.old }
 {
-    let surplus = received.surplus()?;
-    if can_be_written(surplus, received, rooms) {
+    check_enough(received)?;
+    if can_be_written(received, rooms) {
         restore_lent(alloc, received, engine, rooms)?;
         return Ok(());
     }
-    restore_by_vectors(alloc, received, surplus, engine, rooms)
+    restore_by_vectors(alloc, received, engine, rooms)
 }
 
 // Returns true only if the missing originals can be written into the rooms strip by strip: there are as many shards as
 // originals, so they belong to a message, and each missing original has a room of its size.
-fn can_be_written(surplus: usize, received: &ReceivedShards<'_>, rooms: &[&mut [u8]]) -> bool
-    ensures exact { result ≡ true → surplus ≡ 0 }
+fn can_be_written(received: &ReceivedShards<'_>, rooms: &[&mut [u8]]) -> bool
+    requires { enough_given (received_state received.now) ≡ Ok tt }
+    ensures exact { result ≡ true
+        → originals_given (received_state received.now) + recovery_given (received_state received.now)
+        ≡ received.now.counts.original_count }
     ensures number { result ≡ true
         → length rooms.now + originals_given (received_state received.now)
         ≡ received.now.counts.original_count }
     ensures fit { result ≡ true
         → All (λ room. length room ≡ received.now.shard_bytes) (bytes_in rooms.now) }
 {
-    surplus == 0 && check_rooms(received.missing(), received.shard_bytes, rooms).is_ok()
+    surplus_count(received) == 0
+        && check_rooms(missing_count(received), received.shard_bytes, rooms).is_ok()
 }
 
 // Restores all missing originals into vectors, and then copies them into the rooms.
 fn restore_by_vectors<E: Engine>(
     alloc: Global,
     received: &ReceivedShards<'_>,
-    surplus: usize,
     engine: E,
     rooms: &mut [&mut [u8]],
 ) -> Result<(), RoomError>
     requires enough { enough_given (received_state received.now) ≡ Ok tt }
-    requires surplus { originals_given (received_state received.now)
-        + recovery_given (received_state received.now)
-        ≡ received.now.counts.original_count + surplus }
     ensures answer { RestoresInto (received_state received.now) (bytes_in rooms.old)
         (bytes_in rooms.new) result }
     ensures kept { loans_of rooms.new ≡ loans_of rooms.old }
 {
-    let missing = received.missing();
-    let vectors = restore_vectors(alloc, engine, missing, surplus, received)?;
+    let missing = missing_count(received);
+    let vectors = restore_vectors(alloc, engine, received)?;
     check_rooms(missing, received.shard_bytes, rooms)?;
     fill_rooms(vectors.as_slice(), received.shard_bytes, rooms);
     Ok(())

@@ -22,6 +22,14 @@ impl<'a, 'b, P: Pieces, R: Rooms> Pieces for SeparateStore<'a, 'b, P, R> {
         self.pieces.counts()
     }
 
+    fn original_received_count(&self) -> usize {
+        self.pieces.original_received_count()
+    }
+
+    fn recovery_received_count(&self) -> usize {
+        self.pieces.recovery_received_count()
+    }
+
     fn shard_bytes(&self) -> usize {
         self.pieces.shard_bytes()
     }

@@ -12,7 +12,7 @@ ghost use Rattle.rs_rate.specs.objects.ResultView.{recovery_shards};
 ghost use Rattle.reed_solomon_simd.specs.Making.{AreRooms, Makes};
 ghost use Rattle.reed_solomon_simd.specs.Rounds.{IsReadyToEncode, own_piece, own_message};
 
-use crate::pieces::Pieces;
+use crate::pieces::{Pieces, inconsistent};
 use crate::shard_index::ShardIndex;
 use crate::store::Store;
 use crate::strip_bytes::ENCODE_STRIP_BYTES;
@@ -26,8 +26,8 @@ use rs_rate::rate::split_rounds::lent_recovery;
 use rs_rate::rate::strips::StripEncoder;
 use std::alloc::Global;
 
-/// Checks that some message agrees with all received shards. All originals were received. `recovery_received_count` is
-/// the number of received recovery shards, and is not zero. The store has no room.
+/// Checks that some message agrees with all received shards. All originals and some recovery shards were received. The
+/// store has no room.
 ///
 /// # Errors
 ///
@@ -36,14 +36,12 @@ use std::alloc::Global;
 pub(crate) fn check_by_encoding<E: Engine, S: Store>(
     alloc: Global,
     engine: &E,
-    recovery_received_count: usize,
     store: &mut S,
 ) -> Result<(), Error>
     requires set_up { IsDecoder default_rate (S.received store.old) }
     requires all { originals_given (S.received store.old)
         ≡ (S.received store.old).configuration.original_count }
-    requires number { recovery_given (S.received store.old) ≡ recovery_received_count }
-    requires some { 0 < recovery_received_count }
+    requires some { 0 < recovery_given (S.received store.old) }
     requires rooms { AreRooms S.grows 0 (S.received store.old).configuration.shard_bytes 0
         (S.held store.old) }
     ensures { Makes S.grows (S.received store.old) [] (S.held store.old) (S.held store.new) result }
@@ -52,7 +50,6 @@ pub(crate) fn check_by_encoding<E: Engine, S: Store>(
     let mut way = Compare {
         engine,
         encoder,
-        recovery_received_count,
     };
     make_strips(ENCODE_STRIP_BYTES, &mut way, store)
 }
@@ -62,7 +59,6 @@ pub(crate) fn check_by_encoding<E: Engine, S: Store>(
 struct Compare<'a, E: Engine> {
     engine: &'a E,
     encoder: StripEncoder,
-    recovery_received_count: usize,
 }
 
 impl<'a, E: Engine> Way for Compare<'a, E> {
@@ -71,14 +67,11 @@ impl<'a, E: Engine> Way for Compare<'a, E> {
 
     ghost wanted = { λ _ _. [] };
 
-    ghost ready = { λ x s n. IsReadyToCompare x.encoder.rows x.recovery_received_count s n };
+    ghost ready = { λ x s n. IsReadyToCompare x.encoder.rows s n };
 
     fn strip<S: Store>(&mut self, start: usize, end: usize, store: &mut S) -> Result<(), Error> {
         if !agree_in_strip(self.engine, &mut self.encoder, &*store, start, end) {
-            return Err(Error::InconsistentShards {
-                original_received_count: store.counts().original_count,
-                recovery_received_count: self.recovery_received_count,
-            });
+            return Err(inconsistent(&*store));
         }
         Ok(())
     }

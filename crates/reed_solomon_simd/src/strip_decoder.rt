@@ -2,7 +2,7 @@
 //! number of them from syndromes. Otherwise the received shards of each strip are decoded.
 ghost use Rattle.std.specs.Prelude.{◌≡◌, ◌-◌, ◌+◌, ◌≤◌, ℕ, All, true, length, Ok, OnOk, IfErr};
 ghost use Rattle.rs_field.specs.code.Counts.{default_rate};
-ghost use Rattle.rs_field.specs.code.Decoder.{IsDecoder, enough_given, originals_given, recovery_given};
+ghost use Rattle.rs_field.specs.code.Decoder.{IsDecoder, enough_given};
 ghost use Rattle.rs_field.specs.code.Given.{Lists};
 ghost use Rattle.rs_field.specs.code.OneCall.{Items};
 ghost use Rattle.rs_field.specs.code.Pieces.{ArePut, room_length};
@@ -10,6 +10,7 @@ ghost use Rattle.rs_field.specs.code.PieceStates.{shards_listed};
 ghost use Rattle.rs_rate.specs.objects.ResultView.{restored_originals};
 ghost use Rattle.reed_solomon_simd.specs.Making.{AreRooms, MakesMissing, missing_names};
 
+use crate::pieces::{missing_count, surplus_count};
 use crate::rooms::Rooms;
 use crate::store::Store;
 use crate::strip_bytes::DECODE_STRIP_BYTES;
@@ -24,8 +25,7 @@ use rs_rate::rate::strips::StripDecoder;
 use rs_rate::rate::{are_sums_cheaper, are_syndromes_cheapest};
 use std::alloc::Global;
 
-/// Writes the missing originals into the rooms of a store, in order of index. `missing` is the number of missing
-/// originals, and `surplus` is the number of received shards beyond the number of originals.
+/// Writes the missing originals into the rooms of a store, in order of index. Enough shards were received.
 ///
 /// # Errors
 ///
@@ -35,29 +35,26 @@ use std::alloc::Global;
 pub fn make_missing<E: Engine, S: Store>(
     alloc: Global,
     engine: &E,
-    missing: usize,
-    surplus: usize,
     store: &mut S,
 ) -> Result<(), Error>
     requires set_up { IsDecoder default_rate (S.received store.old) }
-    requires enough { originals_given (S.received store.old) + recovery_given (S.received store.old)
-        ≡ (S.received store.old).configuration.original_count + surplus }
-    requires missing { missing + originals_given (S.received store.old)
-        ≡ (S.received store.old).configuration.original_count }
-    requires rooms { AreRooms S.grows 0 (S.received store.old).configuration.shard_bytes missing
-        (S.held store.old) }
+    requires enough { enough_given (S.received store.old) ≡ Ok tt }
+    requires rooms { AreRooms S.grows 0 (S.received store.old).configuration.shard_bytes
+        (length (missing_names (S.received store.old))) (S.held store.old) }
     ensures made { MakesMissing S.grows (S.received store.old) (S.held store.old) (S.held store.new)
         result }
     ensures places { S.places store.new ≡ S.places store.old }
     ensures loan { S.loan store.new ≡ S.loan store.old }
 {
     let counts = store.counts();
+    let missing = missing_count(&*store);
+    let surplus = surplus_count(&*store);
     if are_syndromes_cheapest(counts.frame, counts.original_count, missing, surplus) {
-        return restore_by_syndromes(alloc, engine, missing, surplus, store);
+        return restore_by_syndromes(alloc, engine, store);
     }
     let sums = missing.saturating_add(surplus);
     if are_sums_cheaper(counts.frame, counts.original_count, sums) {
-        return sum_missing(alloc, engine, missing, surplus, store);
+        return sum_missing(alloc, engine, store);
     }
     restore_by_rounds(alloc, engine, store)
 }

@@ -8,7 +8,7 @@ ghost use Rattle.std.specs.List.{list_any};
 ghost use Rattle.rs_field.specs.code.Code.{AreRecovery};
 ghost use Rattle.rs_field.specs.code.Column.{Shard};
 ghost use Rattle.rs_field.specs.code.Counts.{default_rate};
-ghost use Rattle.rs_field.specs.code.Decoder.{IsDecoder, IsAgreeing, Restored, originals_given, recovery_given};
+ghost use Rattle.rs_field.specs.code.Decoder.{IsDecoder, IsAgreeing, Restored};
 ghost use Rattle.rs_field.specs.code.Configuration.{validation_outcome};
 ghost use Rattle.rs_field.specs.code.Encoder.{fresh_encoder};
 ghost use Rattle.rs_field.specs.code.OneCall.{default_of};
@@ -21,7 +21,7 @@ ghost use Rattle.reed_solomon_simd.specs.Reconstructed.{lent_at};
 ghost use Rattle.reed_solomon_simd.specs.Rounds.{IsReadyToEncode, lent_by, own_piece, own_message};
 ghost use Rattle.reed_solomon_simd.specs.ShardNames.{is_recovery};
 
-use crate::pieces::Pieces;
+use crate::pieces::{Pieces, surplus_count};
 use crate::rooms::Rooms;
 use crate::shard_index::ShardIndex;
 use crate::store::Store;
@@ -38,7 +38,6 @@ use rs_rate::rate::{DefaultRateCounts, are_sums_cheaper};
 use std::alloc::Global;
 
 /// Writes wanted shards into the rooms of a store, in order. Few of them are made by direct sums, and more by rounds.
-/// `surplus` is the number of received shards beyond the number of originals.
 ///
 /// # Errors
 ///
@@ -49,13 +48,9 @@ pub fn make_listed<E: Engine, S: Store>(
     alloc: Global,
     engine: &E,
     wanted: &[ShardIndex],
-    surplus: usize,
     store: &mut S,
 ) -> Result<(), Error>
     requires can { CanMake (S.received store.old) wanted.now }
-    requires surplus { originals_given (S.received store.old)
-        + recovery_given (S.received store.old)
-        ≡ (S.received store.old).configuration.original_count + surplus }
     requires rooms { AreRooms S.grows 0 (S.received store.old).configuration.shard_bytes
         (length wanted.now) (S.held store.old) }
     ensures made { Makes S.grows (S.received store.old) wanted.now (S.held store.old)
@@ -64,9 +59,9 @@ pub fn make_listed<E: Engine, S: Store>(
     ensures loan { S.loan store.new ≡ S.loan store.old }
 {
     let counts = store.counts();
-    let sums = wanted.len().saturating_add(surplus);
+    let sums = wanted.len().saturating_add(surplus_count(&*store));
     if are_sums_cheaper(counts.frame, counts.original_count, sums) {
-        return sum_listed(alloc, engine, wanted, surplus, store);
+        return sum_listed(alloc, engine, wanted, store);
     }
     rebuild_by_rounds(alloc, engine, wanted, store)
 }

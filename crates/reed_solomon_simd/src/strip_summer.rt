@@ -5,7 +5,7 @@ ghost use Rattle.std.specs.Prelude.{length, Ok, Some, None, MatchOption, IsTrue,
 ghost use Rattle.std.specs.Prelude.{option_copied};
 ghost use Rattle.rs_field.specs.code.Column.{Shard};
 ghost use Rattle.rs_field.specs.code.Counts.{default_rate};
-ghost use Rattle.rs_field.specs.code.Decoder.{IsDecoder, originals_given, recovery_given, IsConsistent};
+ghost use Rattle.rs_field.specs.code.Decoder.{IsDecoder, enough_given, IsConsistent};
 ghost use Rattle.rs_field.specs.code.Frame.{row_count};
 ghost use Rattle.rs_field.specs.code.Pieces.{ArePut};
 ghost use Rattle.rs_field.specs.code.PieceStates.{state_of_pieces};
@@ -16,10 +16,10 @@ ghost use Rattle.reed_solomon_simd.specs.Base.{row_of, MarksReceived, CanSum, Ha
 ghost use Rattle.rs_field.specs.code.Frame.{frame_at};
 ghost use Rattle.rs_field.specs.code.DirectLaws.{shard_in_row};
 ghost use Rattle.reed_solomon_simd.specs.Base.{IsBaseSum, AgreesInRow};
-ghost use Rattle.reed_solomon_simd.specs.Making.{CanMake, AreRooms, Makes, MakesMissing};
+ghost use Rattle.reed_solomon_simd.specs.Making.{CanMake, AreRooms, Makes, MakesMissing, missing_names};
 ghost use Rattle.reed_solomon_simd.specs.Reconstructed.{AreReconstructed, CanBeRebuilt, NamesMissing};
 
-use crate::pieces::Pieces;
+use crate::pieces::{Pieces, inconsistent, is_received, missing_count, surplus_count};
 use crate::shard_index::ShardIndex;
 use crate::store::Store;
 use crate::strip_bytes::SUM_STRIP_BYTES;
@@ -78,8 +78,8 @@ fn index_of(row: usize, from: usize, count: usize) -> Option<usize>
     }
 }
 
-/// Writes the missing originals into the rooms of a store, in order of index, by direct sums. `missing` is the number
-/// of missing originals, and `surplus` is the number of received shards beyond the number of originals.
+/// Writes the missing originals into the rooms of a store, in order of index, by direct sums. Enough shards were
+/// received.
 ///
 /// # Errors
 ///
@@ -89,49 +89,39 @@ fn index_of(row: usize, from: usize, count: usize) -> Option<usize>
 pub(crate) fn sum_missing<E: Engine, S: Store>(
     alloc: Global,
     engine: &E,
-    missing: usize,
-    surplus: usize,
     store: &mut S,
 ) -> Result<(), Error>
     requires set_up { IsDecoder default_rate (S.received store.old) }
-    requires enough { originals_given (S.received store.old) + recovery_given (S.received store.old)
-        ≡ (S.received store.old).configuration.original_count + surplus }
-    requires missing { missing + originals_given (S.received store.old)
-        ≡ (S.received store.old).configuration.original_count }
-    requires rooms { AreRooms S.grows 0 (S.received store.old).configuration.shard_bytes missing
-        (S.held store.old) }
+    requires enough { enough_given (S.received store.old) ≡ Ok tt }
+    requires rooms { AreRooms S.grows 0 (S.received store.old).configuration.shard_bytes
+        (length (missing_names (S.received store.old))) (S.held store.old) }
     ensures made { MakesMissing S.grows (S.received store.old) (S.held store.old) (S.held store.new)
         result }
     ensures places { S.places store.new ≡ S.places store.old }
     ensures loan { S.loan store.new ≡ S.loan store.old }
 {
-    let wanted = missing_originals(alloc, missing, &*store)?;
-    sum_listed(alloc, engine, wanted.as_slice(), surplus, store)
+    let wanted = missing_originals(alloc, &*store)?;
+    sum_listed(alloc, engine, wanted.as_slice(), store)
 }
 
-// Returns the names of the missing originals, in order of index. `number` is their number. Fails with `OutOfMemory`.
-fn missing_originals<P: Pieces>(
-    alloc: Global,
-    number: usize,
-    received: &P,
-) -> Result<Vec<ShardIndex>, Error>
+// Returns the names of the missing originals, in order of index. Fails with `OutOfMemory`.
+fn missing_originals<P: Pieces>(alloc: Global, received: &P) -> Result<Vec<ShardIndex>, Error>
     requires { IsDecoder default_rate (P.received received.now) }
     ensures made { IfOk result (λ wanted.
         NamesMissing (P.received received.now).configuration.original_count
         (P.received received.now) wanted.items) }
     ensures refused { IfErr result (λ e. e ≡ Error.OutOfMemory) }
 {
-    let mut missing = Vec::with_capacity(alloc, number)?;
+    let mut missing = Vec::with_capacity(alloc, missing_count(received))?;
     for index in 0..received.counts().original_count {
-        if received.piece(ShardIndex::Original(index), 0, 0).is_none() {
+        if !is_received(received, ShardIndex::Original(index)) {
             missing.push(ShardIndex::Original(index))?;
         }
     }
     Ok(missing)
 }
 
-/// Writes wanted shards into the rooms of a store, in order, by direct sums. `surplus` is the number of
-/// received shards beyond the number of originals.
+/// Writes wanted shards into the rooms of a store, in order, by direct sums.
 ///
 /// # Errors
 ///
@@ -142,13 +132,9 @@ pub(crate) fn sum_listed<'a, E: Engine, S: Store>(
     alloc: Global,
     engine: &'a E,
     wanted: &'a [ShardIndex],
-    surplus: usize,
     store: &mut S,
 ) -> Result<(), Error>
     requires can { CanMake (S.received store.old) wanted.now }
-    requires surplus { originals_given (S.received store.old)
-        + recovery_given (S.received store.old)
-        ≡ (S.received store.old).configuration.original_count + surplus }
     requires rooms { AreRooms S.grows 0 (S.received store.old).configuration.shard_bytes
         (length wanted.now) (S.held store.old) }
     ensures made { Makes S.grows (S.received store.old) wanted.now (S.held store.old)
@@ -156,26 +142,18 @@ pub(crate) fn sum_listed<'a, E: Engine, S: Store>(
     ensures places { S.places store.new ≡ S.places store.old }
     ensures loan { S.loan store.new ≡ S.loan store.old }
 {
-    let frame = store.counts().frame;
+    let counts = store.counts();
+    let surplus = surplus_count(&*store);
     let received = received_marks(alloc, &*store)?;
-    let mut rows = vec![in alloc; 0; store.counts().original_count]?;
+    let mut rows = vec![in alloc; 0; counts.original_count]?;
     let end = list_base(&mut rows, &received);
     let marks = &received[..end];
-    let mut locator = vec![in alloc; 0; frame.row_count()]?;
-    let mut logs = vec![in alloc; 0; frame.row_count()]?;
-    locate_base(
-        engine,
-        &mut Steps::new(),
-        frame,
-        marks,
-        &mut locator,
-        &mut logs,
-    );
+    let factors = locate_base(alloc, engine, &mut Steps::new(), counts.frame, marks)?;
     let base = SumBase {
         marks,
         rows: &rows,
-        locator: &locator,
-        logs: &logs,
+        locator: &factors.locator,
+        logs: &factors.logs,
     };
     let mut way = Sums {
         engine,
@@ -207,32 +185,9 @@ impl<'a, 'b, E: Engine> Way for Sums<'a, 'b, E> {
         let mut sum = [[0; 64]; SUM_STRIP_BYTES / 64];
         let sum = &mut sum[..len];
         if self.surplus > 0 && !self.agree_in_strip(&*store, start, end, sum) {
-            return Err(inconsistent(&*store, self.surplus));
+            return Err(inconsistent(&*store));
         }
         self.put_sums(start, end, sum, store)
-    }
-}
-
-// Returns the error of received shards with which no message agrees. There are `surplus` more shards than originals.
-fn inconsistent<P: Pieces>(received: &P, surplus: usize) -> Error
-    requires set_up { IsDecoder default_rate (P.received received.now) }
-    requires surplus { originals_given (P.received received.now)
-        + recovery_given (P.received received.now)
-        ≡ (P.received received.now).configuration.original_count + surplus }
-    ensures { result
-        ≡ Error.InconsistentShards (originals_given (P.received received.now))
-        (recovery_given (P.received received.now)) }
-{
-    let original_count = received.counts().original_count;
-    let mut original_received_count = 0;
-    for index in 0..original_count {
-        if received.piece(ShardIndex::Original(index), 0, 0).is_some() {
-            original_received_count += 1;
-        }
-    }
-    Error::InconsistentShards {
-        original_received_count,
-        recovery_received_count: original_count + surplus - original_received_count,
     }
 }
 

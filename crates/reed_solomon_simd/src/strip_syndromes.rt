@@ -7,7 +7,7 @@ ghost use Rattle.std.specs.Prelude.{OnOk, IfOk, IfErr, replicate, unwrap_or};
 ghost use Rattle.rs_field.specs.code.Code.{AreRecovery};
 ghost use Rattle.rs_field.specs.code.Column.{Shard, shard_at};
 ghost use Rattle.rs_field.specs.code.Counts.{default_rate};
-ghost use Rattle.rs_field.specs.code.Decoder.{IsDecoder, originals_given, recovery_given, IsConsistent};
+ghost use Rattle.rs_field.specs.code.Decoder.{IsDecoder, enough_given, IsConsistent};
 ghost use Rattle.rs_field.specs.code.Encoder.{fresh_encoder};
 ghost use Rattle.rs_field.specs.code.Frame.{frame_at, row_count};
 ghost use Rattle.rs_field.specs.code.Pieces.{IsStrip, ArePut};
@@ -22,7 +22,7 @@ ghost use Rattle.reed_solomon_simd.specs.Rounds.{IsReadyToEncode};
 ghost use Rattle.reed_solomon_simd.specs.Syndromes.{zeroed, AreSyndromes, MarksRecovery, AddsOriginals, AgreesAt};
 ghost use Rattle.reed_solomon_simd.specs.Syndromes.{CanSumSyndromes, IsSyndromeSum};
 
-use crate::pieces::Pieces;
+use crate::pieces::{Pieces, inconsistent, is_received, missing_count, surplus_count};
 use crate::shard_index::ShardIndex;
 use crate::store::Store;
 use crate::strip_bytes::DECODE_STRIP_BYTES;
@@ -37,8 +37,8 @@ use rs_rate::rate::strips::StripEncoder;
 use rs_rate::rate::sums::{SumBase, clear_sum, finish_sum, list_base, locate_base, summed_piece};
 use std::alloc::Global;
 
-/// Writes the missing originals into the rooms of a store, in order of index, by sums of syndromes. `missing` is the
-/// number of missing originals, and `surplus` is the number of received shards beyond the number of originals.
+/// Writes the missing originals into the rooms of a store, in order of index, by sums of syndromes. Enough shards were
+/// received.
 ///
 /// # Errors
 ///
@@ -48,24 +48,20 @@ use std::alloc::Global;
 pub(crate) fn restore_by_syndromes<E: Engine, S: Store>(
     alloc: Global,
     engine: &E,
-    missing: usize,
-    surplus: usize,
     store: &mut S,
 ) -> Result<(), Error>
     requires set_up { IsDecoder default_rate (S.received store.old) }
-    requires enough { originals_given (S.received store.old) + recovery_given (S.received store.old)
-        ≡ (S.received store.old).configuration.original_count + surplus }
-    requires missing { missing + originals_given (S.received store.old)
-        ≡ (S.received store.old).configuration.original_count }
-    requires rooms { AreRooms S.grows 0 (S.received store.old).configuration.shard_bytes missing
-        (S.held store.old) }
+    requires enough { enough_given (S.received store.old) ≡ Ok tt }
+    requires rooms { AreRooms S.grows 0 (S.received store.old).configuration.shard_bytes
+        (length (missing_names (S.received store.old))) (S.held store.old) }
     ensures made { MakesMissing S.grows (S.received store.old) (S.held store.old) (S.held store.new)
         result }
     ensures places { S.places store.new ≡ S.places store.old }
     ensures loan { S.loan store.new ≡ S.loan store.old }
 {
     let counts = store.counts();
-    let frame = counts.frame;
+    let missing = missing_count(&*store);
+    let surplus = surplus_count(&*store);
     let width = DECODE_STRIP_BYTES.min(store.shard_bytes());
     let encoder = StripEncoder::with_counts(alloc, counts, width, (), None)?;
     let received = recovery_marks(alloc, &*store)?;
@@ -73,27 +69,17 @@ pub(crate) fn restore_by_syndromes<E: Engine, S: Store>(
     let end = list_base(&mut rows, &received);
     let marks = &received[..end];
     let all = with_originals(alloc, &*store, marks)?;
-    let mut locator = vec![in alloc; 0; frame.row_count()]?;
-    let mut logs = vec![in alloc; 0; frame.row_count()]?;
-    locate_base(
-        engine,
-        &mut Steps::new(),
-        frame,
-        &all,
-        &mut locator,
-        &mut logs,
-    );
+    let factors = locate_base(alloc, engine, &mut Steps::new(), counts.frame, &all)?;
     let base = SumBase {
         marks,
         rows: &rows,
-        locator: &locator,
-        logs: &logs,
+        locator: &factors.locator,
+        logs: &factors.logs,
     };
     let mut way = Syndromes {
         engine,
         encoder,
         base,
-        missing,
         surplus,
     };
     make_strips(DECODE_STRIP_BYTES, &mut way, store)
@@ -108,8 +94,8 @@ fn recovery_marks<P: Pieces>(alloc: Global, received: &P) -> Result<Vec<bool>, E
     let counts = received.counts();
     let mut marks = no_marks(alloc, counts.frame.row_count())?;
     for index in 0..counts.recovery_count {
-        let is_received = received.piece(ShardIndex::Recovery(index), 0, 0).is_some();
-        marks[counts.frame.recovery_row(index)] = is_received;
+        let is_there = is_received(received, ShardIndex::Recovery(index));
+        marks[counts.frame.recovery_row(index)] = is_there;
     }
     Ok(marks)
 }
@@ -132,8 +118,8 @@ fn with_originals<P: Pieces>(
     let counts = received.counts();
     let mut all = widened(alloc, marks, counts.frame.row_count())?;
     for index in 0..counts.original_count {
-        let is_received = received.piece(ShardIndex::Original(index), 0, 0).is_some();
-        all[counts.frame.original_row(index)] = is_received;
+        let is_there = is_received(received, ShardIndex::Original(index));
+        all[counts.frame.original_row(index)] = is_there;
     }
     Ok(all)
 }
@@ -160,7 +146,6 @@ struct Syndromes<'a, 'b, E: Engine> {
     encoder: StripEncoder,
     /// The recovery rows of the base. The factors are those of a base to which all received originals belong, too.
     base: SumBase<'b>,
-    missing: usize,
     surplus: usize,
 }
 
@@ -170,7 +155,7 @@ impl<'a, 'b, E: Engine> Way for Syndromes<'a, 'b, E> {
 
     ghost wanted = { λ _ s. missing_names s };
 
-    ghost ready = { λ x s n. AreSyndromesReady x.encoder.rows x.base x.missing x.surplus s n };
+    ghost ready = { λ x s n. AreSyndromesReady x.encoder.rows x.base x.surplus s n };
 
     fn strip<S: Store>(&mut self, start: usize, end: usize, store: &mut S) -> Result<(), Error> {
         make_syndromes(self.engine, &mut self.encoder, &*store, start, end);
@@ -178,10 +163,7 @@ impl<'a, 'b, E: Engine> Way for Syndromes<'a, 'b, E> {
         let mut sum = [[0; 64]; DECODE_STRIP_BYTES / 64];
         let sum = &mut sum[..len];
         if self.surplus > 0 && !self.agree_in_strip(&*store, start, end, sum) {
-            return Err(Error::InconsistentShards {
-                original_received_count: store.counts().original_count - self.missing,
-                recovery_received_count: self.missing + self.surplus,
-            });
+            return Err(inconsistent(&*store));
         }
         self.put_sums(start, end, sum, store)
     }
@@ -365,7 +347,7 @@ impl<'a, 'b, E: Engine> Syndromes<'a, 'b, E> {
         let counts = store.counts();
         let mut room = 0;
         for index in 0..counts.original_count {
-            if store.piece(ShardIndex::Original(index), 0, 0).is_none() {
+            if !is_received(&*store, ShardIndex::Original(index)) {
                 let row = counts.frame.original_row(index);
                 self.sum_syndromes(&*store, row, start, end, sum);
                 store.put(room, start, summed_piece(sum, end - start))?;

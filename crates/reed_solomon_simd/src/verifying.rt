@@ -1,11 +1,11 @@
 //! Verification of received shards in one call: whether they belong to one message.
-ghost use Rattle.std.specs.Prelude.{◌≡◌, ◌⊎◌, ◌+◌, map, MatchResult};
+ghost use Rattle.std.specs.Prelude.{◌≡◌, ◌⊎◌, map, Ok, MatchResult};
 ghost use Rattle.rs_field.specs.code.Counts.{default_rate};
-ghost use Rattle.rs_field.specs.code.Decoder.{IsDecoder, originals_given, recovery_given, IsConsistent, NoneAgrees};
+ghost use Rattle.rs_field.specs.code.Decoder.{IsDecoder, enough_given, IsConsistent, NoneAgrees};
 ghost use Rattle.reed_solomon_simd.specs.Verified.{OneVerifies};
 
 use crate::Error;
-use crate::pieces::Pieces;
+use crate::pieces::{Pieces, check_enough, missing_count, surplus_count};
 use crate::receiving::received_in_slices;
 use crate::separate_store::SeparateStore;
 use crate::strip_comparer::check_by_encoding;
@@ -81,12 +81,11 @@ pub fn verify<E: Engine>(
 {
     let counts = DefaultRateCounts::new(original_count, recovery_count)?;
     let received = received_in_slices(alloc, counts, original, recovery)?;
-    let surplus = received.surplus()?;
-    check_consistent(alloc, engine, received.missing(), surplus, &received)
+    check_enough(&received)?;
+    check_consistent(alloc, engine, &received)
 }
 
-/// Checks that some message agrees with all received shards. `missing` is the number of missing originals, and
-/// `surplus` is the number of received shards beyond the number of originals.
+/// Checks that some message agrees with all received shards. There are at least as many as originals.
 ///
 /// # Errors
 ///
@@ -95,20 +94,14 @@ pub fn verify<E: Engine>(
 pub fn check_consistent<E: Engine, P: Pieces>(
     alloc: Global,
     engine: E,
-    missing: usize,
-    surplus: usize,
     received: &P,
 ) -> Result<(), Error>
     requires set_up { IsDecoder default_rate (P.received received.now) }
-    requires enough { originals_given (P.received received.now)
-        + recovery_given (P.received received.now)
-        ≡ (P.received received.now).configuration.original_count + surplus }
-    requires missing { missing + originals_given (P.received received.now)
-        ≡ (P.received received.now).configuration.original_count }
+    requires enough { enough_given (P.received received.now) ≡ Ok tt }
     ensures { MatchResult result (λ _. IsConsistent (P.received received.now))
         (λ e. NoneAgrees (P.received received.now) e ⊎ (e ≡ Error.OutOfMemory)) }
 {
-    if surplus == 0 {
+    if surplus_count(received) == 0 {
         return Ok(());
     }
     let mut rooms: Vec<Vec<u8>> = Vec::new(alloc);
@@ -116,33 +109,26 @@ pub fn check_consistent<E: Engine, P: Pieces>(
         pieces: received,
         rooms: &mut rooms,
     };
-    if missing == 0 {
-        return check_by_encoding(alloc, &engine, surplus, &mut store);
+    if missing_count(received) == 0 {
+        return check_by_encoding(alloc, &engine, &mut store);
     }
-    make_listed(alloc, &engine, &[], surplus, &mut store)
+    make_listed(alloc, &engine, &[], &mut store)
 }
 
 /// Returns the error of a call that cannot allocate its results: [`Error::InconsistentShards`] if no message agrees
-/// with all received shards. Otherwise it returns [`Error::OutOfMemory`]. `missing` and `surplus` are those of
-/// [`check_consistent`].
+/// with all received shards. Otherwise it returns [`Error::OutOfMemory`].
 ///
 /// The check needs a work area. If it cannot be allocated, the error is [`Error::OutOfMemory`].
 pub fn error_without_results<E: Engine, P: Pieces>(
     alloc: Global,
     engine: E,
-    missing: usize,
-    surplus: usize,
     received: &P,
 ) -> Error
     requires set_up { IsDecoder default_rate (P.received received.now) }
-    requires enough { originals_given (P.received received.now)
-        + recovery_given (P.received received.now)
-        ≡ (P.received received.now).configuration.original_count + surplus }
-    requires missing { missing + originals_given (P.received received.now)
-        ≡ (P.received received.now).configuration.original_count }
+    requires enough { enough_given (P.received received.now) ≡ Ok tt }
     ensures { NoneAgrees (P.received received.now) result ⊎ (result ≡ Error.OutOfMemory) }
 {
-    match check_consistent(alloc, engine, missing, surplus, received) {
+    match check_consistent(alloc, engine, received) {
         Ok(()) => Error::OutOfMemory,
         Err(error) => error,
     }

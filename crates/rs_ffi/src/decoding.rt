@@ -21,7 +21,7 @@ use crate::layouts::RsShard;
 use crate::marked_buffers::{MarkedBuffers, indexes_of_lost};
 use reed_solomon_simd::RoomError;
 use reed_solomon_simd::ffi::{
-    check_rooms, received_shards, restore_in_place, restore_into, surplus_of,
+    check_enough, check_rooms, received_shards, restore_in_place, restore_into,
 };
 use rs_field::bytes::are_bytes;
 use rs_field::engine::Engine;
@@ -122,6 +122,7 @@ fn restore_marked<E: Engine>(
         originals,
         recovery,
         lost: lost.as_slice(),
+        recovery_received_count: count_marked(marks.1),
     };
     restore_buffers(alloc, engine, &mut buffers)
 }
@@ -144,15 +145,8 @@ fn restore_buffers<E: Engine>(
     ensures others { besides_rooms buffers.new ≡ besides_rooms buffers.old }
     ensures loan { buffers.new.originals.ghost_name ≡ buffers.old.originals.ghost_name }
 {
-    let original_received_count = count_marked(buffers.original_marks);
-    let recovery_received_count = count_marked(buffers.recovery_marks);
-    let missing = buffers.lost.len();
-    let surplus = surplus_of(
-        buffers.counts.original_count,
-        original_received_count,
-        recovery_received_count,
-    )?;
-    restore_in_place(alloc, engine, missing, surplus, buffers)
+    check_enough(buffers)?;
+    restore_in_place(alloc, engine, buffers)
 }
 
 /// Restores the originals that are not among the given shards, and writes them into rooms in order of their index.

@@ -3,6 +3,7 @@ ghost use Rattle.std.specs.Prelude.{◌≡◌, ◌++◌, ◌<◌, ◌≤◌, ◌
 ghost use Rattle.std.specs.List.{between};
 ghost use Rattle.std.specs.Option.{option_map};
 ghost use Rattle.rs_field.specs.code.Column.{Shard};
+ghost use Rattle.rs_ffi.specs.Answers.{marked_number};
 ghost use Rattle.rs_ffi.specs.Buffers.{lost_indexes, marked_map};
 
 use crate::buffer_rooms::put;
@@ -29,9 +30,12 @@ pub struct MarkedBuffers<'a, 'b> {
     pub recovery: &'a [u8],
     /// The indexes of the originals whose mark is 0, in order.
     pub lost: &'a [usize],
+    /// The number of marks of recovery shards that are not 0.
+    pub recovery_received_count: usize,
     pub ghost originals_number: { length original_marks.now ≡ counts.original_count },
     pub ghost recovery_number: { length recovery_marks.now ≡ counts.recovery_count },
     pub ghost listed: { lost.now ≡ lost_indexes 0 original_marks.now },
+    pub ghost counted: { recovery_received_count ≡ marked_number recovery_marks.now },
 }
 
 impl<'a, 'b> Pieces for MarkedBuffers<'a, 'b> {
@@ -41,6 +45,14 @@ impl<'a, 'b> Pieces for MarkedBuffers<'a, 'b> {
 
     fn counts(&self) -> DefaultRateCounts {
         self.counts
+    }
+
+    fn original_received_count(&self) -> usize {
+        self.counts.original_count - self.lost.len()
+    }
+
+    fn recovery_received_count(&self) -> usize {
+        self.recovery_received_count
     }
 
     fn shard_bytes(&self) -> usize {

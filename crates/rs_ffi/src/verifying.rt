@@ -7,7 +7,7 @@ use crate::fault_places::placed_fault;
 use crate::layouts::RsShard;
 use crate::receiving::received_in_arrays;
 use reed_solomon_simd::RoomError;
-use reed_solomon_simd::ffi::check_consistent;
+use reed_solomon_simd::ffi::{check_consistent, check_enough};
 use rs_field::engine::Engine;
 use rs_field::error::Error;
 use rs_rate::rate::DefaultRateCounts;
@@ -59,6 +59,6 @@ fn verify_received<E: Engine>(
 {
     let counts = DefaultRateCounts::new(original_count, recovery_count)?;
     let received = received_in_arrays(alloc, counts, originals, recovery)?;
-    let surplus = received.surplus()?;
-    check_consistent(alloc, engine, received.missing(), surplus, &received)
+    check_enough(&received)?;
+    check_consistent(alloc, engine, &received)
 }

@@ -11,9 +11,10 @@ ghost use Rattle.rs_field.specs.rows.Rows.{byte_symbol, chunk, symbol};
 ghost use Rattle.rs_field.specs.words.DirectSum.{direct_factor};
 ghost use Rattle.rs_field.specs.words.Field.{product, power};
 ghost use Rattle.rs_field.specs.words.Tables.{times_factor};
-ghost use Rattle.rs_rate.specs.passes.Sums.{MakeFactors};
 
-use crate::passes::sums::{add_times, factor_of, finish_sum, locate_base, summed_piece};
+use crate::passes::sums::{
+    BaseFactors, add_times, factor_of, finish_sum, locate_base, summed_piece,
+};
 use crate::rows::shard_rows::insert_at;
 use crate::values::supported_counts::DefaultRateCounts;
 use rs_field::engine::{Engine, GfElement, Steps};
@@ -40,11 +41,8 @@ pub fn change_factors<E: Engine>(
     ensures refused { IfErr result (λ e. e ≡ Error.OutOfMemory) }
 {
     let marks = original_marks(alloc, counts)?;
-    let frame = counts.frame;
-    let mut locator = vec![in alloc; 0; frame.row_count()]?;
-    let mut logs = vec![in alloc; 0; frame.row_count()]?;
-    locate_base(engine, steps, frame, &marks, &mut locator, &mut logs);
-    recovery_factors(alloc, counts, &locator, &logs, frame.original_row(index))
+    let base = locate_base(alloc, engine, steps, counts.frame, &marks)?;
+    recovery_factors(alloc, counts, &base, counts.frame.original_row(index))
 }
 
 // Returns marks of all rows of a decoder of these counts, of which those of the originals are set.
@@ -68,24 +66,22 @@ fn original_marks(alloc: Global, counts: DefaultRateCounts) -> Result<Vec<bool>,
 fn recovery_factors(
     alloc: Global,
     counts: DefaultRateCounts,
-    locator: &[GfElement],
-    logs: &[GfElement],
+    base: &BaseFactors,
     x: usize,
 ) -> Result<Vec<GfElement>, Error>
-    requires made { MakeFactors locator.now logs.now }
-    requires entries { length locator.now ≡ row_count counts.frame }
+    requires entries { length base.now.locator.items ≡ row_count counts.frame }
     requires from { x < row_count counts.frame }
     requires apart { (i : ℕ) → i < counts.recovery_count → x ≢ recovery_row counts.frame i }
     ensures count { IfOk result (λ factors. length factors.items ≡ counts.recovery_count) }
     ensures factors { IfOk result (λ factors. (i : ℕ) → i < counts.recovery_count
         → slice_index factors.items i
-        ≡ direct_factor (λ z. slice_index locator.now z) x
+        ≡ direct_factor (λ z. slice_index base.now.locator.items z) x
         (recovery_row counts.frame i)) }
     ensures refused { IfErr result (λ e. e ≡ Error.OutOfMemory) }
 {
     let mut factors = Vec::with_capacity(alloc, counts.recovery_count)?;
     for i in 0..counts.recovery_count {
-        let log_m = factor_of(locator, logs, x, counts.frame.recovery_row(i));
+        let log_m = factor_of(&base.locator, &base.logs, x, counts.frame.recovery_row(i));
         factors.push(log_m)?;
     }
     Ok(factors)

@@ -5,7 +5,7 @@
 //! points of the rows are all words below a power of two, so the formula needs no weights. At an erased row, the
 //! derivative of this product is the missing word times the derivative of the locator.
 ghost use Rattle.std.specs.Prelude.{◌≡◌, ◌≢◌, ℕ, ◌+◌, ◌*◌, ◌/◌, ◌%◌, ◌<◌, ◌≤◌, false, length};
-ghost use Rattle.std.specs.Prelude.{slice_index, take, bit_xor};
+ghost use Rattle.std.specs.Prelude.{slice_index, take, bit_xor, IfOk, IfErr};
 ghost use Rattle.rs_field.specs.code.Column.{IsShard, column};
 ghost use Rattle.rs_field.specs.code.Frame.{row_count};
 ghost use Rattle.rs_field.specs.rows.Layout.{row_len};
@@ -21,7 +21,9 @@ ghost use Rattle.rs_rate.specs.passes.Sums.{ListsMarked, MakeFactors, sum_word};
 use crate::passes::locators::make_locator;
 use crate::rows::shard_rows::{insert_at, move_tail, rows_are_bytes, shard_at};
 use rs_field::engine::{Engine, GF_MODULUS, GfElement, Steps, TwoLogarithms};
+use rs_field::error::Error;
 use rs_field::frame::Frame;
+use std::alloc::Global;
 
 /// The base of direct sums: given shards, by their rows, and what the factors of their words are made of.
 #[derive(Drop)]
@@ -30,8 +32,8 @@ pub struct SumBase<'a> {
     pub marks: &'a [bool],
     /// The rows of the base, from the lowest one on.
     pub rows: &'a [GfElement],
-    /// The locator of the rows outside of the base, at each row. Rows whose words are known to be zero in each sum may be
-    /// missing in `marks` and `rows`, and count as rows of the base here.
+    /// The locator of the rows outside of the base, at each row. Rows whose words are known to be zero in each sum may
+    /// be missing in `marks` and `rows`, and count as rows of the base here.
     pub locator: &'a [GfElement],
     /// The logarithm of each word except for the word 0, modulo 65535.
     pub logs: &'a [GfElement],
@@ -88,24 +90,39 @@ pub(crate) fn factor_of(locator: &[GfElement], logs: &[GfElement], x: usize, y: 
     (sum % u32::from(GF_MODULUS)) as GfElement
 }
 
-/// Computes what the factors of a base are made of: the locator of the rows outside of the base, and the logarithms of
-/// words. `marks` has the marks of the rows of the base, and no row after them is in the base.
+/// What the factors of a base are made of.
+#[derive(Drop)]
+pub struct BaseFactors {
+    /// The locator of the rows outside of the base, at each row.
+    pub locator: Vec<GfElement>,
+    /// The logarithm of each word except for the word 0, modulo 65535.
+    pub logs: Vec<GfElement>,
+    pub ghost made: { MakeFactors locator.items logs.items },
+}
+
+/// Computes what the factors of a base are made of. `marks` has the marks of the rows of the base, and no row after
+/// them is in the base.
+///
+/// # Errors
+///
+/// [`Error::OutOfMemory`] if the locator or the logarithms cannot be allocated.
 pub fn locate_base<E: Engine>(
+    alloc: Global,
     engine: &E,
     steps: &mut Steps,
     frame: Frame,
     marks: &[bool],
-    locator: &mut [GfElement],
-    logs: &mut [GfElement],
-)
-    requires few { frame.exponent ≤ 16 }
-    requires entries { length locator.old ≡ row_count frame }
-    requires log_entries { length logs.old ≡ row_count frame }
-    ensures located { IsLocatorOf frame marks.now locator.new }
-    ensures made { MakeFactors locator.new logs.new }
+) -> Result<BaseFactors, Error>
+    requires { frame.exponent ≤ 16 }
+    ensures located { IfOk result
+        (λ factors. IsLocatorOf frame marks.now factors.locator.items) }
+    ensures refused { IfErr result (λ e. e ≡ Error.OutOfMemory) }
 {
-    make_locator(engine, steps, locator, marks, frame);
-    set_logarithms(engine, steps, logs, frame);
+    let mut locator = vec![in alloc; 0; frame.row_count()]?;
+    let mut logs = vec![in alloc; 0; frame.row_count()]?;
+    make_locator(engine, steps, &mut locator, marks, frame);
+    set_logarithms(engine, steps, &mut logs, frame);
+    Ok(BaseFactors { locator, logs })
 }
 
 // Sets each entry except for entry 0 to the logarithm of its index, modulo 65535. If the engine has no logarithms, they

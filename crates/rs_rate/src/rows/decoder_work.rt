@@ -160,8 +160,8 @@ impl DecoderMemory {
         make_room(&mut self.entries, rows)
     }
 
-    // Lays the memory out for a configuration, without given shards. All memory is allocated first. If there are as many
-    // entries as before, they stay: the rounds of a `StripDecoder` share them.
+    // Lays the memory out for a configuration, without given shards. All memory is allocated first. If there are as
+    // many entries as before, they stay: the rounds of a `StripDecoder` share them.
     fn lay_out(&mut self, configuration: Configuration) -> Result<(), Error>
         requires { IsConfigured configuration }
         ensures laid_out { OnOk result (IsLaidOut configuration self.new) }

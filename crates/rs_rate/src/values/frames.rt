@@ -148,9 +148,9 @@ pub fn are_sums_cheaper(frame: Frame, original_count: usize, sums: usize) -> boo
 
 /// Returns whether a decode makes the missing originals from syndromes, if it has this number of missing originals and
 /// of surplus shards. The cost of syndromes is the number of butterflies of an encode, plus one product in each sum for
-/// each missing original. Syndromes are used only at the high rate, for at least eight missing originals, if direct sums
-/// take more than one and a half times this cost in products, and two transforms of a decoder more than three times this
-/// cost in butterflies.
+/// each missing original. Syndromes are used only at the high rate, for at least eight missing originals, if direct
+/// sums take more than one and a half times this cost in products, and two transforms of a decoder more than three
+/// times this cost in butterflies.
 pub fn are_syndromes_cheapest(
     frame: Frame,
     original_count: usize,

@@ -44,21 +44,21 @@ pub returns-in_default-clause-answer : goal.returns-in_default-clause-answer
 returns-in_default-clause-answer g c =
     always-both (λ item. (item.0, item.1.now)) (λ item. (item.0, item.1.now)) _ (returns-in_default-clause-calls g c)
 
-pub returns-in_err-surplus-clause-calls : goal.returns-in_err-surplus-clause-calls
-returns-in_err-surplus-clause-calls g c =
+pub returns-in_err-check_enough-clause-calls : goal.returns-in_err-check_enough-clause-calls
+returns-in_err-check_enough-clause-calls g c =
     let run = rw (c.in_ok-counts.ensures.0, c.in_ok-counts.ensures.1, c.in-Some.is) at c.in_ok-received.ensures in (
       run.0,
       run.1,
       λ originals recoveries begins further.
           let led = decoding-few c.args.original_count c.args.recovery_count originals recoveries _
-          (run.2 originals recoveries begins further) c.in_err-surplus.field-0.0 c.in_err-surplus.ensures.answer in
+          (run.2 originals recoveries begins further) c.in_err-check_enough.field-0.0 c.in_err-check_enough.ensures in
           search rules,
     )
 
-pub returns-in_err-surplus-clause-answer : goal.returns-in_err-surplus-clause-answer
-returns-in_err-surplus-clause-answer g c =
+pub returns-in_err-check_enough-clause-answer : goal.returns-in_err-check_enough-clause-answer
+returns-in_err-check_enough-clause-answer g c =
     always-both (λ item. (item.0, item.1.now)) (λ item. (item.0, item.1.now)) _
-    (returns-in_err-surplus-clause-calls g c)
+    (returns-in_err-check_enough-clause-calls g c)
 
 pub returns-in_err-restored-clause-calls : goal.returns-in_err-restored-clause-calls
 returns-in_err-restored-clause-calls g c =
@@ -68,7 +68,7 @@ returns-in_err-restored-clause-calls g c =
       λ originals recoveries begins further.
           let led = decoding-none-agrees c.args.original_count c.args.recovery_count originals recoveries _
           (run.2 originals recoveries begins further)
-          (sym c.in_ok-surplus.ensures.answer) c.in_err-restored.field-0.0 c.in_err-restored.ensures in
+          (sym c.in_ok-check_enough.ensures) c.in_err-restored.field-0.0 c.in_err-restored.ensures in
           search rules,
     )
 
@@ -84,7 +84,7 @@ returns-clause-calls g c =
       run.1,
       λ originals recoveries begins further.
           decoding-restored c.args.original_count c.args.recovery_count originals recoveries _
-          (run.2 originals recoveries begins further) (sym c.in_ok-surplus.ensures.answer) _ c.by_index.ensures,
+          (run.2 originals recoveries begins further) (sym c.in_ok-check_enough.ensures) _ c.by_index.ensures,
     )
 
 pub returns-clause-answer : goal.returns-clause-answer

@@ -18,8 +18,8 @@ returns-in_err-counts g c = search rules
 pub returns-in_err-received : goal.returns-in_err-received
 returns-in_err-received g c = search rules
 
-pub returns-in_err-surplus : goal.returns-in_err-surplus
-returns-in_err-surplus g c = search rules
+pub returns-in_err-check_enough : goal.returns-in_err-check_enough
+returns-in_err-check_enough g c = search rules
 
 pub returns-in_err-check_wanted : goal.returns-in_err-check_wanted
 returns-in_err-check_wanted g c = search rules

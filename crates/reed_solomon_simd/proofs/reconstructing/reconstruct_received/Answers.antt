@@ -19,13 +19,13 @@ use Rattle.reed_solomon_simd.proofs.reconstructing.reconstruct_received.Given.{O
 use Rattle.reed_solomon_simd.proofs.reconstructing.reconstruct_received.Goals.{In_ok-check_rooms}
 use Rattle.reed_solomon_simd.proofs.reconstructing.reconstruct_received.Goals as goal
 
-pub returns-in_err-surplus-clause-answer : goal.returns-in_err-surplus-clause-answer
-returns-in_err-surplus-clause-answer g c =
+pub returns-in_err-check_enough-clause-answer : goal.returns-in_err-check_enough-clause-answer
+returns-in_err-check_enough-clause-answer g c =
     let s = received_state c.args.received.now in
     let fit = rooms_outcome (length c.args.wanted.now) (bytes_in c.args.rooms.now) s.configuration.shard_bytes in
-    let e = c.in_err-surplus.field-0.0 in (
+    let e = c.in_err-check_enough.field-0.0 in (
       Err (Refused e),
-      rebuilds-few s c.args.wanted.now fit e c.in_err-surplus.ensures.answer,
+      rebuilds-few s c.args.wanted.now fit e c.in_err-check_enough.ensures,
       (search rules, refl),
     )
 
@@ -36,7 +36,7 @@ returns-in_err-check_wanted-clause-answer g c =
     let e = c.in_err-check_wanted.field-0.0 in (
       Err e,
       elim c.in_err-check_wanted.ensures.answer [
-        | inl same ↦ rebuilds-unwanted s c.args.wanted.now fit c.in_ok-surplus.ensures.answer e
+        | inl same ↦ rebuilds-unwanted s c.args.wanted.now fit c.in_ok-check_enough.ensures e
             same
         | inr lacks ↦ rebuilds-lacking s c.args.wanted.now fit e lacks
       ],
@@ -50,7 +50,7 @@ returns-in_err-check_rooms-clause-answer g c =
     let can = was-checked (wanted_outcome s [] c.args.wanted.now) _ c.in_ok-check_wanted.ensures.answer in
     let e = c.in_err-check_rooms.field-0.0 in (
       Err (of_rooms e),
-      rebuilds-misfit s c.args.wanted.now fit c.in_ok-surplus.ensures.answer can (of_rooms e)
+      rebuilds-misfit s c.args.wanted.now fit c.in_ok-check_enough.ensures can (of_rooms e)
           (ap (result_map_both (λ (u : Unit {0}). u) of_rooms)
           (c.in_err-check_rooms.ensures.answer (replicate (length c.args.wanted.now)
           (replicate c.args.received.now.shard_bytes 0))
@@ -70,7 +70,7 @@ made g c result rebuilt =
     let n = length c.args.wanted.now in
     let size = c.args.received.now.shard_bytes in
     let s = received_state c.args.received.now in
-    rebuilds-made s c.args.wanted.now (rooms_outcome n (bytes_in c.args.rooms.now) size) c.in_ok-surplus.ensures.answer
+    rebuilds-made s c.args.wanted.now (rooms_outcome n (bytes_in c.args.rooms.now) size) c.in_ok-check_enough.ensures
     (was-checked (wanted_outcome s [] c.args.wanted.now) _ c.in_ok-check_wanted.ensures.answer)
     (ap (result_map_both (λ (u : Unit {0}). u) of_rooms)
     (c.in_ok-check_rooms.ensures.answer (replicate n (replicate size 0)) (zeros-number n size) (zeros-sized n size)))
@@ -86,10 +86,10 @@ returns-in_err-rebuild_lent-clause-answer g c =
       (search rules, c.in_err-rebuild_lent.ensures.untouched),
     )
 
-pub returns-then-surplus-eq0-clause-answer : goal.returns-then-surplus-eq0-clause-answer
-returns-then-surplus-eq0-clause-answer g c = (
+pub returns-then-surplus_count-eq0-clause-answer : goal.returns-then-surplus_count-eq0-clause-answer
+returns-then-surplus_count-eq0-clause-answer g c = (
   Ok (bytes_in c.rebuild_lent.new.rooms),
-  made g (goal.at.returns-then-surplus-eq0-clause-answer g c).In_ok-check_rooms
+  made g (goal.at.returns-then-surplus_count-eq0-clause-answer g c).In_ok-check_rooms
       (Ok (bytes_in c.rebuild_lent.new.rooms)) c.in_ok-rebuild_lent.ensures.rebuilt,
   (refl, refl),
 )

@@ -1,10 +1,13 @@
-use Rattle.std.proofs.Common.{rules}
+use Rattle.std.proofs.Common.{rules, arith}
 use Rattle.rs_field.specs.code.PieceStates.{HoldRestored}
 use Rattle.reed_solomon_simd.proofs.Making.{made-ok, made-refused, made-untouched}
+use Rattle.reed_solomon_simd.proofs.MissingLemmas.{names-all}
 use Rattle.reed_solomon_simd.proofs.restoring.restore_apart.Goals as goal
 
 pub make_missing-requires-clause-rooms : goal.make_missing-requires-clause-rooms
-make_missing-requires-clause-rooms g c = record { number = c.requires.number; fit = c.requires.fit }
+make_missing-requires-clause-rooms g c =
+    let names = (names-all (g.P.Pieces.received c.args.received.now)).number in
+    record { number = omega (arith, names, c.requires.number); fit = c.requires.fit }
 
 pub returns-clause-restored : goal.returns-clause-restored
 returns-clause-restored g c =

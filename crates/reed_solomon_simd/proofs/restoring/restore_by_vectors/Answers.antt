@@ -21,8 +21,8 @@ returns-in_err-check_rooms-clause-answer g c =
     let made : List Shard = map (λ v. v.items) c.in_ok-vectors.vectors.items in
     let holds = c.in_ok-vectors.ensures in
     let many = held-number holds in
-    let number : length (map (λ v. v.items) c.in_ok-vectors.vectors.items) ≡ c.missing-missing.result =
-    omega (arith, many, c.missing-missing.ensures) in
+    let number : length (map (λ v. v.items) c.in_ok-vectors.vectors.items) ≡ c.missing_count-missing.result =
+    omega (arith, many, c.missing_count-missing.ensures) in
     restores-filled s c.requires.enough made (bytes_in c.args.rooms.now) _ _ holds (Err c.in_err-check_rooms.field-0.0)
     (c.in_err-check_rooms.ensures.answer made number (held-sized holds)) (search rules, refl)
 
@@ -39,8 +39,8 @@ returns-clause-answer g c =
     let made : List Shard = map (λ v. v.items) c.in_ok-vectors.vectors.items in
     let holds = c.in_ok-vectors.ensures in
     let many = held-number holds in
-    let number : length (map (λ v. v.items) c.in_ok-vectors.vectors.items) ≡ c.missing-missing.result =
-    omega (arith, many, c.missing-missing.ensures) in
+    let number : length (map (λ v. v.items) c.in_ok-vectors.vectors.items) ≡ c.missing_count-missing.result =
+    omega (arith, many, c.missing_count-missing.ensures) in
     restores-filled s c.requires.enough made (bytes_in c.args.rooms.now) (bytes_in c.fill_rooms.new.rooms) (Ok tt) holds
     (Ok tt)
     (c.in_ok-check_rooms.ensures.answer made number (held-sized holds))

@@ -1,12 +1,9 @@
 use Rattle.std.proofs.Common.{rules, ◌≡◌, ℕ, ◌+◌, sym, ap, ◌∙◌, subst}
-use Rattle.std.specs.Prelude.{not, is_some, Option}
-use Rattle.rs_field.specs.code.Column.{Shard}
+use Rattle.std.specs.Prelude.{is_some}
 use Rattle.rs_field.specs.code.Decoder.{DecoderState}
-use Rattle.rs_field.proofs.code_lemmas.PieceStates.{is_some-map}
-use Rattle.reed_solomon_simd.proofs.BaseMarks.{some-copied}
 use Rattle.reed_solomon_simd.specs.Reconstructed.{NamesMissing}
 use Rattle.reed_solomon_simd.proofs.MissingLemmas.{names-none, names-received, names-missing}
-use Rattle.reed_solomon_simd.proofs.strip_summer.missing_originals.Goals.{then-is_none+in_ok-push, else-is_none}
+use Rattle.reed_solomon_simd.proofs.strip_summer.missing_originals.Goals.{then-not-is_received+in_ok-push, else-not-is_received}
 use Rattle.reed_solomon_simd.proofs.strip_summer.missing_originals.Goals as goal
 
 pub loop-index-init : goal.loop-index-init
@@ -19,20 +16,18 @@ loop-index-preserved g c =
     let s : DecoderState = g.P.Pieces.received c.args.received.now in
     let index : ℕ = c.loop-index.index in
     let received : is_some ((g.P.Pieces.received c.args.received.now).originals c.loop-index.index)
-    ≡ not c.is_none.result =
-    sym (is_some-map 0 0 (s.originals index))
-    ∙ ap (λ (o : Option Shard). is_some o) (sym c.piece.ensures)
-    ∙ some-copied c.piece.result ∙ c.is_none.ensures in
-    elim c.if-is_none.branch [
-      | then-is_none+in_ok-push w ↦
+    ≡ c.is_received.result =
+    sym c.is_received.ensures in
+    elim c.if-not-is_received.branch [
+      | then-not-is_received+in_ok-push w ↦
           subst (NamesMissing (index + 1) s)
           (sym (ap (λ v. v.items) w.missing-is ∙ w.in_ok-push.ensures.items))
           (names-missing index s c.loop-index.missing.items c.loop-index.invariant (search rules)
-          (received ∙ ap not w.if-is_none.true))
-      | else-is_none w ↦
+          (received ∙ w.if-not-is_received.true))
+      | else-not-is_received w ↦
           subst (NamesMissing (index + 1) s) (sym (ap (λ v. v.items) w.missing-is))
           (names-received index s c.loop-index.missing.items c.loop-index.invariant
-          (received ∙ ap not w.if-is_none.false))
+          (received ∙ w.if-not-is_received.false))
     ]
 
 pub returns-clause-made : goal.returns-clause-made

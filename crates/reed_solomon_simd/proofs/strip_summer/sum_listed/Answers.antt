@@ -8,7 +8,6 @@ use Rattle.rs_field.specs.rows.MarkedRows.{is_marked}
 use Rattle.rs_rate.specs.passes.Decoding.{IsLocatorOf}
 use Rattle.rs_rate.specs.passes.Sums.{ListsMarked}
 use Rattle.rs_rate.proofs.passes_lemmas.ChangeLemmas.{distinct_rows_of}
-use Rattle.rs_rate.proofs.passes_lemmas.SumLemmas.{written-back}
 use Rattle.reed_solomon_simd.specs.Base.{MarkBase}
 use Rattle.reed_solomon_simd.proofs.BaseLemmas.{decoder_frame, frame_same}
 use Rattle.reed_solomon_simd.proofs.BaseMarks.{enough-marked, first-marks, first-exact}
@@ -20,14 +19,8 @@ list_base-end-requires-clause-few g c = search (rules, decoder_frame, pow_mono)
 pub list_base-end-requires-clause-enough : goal.list_base-end-requires-clause-enough
 list_base-end-requires-clause-enough g c = search (rules, enough-marked)
 
-pub row_count-requires : goal.row_count-requires
-row_count-requires g c = (distinct_rows_of c.counts.result.framed c.counts.result.supported).few
-
-pub row_count-requires-2 : goal.row_count-requires-2
-row_count-requires-2 g c = (distinct_rows_of c.counts.result.framed c.counts.result.supported).few
-
-pub locate_base-requires-clause-few : goal.locate_base-requires-clause-few
-locate_base-requires-clause-few g c = (distinct_rows_of c.counts.result.framed c.counts.result.supported).few
+pub locate_base-requires : goal.locate_base-requires
+locate_base-requires g c = (distinct_rows_of c.counts-counts.result.framed c.counts-counts.result.supported).few
 
 pub make_strips-requires-clause-ready : goal.make_strips-requires-clause-ready
 make_strips-requires-clause-ready g c =
@@ -39,8 +32,8 @@ make_strips-requires-clause-ready g c =
     let given : c.deref.result.now ≡ c.in_ok-received.received.items = search rules in
     let rows : length c.list_base-end.new.rows ≡ (g.S.Pieces.received c.args.store.now).configuration.original_count =
     search rules in
-    let locator : c.deref-4.result.now ≡ c.locate_base.new.locator = search (rules, written-back) in
-    let frame = frame_same s can.set_up c.counts.result.framed c.counts.ensures.originals c.counts.ensures.recovery in
+    let locator : c.deref-4.result.now ≡ c.in_ok-factors.factors.locator.items = search rules in
+    let frame = frame_same s can.set_up c.counts-counts.result.framed c.counts-counts.ensures.originals c.counts-counts.ensures.recovery in
     record {
       based = record {
         marked = subst (λ (m : List Bool). MarkBase (g.S.Pieces.received c.args.store.now) (take end m)) (sym lent)
@@ -54,9 +47,9 @@ make_strips-requires-clause-ready g c =
             (omega (arith, c.list_base-end.ensures.end, ap length given)));
         located = subst (λ (l : List ℕ). IsLocatorOf (frame_at (g.S.Pieces.received c.args.store.now).configuration)
             (take end c.deref-2.result.now) l) (sym locator)
-            (subst (λ (f : Frame). IsLocatorOf f (take end c.deref-2.result.now) c.locate_base.new.locator) frame
-            c.locate_base.ensures.located);
+            (subst (λ (f : Frame). IsLocatorOf f (take end c.deref-2.result.now) c.in_ok-factors.factors.locator.items) frame
+            c.in_ok-factors.ensures.located);
       };
-      surplus_is = c.requires.surplus;
+      surplus_is = c.surplus_count-surplus.ensures;
       few = omega arith;
     }

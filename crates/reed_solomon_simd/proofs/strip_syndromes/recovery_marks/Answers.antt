@@ -1,9 +1,6 @@
-use Rattle.std.proofs.Common.{rules, sym, ap, ◌∙◌, arith, pow_mono}
-use Rattle.std.specs.Prelude.{is_some}
+use Rattle.std.proofs.Common.{rules, arith, pow_mono}
 use Rattle.rs_field.specs.code.Decoder.{DecoderState}
-use Rattle.rs_field.proofs.code_lemmas.PieceStates.{is_some-map}
 use Rattle.rs_rate.proofs.passes_lemmas.ChangeLemmas.{distinct_rows_of}
-use Rattle.reed_solomon_simd.proofs.BaseMarks.{some-copied}
 use Rattle.reed_solomon_simd.proofs.SyndromeMarks.{coded-more}
 use Rattle.reed_solomon_simd.proofs.strip_syndromes.recovery_marks.Goals as goal
 
@@ -28,8 +25,6 @@ loop-index-preserved g c =
     record {
       count = c.loop-index.invariant.count;
       marked = coded-more c.loop-index.index c.recovery_row.result c.counts-counts.result.frame s.recovery
-          c.loop-index.marks.items c.is_some-is_received.result c.recovery_row.ensures
-          (search rules)
-          (c.is_some-is_received.ensures ∙ sym (some-copied c.piece.result) ∙ ap is_some c.piece.ensures
-          ∙ is_some-map 0 0 (s.recovery c.loop-index.index)) c.loop-index.invariant.marked;
+          c.loop-index.marks.items c.is_received-is_there.result c.recovery_row.ensures
+          (search rules) c.is_received-is_there.ensures c.loop-index.invariant.marked;
     }

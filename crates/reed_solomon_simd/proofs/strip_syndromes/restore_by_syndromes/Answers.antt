@@ -8,7 +8,6 @@ use Rattle.rs_rate.specs.passes.Decoding.{IsLocatorOf}
 use Rattle.rs_rate.specs.passes.Sums.{ListsMarked}
 use Rattle.rs_rate.specs.rows.Marks.{how_many}
 use Rattle.rs_rate.proofs.passes_lemmas.ChangeLemmas.{distinct_rows_of}
-use Rattle.rs_rate.proofs.passes_lemmas.SumLemmas.{written-back}
 use Rattle.reed_solomon_simd.specs.Syndromes.{AddsOriginals}
 use Rattle.reed_solomon_simd.proofs.BaseLemmas.{decoder_frame, frame_same}
 use Rattle.reed_solomon_simd.proofs.MissingLemmas.{names-all, makes-missing}
@@ -22,37 +21,23 @@ pub list_base-end-requires-clause-enough : goal.list_base-end-requires-clause-en
 list_base-end-requires-clause-enough g c =
     let s : DecoderState = g.S.Pieces.received c.args.store.now in
     let marks : List Bool = c.in_ok-received.received.items in
-    let rows : length c.deref_mut.result.now ≡ c.args.missing = search rules in
+    let rows : length c.deref_mut.result.now ≡ c.missing_count-missing.result = search rules in
     let given : c.deref.result.now ≡ c.in_ok-received.received.items = search rules in
-    let enough = enough-coded s c.requires.set_up marks c.args.missing c.args.surplus c.in_ok-received.ensures.marks
-    c.requires.missing c.requires.enough in
+    let enough = enough-coded s c.requires.set_up marks c.missing_count-missing.result c.surplus_count-surplus.result c.in_ok-received.ensures.marks
+    c.missing_count-missing.ensures c.surplus_count-surplus.ensures in
     subst (λ (m : List Bool). length c.deref_mut.result.now ≤ how_many (length m) (is_marked m)) (sym given)
     (omega (arith, rows, enough))
 
-pub row_count-requires : goal.row_count-requires
-row_count-requires g c = (distinct_rows_of c.counts-counts.result.framed c.counts-counts.result.supported).few
-
-pub row_count-requires-2 : goal.row_count-requires-2
-row_count-requires-2 g c = (distinct_rows_of c.counts-counts.result.framed c.counts-counts.result.supported).few
-
-pub locate_base-requires-clause-few : goal.locate_base-requires-clause-few
-locate_base-requires-clause-few g c =
+pub locate_base-requires : goal.locate_base-requires
+locate_base-requires g c =
     (distinct_rows_of c.counts-counts.result.framed c.counts-counts.result.supported).few
 
 pub make_strips-requires-clause-can : goal.make_strips-requires-clause-can
 make_strips-requires-clause-can g c = record {
   set_up = c.requires.set_up;
-  enough = search rules;
+  enough = c.requires.enough;
   can = (names-all (g.S.Pieces.received c.args.store.now)).each;
 }
-
-pub make_strips-requires-clause-rooms : goal.make_strips-requires-clause-rooms
-make_strips-requires-clause-rooms g c =
-    let names = (names-all (g.S.Pieces.received c.args.store.now)).number in
-    record {
-      number = omega (arith, names, c.requires.missing, c.requires.rooms.number);
-      fit = c.requires.rooms.fit;
-    }
 
 pub make_strips-requires-clause-ready : goal.make_strips-requires-clause-ready
 make_strips-requires-clause-ready g c =
@@ -65,8 +50,8 @@ make_strips-requires-clause-ready g c =
     let given : c.deref.result.now ≡ c.in_ok-received.received.items = search rules in
     let lent : c.deref-2.result.now ≡ c.in_ok-received.received.items = search rules in
     let kept : c.deref-3.result.now ≡ c.in_ok-all.all.items = search rules in
-    let rows : length c.list_base-end.new.rows ≡ c.args.missing = search rules in
-    let locator : c.deref-5.result.now ≡ c.locate_base.new.locator = search (rules, written-back) in
+    let rows : length c.list_base-end.new.rows ≡ c.missing_count-missing.result = search rules in
+    let locator : c.deref-5.result.now ≡ c.in_ok-factors.factors.locator.items = search rules in
     let frame = frame_same s is c.counts-counts.result.framed c.counts-counts.ensures.originals
     c.counts-counts.ensures.recovery in
     let adds : AddsOriginals (g.S.Pieces.received c.args.store.now)
@@ -81,12 +66,12 @@ make_strips-requires-clause-ready g c =
       encoder = search rules;
       based = record {
         all = all;
-        marked = all-base s is marks all end exact adds c.args.missing c.requires.missing count;
+        marked = all-base s is marks all end exact adds c.missing_count-missing.result c.missing_count-missing.ensures count;
         located = subst (λ (l : List ℕ). IsLocatorOf (frame_at (g.S.Pieces.received c.args.store.now).configuration)
             c.in_ok-all.all.items l) (sym locator)
-            (subst (λ (f : Frame). IsLocatorOf f c.in_ok-all.all.items c.locate_base.new.locator) frame
-            (subst (λ (m : List Bool). IsLocatorOf c.counts-counts.result.frame m c.locate_base.new.locator) kept
-            c.locate_base.ensures.located));
+            (subst (λ (f : Frame). IsLocatorOf f c.in_ok-all.all.items c.in_ok-factors.factors.locator.items) frame
+            (subst (λ (m : List Bool). IsLocatorOf c.counts-counts.result.frame m c.in_ok-factors.factors.locator.items) kept
+            c.in_ok-factors.ensures.located));
         adds = c.in_ok-all.ensures.marks;
         only = subst (λ (m : List Bool). OnlyCoded (frame_at (g.S.Pieces.received c.args.store.now).configuration)
             (g.S.Pieces.received c.args.store.now).configuration.recovery_count (take end m)) (sym lent)
@@ -98,8 +83,7 @@ make_strips-requires-clause-ready g c =
             ≡ is_some ((g.S.Pieces.received c.args.store.now).recovery i)) (sym lent)
             (λ i hi early. first-same marks end (recovery_row (frame_at s.configuration) i) early ∙ exact.coded i hi);
       };
-      missing_is = c.requires.missing;
-      surplus_is = c.requires.enough;
+      surplus_is = c.surplus_count-surplus.ensures;
       few = omega arith;
     }
 

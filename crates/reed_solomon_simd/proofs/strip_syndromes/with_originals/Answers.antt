@@ -1,12 +1,9 @@
-use Rattle.std.proofs.Common.{rules, ◌≡◌, ℕ, sym, ap, ◌∙◌, subst, arith, pow_mono}
-use Rattle.std.specs.Prelude.{is_some}
+use Rattle.std.proofs.Common.{rules, ◌≡◌, ℕ, subst, arith, pow_mono}
 use Rattle.rs_field.specs.code.Decoder.{DecoderState}
 use Rattle.rs_field.specs.code.Frame.{frame_at}
 use Rattle.rs_field.specs.declared.code.frame.Frame.{Frame}
-use Rattle.rs_field.proofs.code_lemmas.PieceStates.{is_some-map}
 use Rattle.rs_rate.proofs.passes_lemmas.ChangeLemmas.{distinct_rows_of}
 use Rattle.reed_solomon_simd.proofs.BaseLemmas.{decoder_frame, frame_same}
-use Rattle.reed_solomon_simd.proofs.BaseMarks.{some-copied}
 use Rattle.reed_solomon_simd.proofs.SyndromeMarks.{OwnBelow, own-more, adds-originals}
 use Rattle.reed_solomon_simd.proofs.strip_syndromes.with_originals.Goals as goal
 
@@ -42,10 +39,8 @@ loop-index-preserved g c =
       count = c.loop-index.invariant.count;
       most = omega (arith, c.loop-index-test.true);
       added = own-more c.loop-index.index c.original_row.result c.counts-counts.result.frame s.originals
-          c.args.marks.now c.loop-index.all.items c.is_some-is_received.result c.original_row.ensures
-          (search rules)
-          (c.is_some-is_received.ensures ∙ sym (some-copied c.piece.result) ∙ ap is_some c.piece.ensures
-          ∙ is_some-map 0 0 (s.originals c.loop-index.index)) c.loop-index.invariant.added;
+          c.args.marks.now c.loop-index.all.items c.is_received-is_there.result c.original_row.ensures
+          (search rules) c.is_received-is_there.ensures c.loop-index.invariant.added;
     }
 
 pub returns-clause-marks : goal.returns-clause-marks

@@ -8,13 +8,12 @@ use Rattle.reed_solomon_simd.proofs.strip_comparer.CompareWay.strip.Goals as goa
 pub returns-then-not-agree_in_strip-clause-made : goal.returns-then-not-agree_in_strip-clause-made
 returns-then-not-agree_in_strip-clause-made g c =
     let x : DecoderState = g.S.Pieces.received c.args.store.now in
-    let k = x.configuration.original_count in
     let (n, most, held) = c.requires.ready in
-    let own = count-pieces c.args.start c.args.end k x.originals in
+    let own = count-pieces c.args.start c.args.end x.configuration.original_count x.originals in
     let other = count-pieces c.args.start c.args.end x.configuration.recovery_count x.recovery in
     inl (record {
-      refusal = ap₂ InconsistentShards (c.counts.ensures.originals ∙ sym held.all ∙ sym own) (sym held.number ∙ sym other);
-      surplus = omega (arith, held.all, held.number, held.some, own, other);
+      refusal = c.inconsistent.ensures ∙ ap₂ InconsistentShards (sym own) (sym other);
+      surplus = omega (arith, held.all, held.some, own, other);
       none = λ some.
           let agree = c.agree_in_strip.ensures.answer.1 some in
           let other = c.if-not-agree_in_strip.true in

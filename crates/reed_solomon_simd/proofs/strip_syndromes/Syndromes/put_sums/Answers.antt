@@ -1,6 +1,6 @@
 use Rattle.std.proofs.Common.{rules, ◌≡◌, ℕ, zero, suc, ◌+◌, ◌-◌, ◌<◌, ◌≤◌, Bool, cond, [], ◌∷◌, ◌++◌, length, take}
 use Rattle.std.proofs.Common.{drop, get_or, refl, sym, ap, ap₂, ◌∙◌, inl, inr, arith, pow_mono, subst}
-use Rattle.std.specs.Prelude.{Option, true, false, is_some, not}
+use Rattle.std.specs.Prelude.{true, false, is_some}
 use Rattle.std.proofs.lemmas.Bool.{cases_eq}
 use Rattle.std.proofs.lemmas.List.{length-append}
 use Rattle.rs_field.specs.declared.code.frame.Frame.{Frame}
@@ -8,9 +8,7 @@ use Rattle.rs_field.specs.code.Column.{Shard}
 use Rattle.rs_field.specs.code.Decoder.{DecoderState}
 use Rattle.rs_field.specs.code.Frame.{frame_at, row_count, original_row}
 use Rattle.rs_field.specs.code.Given.{Shards}
-use Rattle.rs_field.specs.code.PieceStates.{state_of_pieces}
 use Rattle.rs_field.specs.rows.MarkedRows.{is_marked}
-use Rattle.rs_field.proofs.code_lemmas.PieceStates.{is_some-map}
 use Rattle.rs_rate.specs.rows.EncoderView.{lent_shards}
 use Rattle.rs_rate.specs.rows.ShardRows.{shard_in_order}
 use Rattle.rs_rate.proofs.passes_lemmas.ChangeLemmas.{distinct_rows_of}
@@ -18,11 +16,10 @@ use Rattle.reed_solomon_simd.specs.declared.shard_index.ShardIndex.TheVariants.{
 use Rattle.reed_solomon_simd.specs.Making.{missing_below, missing_names}
 use Rattle.reed_solomon_simd.specs.Syndromes.{CanSumSyndromes}
 use Rattle.reed_solomon_simd.proofs.BaseLemmas.{frame_same}
-use Rattle.reed_solomon_simd.proofs.BaseMarks.{some-copied}
 use Rattle.reed_solomon_simd.proofs.BaseSums.{only-message}
 use Rattle.reed_solomon_simd.proofs.RebuiltStrips.{named_shards}
 use Rattle.reed_solomon_simd.proofs.SyndromeChecks.{name-at, names-more, names-kept, original-outside, missing-summed}
-use Rattle.reed_solomon_simd.proofs.strip_syndromes.Syndromes.put_sums.Goals.{then-is_none+in_ok-put, else-is_none}
+use Rattle.reed_solomon_simd.proofs.strip_syndromes.Syndromes.put_sums.Goals.{then-not-is_received+in_ok-put, else-not-is_received}
 use Rattle.reed_solomon_simd.proofs.strip_syndromes.Syndromes.put_sums.Goals as goal
 
 -- At most n originals are missing below n.
@@ -84,15 +81,13 @@ put-requires-clause-room g c =
     let s : DecoderState = g.S.Pieces.received c.args.store.now in
     let held = c.loop-index.invariant in
     let received : is_some ((g.S.Pieces.received c.args.store.now).originals c.loop-index.index)
-    ≡ not c.is_none.result =
-    sym (is_some-map 0 0 ((g.S.Pieces.received c.args.store.now).originals c.loop-index.index))
-    ∙ ap (λ (x : DecoderState). is_some ((state_of_pieces 0 0 x).originals c.loop-index.index)) (sym held.received)
-    ∙ ap (λ (o : Option Shard). is_some o) (sym c.piece.ensures)
-    ∙ some-copied c.piece.result ∙ c.is_none.ensures in
+    ≡ c.is_received.result =
+    ap (λ (x : DecoderState). is_some (x.originals c.loop-index.index)) (sym held.received)
+    ∙ sym c.is_received.ensures in
     let inside : c.loop-index.index < (g.S.Pieces.received c.args.store.now).configuration.original_count =
     omega (arith, c.loop-index-test.true, c.counts-counts.ensures.originals) in
     let name = name-at c.loop-index.index s.configuration.original_count s.originals (Original 0) inside
-    (received ∙ ap not c.if-is_none.true) in
+    (received ∙ c.if-not-is_received.true) in
     omega (arith, name.0, held.at, held.number, c.requires.rooms.number)
 
 pub put-requires-clause-fits : goal.put-requires-clause-fits
@@ -103,12 +98,10 @@ put-requires-clause-fits g c =
     let frame = frame_same s ready.set_up c.counts-counts.result.framed c.counts-counts.ensures.originals
     c.counts-counts.ensures.recovery in
     let received : is_some ((g.S.Pieces.received c.args.store.now).originals c.loop-index.index)
-    ≡ not c.is_none.result =
-    sym (is_some-map 0 0 ((g.S.Pieces.received c.args.store.now).originals c.loop-index.index))
-    ∙ ap (λ (x : DecoderState). is_some ((state_of_pieces 0 0 x).originals c.loop-index.index)) (sym held.received)
-    ∙ ap (λ (o : Option Shard). is_some o) (sym c.piece.ensures)
-    ∙ some-copied c.piece.result ∙ c.is_none.ensures in
-    let missing = received ∙ ap not c.if-is_none.true in
+    ≡ c.is_received.result =
+    ap (λ (x : DecoderState). is_some (x.originals c.loop-index.index)) (sym held.received)
+    ∙ sym c.is_received.ensures in
+    let missing = received ∙ c.if-not-is_received.true in
     let inside : c.loop-index.index < (g.S.Pieces.received c.args.store.now).configuration.original_count =
     omega (arith, c.loop-index-test.true, c.counts-counts.ensures.originals) in
     let (message, agrees) = c.requires.consistent in
@@ -134,19 +127,17 @@ loop-index-preserved g c =
     let frame = frame_same s ready.set_up c.counts-counts.result.framed c.counts-counts.ensures.originals
     c.counts-counts.ensures.recovery in
     let received : is_some ((g.S.Pieces.received c.args.store.now).originals c.loop-index.index)
-    ≡ not c.is_none.result =
-    sym (is_some-map 0 0 ((g.S.Pieces.received c.args.store.now).originals c.loop-index.index))
-    ∙ ap (λ (x : DecoderState). is_some ((state_of_pieces 0 0 x).originals c.loop-index.index)) (sym held.received)
-    ∙ ap (λ (o : Option Shard). is_some o) (sym c.piece.ensures)
-    ∙ some-copied c.piece.result ∙ c.is_none.ensures in
+    ≡ c.is_received.result =
+    ap (λ (x : DecoderState). is_some (x.originals c.loop-index.index)) (sym held.received)
+    ∙ sym c.is_received.ensures in
     let inside : c.loop-index.index < (g.S.Pieces.received c.args.store.now).configuration.original_count =
     omega (arith, c.loop-index-test.true, c.counts-counts.ensures.originals) in
     let before : get_or (g.S.Rooms.held c.loop-index.store) c.loop-index.room []
     ≡ get_or (g.S.Rooms.held c.args.store.now) c.loop-index.room [] =
     held.others n (omega arith) in
-    elim c.if-is_none.branch [
-      | then-is_none+in_ok-put w ↦
-          let missing = received ∙ ap not w.if-is_none.true in
+    elim c.if-not-is_received.branch [
+      | then-not-is_received+in_ok-put w ↦
+          let missing = received ∙ w.if-not-is_received.true in
           rw (w.store-is, w.room-is)
           (record {
             received = g.met.S.Store.kept w.put.new.self c.loop-index.store w.in_ok-put.ensures.places ∙ held.received;
@@ -182,8 +173,8 @@ loop-index-preserved g c =
             places = w.in_ok-put.ensures.places ∙ held.places;
             loan = w.in_ok-put.ensures.loan ∙ held.loan;
           })
-      | else-is_none w ↦
-          let some = received ∙ ap not w.if-is_none.false in
+      | else-not-is_received w ↦
+          let some = received ∙ w.if-not-is_received.false in
           rw (w.store-is, w.room-is)
           (record {
             received = held.received;

@@ -9,5 +9,5 @@ invariant-loop-i l = record {
   count : vec_len l.factors ≡ l.i;
   made : (j : ℕ) → j < l.i
       → slice_index l.factors.items j
-      ≡ direct_factor (λ z. slice_index l.locator z) l.x (recovery_row l.counts.frame j);
+      ≡ direct_factor (λ z. slice_index l.base.locator.items z) l.x (recovery_row l.counts.frame j);
 }
