@@ -47,10 +47,7 @@ pub(crate) fn check_by_encoding<E: Engine, S: Store>(
     ensures { Makes S.grows (S.received store.old) [] (S.held store.old) (S.held store.new) result }
 {
     let encoder = strip_encoder(alloc, store.counts(), store.shard_bytes())?;
-    let mut way = Compare {
-        engine,
-        encoder,
-    };
+    let mut way = Compare { engine, encoder };
     make_strips(ENCODE_STRIP_BYTES, &mut way, store)
 }
 
@@ -129,7 +126,6 @@ impl<'a, P: Pieces> StripMessage for ReceivedStrip<'a, P> {
     }
 }
 
-// Returns the piece of an original, if it was received.
 fn received_piece<P: Pieces>(received: &P, index: usize, start: usize, end: usize) -> &[u8]
     requires set_up { IsDecoder default_rate (P.received received.now) }
     requires index { index < (P.received received.now).configuration.original_count }
@@ -144,7 +140,6 @@ fn received_piece<P: Pieces>(received: &P, index: usize, start: usize, end: usiz
         .unwrap_or(&[])
 }
 
-// Returns whether each received recovery shard is the encoded one in this strip.
 fn are_encoded<P: Pieces>(
     encoded: &EncoderResult<'_>,
     received: &P,
@@ -170,7 +165,6 @@ fn are_encoded<P: Pieces>(
     true
 }
 
-// Returns whether the recovery piece with this index is the encoded one.
 fn is_encoded(encoded: &EncoderResult<'_>, index: usize, piece: &[u8]) -> bool
     requires inside { index < length (recovery_shards encoded.now) }
     ensures { IsTrue result ↔ (shard_at (recovery_shards encoded.now) index ≡ piece.now) }

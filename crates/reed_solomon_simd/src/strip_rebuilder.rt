@@ -253,7 +253,6 @@ fn message_piece<'a, P: Pieces>(
     }
 }
 
-// Returns whether a recovery shard is among the wanted shards.
 fn wants_recovery(wanted: &[ShardIndex]) -> bool
     ensures { result ≡ list_any is_recovery wanted.now }
 {
@@ -292,7 +291,6 @@ fn put_wanted<'a, R: Rooms>(
     Ok(())
 }
 
-// Returns the restored or encoded piece of a shard, or `None` if there is none.
 fn wanted_piece<'a>(
     restored: &'a DecoderResult<'a>,
     encoder: &'a Option<StripEncoder>,

@@ -66,7 +66,6 @@ fn piece_in_row<P: Pieces>(received: &P, row: usize, start: usize, end: usize) -
     None
 }
 
-// Returns the index of the shard in a row, or `None` if the row is not among the `count` rows from row `from` on.
 fn index_of(row: usize, from: usize, count: usize) -> Option<usize>
     ensures { MatchOption result ((row < from) ⊎ (from + count ≤ row))
         (λ i. (i < count) × (row ≡ from + i)) }
@@ -104,7 +103,6 @@ pub(crate) fn sum_missing<E: Engine, S: Store>(
     sum_listed(alloc, engine, wanted.as_slice(), store)
 }
 
-// Returns the names of the missing originals, in order of index. Fails with `OutOfMemory`.
 fn missing_originals<P: Pieces>(alloc: Global, received: &P) -> Result<Vec<ShardIndex>, Error>
     requires { IsDecoder default_rate (P.received received.now) }
     ensures made { IfOk result (λ wanted.
@@ -333,7 +331,6 @@ impl<'a, P: Pieces> BasePieces for StripPieces<'a, P> {
     }
 }
 
-// Returns the piece of the shard that was received in a row.
 fn piece_of_strip<P: Pieces>(received: &P, row: usize, start: usize, end: usize) -> &[u8]
     requires { HasPiece (P.received received.now) start end row }
     ensures { shard_in_row (state_of_pieces start end (P.received received.now)) row
@@ -342,7 +339,6 @@ fn piece_of_strip<P: Pieces>(received: &P, row: usize, start: usize, end: usize)
     piece_in_row(received, row, start, end).unwrap_or(&[])
 }
 
-// Returns the row of a shard.
 fn row_of(frame: Frame, shard: ShardIndex) -> usize
     requires { row_of frame shard < 2 ^ 64 }
     ensures { result ≡ row_of frame shard }

@@ -225,7 +225,6 @@ impl<'a, P: Pieces> StripMessage for ZeroedStrip<'a, P> {
     }
 }
 
-// Returns the piece of an original, or zeros if it was not received.
 fn zeroed_piece<'a, P: Pieces>(
     received: &'a P,
     zeros: &'a [u8],
@@ -419,7 +418,6 @@ impl<'a> BasePieces for SyndromePieces<'a> {
     }
 }
 
-// Returns the syndrome at an index.
 fn syndrome_at(encoder: &StripEncoder, index: usize) -> &[u8]
     requires { index < length (lent_shards encoder.now.rows) }
     ensures { result.now ≡ shard_at (lent_shards encoder.now.rows) index }

@@ -119,11 +119,7 @@ pub fn check_consistent<E: Engine, P: Pieces>(
 /// with all received shards. Otherwise it returns [`Error::OutOfMemory`].
 ///
 /// The check needs a work area. If it cannot be allocated, the error is [`Error::OutOfMemory`].
-pub fn error_without_results<E: Engine, P: Pieces>(
-    alloc: Global,
-    engine: E,
-    received: &P,
-) -> Error
+pub fn error_without_results<E: Engine, P: Pieces>(alloc: Global, engine: E, received: &P) -> Error
     requires set_up { IsDecoder default_rate (P.received received.now) }
     requires enough { enough_given (P.received received.now) ≡ Ok tt }
     ensures { NoneAgrees (P.received received.now) result ⊎ (result ≡ Error.OutOfMemory) }
