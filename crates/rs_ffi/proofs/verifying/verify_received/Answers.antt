@@ -17,12 +17,12 @@ returns-in_err-received g c =
     (rw (c.in_ok-counts.ensures.0, c.in_ok-counts.ensures.1) at c.in_err-received.ensures) in
     search rules
 
-pub returns-in_err-surplus : goal.returns-in_err-surplus
-returns-in_err-surplus g c = search rules
+pub returns-in_err-check_enough : goal.returns-in_err-check_enough
+returns-in_err-check_enough g c = search rules
 
 pub returns : goal.returns
 returns g c =
     verifies-checked c.args.original_count c.args.recovery_count (items_of c.args.originals.now)
     (items_of c.args.recovery.now) (received_state c.in_ok-received.received)
     (rw (c.in_ok-counts.ensures.0, c.in_ok-counts.ensures.1) at c.in_ok-received.ensures)
-    c.in_ok-surplus.ensures.answer _ c.check_consistent.ensures
+    c.in_ok-check_enough.ensures _ c.check_consistent.ensures
