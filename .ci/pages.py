@@ -28,8 +28,8 @@ HOMES = (
     (r"least power of two", set()),  # say: rounded up to a power of two
     (r"message \**agrees\** with (this|received) shards? if", {"docs/DEFINITIONS.md"}),
 )
-# Pages in which HOMES are not looked for: a page that a script writes, the change log, and the pages of rs_files.
-APART = {"docs/THEOREM.md", "CHANGELOG.md", "docs/FILES.md", "docs/FORMAT.md", "crates/rs_files/README.md"}
+# Pages in which HOMES are not looked for: a page that a script writes, and the change log.
+APART = {"docs/THEOREM.md", "CHANGELOG.md"}
 
 
 def wrong(text):
