@@ -95,7 +95,8 @@ module _ (rows : DecoderRows) (is : IsSetUp default_rate rows.configuration) (s 
     given_marks rows.memory.marks,
     marks-received,
     subst (λ (l : List ℕ). IsLocatorOf (frame_at s.configuration) (given_marks rows.memory.marks) l) (sym kept)
-        (subst (λ (f : Frame). IsLocatorOf f (given_marks rows.memory.marks) rows.memory.entries.items) frame-is located),
+        (subst (λ (f : Frame). IsLocatorOf f (given_marks rows.memory.marks) rows.memory.entries.items) frame-is
+        located),
   )
 
   -- The locator of the other rounds is the locator of this round.

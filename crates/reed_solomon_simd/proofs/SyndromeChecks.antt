@@ -1,6 +1,7 @@
 -- What sums of syndromes tell of a strip: whether the received shards are consistent, and the pieces of the missing
 -- originals.
-use Rattle.std.proofs.Common.{◌≡◌, ℕ, ◌-◌, ◌<◌, ◌++◌, Bool, true, false, List, [], ◌∷◌, length, get_or, subst, zero, suc, cond}
+use Rattle.std.proofs.Common.{◌≡◌, ℕ, ◌-◌, ◌<◌, ◌++◌, Bool, true, false, List, [], ◌∷◌, length, get_or, subst, zero}
+use Rattle.std.proofs.Common.{suc, cond}
 use Rattle.std.proofs.Common.{◌+◌, add-one, append-nil, sym, ap, ◌∙◌, inl, inr, arith}
 use Rattle.std.specs.Prelude.{None, is_some}
 use Rattle.std.specs.List.{between}
@@ -162,7 +163,8 @@ module _ (s : DecoderState) (is : IsDecoder default_rate s) (start end : ℕ)
       wanted-at s is start end strip based.all based.marked message agrees (missing_names s) n
       (original_row (frame_at s.configuration) i) (Original 0) piece (names-all s).each
       (omega (arith, at, name.0))
-      (sym (ap (λ (w : ShardIndex). row_of (frame_at s.configuration) w) (ap (λ (m : ℕ). get_or (missing_names s) m (Original 0)) at
+      (sym (ap (λ (w : ShardIndex). row_of (frame_at s.configuration) w)
+      (ap (λ (m : ℕ). get_or (missing_names s) m (Original 0)) at
       ∙ name.1)))
       (missing-sum i hi none piece sum)
 

@@ -1,4 +1,5 @@
--- Syndromes: the received recovery shards of a strip, each XOR the recovery shard of the received originals with zeros for
+-- Syndromes: the received recovery shards of a strip, each XOR the recovery shard of the received originals with
+-- zeros for
 -- the missing ones.
 use Rattle.std.specs.Prelude.{◌≡◌, ℕ, ◌+◌, ◌-◌, ◌/◌, ◌<◌, ◌≤◌, Bool, true, false, List, length, replicate, unwrap_or}
 use Rattle.std.specs.Prelude.{Some, is_some}
@@ -75,11 +76,12 @@ pub record CanSumSyndromes (s : DecoderState) (base : SumBase) (rows : EncoderRo
   pub made : AreSyndromes (state_of_pieces start end s) (lent_shards rows)
 
 -- an encoder and a base for the syndromes of strips of n bytes, with the number of surplus shards
-pub record AreSyndromesReady (rows : EncoderRows) (base : SumBase) (surplus : ℕ) (s : DecoderState) (n : ℕ) : Type 0 where
-  pub encoder : IsReadyToEncode rows s n
-  pub based : IsSyndromeBase s base
-  pub surplus_is : originals_given s + recovery_given s ≡ s.configuration.original_count + surplus
-  pub few : n ≤ 2048
+pub record AreSyndromesReady (rows : EncoderRows) (base : SumBase) (surplus : ℕ) (s : DecoderState) (n : ℕ) : Type 0
+  where
+    pub encoder : IsReadyToEncode rows s n
+    pub based : IsSyndromeBase s base
+    pub surplus_is : originals_given s + recovery_given s ≡ s.configuration.original_count + surplus
+    pub few : n ≤ 2048
 
 -- the direct sum over the syndromes of the recovery rows of a base, for word j of the row y
 abbrev pub syndrome_sum : DecoderState → SumBase → List Shard → ℕ → ℕ → ℕ
@@ -87,9 +89,10 @@ syndrome_sum s base shards j y =
     sum_of base (λ x. column j (shard_at shards (x - (frame_at s.configuration).recovery_from))) y
 
 -- a shard has the sums of the syndromes as its words
-pub record IsSyndromeSum (s : DecoderState) (base : SumBase) (shards : List Shard) (y : ℕ) (shard : Shard) : Type 0 where
-  pub is_shard : IsShard s.configuration.shard_bytes shard
-  pub words : (j : ℕ) → j < s.configuration.shard_bytes / 2 → column j shard ≡ syndrome_sum s base shards j y
+pub record IsSyndromeSum (s : DecoderState) (base : SumBase) (shards : List Shard) (y : ℕ) (shard : Shard) : Type 0
+  where
+    pub is_shard : IsShard s.configuration.shard_bytes shard
+    pub words : (j : ℕ) → j < s.configuration.shard_bytes / 2 → column j shard ≡ syndrome_sum s base shards j y
 
 -- the syndrome of a recovery shard that was received and is not in the base is the sum of those of the base
 abbrev pub AgreesAt : DecoderState → SumBase → List Shard → ℕ → Type 0

@@ -231,7 +231,6 @@ impl<'a, P: Pieces> StripMessage for RestoredStrip<'a, P> {
     }
 }
 
-// Returns the piece of an original, received or restored.
 fn message_piece<'a, P: Pieces>(
     received: &'a P,
     restored: &'a DecoderResult<'a>,

@@ -84,7 +84,8 @@ impl Rounds {
             .decode(engine, &mut Steps::new(), self.is_located)
     }
 
-    // Computes the locator in the first round, unless rounds use direct sums. Enough shards were added.
+    // Computes the locator in the first round, unless so few sums are needed that rounds use direct sums if the engine
+    // has logarithms. Enough shards were added.
     fn locate_once<E: Engine>(&mut self, engine: &E)
         requires enough { enough_given (decoder_state default_rate self.old.decoder.rows) ≡ Ok tt }
         requires located { self.old.is_located ≡ true → IsLocated self.old.decoder.rows }

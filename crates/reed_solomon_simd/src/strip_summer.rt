@@ -47,7 +47,6 @@ fn received_marks<P: Pieces>(alloc: Global, received: &P) -> Result<Vec<bool>, E
     Ok(marks)
 }
 
-// Returns a piece of the shard that was received in a row, or `None` if there is none.
 fn piece_in_row<P: Pieces>(received: &P, row: usize, start: usize, end: usize) -> Option<&[u8]>
     requires set_up { IsDecoder default_rate (P.received received.now) }
     requires order { start ≤ end }

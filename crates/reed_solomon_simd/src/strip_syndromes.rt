@@ -64,11 +64,11 @@ pub(crate) fn restore_by_syndromes<E: Engine, S: Store>(
     let surplus = surplus_count(&*store);
     let width = DECODE_STRIP_BYTES.min(store.shard_bytes());
     let encoder = StripEncoder::with_counts(alloc, counts, width, (), None)?;
-    let received = recovery_marks(alloc, &*store)?;
+    let recovery = recovery_marks(alloc, &*store)?;
     let mut rows = vec![in alloc; 0; missing]?;
-    let end = list_base(&mut rows, &received);
-    let marks = &received[..end];
-    let all = with_originals(alloc, &*store, marks)?;
+    let end = list_base(&mut rows, &recovery);
+    let marks = &recovery[..end];
+    let all = marks_with_originals(alloc, &*store, marks)?;
     let factors = locate_base(alloc, engine, &mut Steps::new(), counts.frame, &all)?;
     let base = SumBase {
         marks,
@@ -102,7 +102,7 @@ fn recovery_marks<P: Pieces>(alloc: Global, received: &P) -> Result<Vec<bool>, E
 
 // Returns a mark for each row: for the row of an original, whether the original was received, and for any other row,
 // whether it is marked in `marks`. Fails with `OutOfMemory`.
-fn with_originals<P: Pieces>(
+fn marks_with_originals<P: Pieces>(
     alloc: Global,
     received: &P,
     marks: &[bool],

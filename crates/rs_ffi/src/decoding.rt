@@ -92,10 +92,10 @@ fn restore_marked<E: Engine>(
     originals: &mut [u8],
     recovery: &[u8],
 ) -> Result<(), Error>
-    requires own_marks { length marks.0.now ≡ counts.original_count }
-    requires other_marks { length marks.1.now ≡ counts.recovery_count }
-    requires own_whole { length originals.old ≡ counts.original_count * size }
-    requires other_whole { length recovery.now ≡ counts.recovery_count * size }
+    requires original_marks { length marks.0.now ≡ counts.original_count }
+    requires recovery_marks { length marks.1.now ≡ counts.recovery_count }
+    requires originals_whole { length originals.old ≡ counts.original_count * size }
+    requires recovery_whole { length recovery.now ≡ counts.recovery_count * size }
     requires set_up { let c = default_of counts.original_count counts.recovery_count size in
         start_outcome (decoder_rows default_rate c.original_count c.recovery_count) c ≡ Ok tt }
     ensures answer { let s = marked_state counts.original_count counts.recovery_count size
@@ -211,9 +211,9 @@ fn restore_arrays<E: Engine>(
         check_alone(original_count, originals)?;
         return check_rooms(0, 0, restored);
     }
-    let own = originals.iter().map(|shard| (shard.index, shard.bytes));
-    let other = recovery.iter().map(|shard| (shard.index, shard.bytes));
-    let Some(received) = received_shards(alloc, counts, own, other)? else {
+    let lent_originals = originals.iter().map(|shard| (shard.index, shard.bytes));
+    let lent_recovery = recovery.iter().map(|shard| (shard.index, shard.bytes));
+    let Some(received) = received_shards(alloc, counts, lent_originals, lent_recovery)? else {
         return check_rooms(0, 0, restored);
     };
     restore_into(alloc, &received, engine, restored)

@@ -158,7 +158,8 @@ unfolding cut_blocks
 cut-first size n ds = refl
 
 -- Only the front of data is in the first block.
-front_filled : (size : ℕ) (ds : Shard) → take size (take size ds ++ replicate size 0) ≡ take size (ds ++ replicate size 0)
+front_filled : (size : ℕ) (ds : Shard) → take size (take size ds ++ replicate size 0)
+    ≡ take size (ds ++ replicate size 0)
 front_filled size ds =
     elim (cases_lt size (length ds)) [
       | inl lt ↦

@@ -1,5 +1,6 @@
 -- What the passes of direct sums do to the rows of a decoder, which have n chunks each.
-use Rattle.std.proofs.Common.{rules, ◌≡◌, ◌≢◌, ℕ, ◌+◌, ◌-◌, ◌*◌, ◌/◌, ◌%◌, ◌<◌, ◌≤◌, ◌⊎◌, List, Bool, true, false, sym, ap}
+use Rattle.std.proofs.Common.{rules, ◌≡◌, ◌≢◌, ℕ, ◌+◌, ◌-◌, ◌*◌, ◌/◌, ◌%◌, ◌<◌, ◌≤◌, ◌⊎◌, List, Bool, true, false}
+use Rattle.std.proofs.Common.{sym, ap}
 use Rattle.std.proofs.Common.{◌++◌, [], ap₂, ◌∙◌, arith, bit_xor, get_or, inl, inr, refl, subst, length, true≢false}
 use Rattle.std.specs.Prelude.{◌↔◌, slice_index, not}
 use Rattle.std.specs.Int.Bits.{xor_zero_l}
@@ -79,7 +80,8 @@ row_end-whole n i = row_end i (64 * n) ∙ ap (λ m. i * m + m) (whole_row n)
 pub column-whole : (chunks : Chunks) (n i j : ℕ) → j < 64 * n / 2
     → column j (shard_in_order chunks (64 * n) i) ≡ word_in chunks n (j / 32) (j % 32) i
 column-whole chunks n i j inside =
-    ap (column j) (in_order-is (64 * n) {new = row_chunk chunks (64 * n) i} {old = row_chunk chunks (64 * n) i} (omega arith)
+    ap (column j) (in_order-is (64 * n) {new = row_chunk chunks (64 * n) i} {old = row_chunk chunks (64 * n) i}
+    (omega arith)
     (λ k h. refl) (λ b h. refl) (λ b h. absurd (let no : ⊥ = omega (arith, h) in no)))
     ∙ column-put chunks (64 * n) i j (omega arith) inside
     ∙ ap (λ m. word_in chunks m (j / 32) (j % 32) i) (whole_row n)

@@ -71,7 +71,8 @@ sum-in_order size shard old new long sums = record {
       ∙ ap (λ v. bit_xor v (slice_index shard b)) (sym (get-up_to size _ b 0 below));
 }
 
--- If a part that is row i was written, and its bytes are the sums of those before and those of a shard, the shard in row
+-- If a part that is row i was written, and its bytes are the sums of those before and those of a shard, the shard in
+-- row
 -- i is the sum of both.
 pub added-here : (chunks part : Chunks) (size i start n : ℕ) (shard : Shard) → start ≡ i * row_len size
     → n ≡ row_len size → start + n ≤ length chunks → length part ≡ n → length shard ≡ size

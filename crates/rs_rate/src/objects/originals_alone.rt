@@ -83,7 +83,7 @@ fn note(given: &mut [bool], index: usize) -> Result<(), Error>
 }
 
 fn count_noted(given: &[bool]) -> usize
-    ensures { result ≡ count_by (λ note_outcome. note_outcome) given.now }
+    ensures { result ≡ count_by (λ is_noted. is_noted) given.now }
 {
-    given.iter().filter(|note_outcome| **note_outcome).count()
+    given.iter().filter(|is_noted| **is_noted).count()
 }

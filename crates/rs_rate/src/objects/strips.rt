@@ -149,8 +149,8 @@ impl<C: RateMarker> RateObject<(), C, DecoderRows> {
         self.rows.take_recovery_shard(index, shard);
     }
 
-    /// Computes the locator of the rows without shards, unless `decode` uses direct sums. Returns whether it did.
-    /// Enough shards were added.
+    /// Computes the locator of the rows without shards, unless so few sums are needed that `decode` uses direct sums if
+    /// the engine has logarithms. Returns whether it did. Enough shards were added.
     pub fn locate<E: Engine>(&mut self, engine: &E, steps: &mut Steps) -> bool
         requires { enough_given (decoder_state C.rate self.old.rows) ≡ Ok tt }
         ensures located { result ≡ true → IsLocated self.new.rows }

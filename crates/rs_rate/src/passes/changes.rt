@@ -45,7 +45,6 @@ pub fn change_factors<E: Engine>(
     recovery_factors(alloc, counts, &base, counts.frame.original_row(index))
 }
 
-// Returns marks of all rows of a decoder of these counts, of which those of the originals are set.
 fn original_marks(alloc: Global, counts: DefaultRateCounts) -> Result<Vec<bool>, Error>
     ensures length { IfOk result (λ marks. vec_len marks ≡ row_count counts.frame) }
     ensures own { IfOk result (λ marks. (i : ℕ) → i < counts.original_count
@@ -62,7 +61,6 @@ fn original_marks(alloc: Global, counts: DefaultRateCounts) -> Result<Vec<bool>,
     Ok(marks)
 }
 
-// Returns, for each recovery shard, the logarithm of the factor of row x in its row.
 fn recovery_factors(
     alloc: Global,
     counts: DefaultRateCounts,

@@ -103,7 +103,6 @@ impl Marks {
         self.rows.as_slice()
     }
 
-    // Sets the mark of row `row`.
     fn set(&mut self, row: usize, is: bool)
         requires { row < mark_count self.old }
         ensures here { is_marked self.new.rows.items row ≡ is }

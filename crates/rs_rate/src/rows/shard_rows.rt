@@ -114,7 +114,6 @@ fn add_bytes(row: &mut [[u8; 64]], shard: &[u8])
     }
 }
 
-// Returns a chunk that begins with these bytes.
 fn chunk_of(bytes: &[u8]) -> [u8; 64]
     requires { length bytes.now ≤ 64 }
     ensures { (i : ℕ) → i < length bytes.now → slice_index result i ≡ slice_index bytes.now i }

@@ -20,7 +20,8 @@ returns-in_err-restore_lent-clause-answer g c =
     let e = c.in_err-restore_lent.field-0.0 in
     let lacks : c.in_err-restore_lent.field-0.0 ≡ OutOfMemory =
     (let refused = c.in_err-restore_lent.ensures.refused in cc) in
-    restores-refused s (sym c.in_ok-check_enough.ensures) e (bytes_in c.args.rooms.now) (bytes_in c.restore_lent.new.rooms) _
+    restores-refused s (sym c.in_ok-check_enough.ensures) e (bytes_in c.args.rooms.now)
+    (bytes_in c.restore_lent.new.rooms) _
     (inr lacks) (search rules) c.in_err-restore_lent.ensures.untouched
 
 pub returns-then-can_be_written-clause-answer : goal.returns-then-can_be_written-clause-answer

@@ -46,7 +46,8 @@ returns-clause-answer g c =
     let made = lent_shards c.encode_message.new.encoder.rows in
     let coded = coded g (goal.at.returns-clause-answer g c).After-lent_recovery in
     let among = AreAmong (pieces_of c.args.start c.args.end x.recovery) in (
-      λ agree. compared-consistent x c.requires.set_up c.requires.all c.args.start c.args.end c.requires.strip made coded
+      λ agree. compared-consistent x c.requires.set_up c.requires.all c.args.start c.args.end c.requires.strip made
+          coded
           (subst among c.lent_recovery.ensures (c.are_encoded.ensures.0 agree)),
       λ consistent. c.are_encoded.ensures.1
           (subst among (sym c.lent_recovery.ensures)

@@ -10,13 +10,15 @@ use Rattle.reed_solomon_simd.proofs.strip_message.encode_message.Goals.{After-na
 use Rattle.reed_solomon_simd.proofs.strip_message.encode_message.Goals as goal
 
 -- The encoder is set up for the strip, without originals.
-narrowed : (g : Over) (c : After-narrow g) → let own = (encoder_state default_rate c.args.encoder.now.rows).configuration in
+narrowed : (g : Over) (c : After-narrow g)
+    → let own = (encoder_state default_rate c.args.encoder.now.rows).configuration in
     encoder_state default_rate c.narrow.new.self.rows
     ≡ fresh_encoder (configuration own.rate own.original_count own.recovery_count c.args.bytes)
 narrowed g c = c.narrow.ensures _ (fresh-is (encoder_state default_rate c.args.encoder.now.rows) c.requires.none)
 
 -- The encoder has the strip of each original.
-taken : (g : Over) (c : After-take_message g) → let own = (encoder_state default_rate c.args.encoder.now.rows).configuration in
+taken : (g : Over) (c : After-take_message g)
+    → let own = (encoder_state default_rate c.args.encoder.now.rows).configuration in
     encoder_state default_rate c.take_message.new.encoder.rows
     ≡ record {
       configuration = configuration own.rate own.original_count own.recovery_count c.args.bytes;

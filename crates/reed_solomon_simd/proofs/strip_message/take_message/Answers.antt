@@ -16,7 +16,8 @@ take-requires g c =
     let message : List Shard = g.M.StripMessage.shards c.args.message.now in
     let inside : c.loop-index.index < length (g.M.StripMessage.shards c.args.message.now) =
     omega (arith, c.count-index-end.ensures, c.loop-index-test.true) in
-    takes-next first (encoder_state default_rate c.loop-index.encoder.rows) message c.loop-index.index c.piece.result.now
+    takes-next first (encoder_state default_rate c.loop-index.encoder.rows) message c.loop-index.index
+    c.piece.result.now
     c.loop-index.invariant c.requires.number inside c.piece.ensures
     (ap length c.piece.ensures ∙ c.requires.sized c.loop-index.index _ inside)
 

@@ -3,7 +3,8 @@ use Rattle.std.specs.Prelude.{is_some}
 use Rattle.rs_field.specs.code.Decoder.{DecoderState}
 use Rattle.reed_solomon_simd.specs.Reconstructed.{NamesMissing}
 use Rattle.reed_solomon_simd.proofs.MissingLemmas.{names-none, names-received, names-missing}
-use Rattle.reed_solomon_simd.proofs.strip_summer.missing_originals.Goals.{then-not-is_received+in_ok-push, else-not-is_received}
+use Rattle.reed_solomon_simd.proofs.strip_summer.missing_originals.Goals.{then-not-is_received+in_ok-push}
+use Rattle.reed_solomon_simd.proofs.strip_summer.missing_originals.Goals.{else-not-is_received}
 use Rattle.reed_solomon_simd.proofs.strip_summer.missing_originals.Goals as goal
 
 pub loop-index-init : goal.loop-index-init

@@ -33,7 +33,8 @@ make_strips-requires-clause-ready g c =
     let rows : length c.list_base-end.new.rows ≡ (g.S.Pieces.received c.args.store.now).configuration.original_count =
     search rules in
     let locator : c.deref-4.result.now ≡ c.in_ok-factors.factors.locator.items = search rules in
-    let frame = frame_same s can.set_up c.counts-counts.result.framed c.counts-counts.ensures.originals c.counts-counts.ensures.recovery in
+    let frame = frame_same s can.set_up c.counts-counts.result.framed c.counts-counts.ensures.originals
+    c.counts-counts.ensures.recovery in
     record {
       based = record {
         marked = subst (λ (m : List Bool). MarkBase (g.S.Pieces.received c.args.store.now) (take end m)) (sym lent)
@@ -47,7 +48,8 @@ make_strips-requires-clause-ready g c =
             (omega (arith, c.list_base-end.ensures.end, ap length given)));
         located = subst (λ (l : List ℕ). IsLocatorOf (frame_at (g.S.Pieces.received c.args.store.now).configuration)
             (take end c.deref-2.result.now) l) (sym locator)
-            (subst (λ (f : Frame). IsLocatorOf f (take end c.deref-2.result.now) c.in_ok-factors.factors.locator.items) frame
+            (subst (λ (f : Frame). IsLocatorOf f (take end c.deref-2.result.now)
+            c.in_ok-factors.factors.locator.items) frame
             c.in_ok-factors.ensures.located);
       };
       surplus_is = c.surplus_count-surplus.ensures;

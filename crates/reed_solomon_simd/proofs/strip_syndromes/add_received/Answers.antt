@@ -6,7 +6,8 @@ use Rattle.rs_field.specs.code.Decoder.{DecoderState}
 use Rattle.rs_field.specs.code.PieceStates.{state_of_pieces}
 use Rattle.rs_rate.specs.rows.EncoderView.{encoder_state, lent_shards}
 use Rattle.reed_solomon_simd.proofs.BaseSums.{within-pieces}
-use Rattle.reed_solomon_simd.proofs.SyndromeRounds.{AddedBelow, added-none, added-more, added-passed, lent-count, lent-size}
+use Rattle.reed_solomon_simd.proofs.SyndromeRounds.{AddedBelow, added-none, added-more, added-passed, lent-count}
+use Rattle.reed_solomon_simd.proofs.SyndromeRounds.{lent-size}
 use Rattle.reed_solomon_simd.proofs.strip_syndromes.add_received.Goals.{in-Some, in_default}
 use Rattle.reed_solomon_simd.proofs.strip_syndromes.add_received.Goals as goal
 

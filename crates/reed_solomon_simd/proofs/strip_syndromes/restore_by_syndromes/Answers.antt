@@ -20,10 +20,11 @@ list_base-end-requires-clause-few g c = search (rules, decoder_frame, pow_mono)
 pub list_base-end-requires-clause-enough : goal.list_base-end-requires-clause-enough
 list_base-end-requires-clause-enough g c =
     let s : DecoderState = g.S.Pieces.received c.args.store.now in
-    let marks : List Bool = c.in_ok-received.received.items in
+    let marks : List Bool = c.in_ok-recovery.recovery.items in
     let rows : length c.deref_mut.result.now ≡ c.missing_count-missing.result = search rules in
-    let given : c.deref.result.now ≡ c.in_ok-received.received.items = search rules in
-    let enough = enough-coded s c.requires.set_up marks c.missing_count-missing.result c.surplus_count-surplus.result c.in_ok-received.ensures.marks
+    let given : c.deref.result.now ≡ c.in_ok-recovery.recovery.items = search rules in
+    let enough = enough-coded s c.requires.set_up marks c.missing_count-missing.result c.surplus_count-surplus.result
+    c.in_ok-recovery.ensures.marks
     c.missing_count-missing.ensures c.surplus_count-surplus.ensures in
     subst (λ (m : List Bool). length c.deref_mut.result.now ≤ how_many (length m) (is_marked m)) (sym given)
     (omega (arith, rows, enough))
@@ -43,34 +44,36 @@ pub make_strips-requires-clause-ready : goal.make_strips-requires-clause-ready
 make_strips-requires-clause-ready g c =
     let s : DecoderState = g.S.Pieces.received c.args.store.now in
     let is = c.requires.set_up in
-    let marks : List Bool = c.in_ok-received.received.items in
+    let marks : List Bool = c.in_ok-recovery.recovery.items in
     let all : List Bool = c.in_ok-all.all.items in
     let end = c.list_base-end.result in
-    let exact = c.in_ok-received.ensures.marks in
-    let given : c.deref.result.now ≡ c.in_ok-received.received.items = search rules in
-    let lent : c.deref-2.result.now ≡ c.in_ok-received.received.items = search rules in
+    let exact = c.in_ok-recovery.ensures.marks in
+    let given : c.deref.result.now ≡ c.in_ok-recovery.recovery.items = search rules in
+    let lent : c.deref-2.result.now ≡ c.in_ok-recovery.recovery.items = search rules in
     let kept : c.deref-3.result.now ≡ c.in_ok-all.all.items = search rules in
     let rows : length c.list_base-end.new.rows ≡ c.missing_count-missing.result = search rules in
     let locator : c.deref-5.result.now ≡ c.in_ok-factors.factors.locator.items = search rules in
     let frame = frame_same s is c.counts-counts.result.framed c.counts-counts.ensures.originals
     c.counts-counts.ensures.recovery in
     let adds : AddsOriginals (g.S.Pieces.received c.args.store.now)
-    (take c.list_base-end.result c.in_ok-received.received.items) c.in_ok-all.all.items =
+    (take c.list_base-end.result c.in_ok-recovery.recovery.items) c.in_ok-all.all.items =
     subst (λ (m : List Bool). AddsOriginals (g.S.Pieces.received c.args.store.now) (take end m) c.in_ok-all.all.items)
     lent c.in_ok-all.ensures.marks in
     let listed = subst (λ (m : List Bool). ListsMarked (take end m) (length m) c.list_base-end.new.rows) given
     c.list_base-end.ensures.listed in
-    let count = ap (λ n. how_many n (is_marked (take c.list_base-end.result c.in_ok-received.received.items)))
+    let count = ap (λ n. how_many n (is_marked (take c.list_base-end.result c.in_ok-recovery.recovery.items)))
     (sym exact.count) ∙ sym listed.count ∙ rows in
     record {
       encoder = search rules;
       based = record {
         all = all;
-        marked = all-base s is marks all end exact adds c.missing_count-missing.result c.missing_count-missing.ensures count;
+        marked = all-base s is marks all end exact adds c.missing_count-missing.result c.missing_count-missing.ensures
+            count;
         located = subst (λ (l : List ℕ). IsLocatorOf (frame_at (g.S.Pieces.received c.args.store.now).configuration)
             c.in_ok-all.all.items l) (sym locator)
             (subst (λ (f : Frame). IsLocatorOf f c.in_ok-all.all.items c.in_ok-factors.factors.locator.items) frame
-            (subst (λ (m : List Bool). IsLocatorOf c.counts-counts.result.frame m c.in_ok-factors.factors.locator.items) kept
+            (subst (λ (m : List Bool). IsLocatorOf c.counts-counts.result.frame m
+            c.in_ok-factors.factors.locator.items) kept
             c.in_ok-factors.ensures.located));
         adds = c.in_ok-all.ensures.marks;
         only = subst (λ (m : List Bool). OnlyCoded (frame_at (g.S.Pieces.received c.args.store.now).configuration)

@@ -86,25 +86,25 @@ returns-in_err-check_decoder_rows-clause-answer g c =
     (Err e) d.supported c.in_ok-check_length.ensures c.in_ok-check_length-2.ensures c.in_ok-check_length-3.ensures
     answers (search rules, refl)
 
-pub restore_marked-requires-clause-own_marks : goal.restore_marked-requires-clause-own_marks
-restore_marked-requires-clause-own_marks g c =
+pub restore_marked-requires-clause-original_marks : goal.restore_marked-requires-clause-original_marks
+restore_marked-requires-clause-original_marks g c =
     rw c.in_ok-counts.ensures.0
-    (divided g (goal.at.restore_marked-requires-clause-own_marks g c).After-split_at).buffers.own_number
+    (divided g (goal.at.restore_marked-requires-clause-original_marks g c).After-split_at).buffers.own_number
 
-pub restore_marked-requires-clause-other_marks : goal.restore_marked-requires-clause-other_marks
-restore_marked-requires-clause-other_marks g c =
+pub restore_marked-requires-clause-recovery_marks : goal.restore_marked-requires-clause-recovery_marks
+restore_marked-requires-clause-recovery_marks g c =
     rw c.in_ok-counts.ensures.1
-    (divided g (goal.at.restore_marked-requires-clause-other_marks g c).After-split_at).buffers.other_number
+    (divided g (goal.at.restore_marked-requires-clause-recovery_marks g c).After-split_at).buffers.other_number
 
-pub restore_marked-requires-clause-own_whole : goal.restore_marked-requires-clause-own_whole
-restore_marked-requires-clause-own_whole g c =
+pub restore_marked-requires-clause-originals_whole : goal.restore_marked-requires-clause-originals_whole
+restore_marked-requires-clause-originals_whole g c =
     rw c.in_ok-counts.ensures.0
-    (divided g (goal.at.restore_marked-requires-clause-own_whole g c).After-split_at).buffers.own_whole
+    (divided g (goal.at.restore_marked-requires-clause-originals_whole g c).After-split_at).buffers.own_whole
 
-pub restore_marked-requires-clause-other_whole : goal.restore_marked-requires-clause-other_whole
-restore_marked-requires-clause-other_whole g c =
+pub restore_marked-requires-clause-recovery_whole : goal.restore_marked-requires-clause-recovery_whole
+restore_marked-requires-clause-recovery_whole g c =
     rw c.in_ok-counts.ensures.1
-    (divided g (goal.at.restore_marked-requires-clause-other_whole g c).After-split_at).buffers.other_whole
+    (divided g (goal.at.restore_marked-requires-clause-recovery_whole g c).After-split_at).buffers.other_whole
 
 pub returns-in_err-restore_marked-clause-answer : goal.returns-in_err-restore_marked-clause-answer
 returns-in_err-restore_marked-clause-answer g c =

@@ -72,9 +72,9 @@ collected : (g : Over) (c : After-received_shards g)
     (result_map_both (λ o. option_map received_state o) (λ e. e) c.received_shards.result)
 collected g c =
     let own = YieldsList-from_map_by _ (λ item. (item.0, item.1.now)) (λ shard. (shard.index, shard.bytes.now))
-    (YieldsList-from_slice c.args.originals.now cc) c.map-own.ensures.closure (λ x r q k. search rules) in
+    (YieldsList-from_slice c.args.originals.now cc) c.map-lent_originals.ensures.closure (λ x r q k. search rules) in
     let other = YieldsList-from_map_by _ (λ item. (item.0, item.1.now)) (λ shard. (shard.index, shard.bytes.now))
-    (YieldsList-from_slice c.args.recovery.now cc) c.map-other.ensures.closure (λ x r q k. search rules) in
+    (YieldsList-from_slice c.args.recovery.now cc) c.map-lent_recovery.ensures.closure (λ x r q k. search rules) in
     always-both (λ item. (item.0, item.1.now)) (λ item. (item.0, item.1.now)) _
     (rw (c.in_ok-counts.ensures.0, c.in_ok-counts.ensures.1) at c.received_shards.ensures)
     (items_of c.args.originals.now) (items_of c.args.recovery.now) own.runs other.runs

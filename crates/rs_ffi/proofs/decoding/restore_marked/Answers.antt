@@ -17,10 +17,10 @@ buffers : (g : Over) (c : In_ok-lost g)
     c.args.originals.now c.args.marks.1.now c.args.recovery.now
 buffers g c =
     record {
-      own_number = c.requires.own_marks;
-      other_number = c.requires.other_marks;
-      own_whole = c.requires.own_whole;
-      other_whole = c.requires.other_whole;
+      own_number = c.requires.original_marks;
+      other_number = c.requires.recovery_marks;
+      own_whole = c.requires.originals_whole;
+      other_whole = c.requires.recovery_whole;
     }
 
 pub restore_buffers-requires-clause-set_up : goal.restore_buffers-requires-clause-set_up
@@ -31,8 +31,8 @@ restore_buffers-requires-clause-set_up g c =
 pub restore_buffers-requires-clause-fit : goal.restore_buffers-requires-clause-fit
 restore_buffers-requires-clause-fit g c =
     rw (c.as_slice.ensures.value, c.in_ok-lost.ensures)
-    (lost-long c.args.size c.args.counts.original_count c.args.marks.0.now c.args.originals.now c.requires.own_marks
-    c.requires.own_whole)
+    (lost-long c.args.size c.args.counts.original_count c.args.marks.0.now c.args.originals.now c.requires.original_marks
+    c.requires.originals_whole)
 
 pub returns-clause-answer : goal.returns-clause-answer
 returns-clause-answer g c =

@@ -19,7 +19,8 @@ use Rattle.reed_solomon_simd.proofs.BaseLemmas.{frame_same}
 use Rattle.reed_solomon_simd.proofs.BaseSums.{only-message}
 use Rattle.reed_solomon_simd.proofs.RebuiltStrips.{named_shards}
 use Rattle.reed_solomon_simd.proofs.SyndromeChecks.{name-at, names-more, names-kept, original-outside, missing-summed}
-use Rattle.reed_solomon_simd.proofs.strip_syndromes.Syndromes.put_sums.Goals.{then-not-is_received+in_ok-put, else-not-is_received}
+use Rattle.reed_solomon_simd.proofs.strip_syndromes.Syndromes.put_sums.Goals.{then-not-is_received+in_ok-put}
+use Rattle.reed_solomon_simd.proofs.strip_syndromes.Syndromes.put_sums.Goals.{else-not-is_received}
 use Rattle.reed_solomon_simd.proofs.strip_syndromes.Syndromes.put_sums.Goals as goal
 
 -- At most n originals are missing below n.

@@ -55,7 +55,8 @@ loop-pair-preserved g c =
           c.two_factors-logs.ensures.first)
           (term-of base words j c.args.y (slice_index base.rows.now (i + 1)) _ _ (search rules)
           c.two_factors-logs.ensures.second)
-          ∙ two_more term (sum_word c.args.sum.now j) (sum_word c.loop-pair.sum j) c.loop-pair.pair (c.loop-pair.invariant.added j inside);
+          ∙ two_more term (sum_word c.args.sum.now j) (sum_word c.loop-pair.sum j) c.loop-pair.pair
+          (c.loop-pair.invariant.added j inside);
       counts = λ whole.
           subst (λ (n : ℕ). CountsUpTo n 0 0 c.args.steps.now c.add_two_times.new.steps)
           (let e : 6 * c.loop-pair.pair + 6 ≡ 6 * (c.loop-pair.pair + 1) = omega arith in e)

@@ -27,7 +27,8 @@ returns-then-not-is_empty g c =
           (λ i h. c.mul_add_two.ensures.sums (i / 32) (i % 32) (search rules) (omega arith)
           ∙ ap₂ (λ v w. bit_xor (bit_xor (sum_word c.split_at_mut-chunks.result.0.now i) v) w)
           (whole-product n c.args.logs.first one c.as_chunks.result.0.now c.requires.first within (search rules) i h)
-          (whole-product n c.args.logs.second other c.as_chunks-2.result.0.now c.requires.second second (search rules) i h))
+          (whole-product n c.args.logs.second other c.as_chunks-2.result.0.now c.requires.second second (search rules)
+          i h))
           (λ i h. c.add_tail_times-then-not-is_empty.ensures.words i
           (omega (arith, h, c.as_chunks.ensures.back_len, c.as_chunks-2.ensures.back_len, c.requires.same))
           ∙ ap₂ bit_xor (c.add_tail_times.ensures.words i h
@@ -61,7 +62,8 @@ returns-else-not-is_empty g c =
           (λ i h. c.mul_add_two.ensures.sums (i / 32) (i % 32) (search rules) (omega arith)
           ∙ ap₂ (λ v w. bit_xor (bit_xor (sum_word c.split_at_mut-chunks.result.0.now i) v) w)
           (whole-product n c.args.logs.first one c.as_chunks.result.0.now c.requires.first within (search rules) i h)
-          (whole-product n c.args.logs.second other c.as_chunks-2.result.0.now c.requires.second second (search rules) i h))
+          (whole-product n c.args.logs.second other c.as_chunks-2.result.0.now c.requires.second second (search rules)
+          i h))
           (λ i h. omega (arith, h))
           j (omega (arith, inside, count, none, c.as_chunks.ensures.back_len));
       counts = λ whole. search rules;

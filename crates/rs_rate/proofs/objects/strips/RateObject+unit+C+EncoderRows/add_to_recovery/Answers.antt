@@ -39,7 +39,8 @@ returns-clause-sum g c =
     subst (λ (x : Shard). IsByteSum x c.args.shard.now (shard_at (lent_shards c.add_to_recovery.new.self) c.args.index))
     (sym (get-up_to own.recovery_count old c.args.index [] inside))
     (subst (λ (x : Shard). IsByteSum (old c.args.index) c.args.shard.now x)
-    (sym (ap (λ (l : List Shard). shard_at l c.args.index) (lent g (goal.at.returns-clause-sum g c).After-add_to_recovery)
+    (sym (ap (λ (l : List Shard). shard_at l c.args.index)
+    (lent g (goal.at.returns-clause-sum g c).After-add_to_recovery)
     ∙ get-up_to own.recovery_count new c.args.index [] inside)) c.add_to_recovery.ensures.sum)
 
 pub returns-clause-others : goal.returns-clause-others

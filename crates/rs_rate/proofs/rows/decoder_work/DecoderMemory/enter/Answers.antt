@@ -11,7 +11,8 @@ returns-clause-rows c =
     let old = c.args.self.now in
     let size = length c.args.shard.now in
     rows-entered (given_marks old.marks) (given_marks c.mark_given.new.self) (shard_laid_out old.chunks.items size)
-    (shard_laid_out (with_items old.chunks c.insert_at.new.chunks).items size) c.args.row c.args.shard.now c.mark_given.ensures.here
+    (shard_laid_out (with_items old.chunks c.insert_at.new.chunks).items size) c.args.row c.args.shard.now
+    c.mark_given.ensures.here
     c.mark_given.ensures.others (search (rules, with_items_is)) (search (rules, with_items_is))
 
 pub returns-clause-laid : goal.returns-clause-laid

@@ -54,4 +54,5 @@ returns-clause-left c = λ rate.
     let free = entry-free rows row own.shard_bytes repeated c.args.shard.now
     (ap is_some (ap rows at ∙ c.requires.free)) c.requires.size in
     ap (state_over rate own) (rw c.requires.size at c.enter.ensures.rows ∙ sym (ap (state_after rows) free))
-    ∙ (original-added rate own (places-known w.configured) rows c.args.index c.args.shard.now row at c.requires.index).state
+    ∙ (original-added rate own (places-known w.configured) rows c.args.index c.args.shard.now row at
+    c.requires.index).state

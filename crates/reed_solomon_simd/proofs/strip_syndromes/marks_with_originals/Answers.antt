@@ -5,7 +5,7 @@ use Rattle.rs_field.specs.declared.code.frame.Frame.{Frame}
 use Rattle.rs_rate.proofs.passes_lemmas.ChangeLemmas.{distinct_rows_of}
 use Rattle.reed_solomon_simd.proofs.BaseLemmas.{decoder_frame, frame_same}
 use Rattle.reed_solomon_simd.proofs.SyndromeMarks.{OwnBelow, own-more, adds-originals}
-use Rattle.reed_solomon_simd.proofs.strip_syndromes.with_originals.Goals as goal
+use Rattle.reed_solomon_simd.proofs.strip_syndromes.marks_with_originals.Goals as goal
 
 pub row_count-requires : goal.row_count-requires
 row_count-requires g c = (distinct_rows_of c.counts-counts.result.framed c.counts-counts.result.supported).few

@@ -1,7 +1,7 @@
 use Rattle.std.proofs.Common.{◌≡◌, ◌≤◌, vec_len}
 use Rattle.rs_field.specs.code.Frame.{row_count}
 use Rattle.reed_solomon_simd.proofs.SyndromeMarks.{OwnBelow}
-use Rattle.reed_solomon_simd.proofs.strip_syndromes.with_originals.Given as goal
+use Rattle.reed_solomon_simd.proofs.strip_syndromes.marks_with_originals.Given as goal
 
 -- The rows of the originals below the index are marked exactly if these were received, and the others as in `marks`.
 abbrev pub invariant-loop-index : goal.invariant-loop-index
