@@ -147,7 +147,7 @@ fn is_file(kind: Kind) -> bool
     }
 }
 
-// Exactly the links have a target. No path has a zero byte.
+// The target of a link is a path, and no path has a zero byte.
 #[tactic(auto, unfolding(crate::specs::Sound::allows_target))]
 fn allows_target(kind: Kind, target: &[u8]) -> bool
     ensures { result ≡ allows_target kind target.now }
@@ -159,7 +159,6 @@ fn allows_target(kind: Kind, target: &[u8]) -> bool
     }
 }
 
-// Checks an entry alone.
 #[tactic(auto, unfolding(crate::specs::Sound::entry_outcome))]
 fn check_entry(entry: &Entry) -> Result<(), Fault>
     ensures { result ≡ entry_outcome (entry_of entry.now) }
@@ -189,7 +188,6 @@ fn check_entry(entry: &Entry) -> Result<(), Fault>
     Ok(())
 }
 
-// Checks entries, and that their names are in strictly increasing order and no name is a folder of the next one.
 fn check_entries(entries: &[Entry]) -> Result<(), Fault>
     ensures { result ≡ entries_outcome [] (entries_of entries.now) }
 {
@@ -220,7 +218,6 @@ fn has_known_fields(fields: &[Field]) -> bool
     true
 }
 
-// Blocks of at most 4096 bytes are never too large, and the end of the data is rounded up to a multiple of 4096.
 #[tactic(auto, unfolding(crate::specs::Sound::is_large))]
 fn is_large(block_bytes: u64, end: u64) -> bool
     requires { end < 2 ^ 62 }
@@ -229,7 +226,6 @@ fn is_large(block_bytes: u64, end: u64) -> bool
     block_bytes > 4096 && block_bytes > round_up(4096, end)
 }
 
-// Checks that the blocks fit the data of the entries: they are not larger than the data, and there are `count` of them.
 #[tactic(auto, using(crate::proofs::CheckLemmas::outcomes_of_data))]
 fn check_data(block_bytes: u64, count: u64, entries: &[Entry]) -> Result<(), Fault>
     requires block { 0 < block_bytes }

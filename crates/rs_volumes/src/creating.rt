@@ -128,7 +128,6 @@ pub fn create_except<S: BlockSource, W: BlockSink>(
     Ok(digests)
 }
 
-// Makes a piece of each recovery block. Adds the pieces of all blocks to the hashers, and writes them.
 fn create_piece<S: BlockSource, W: BlockSink>(
     alloc: Global,
     shape: Shape,
@@ -169,7 +168,6 @@ fn create_piece<S: BlockSource, W: BlockSink>(
     Ok(())
 }
 
-// Reads the bytes from `start` to `end` - 1 of each block with an index below `count`.
 fn read_pieces<S: BlockSource>(
     alloc: Global,
     count: usize,
@@ -193,7 +191,6 @@ fn read_pieces<S: BlockSource>(
     Ok(pieces)
 }
 
-// Writes a piece of each block from the index `first` on. Each piece begins at byte `start` of its block.
 fn put_pieces<W: BlockSink>(
     sink: &mut W,
     first: usize,

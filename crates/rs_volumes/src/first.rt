@@ -33,7 +33,6 @@ pub struct Head {
     pub digest: [u8; 32],
 }
 
-// Reads a head.
 #[tactic(auto, unfolding(crate::specs::Heads::head_in))]
 fn head_from(bytes: &[u8; 64]) -> Result<Head, Fault>
     ensures { Reads head_of result (head_in bytes.now) }
@@ -67,7 +66,6 @@ pub fn read_head(bytes: &[u8; 64]) -> Result<Head, Fault>
     head_from(bytes)
 }
 
-// Reads a file of a description, and returns the file and the remaining bytes.
 #[tactic(auto, unfolding(crate::specs::First::first_entry_at))]
 fn entry_of(alloc: Global, bytes: &[u8]) -> Result<(Entry, &[u8]), ReadError>
     ensures { Gives (λ x. (entry_of x.0, x.1.now)) result (first_entry_at bytes.now) }
@@ -89,7 +87,6 @@ fn entry_of(alloc: Global, bytes: &[u8]) -> Result<(Entry, &[u8]), ReadError>
     Ok((entry, rest))
 }
 
-// Reads `count` files of a description, and returns the files and the remaining bytes.
 fn entries_of(alloc: Global, count: u32, bytes: &[u8]) -> Result<(Vec<Entry>, &[u8]), ReadError>
     ensures { Gives (λ x. (entries_of x.0.items, x.1.now)) result
         (first_entries_at count bytes.now) }
@@ -104,7 +101,6 @@ fn entries_of(alloc: Global, count: u32, bytes: &[u8]) -> Result<(Vec<Entry>, &[
     Ok((entries, rest))
 }
 
-// Reads the digests of `blocks` blocks. Fails if the bytes are not exactly these digests.
 #[tactic(auto, unfolding(crate::specs::First::digests_in))]
 fn digests_of(alloc: Global, blocks: u64, bytes: &[u8]) -> Result<Vec<u8>, ReadError>
     requires { blocks < 2 ^ 34 }
@@ -121,7 +117,7 @@ fn digests_of(alloc: Global, blocks: u64, bytes: &[u8]) -> Result<Vec<u8>, ReadE
     Ok(Vec::from_slice(alloc, bytes)?)
 }
 
-// Reads a description without checking whether it is sound.
+// The result may be unsound: `checked_of` checks it.
 #[tactic(auto, unfolding(crate::specs::First::first_description_in))]
 fn description_of(alloc: Global, bytes: &[u8]) -> Result<Description, ReadError>
     ensures { Gives set_of result (first_description_in bytes.now) }
@@ -176,7 +172,6 @@ fn comes_before(one: &[u8], other: &[u8]) -> bool
     one.len() < other.len()
 }
 
-// Checks the lengths and names of files, and that the names are in strictly increasing order.
 fn check_files(files: &[Entry]) -> Result<(), Fault>
     ensures answer { result ≡ files_outcome [] (entries_of files.now) }
     ensures sized { OnOk result (All (λ file. file.size < 2 ^ 62) files.now) }
@@ -215,7 +210,6 @@ fn fills(block_bytes: u64, count: u64, files: &[Entry]) -> bool
     left == 0
 }
 
-// Checks whether a description is sound.
 #[tactic(auto, unfolding(crate::specs::First::first_outcome))]
 fn check(description: &Description) -> Result<(), Fault>
     ensures { result ≡ first_outcome (set_of description.now) }
@@ -235,7 +229,6 @@ fn check(description: &Description) -> Result<(), Fault>
     Ok(())
 }
 
-// Reads a description, and checks whether the description is sound.
 #[tactic(auto, unfolding(crate::specs::First::first_reading))]
 fn checked_of(alloc: Global, bytes: &[u8]) -> Result<Description, ReadError>
     ensures { Gives set_of result (first_reading bytes.now) }

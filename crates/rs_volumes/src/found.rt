@@ -92,7 +92,6 @@ impl<P: Copy> FoundBlocks<P> {
     }
 }
 
-// Returns whether two blocks have the same digest. Returns false if `digests` has no digest with one of these indexes.
 fn has_same_digest(digests: &[u8], one: usize, other: usize) -> bool
     ensures { IsTrue result ↔ HaveSameDigest digests.now one other }
 {

@@ -38,7 +38,6 @@ pub fn absorb(hashers: &mut Vec<Sha256>, marks: &[bool], pieces: &[Vec<u8>])
     }
 }
 
-// Returns the piece with an index, or no bytes if the index is marked.
 fn unmarked_piece<'a>(marks: &[bool], pieces: &'a [Vec<u8>], index: usize) -> &'a [u8]
     requires { index < length pieces.now }
     ensures { result.now ≡ shard_at (emptied marks.now (map (λ piece. piece.items) pieces.now)) index }

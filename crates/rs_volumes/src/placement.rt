@@ -54,7 +54,6 @@ fn place_in(block_bytes: u64, extent: &Extent, block: u64) -> Place
     }
 }
 
-// Appends the places of a file that is not empty.
 fn push_places(places: &mut Vec<Place>, block_bytes: u64, extent: &Extent) -> Result<(), AllocError>
     requires block { 0 < block_bytes }
     requires block_fits { block_bytes ≤ 2 ^ 40 }

@@ -13,7 +13,6 @@ use crate::numbers::{digest_at, name_of, taken_of, u16_at, u32_at, u64_at};
 use crate::opening::opening_of;
 use std::alloc::Global;
 
-// Reads the kind of an entry, and returns the kind and the remaining bytes.
 #[tactic(auto, unfolding(crate::specs::Reading::kind_at, crate::specs::Reading::kind_with))]
 fn kind_of(bytes: &[u8]) -> Result<(Kind, &[u8]), Fault>
     ensures { Reads (λ x. (x.0, x.1.now)) result (kind_at bytes.now) }
@@ -27,7 +26,6 @@ fn kind_of(bytes: &[u8]) -> Result<(Kind, &[u8]), Fault>
     }
 }
 
-// Reads an entry of a description, and returns the entry and the remaining bytes.
 #[tactic(auto, unfolding(crate::specs::Reading::entry_at))]
 fn entry_of(alloc: Global, bytes: &[u8]) -> Result<(Entry, &[u8]), ReadError>
     ensures { Gives (λ x. (entry_of x.0, x.1.now)) result (entry_at bytes.now) }
@@ -53,7 +51,6 @@ fn entry_of(alloc: Global, bytes: &[u8]) -> Result<(Entry, &[u8]), ReadError>
     Ok((entry, rest))
 }
 
-// Reads `count` entries of a description, and returns the entries and the remaining bytes.
 fn entries_of(alloc: Global, count: u32, bytes: &[u8]) -> Result<(Vec<Entry>, &[u8]), ReadError>
     ensures { Gives (λ x. (entries_of x.0.items, x.1.now)) result (entries_at count bytes.now) }
 {
@@ -67,7 +64,6 @@ fn entries_of(alloc: Global, count: u32, bytes: &[u8]) -> Result<(Vec<Entry>, &[
     Ok((entries, rest))
 }
 
-// Reads a field of a description, and returns the field and the remaining bytes.
 #[tactic(auto, unfolding(crate::specs::Reading::field_at))]
 fn field_of(alloc: Global, bytes: &[u8]) -> Result<(Field, &[u8]), ReadError>
     ensures { Gives (λ x. (field_of x.0, x.1.now)) result (field_at bytes.now) }
@@ -79,7 +75,6 @@ fn field_of(alloc: Global, bytes: &[u8]) -> Result<(Field, &[u8]), ReadError>
     Ok((Field { kind, bytes }, rest))
 }
 
-// Reads fields up to the end of the bytes.
 fn fields_in(alloc: Global, bytes: &[u8]) -> Result<Vec<Field>, ReadError>
     ensures { Gives (λ v. fields_of v.items) result (fields_in (length bytes.now) bytes.now) }
 {
@@ -93,7 +88,6 @@ fn fields_in(alloc: Global, bytes: &[u8]) -> Result<Vec<Field>, ReadError>
     Ok(fields)
 }
 
-// Reads the number of bytes of the fields and then the fields, and returns the fields and the remaining bytes.
 #[tactic(auto, unfolding(crate::specs::Reading::fields_at))]
 fn fields_of(alloc: Global, bytes: &[u8]) -> Result<(Vec<Field>, &[u8]), ReadError>
     ensures { Gives (λ x. (fields_of x.0.items, x.1.now)) result (fields_at bytes.now) }
@@ -103,8 +97,7 @@ fn fields_of(alloc: Global, bytes: &[u8]) -> Result<(Vec<Field>, &[u8]), ReadErr
     Ok((fields_in(alloc, bytes)?, rest))
 }
 
-// Reads the digests of k + r blocks and the sums of k blocks, k being `original_count` and r `recovery_count`. Fails if
-// the bytes are not exactly these digests and sums.
+// The first list holds the digests of all blocks, and the second one the sums of the original blocks.
 #[tactic(auto, unfolding(crate::specs::Reading::tail_in))]
 fn tail_of(
     alloc: Global,
@@ -131,7 +124,7 @@ fn tail_of(
     ))
 }
 
-// Reads a description without checking whether it is sound.
+// The result may be unsound: `checked_of` checks it.
 #[tactic(auto, unfolding(crate::specs::Reading::description_in))]
 fn description_of(alloc: Global, bytes: &[u8]) -> Result<Description, ReadError>
     ensures { Gives set_of result (description_in bytes.now) }
@@ -154,7 +147,6 @@ fn description_of(alloc: Global, bytes: &[u8]) -> Result<Description, ReadError>
     })
 }
 
-// Reads a description, and checks whether the description is sound.
 #[tactic(auto, unfolding(crate::specs::Sound::reading))]
 fn checked_of(alloc: Global, bytes: &[u8]) -> Result<Description, ReadError>
     ensures { Gives set_of result (reading bytes.now) }

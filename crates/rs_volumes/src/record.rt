@@ -34,7 +34,6 @@ pub struct RecordHead {
     pub set: [u8; 32],
 }
 
-// The check at the end of a record is the first 8 bytes of the SHA-256 of what is before it.
 #[tactic(auto, unfolding(crate::specs::Records::check_of))]
 fn check_of(front: &[u8]) -> [u8; 8]
     ensures { result ≡ check_of front.now }
@@ -45,7 +44,6 @@ fn check_of(front: &[u8]) -> [u8; 8]
     ]
 }
 
-// Appends the part of a head before its check.
 fn put_front(out: &mut Vec<u8>, head: &RecordHead) -> Result<(), AllocError>
     ensures { OnOk result (out.new.items ≡ out.old.items ++ front_spelling (head_of head.now)) }
 {
@@ -72,7 +70,6 @@ pub fn write_record_head(alloc: Global, head: &RecordHead) -> Result<Vec<u8>, Al
     Ok(out)
 }
 
-// Reads the part of a head before its check.
 #[tactic(auto, unfolding(crate::specs::Records::front_in))]
 fn front_of(bytes: &[u8]) -> Result<RecordHead, Fault>
     requires { length bytes.now ≡ 56 }
@@ -90,7 +87,6 @@ fn front_of(bytes: &[u8]) -> Result<RecordHead, Fault>
     })
 }
 
-// Reads the head of a record.
 #[tactic(auto, unfolding(crate::specs::Records::head_in))]
 fn head_from(bytes: &[u8; 64]) -> Result<RecordHead, Fault>
     ensures { Reads head_of result (head_in bytes.now) }

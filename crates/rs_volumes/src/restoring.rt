@@ -160,8 +160,7 @@ pub fn restore_found<P: Copy, S: BlockSource, W: BlockSink>(
     )
 }
 
-// Returns the error that names the first block of these numbers that was not found. The block `number` has the index
-// `first` + `number`.
+// The error names the first of these blocks that was not found.
 fn first_lost<P: Copy>(
     numbers: &[usize],
     first: usize,
@@ -182,7 +181,6 @@ fn first_lost<P: Copy>(
     None
 }
 
-// Reads the bytes from `start` to `end` - 1 of each block of the plan.
 fn read_all<S: BlockSource>(
     alloc: Global,
     shape: Shape,
@@ -215,8 +213,6 @@ fn read_all<S: BlockSource>(
     })
 }
 
-// Reads the bytes from `start` to `end` - 1 of the blocks with the given numbers. In the source, the block `number` has
-// the index `first` + `number`.
 fn read_pieces<S: BlockSource>(
     alloc: Global,
     numbers: &[usize],
@@ -245,8 +241,6 @@ fn read_pieces<S: BlockSource>(
     Ok(pieces)
 }
 
-// Writes a piece of each wanted block. If there are pieces of recovery blocks, the function restores the pieces of lost
-// blocks.
 fn restore_piece<W: BlockSink>(
     alloc: Global,
     shape: Shape,
@@ -285,7 +279,6 @@ fn restore_piece<W: BlockSink>(
     put_restored(wanted, &restored, outputs, sink)
 }
 
-// Writes those of the pieces that belong to wanted blocks.
 fn put_read<W: BlockSink>(
     wanted: &[bool],
     pieces: &[(usize, Vec<u8>)],
@@ -313,7 +306,6 @@ fn put_read<W: BlockSink>(
     Ok(())
 }
 
-// Writes those of the restored pieces that belong to wanted blocks.
 fn put_restored<W: BlockSink>(
     wanted: &[bool],
     restored: &BTreeMap<usize, Vec<u8>>,
@@ -343,7 +335,6 @@ fn put_restored<W: BlockSink>(
     Ok(())
 }
 
-// Compares the digest of each wanted block with the digest in the description.
 fn compare(wanted: &[bool], digests: &[u8], hashers: &mut Vec<Sha256>) -> Result<(), CodingError>
     requires { length hashers.old.items ≡ length wanted.now }
     ensures digest { OnOk result ((i : ℕ) (d : Hasher) (bytes : Shard) → i < length wanted.now

@@ -21,7 +21,6 @@ fn number_of(kind: Kind) -> u16
     }
 }
 
-// Appends the numbers of an entry: kind, permission bits, nanoseconds, length and seconds.
 fn put_numbers(out: &mut Vec<u8>, entry: &Entry) -> Result<(), AllocError>
     requires { entry.now.mode < 2 ^ 16 }
     ensures { OnOk result (out.new.items ≡ out.old.items ++ entry_numbers (entry_of entry.now)) }
@@ -34,7 +33,6 @@ fn put_numbers(out: &mut Vec<u8>, entry: &Entry) -> Result<(), AllocError>
     Ok(())
 }
 
-// Appends the length of a name and then the name.
 fn put_name(out: &mut Vec<u8>, name: &[u8]) -> Result<(), AllocError>
     requires { length name.now < 2 ^ 16 }
     ensures { OnOk result (out.new.items ≡ out.old.items ++ name_spelling name.now) }
@@ -44,7 +42,6 @@ fn put_name(out: &mut Vec<u8>, name: &[u8]) -> Result<(), AllocError>
     Ok(())
 }
 
-// Appends an entry of a description.
 fn put_entry(out: &mut Vec<u8>, entry: &Entry) -> Result<(), AllocError>
     requires { HasShortNames entry.now }
     ensures { OnOk result (out.new.items ≡ out.old.items ++ entry_spelling (entry_of entry.now)) }
@@ -56,7 +53,6 @@ fn put_entry(out: &mut Vec<u8>, entry: &Entry) -> Result<(), AllocError>
     Ok(())
 }
 
-// Appends the entries of a description.
 fn put_entries(out: &mut Vec<u8>, entries: &[Entry]) -> Result<(), AllocError>
     requires { All HasShortNames entries.now }
     ensures { OnOk result (out.new.items
@@ -68,7 +64,6 @@ fn put_entries(out: &mut Vec<u8>, entries: &[Entry]) -> Result<(), AllocError>
     Ok(())
 }
 
-// Appends a field of a description.
 fn put_field(out: &mut Vec<u8>, field: &Field) -> Result<(), AllocError>
     requires { length field.now.bytes.items < 2 ^ 32 }
     ensures { OnOk result (out.new.items ≡ out.old.items ++ field_spelling (field_of field.now)) }
@@ -90,7 +85,6 @@ fn bytes_of(alloc: Global, fields: &[Field]) -> Result<Vec<u8>, AllocError>
     Ok(out)
 }
 
-// Appends the number of bytes of the fields and then the fields.
 fn put_fields(alloc: Global, out: &mut Vec<u8>, fields: &[Field]) -> Result<(), AllocError>
     requires each { All (λ field. length field.bytes.items < 2 ^ 32) fields.now }
     requires whole { length (flat_map field_spelling (fields_of fields.now)) < 2 ^ 32 }
