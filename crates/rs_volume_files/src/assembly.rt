@@ -16,15 +16,14 @@ const PART_MEMORY: u64 = 200;
 /// How much memory descriptions may take in any case, in bytes. The program needs as much for everything else.
 const LEAST_MEMORY: u64 = 32 << 20;
 
-// Returns the number of 4 bytes at an offset, or 0 if there are too few bytes.
+// Reads 4 bytes. Returns 0 if there are too few.
 fn number_at(bytes: &[u8], offset: usize) -> u64 {
     let number = bytes.get(offset..).unwrap_or(&[]).first_chunk::<4>();
     number.map_or(0, |number| u64::from(u32::from_le_bytes(*number)))
 }
 
-// Returns about how many bytes of memory the program needs for a set whose description has `total` bytes, and begins
-// with these bytes. In both versions, the numbers of blocks and of entries are at the same places. An entry has at
-// least 22 bytes, and a block at least 32.
+// The result is an estimate in bytes, and `total` is the number of bytes of the description. In both versions, the
+// numbers of blocks and of entries are at the same places. An entry has at least 22 bytes, and a block at least 32.
 fn memory_for(total: u64, bytes: &[u8]) -> u64 {
     let blocks = number_at(bytes, 16)
         .saturating_add(number_at(bytes, 20))
@@ -99,12 +98,12 @@ struct Parts {
 }
 
 impl Parts {
-    // Returns the number of parts of the description.
+    // Also counts the parts that are not found yet.
     fn count(&self) -> u64 {
         self.total.div_ceil(PART_BYTES)
     }
 
-    // Returns the bytes of all parts in turn, and drops the parts.
+    // Drops each part after its bytes are copied.
     fn joined(&mut self, alloc: Global) -> Result<Vec<u8>, AllocError> {
         let mut bytes = Vec::new(alloc);
         for index in 0..u32::MAX {
@@ -175,7 +174,7 @@ impl Assembly {
         self.complete(set, &mut parts)
     }
 
-    // Reads a description from all its parts. Returns `None` if it does not have its digest.
+    // Returns `None` if the description does not have its digest.
     fn complete(&self, set: &[u8; 32], parts: &mut Parts) -> Result<Option<Set>> {
         let bytes = parts.joined(self.alloc)?;
         if digest_of(bytes.as_slice()) != *set {

@@ -112,7 +112,6 @@ impl<'a, F: Read + Seek> Source<'a, F> {
         self.size.saturating_sub(HEAD)
     }
 
-    // Reads `count` bytes from an offset on.
     fn bytes(&mut self, offset: u64, count: u64) -> Result<Vec<u8>> {
         if count > LARGEST_DESCRIPTION || count > self.size.saturating_sub(offset) {
             return Err(Failure::of("it is too short"));
@@ -123,7 +122,6 @@ impl<'a, F: Read + Seek> Source<'a, F> {
         Ok(bytes)
     }
 
-    // Reads the head at an offset.
     fn head(&mut self, offset: u64) -> Result<Head> {
         let bytes = self.bytes(offset, HEAD)?;
         match bytes.first_chunk::<HEAD_BYTES>() {
@@ -132,7 +130,7 @@ impl<'a, F: Read + Seek> Source<'a, F> {
         }
     }
 
-    // Reads the copy of a description of `total` bytes that belongs to the head at an offset.
+    // The first copy follows its head, and the last copy is before its head.
     fn copy(&mut self, total: u64, head: u64) -> Result<Vec<u8>> {
         let offset = if head == 0 {
             HEAD
@@ -142,7 +140,6 @@ impl<'a, F: Read + Seek> Source<'a, F> {
         self.bytes(offset, total)
     }
 
-    // Returns the volume with this description. Its records begin after the first copy.
     fn volume(&mut self, bytes: &[u8]) -> Result<FirstVolume> {
         check_memory(bytes.len() as u64, bytes, self.memory)?;
         let description = read_description(self.alloc, bytes)?;
@@ -155,7 +152,6 @@ impl<'a, F: Read + Seek> Source<'a, F> {
         Ok(FirstVolume { set, records })
     }
 
-    // Returns the records of a volume.
     fn records(&mut self, set: &Set) -> Records {
         let record = set
             .description
@@ -179,7 +175,6 @@ impl<'a, F: Read + Seek> Source<'a, F> {
         }
     }
 
-    // Returns whether a head of a set, with this number of records, is at an offset.
     fn has_head(&mut self, offset: u64, set: &Set, count: u64) -> bool {
         match self.head(offset) {
             Ok(head) => {
@@ -191,13 +186,13 @@ impl<'a, F: Read + Seek> Source<'a, F> {
         }
     }
 
-    // Returns whether the copy of the description that belongs to the head at an offset is right.
+    // `head` is the offset of the head to which the copy belongs.
     fn has_copy(&mut self, head: u64, set: &Set) -> bool {
         let copy = self.copy(set.description_bytes, head);
         copy.is_ok_and(|bytes| digest_of(bytes.as_slice()) == set.digest)
     }
 
-    // Reads a volume with the head at an offset, and with both copies of the description.
+    // If the last copy is damaged, both copies are put together.
     fn with_head(&mut self, offset: u64) -> Result<FirstVolume> {
         let head = self.head(offset)?;
         let mut first = self.copy(head.description_bytes, 0)?;
@@ -211,8 +206,8 @@ impl<'a, F: Read + Seek> Source<'a, F> {
         }
     }
 
-    // Reads a volume without a head. Its description says itself how long it is. It is believed if its two copies are
-    // equal, and a block of the volume has its digest.
+    // The description itself says how long it is. It is believed if its two copies are equal, and a block of the volume
+    // has its digest.
     fn without_head(&mut self) -> Result<FirstVolume> {
         let room = self.size.saturating_sub(HEAD).min(LARGEST_DESCRIPTION);
         let mut count = room.min(1 << 16);
@@ -237,7 +232,7 @@ impl<'a, F: Read + Seek> Source<'a, F> {
         Err(Failure::of("it has neither a record nor a description that can be read"))
     }
 
-    // Returns a volume if one of its blocks has its digest.
+    // Fails if no block of the volume has its digest.
     fn believed(&mut self, volume: FirstVolume) -> Result<FirstVolume> {
         let mut buffer = vec![in self.alloc; 0u8; CHUNK]?;
         let block_bytes = volume.set.description.block_bytes;
@@ -283,19 +278,18 @@ pub fn block_in<F: Read + Seek>(
     Ok((index, own))
 }
 
-// Returns whether bytes begin as a description does, with the numbers of the code and of the digest.
+// A description begins with the numbers of the code and of the digest, which are both 1.
 fn begins_description(bytes: &[u8]) -> bool {
     bytes.starts_with(&[1, 0, 0, 0, 1, 0, 0, 0])
 }
 
-// Returns the number of 32 bits at an index.
+// Reads 4 bytes.
 fn number_at(bytes: &[u8], index: usize) -> Option<u64> {
     let bytes = bytes.get(index..)?.first_chunk::<4>()?;
     Some(u64::from(u32::from_le_bytes(*bytes)))
 }
 
-// Returns the number of bytes of the description that begins with these bytes. Returns `None` if the bytes end before
-// its last file.
+// Returns the length of the whole description, or `None` if the bytes end before its last file.
 fn length_of(bytes: &[u8]) -> Option<u64> {
     let blocks = number_at(bytes, 16)?.saturating_add(number_at(bytes, 20)?);
     let mut at = 28usize;
@@ -308,8 +302,8 @@ fn length_of(bytes: &[u8]) -> Option<u64> {
     Some((at as u64).saturating_add(blocks.saturating_mul(32)))
 }
 
-// Returns where two copies of a description differ: the first byte of each run, and the byte after its last one. Runs
-// with at most 16 equal bytes between them count as one.
+// Returns the first byte of each run, and the byte after its last one. Runs with at most 16 equal bytes between them
+// count as one.
 fn differing(alloc: Global, first: &[u8], last: &[u8]) -> Result<Vec<(usize, usize)>> {
     let mut runs: Vec<(usize, usize)> = Vec::new(alloc);
     for (index, (one, other)) in first.iter().zip(last).enumerate() {
@@ -330,8 +324,7 @@ fn differing(alloc: Global, first: &[u8], last: &[u8]) -> Result<Vec<(usize, usi
     Ok(runs)
 }
 
-// Puts two damaged copies of a description together: exchanges the runs of bytes in which they differ, until `first`
-// has the digest. Returns whether it has it.
+// Exchanges the runs of bytes in which the copies differ, until `first` has the digest. Returns whether it has it.
 fn combine(
     alloc: Global,
     first: &mut Vec<u8>,
@@ -357,7 +350,6 @@ fn combine(
     Ok(false)
 }
 
-// Exchanges the bytes of two copies from `start` to `end` - 1.
 fn exchange(first: &mut [u8], last: &mut [u8], start: usize, end: usize) {
     for index in start..end.max(start) {
         if let (Some(one), Some(other)) = (first.get_mut(index), last.get_mut(index)) {

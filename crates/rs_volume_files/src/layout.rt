@@ -107,7 +107,6 @@ pub struct Layout {
 }
 
 impl Layout {
-    // Returns the number of bytes of the record of a block.
     fn record_bytes(&self) -> u64 {
         self.block_bytes.saturating_add(RECORD_HEAD_BYTES as u64)
     }
@@ -140,13 +139,11 @@ impl Layout {
         many.min(fit).max(least)
     }
 
-    // Returns the number of records of blocks before the copy with this number. The copies are spread evenly, the first
-    // one before all records, and the last one after them.
+    // The copies are spread evenly, the first one before all records, and the last one after them.
     fn blocks_before(&self, copy: u64) -> u64 {
         copy.saturating_mul(self.blocks) / self.copies().saturating_sub(1).max(1)
     }
 
-    // Returns the number of copies before the record of a block.
     fn copies_before(&self, block: u64) -> u64 {
         let gaps = self.copies().saturating_sub(1);
         block
@@ -155,7 +152,6 @@ impl Layout {
             .div_ceil(self.blocks.max(1))
     }
 
-    // Returns the offset in bytes of what follows these numbers of copies and of records of blocks.
     fn offset_after(&self, copies: u64, blocks: u64) -> u64 {
         (LINE_BYTES as u64)
             .saturating_add(copies.saturating_mul(self.copy_bytes()))

@@ -51,12 +51,10 @@ pub struct Walk<F: Drop> {
     effort: u64,
 }
 
-// Returns the valid head at the front of bytes.
 fn head_of(bytes: &[u8]) -> Option<RecordHead> {
     read_record_head(bytes.first_chunk::<RECORD_HEAD_BYTES>()?).ok()
 }
 
-// Returns the first valid head in bytes, with its index.
 fn find_head(bytes: &[u8]) -> Option<(usize, RecordHead)> {
     for (index, byte) in bytes.iter().enumerate() {
         if *byte == MAGIC[0] {
@@ -68,7 +66,7 @@ fn find_head(bytes: &[u8]) -> Option<(usize, RecordHead)> {
     None
 }
 
-// Reads bytes until the buffer is full, the file ends, or a read fails. Returns the number of bytes, and the error.
+// Ends when the buffer is full, the file ends, or a read fails.
 fn read_some<F: Read>(file: &mut F, buffer: &mut [u8]) -> (usize, Option<io::Error>) {
     let mut filled = 0usize;
     for _ in 0..u64::MAX {
@@ -152,7 +150,6 @@ impl<F: Read + Seek + Drop> Walk<F> {
         true
     }
 
-    // Goes to the end of a record, if the file ends there or a valid head is there.
     fn step_to(&mut self, end: u64) {
         if end == self.size {
             self.position = end;
@@ -162,7 +159,6 @@ impl<F: Read + Seek + Drop> Walk<F> {
         }
     }
 
-    // Returns the valid head at an offset.
     fn head_at(&mut self, offset: u64) -> Option<RecordHead> {
         if self.size.saturating_sub(offset) < RECORD_HEAD_BYTES as u64 {
             return None;
@@ -181,7 +177,7 @@ impl<F: Read + Seek + Drop> Walk<F> {
         }
     }
 
-    // Returns the bytes of the file from an offset on that were read before.
+    // Returns no bytes if those at this offset were not read before.
     fn held(&self, offset: u64) -> &[u8] {
         match offset.checked_sub(self.window_at) {
             Some(index) if index < self.window.len() as u64 => {
@@ -191,7 +187,7 @@ impl<F: Read + Seek + Drop> Walk<F> {
         }
     }
 
-    // Looks for the next valid head, and goes there.
+    // Moves the position to the head that is found.
     fn search(&mut self) -> Option<RecordHead> {
         for _ in 0..u64::MAX {
             if self.position >= self.size {
@@ -212,7 +208,7 @@ impl<F: Read + Seek + Drop> Walk<F> {
         None
     }
 
-    // Returns how many bytes from the present offset on can be skipped, if no valid head is in those that were read.
+    // A head can begin in the last 63 bytes, which are skipped only at the end of the file, or if a read fails there.
     fn bytes_without_head(&self) -> u64 {
         let left = self.size - self.position.min(self.size);
         let held = (self.held(self.position).len() as u64).min(left);
@@ -228,7 +224,7 @@ impl<F: Read + Seek + Drop> Walk<F> {
         }
     }
 
-    // Reads bytes from the present offset on, unless enough of them were read before.
+    // Reads nothing if a whole head or the rest of the file was read before.
     fn load(&mut self) {
         let left = self.size.saturating_sub(self.position);
         let held = self.held(self.position).len() as u64;
@@ -251,7 +247,7 @@ impl<F: Read + Seek + Drop> Walk<F> {
         }
     }
 
-    // Keeps the first error of the system. The end of the file is none.
+    // The end of the file is no error of the system.
     fn note(&mut self, error: io::Error) {
         if self.error.is_none() && error.kind() != ErrorKind::UnexpectedEof {
             self.error = Some(error);

@@ -21,7 +21,6 @@ pub enum State {
     Missing,
 }
 
-// Returns the number of original blocks and recovery blocks of a description.
 fn blocks_of(description: &Description) -> usize {
     (u64::from(description.original_count) + u64::from(description.recovery_count)) as usize
 }

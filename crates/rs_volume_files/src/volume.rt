@@ -91,7 +91,6 @@ struct Finder {
 }
 
 impl Finder {
-    // Returns a finder that has found nothing.
     fn new(alloc: Global, memory: u64) -> Finder {
         Finder {
             alloc,
@@ -103,14 +102,13 @@ impl Finder {
         }
     }
 
-    // Keeps a set, unless another one was found before.
     fn keep(&mut self, set: Set) {
         if self.set.is_none() {
             self.set = Some(set);
         }
     }
 
-    // Looks for the set in a file. Returns how the blocks of the file are found. Fails if it is no volume.
+    // Also looks for the set in the file. Fails if the file is no volume.
     fn open<R: Files>(&mut self, rt: &R, path: &str) -> Result<Form> {
         let (mut file, size) = open_sized(rt, self.alloc, path)?;
         if let Ok(volume) = first::open_front(&mut file, size, self.alloc, self.memory) {
@@ -126,14 +124,13 @@ impl Finder {
         }
     }
 
-    // Keeps the set of a volume of version 1.
     fn keep_first(&mut self, volume: first::FirstVolume) -> Form {
         let form = Form::First(volume.set.digest, volume.records);
         self.keep(volume.set);
         form
     }
 
-    // Returns whether a file has records. Looks for a whole description in them, unless the set is known.
+    // Also looks for a whole description in the records, unless the set is known.
     fn has_records<F: Read + Seek + Drop>(&mut self, walk: &mut Walk<F>) -> bool {
         let mut has_some = false;
         for _ in 0..u64::MAX {
@@ -149,7 +146,6 @@ impl Finder {
         has_some
     }
 
-    // Adds the part of a description in a record, if it has one.
     fn add<F: Read + Seek + Drop>(&mut self, walk: &mut Walk<F>, record: &Record) {
         if record.head.kind != PART {
             return;
@@ -164,7 +160,6 @@ impl Finder {
     }
 }
 
-// Returns the failure for a file that is no volume, or whose description cannot be read.
 fn no_volume(alloc: Global, path: &str, fault: &Failure) -> Failure {
     Failure::at(
         alloc,
@@ -194,7 +189,6 @@ pub fn open_volume<R: Files>(
     }
 }
 
-// Returns why no description can be used.
 fn fault_of(fault: Option<Failure>) -> Failure {
     fault.unwrap_or(Failure::of("each copy of its description is damaged"))
 }
@@ -240,7 +234,6 @@ pub fn open_volumes<R: Files + Eprint>(
     }
 }
 
-// Checks that each volume has a record of the set.
 fn check_set<R: Files>(rt: &R, alloc: Global, set: &Set, volumes: &[Volume]) -> Result<()> {
     for volume in volumes {
         let belongs = match &volume.form {
@@ -258,7 +251,7 @@ fn check_set<R: Files>(rt: &R, alloc: Global, set: &Set, volumes: &[Volume]) -> 
     Ok(())
 }
 
-// Returns whether a volume of version 2 has a record of a set.
+// The volume is one of version 2.
 fn has_record_of<R: Files>(rt: &R, alloc: Global, set: &Set, path: &str) -> Result<bool> {
     let (file, size) = open_sized(rt, alloc, path)?;
     let mut walk = Walk::new(alloc, file, size)?;
@@ -273,7 +266,6 @@ fn has_record_of<R: Files>(rt: &R, alloc: Global, set: &Set, path: &str) -> Resu
     Ok(false)
 }
 
-// Prints that the volumes have no whole description, and returns the failure that no volume can be read.
 fn without_set<R: Eprint>(
     rt: &R,
     alloc: Global,

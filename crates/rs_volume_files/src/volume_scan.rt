@@ -87,11 +87,9 @@ impl<'a, R: Files + Clock + Eprint> VolumeScan<'a, R> {
         }
     }
 
-    // Looks for blocks in a volume of version 1.
-    //
-    // If the volume is damaged, records are also read in its last bytes. Damage is not counted there, because these
-    // bytes are the second copy of the description and the head. This copy is as long as the first one, which ends at
-    // the first record.
+    // If a volume of version 1 is damaged, records are also read in its last bytes. Damage is not counted there,
+    // because these bytes are the second copy of the description and the head. This copy is as long as the first one,
+    // which ends at the first record.
     fn scan_first<F: Read + Seek>(
         &mut self,
         file: &mut F,
@@ -124,7 +122,6 @@ impl<'a, R: Files + Clock + Eprint> VolumeScan<'a, R> {
         damage
     }
 
-    // Looks for blocks in a volume of version 2.
     fn scan_second<F: Read + Seek + Drop>(
         &mut self,
         mut walk: Walk<F>,
@@ -161,14 +158,12 @@ impl<'a, R: Files + Clock + Eprint> VolumeScan<'a, R> {
         Ok(damage)
     }
 
-    // Returns whether a volume begins with its line of text.
     fn has_line<F: Read + Seek + Drop>(&self, walk: &mut Walk<F>) -> Result<bool> {
         let mut front = [0u8; LINE_BYTES];
         let line = first_line(self.alloc)?;
         Ok(read_at(&mut walk.file, 0, &mut front).is_ok() && front.as_slice() == line.as_slice())
     }
 
-    // Looks what is in a record.
     fn scan_record<F: Read + Seek + Drop>(
         &mut self,
         walk: &mut Walk<F>,
@@ -189,7 +184,6 @@ impl<'a, R: Files + Clock + Eprint> VolumeScan<'a, R> {
         }
     }
 
-    // Compares the block in a record with its digest.
     fn scan_block<F: Read + Seek + Drop>(
         &mut self,
         walk: &mut Walk<F>,
@@ -221,14 +215,12 @@ impl<'a, R: Files + Clock + Eprint> VolumeScan<'a, R> {
         found.wrong_blocks = found.wrong_blocks.saturating_add(1);
     }
 
-    // Returns whether the bytes at an offset of a volume are a block: their digest is that of the block. Notes where
-    // the block is.
+    // Notes where the block is, if `own` is its digest.
     fn is_block(&mut self, index: usize, own: &ComputedDigest, holder: usize, offset: u64) -> bool {
         let origin = Origin::Volume { holder, offset };
         self.scanner.found.note(index, own, origin)
     }
 
-    // Returns how the blocks of the set are dealt to the volumes.
     fn deal(&self) -> Deal {
         let description = &self.set.description;
         Deal::of(
@@ -238,14 +230,12 @@ impl<'a, R: Files + Clock + Eprint> VolumeScan<'a, R> {
         )
     }
 
-    // Returns whether a record has the length and the index of a block.
     fn can_be_block(&self, record: &Record) -> bool {
         record.head.body_bytes == self.set.description.block_bytes
             && (record.head.index as usize) < self.scanner.block_count()
     }
 
-    // Returns the SHA-256 of the block in a record. Returns `None` if a byte of the block that is in no file is not
-    // zero.
+    // Returns `None` if a byte of the block that is in no file is not zero.
     fn hash_block<F: Read + Seek>(
         &mut self,
         file: &mut F,
@@ -275,7 +265,7 @@ impl<'a, R: Files + Clock + Eprint> VolumeScan<'a, R> {
         Ok(Some(hasher.finish()))
     }
 
-    // Returns how many records are damaged or missing, compared with a whole volume that this program writes.
+    // Compares with a whole volume that this program writes.
     fn damage_of(&self, found: &Found) -> Damage {
         let deal = self.deal();
         // A volume without a record of a block is the last one, which has the fewest.

@@ -143,7 +143,6 @@ impl<'a, R: Files + Eprint> Volumes<'a, R> {
         }
     }
 
-    // Returns where the records of the volume with this number lie.
     fn layout(&self, number: u64) -> Layout {
         Layout {
             blocks: self.deal.blocks_in(number),
@@ -246,7 +245,7 @@ impl<'a, R: Files + Eprint> Volumes<'a, R> {
         outcome
     }
 
-    // Syncs the folders of all volumes, and those above new folders.
+    // The folders above new folders are synced as well.
     fn sync_folders(&mut self) {
         for part in self.parts.iter().flatten() {
             self.folders.note(self.rt, self.alloc, part.path.as_str());
@@ -254,7 +253,6 @@ impl<'a, R: Files + Eprint> Volumes<'a, R> {
         self.folders.sync(self.rt);
     }
 
-    // Syncs all volumes.
     fn sync(&mut self) -> Result<()> {
         for part in self.parts.iter_mut().flatten() {
             part.sync(self.rt, self.alloc)?;
@@ -262,7 +260,7 @@ impl<'a, R: Files + Eprint> Volumes<'a, R> {
         Ok(())
     }
 
-    // Checks that each volume can get its final name. Something may have changed since the volumes were begun.
+    // Something may have changed since the volumes were begun.
     fn check(&self, force: bool) -> Result<()> {
         for part in self.parts.iter().flatten() {
             check_output(self.rt, self.alloc, part.path.as_str(), force)?;
@@ -270,7 +268,7 @@ impl<'a, R: Files + Eprint> Volumes<'a, R> {
         Ok(())
     }
 
-    // Renames the volume with this number to its final name, if it is written.
+    // Does nothing if the volume is not written.
     fn rename(&self, number: usize) -> Result<()> {
         match self.parts.get(number) {
             Some(Some(part)) => part.rename(self.rt, self.alloc),
@@ -332,7 +330,6 @@ impl<'a, R: Files + Eprint> Volumes<'a, R> {
         total.saturating_sub(self.written)
     }
 
-    // Writes bytes into the volume with this number, from byte `offset` on.
     fn write(&mut self, number: usize, offset: u64, bytes: &[u8]) -> Result<()> {
         match self.parts.get_mut(number) {
             Some(Some(part)) => {
@@ -345,7 +342,6 @@ impl<'a, R: Files + Eprint> Volumes<'a, R> {
         }
     }
 
-    // Writes the heads of the records of all blocks of a volume.
     fn write_heads(&mut self, number: usize, layout: Layout, set: &[u8; 32]) -> Result<()> {
         for record in 0..layout.blocks {
             let index = self.deal.block_of(number as u64, record);
@@ -362,7 +358,7 @@ impl<'a, R: Files + Eprint> Volumes<'a, R> {
     }
 }
 
-// Gives a volume its final name, and keeps the damaged one with this name. Appends the path of that to `kept`.
+// Keeps the damaged volume with this name, and appends its path to `kept`.
 fn replace_one<R: Files + Eprint>(
     rt: &R,
     alloc: Global,
@@ -380,7 +376,7 @@ fn replace_one<R: Files + Eprint>(
     Ok(())
 }
 
-// Returns the records of all parts of a description, one after another.
+// A copy of a description consists of the records of all its parts.
 fn copy_of(alloc: Global, description: &[u8], set: &[u8; 32]) -> Result<Vec<u8>, AllocError> {
     let total = description.len() as u64;
     let mut copy = Vec::new(alloc);
@@ -397,7 +393,7 @@ fn copy_of(alloc: Global, description: &[u8], set: &[u8; 32]) -> Result<Vec<u8>,
     Ok(copy)
 }
 
-// Appends the record of a part. `total` is the number of bytes of the description.
+// `total` is the number of bytes of the description.
 fn put_part(
     alloc: Global,
     copy: &mut Vec<u8>,
