@@ -39,7 +39,6 @@ impl Folders {
         }
     }
 
-    // Adds the folder of a path, unless it was added last.
     fn add(&mut self, alloc: Global, path: &str) -> Result<(), AllocError> {
         let folder = folder_to_open(parent_of(path));
         let is_last = self
@@ -72,8 +71,7 @@ impl Folders {
         }
     }
 
-    // Notes those of the folders of a path that do not exist yet, and the folders above them. `path` is the path of a
-    // folder.
+    // `path` is the path of a folder. The folder above each missing one is noted as changed.
     fn add_missing<R: Files>(
         &mut self,
         rt: &R,
@@ -128,8 +126,7 @@ impl Folders {
     }
 }
 
-// Syncs a folder. If it cannot be synced, the function prints a warning, and returns false. A folder that is no longer
-// there is left out.
+// Prints a warning and returns false if the folder cannot be synced. A folder that is no longer there is left out.
 fn sync_folder<R: Files + Eprint>(rt: &R, folder: &str) -> bool {
     match sync_opened(rt, folder) {
         Err(error) if error.kind() != ErrorKind::NotFound => {
@@ -141,7 +138,6 @@ fn sync_folder<R: Files + Eprint>(rt: &R, folder: &str) -> bool {
     }
 }
 
-// Opens a folder and syncs it.
 fn sync_opened<R: Files>(rt: &R, folder: &str) -> io::Result<()> {
     fs::open(rt, folder)?.sync_all()
 }

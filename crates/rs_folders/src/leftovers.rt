@@ -25,8 +25,8 @@ pub fn tell_leftovers<R: Files + Eprint>(rt: &R, alloc: Global, paths: &[String]
     Ok(())
 }
 
-// Prints a warning for each file that a run has not finished, and that would have got the path `path`. A file of the
-// set, which has one of the paths `paths`, is none.
+// Warns about unfinished files that would have got the path `path`. A file with one of the paths `paths` is in the set,
+// so it is not one of them.
 fn tell_leftovers_of<R: Files + Eprint>(
     rt: &R,
     alloc: Global,

@@ -68,7 +68,7 @@ pub fn free_path<R: Files>(
     Err(Failure::at(alloc, free.as_str(), "it exists"))
 }
 
-// Returns whether an entry of a set has this name, or lies in a folder of this name.
+// An entry in a folder of this name counts as well.
 fn is_in_set(alloc: Global, set: &Description, name: &str) -> Result<bool> {
     let folder = format!(in alloc; "{name}/")?;
     let (name, folder) = (name.as_bytes(), folder.as_str().as_bytes());
@@ -82,7 +82,6 @@ fn is_in_set(alloc: Global, set: &Description, name: &str) -> Result<bool> {
     Ok(same.is_ok() || below.is_ok())
 }
 
-// Returns the first `count` bytes of the name of an entry, or the whole name if it is shorter.
 fn front_of(entry: &Entry, count: usize) -> &[u8] {
     let name = entry.name.as_slice();
     &name[..count.min(name.len())]
@@ -153,7 +152,7 @@ impl<R: Files> Part<R> {
         }
     }
 
-    // Returns whether this file is at a path, and not another file or a symbolic link.
+    // A symbolic link to the file does not count.
     fn is_at(&self, rt: &R, path: &str) -> bool {
         let Ok(found) = fs::symlink_metadata(rt, path) else {
             return false;
@@ -252,8 +251,7 @@ impl<R: Files> Part<R> {
     }
 }
 
-// Opens a part again that was made with the permission bits `mode` and was closed. `closed` is its metadata at that
-// time.
+// `mode` are the permission bits with which the part was made, and `closed` is its metadata when it was closed.
 fn open_again<R: Files>(
     rt: &R,
     part: &str,
@@ -272,8 +270,7 @@ fn open_again<R: Files>(
     }
 }
 
-// Returns whether a file that was found is the part that was made with the permission bits `mode` and closed later: it
-// has the same device, number there, type, owner, permission bits, length and number of names.
+// `mode` are the permission bits with which the part was made, and `closed` is its metadata when it was closed.
 //
 // A file system that does not keep permission bits, such as FAT, can also give a file another number after it was
 // closed. There the number is not compared. Everybody who may write into a folder there may also write into each file

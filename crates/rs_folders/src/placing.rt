@@ -132,7 +132,7 @@ impl<'a, R: Files + Eprint> Placing<'a, R> {
         self.folders.remove_empty(self.rt);
     }
 
-    // Returns an entry with its path. Fails if its name is not UTF-8.
+    // Fails if the name of the entry is not UTF-8.
     fn target<'b>(&self, entry: &'b Entry) -> Result<Target<'b>> {
         let Some(name) = text_of(entry.name.as_slice()) else {
             let shown = format!(in self.alloc; "{}", Name(entry.name.as_slice()))?;
@@ -146,14 +146,12 @@ impl<'a, R: Files + Eprint> Placing<'a, R> {
         })
     }
 
-    // Returns a path that nothing has: that of an entry with an ending.
     fn free_path(&self, target: &Target<'_>, ending: &str) -> Result<String> {
         let Goal { folder, set, .. } = self.goal;
         free_path(self.rt, self.alloc, folder, target.name, ending, Some(set))
     }
 
-    // Checks that an entry may be written: no folder above it, below the folder of the goal, is a symbolic link, and
-    // nothing has its name that may not be replaced.
+    // An entry is not written through a symbolic link, and replaces only what may be replaced.
     fn check(&self, target: &Target<'_>) -> Result<()> {
         let path = target.path.as_str();
         if leads_away(self.rt, self.alloc, self.goal.folder, target.name)? {
@@ -173,8 +171,7 @@ impl<'a, R: Files + Eprint> Placing<'a, R> {
         }
     }
 
-    // Gives a restored file its permission bits, its time and its final name. Returns the path of the damaged file that
-    // was kept.
+    // Returns the path of the damaged file that was kept.
     fn name_file(&mut self, part: &mut Part<R>, entry: &Entry) -> Result<Option<String>> {
         let outcome = match part.open(self.rt) {
             Ok(handle) => Ok(attributes_set(handle, entry)),
@@ -189,8 +186,7 @@ impl<'a, R: Files + Eprint> Placing<'a, R> {
         self.settle(&target, named, kept)
     }
 
-    // Makes a symbolic link under another name, and gives it its final name. Returns the path of the damaged file that
-    // was kept. Fails if the target of the link is not UTF-8.
+    // The link has another name first. Returns the path of the damaged file that was kept.
     fn make_link(&mut self, target: &Target<'_>) -> Result<Option<String>> {
         let (rt, path) = (self.rt, target.path.as_str());
         let Some(text) = text_of(target.entry.target.as_slice()) else {
@@ -214,8 +210,7 @@ impl<'a, R: Files + Eprint> Placing<'a, R> {
         outcome
     }
 
-    // Makes a folder, and gives it its permission bits and its time. Returns the path of the damaged file that was
-    // kept.
+    // Returns the path of the damaged file that was kept.
     fn make_folder(&mut self, target: &Target<'_>) -> Result<Option<String>> {
         let (rt, path) = (self.rt, target.path.as_str());
         let kept = self.make_room(target)?;
@@ -227,8 +222,7 @@ impl<'a, R: Files + Eprint> Placing<'a, R> {
         Ok(kept)
     }
 
-    // Makes room for a restored entry at its path: checks its path again, because something may have changed, and keeps
-    // the damaged file there, if the entry was damaged in place. Returns the path of the damaged file that was kept.
+    // Checks the path again, because something may have changed. Returns the path of the damaged file that was kept.
     fn make_room(&self, target: &Target<'_>) -> Result<Option<String>> {
         self.check(target)?;
         if self.goal.in_place {
@@ -238,7 +232,6 @@ impl<'a, R: Files + Eprint> Placing<'a, R> {
         }
     }
 
-    // Does what [`settle`] does, for an entry.
     fn settle(
         &mut self,
         target: &Target<'_>,
@@ -249,8 +242,8 @@ impl<'a, R: Files + Eprint> Placing<'a, R> {
         settle(self.rt, self.alloc, path, named, kept, &mut self.folders)
     }
 
-    // Gives a damaged file a second name, `NAME.damaged` or `NAME.damaged2` and so on, if the file exists. Returns the
-    // path of this name. A folder that has the name of a folder is not damaged.
+    // The second name is `NAME.damaged` or `NAME.damaged2` and so on. A folder that has the name of a folder is not
+    // damaged.
     //
     // The file keeps its own name too, until the restored file takes it. So the program can be killed at any moment,
     // and the next run finds the file. A file system without hard links gets the file renamed. A folder cannot take the
@@ -272,7 +265,7 @@ impl<'a, R: Files + Eprint> Placing<'a, R> {
     }
 }
 
-// Returns why something that exists may not be replaced by a restored entry, or `None` if it may be replaced.
+// `is_folder` and `is_input` are about what exists, and `kind` is about the restored entry.
 fn obstacle(goal: Goal<'_>, kind: Kind, is_folder: bool, is_input: bool) -> Option<&'static str> {
     match kind {
         Kind::Folder if is_folder => return None,
@@ -317,7 +310,6 @@ pub fn leads_away<R: Files>(rt: &R, alloc: Global, folder: &str, name: &str) -> 
     Ok(false)
 }
 
-// Returns whether a path is a symbolic link.
 fn is_link<R: Files>(rt: &R, path: &str) -> bool {
     fs::symlink_metadata(rt, path).is_ok_and(|found| found.is_symlink())
 }
@@ -325,13 +317,12 @@ fn is_link<R: Files>(rt: &R, path: &str) -> bool {
 // What became of the permission bits and of the time of an entry.
 type Attributes = (io::Result<()>, io::Result<()>);
 
-// Sets the permission bits and the time of the last change of a file or a folder, and returns both outcomes.
 fn attributes_set<F: OpenFile>(handle: &F, entry: &Entry) -> Attributes {
     let mode = handle.set_permissions(Permissions::from_mode(entry.mode & RESTORED_BITS));
     (mode, set_time(handle, entry))
 }
 
-// Sets the time of the last change of a file or a folder. A time before 1970 is not set.
+// A time before 1970 is not set.
 fn set_time<F: OpenFile>(handle: &F, entry: &Entry) -> io::Result<()> {
     let seconds = i64::from_le_bytes(entry.seconds.to_le_bytes());
     if let Ok(seconds) = u64::try_from(seconds) {
@@ -344,7 +335,6 @@ fn set_time<F: OpenFile>(handle: &F, entry: &Entry) -> io::Result<()> {
     Ok(())
 }
 
-// Prints a warning for each attribute that could not be set.
 fn warn_unset<R: Eprint>(rt: &R, path: &str, attributes: Attributes) {
     let named = [
         ("its permission bits", attributes.0),
@@ -358,7 +348,7 @@ fn warn_unset<R: Eprint>(rt: &R, path: &str, attributes: Attributes) {
     }
 }
 
-// Renames a symbolic link. `own` is the identity that it had when it was made.
+// `own` is the identity that the link had when it was made.
 fn rename_link<R: Files>(rt: &R, part: &str, path: &str, own: Option<Identity>) -> io::Result<()> {
     if own.is_none() || identity_at(rt, part) != own {
         return Err(replaced());
@@ -371,8 +361,7 @@ fn rename_link<R: Files>(rt: &R, part: &str, path: &str, own: Option<Identity>) 
     }
 }
 
-// Sets the permission bits and the time of the last change of a folder that was found at a path, and returns both
-// outcomes. Fails if the folder cannot be opened, or if something else is there now.
+// `found` is what was at the path before. Fails if something else is there now.
 fn folder_set<R: Files>(
     rt: &R,
     path: &str,
@@ -412,7 +401,7 @@ pub fn settle<R: Files + Eprint>(
     }
 }
 
-// Returns whether a folder is at a path, and no symbolic link to one.
+// A symbolic link to a folder does not count.
 fn is_real_folder<R: Files>(rt: &R, path: &str) -> bool {
     fs::symlink_metadata(rt, path).is_ok_and(|found| found.is_dir())
 }
@@ -429,8 +418,8 @@ pub fn link_or_rename<R: Files>(rt: &R, path: &str, name: &str) -> io::Result<()
     fs::rename(rt, path, name)
 }
 
-// Takes the name `kept` from a damaged file, so that the file has only its own name again. If another file has its own
-// name by now, or if this fails, the function prints the name `kept`.
+// After this, the damaged file has only its own name. Prints the name `kept` if another file has that name by now, or
+// if this fails.
 fn take_back<R: Files + Eprint>(rt: &R, path: &str, kept: &str) {
     let undone = match identity_at(rt, path) {
         Some(own) if identity_at(rt, kept) == Some(own) => fs::remove_file(rt, kept).is_ok(),

@@ -43,7 +43,6 @@ impl Progress {
         }
     }
 
-    // Prints the line: the percentage, the rate in MB/s, and the time left in seconds.
     fn print<R: Clock + Eprint>(&self, rt: &R) {
         let percent = self.percent;
         let Some(start) = self.start else {

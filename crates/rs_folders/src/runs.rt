@@ -62,7 +62,7 @@ pub fn is_padded(places: &[Place], start: u64, piece: &[u8]) -> bool {
     are_zeros(piece.get(next..))
 }
 
-// Returns whether all bytes are zeros, also if there are none.
+// Returns true if there are no bytes.
 fn are_zeros(bytes: Option<&[u8]>) -> bool {
     bytes.is_none_or(|bytes| bytes.iter().all(|byte| *byte == 0))
 }

@@ -120,8 +120,7 @@ impl<'a, R: Files + Clock + Eprint> FileBlocks<'a, R> {
         }
     }
 
-    // Fills `piece` with the bytes of a block from byte `start` of the block on. Bytes that no file holds stay as they
-    // are.
+    // Bytes that no file holds stay as they are.
     fn read(&mut self, index: usize, start: u64, piece: &mut [u8]) -> io::Result<()> {
         match self.holders.origins.get(index).copied() {
             Some(Some(Origin::Files)) => self.read_files(index, start, piece),
@@ -132,7 +131,6 @@ impl<'a, R: Files + Clock + Eprint> FileBlocks<'a, R> {
         }
     }
 
-    // Fills `piece` with the bytes of a block that lies in files.
     fn read_files(&mut self, index: usize, start: u64, piece: &mut [u8]) -> io::Result<()> {
         let places = places_in(self.holders.places, index);
         for place in places_of_piece(places, start, piece.len()) {
@@ -145,7 +143,7 @@ impl<'a, R: Files + Clock + Eprint> FileBlocks<'a, R> {
         Ok(())
     }
 
-    // Fills `piece` with the bytes of a file from `offset` on. `holder` is the index of the file in the list of paths.
+    // `holder` is the index of the file in the list of paths.
     fn fill(&mut self, holder: usize, offset: u64, piece: &mut [u8]) -> io::Result<()> {
         let outcome = self.read_from(holder, offset, piece);
         if outcome.is_err() {
@@ -154,7 +152,6 @@ impl<'a, R: Files + Clock + Eprint> FileBlocks<'a, R> {
         outcome
     }
 
-    // Reads bytes of a file, and opens it unless it was read last.
     fn read_from(&mut self, holder: usize, offset: u64, piece: &mut [u8]) -> io::Result<()> {
         if let Some(opened) = &mut self.opened {
             if opened.holder == holder {

@@ -58,8 +58,7 @@ struct Waiting {
     is_named: bool,
 }
 
-// Returns the name of a path in the set. The name is empty if the path ends in `.` or `..`: then the path is the folder
-// of the set.
+// The name is empty if the path ends in `.` or `..`: then the path is the folder of the set.
 fn name_in_set(path: &str) -> &str {
     match last_of(path) {
         "" | "." | ".." => "",
@@ -137,7 +136,7 @@ pub fn find<R: Files + Eprint + Alloc + Clone + Drop>(
     })
 }
 
-// Returns whether two paths lead to the same folder. If the first one leads to no folder, this is reported later.
+// Returns true if the first path leads to no folder: this is reported later.
 fn is_same_folder<R: Files>(rt: &R, one: &str, other: &str) -> bool {
     if one == other {
         return true;
@@ -148,7 +147,7 @@ fn is_same_folder<R: Files>(rt: &R, one: &str, other: &str) -> bool {
     }
 }
 
-// Checks that no two entries of a sorted list have the same name, and no entry lies below another one.
+// The list must be sorted. An entry below another one is given twice as well.
 fn check_apart(alloc: Global, found: &[FoundEntry]) -> Result<()> {
     let mut previous: &[u8] = b"";
     for FoundEntry { entry, .. } in found {
@@ -165,7 +164,6 @@ fn check_apart(alloc: Global, found: &[FoundEntry]) -> Result<()> {
     Ok(())
 }
 
-// Returns what was left out, with the reason.
 fn left_out(alloc: Global, path: &str, reason: &str) -> Result<LeftOut> {
     Ok(LeftOut {
         path: String::from_str(alloc, path)?,
@@ -191,7 +189,7 @@ struct FolderWalk<'a, R: Files + Eprint + Alloc + Clone + Drop> {
 }
 
 impl<'a, R: Files + Eprint + Alloc + Clone + Drop> FolderWalk<'a, R> {
-    // Adds all entries at a path and below it. The path must be in `folder`, and not an old volume.
+    // Fails if the path is not in `folder`, or is that of an old volume.
     fn add_path(&mut self, folder: &str, path: &str) -> Result<()> {
         if !is_same_folder(self.rt, folder_of(path), folder) {
             let reason = "the files must be in one folder: give that folder, or the files in it";
@@ -216,8 +214,8 @@ impl<'a, R: Files + Eprint + Alloc + Clone + Drop> FolderWalk<'a, R> {
         Ok(())
     }
 
-    // Visits a path: adds a file or a symbolic link, or lists a folder. Old volumes and other things, as pipes, are
-    // left out. So are files that a run of this program has not finished, unless they are named.
+    // Leaves out old volumes, other things, as pipes, and files that a run of this program has not finished, unless
+    // these are named.
     fn visit(&mut self, next: &Waiting) -> Result<()> {
         let path = next.path.as_str();
         let found = at_path(self.alloc, path, fs::symlink_metadata(self.rt, path))?;
@@ -243,13 +241,12 @@ impl<'a, R: Files + Eprint + Alloc + Clone + Drop> FolderWalk<'a, R> {
         }
     }
 
-    // Notes that something is not part of the set.
     fn leave_out(&mut self, path: &str, reason: &'static str) -> Result<()> {
         self.left_out.push(left_out(self.alloc, path, reason)?)?;
         Ok(())
     }
 
-    // Notes and prints that something is left out because it is not UTF-8.
+    // This is for what is not UTF-8, and prints a warning at once.
     fn leave_unread(&mut self, path: &str, reason: String) -> Result<()> {
         warn(self.rt, path, format_args!("{reason}"));
         self.unreadable
@@ -257,7 +254,7 @@ impl<'a, R: Files + Eprint + Alloc + Clone + Drop> FolderWalk<'a, R> {
         Ok(())
     }
 
-    // Returns an entry with this metadata, which has no target and no digest yet.
+    // The entry has no target and no digest yet.
     fn entry(&self, next: &Waiting, kind: Kind, metadata: &Metadata) -> Result<Entry> {
         let nanoseconds = u32::try_from(metadata.mtime_nsec()).unwrap_or(0);
         Ok(Entry {
@@ -276,7 +273,7 @@ impl<'a, R: Files + Eprint + Alloc + Clone + Drop> FolderWalk<'a, R> {
         })
     }
 
-    // Adds an entry. Fails if its name is not allowed.
+    // Fails if the name of the entry is not allowed.
     fn add(&mut self, path: &str, entry: Entry, is_linked: bool) -> Result<()> {
         if !is_name(entry.name.as_slice()) {
             let reason = "a file with this name cannot be part of a set";
@@ -286,7 +283,7 @@ impl<'a, R: Files + Eprint + Alloc + Clone + Drop> FolderWalk<'a, R> {
         Ok(())
     }
 
-    // Adds a symbolic link. A link whose target is not UTF-8 is left out.
+    // A link whose target is not UTF-8 is left out.
     fn add_link(&mut self, next: &Waiting, metadata: &Metadata) -> Result<()> {
         let path = next.path.as_str();
         let target = match fs::read_link(self.rt, path) {
@@ -301,8 +298,7 @@ impl<'a, R: Files + Eprint + Alloc + Clone + Drop> FolderWalk<'a, R> {
         self.add(path, entry, false)
     }
 
-    // Appends what is in a folder to `waiting`. Adds the folder itself if nothing is in it, unless it is the folder of
-    // the set.
+    // Adds the folder itself if nothing is in it, unless it is the folder of the set.
     fn list(&mut self, folder: &Waiting, metadata: &Metadata) -> Result<()> {
         let path = folder_to_open(folder.path.as_str());
         let (mut count, mut left_out) = (0u64, 0u64);
@@ -332,7 +328,6 @@ impl<'a, R: Files + Eprint + Alloc + Clone + Drop> FolderWalk<'a, R> {
         self.add(path, entry, false)
     }
 
-    // Appends a name in a folder to `waiting`.
     fn wait_for(&mut self, folder: &Waiting, name: &str) -> Result<()> {
         self.waiting.push(Waiting {
             path: path_in(self.alloc, folder.path.as_str(), name)?,
