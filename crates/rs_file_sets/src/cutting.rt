@@ -46,8 +46,7 @@ pub struct Cut {
     pub recovery_count: u32,
 }
 
-// Cuts data of `data_bytes` bytes into at most `wanted` blocks. Returns `None` if it has more blocks, or if the code
-// does not support the numbers of blocks.
+// Returns `None` if there are more than `wanted` blocks, or if the code does not support the numbers of blocks.
 fn cut_into(data_bytes: u64, block_bytes: u64, wanted: u64, recovery: Recovery) -> Option<Cut> {
     if block_bytes == 0 || data_bytes.div_ceil(block_bytes) > wanted.min(MOST_BLOCKS) {
         return None;
@@ -65,8 +64,8 @@ fn cut_into(data_bytes: u64, block_bytes: u64, wanted: u64, recovery: Recovery) 
     }
 }
 
-// Cuts data into at most `wanted` blocks of the smallest multiple of 4096 bytes for which the code supports the numbers
-// of blocks. Returns `None` if blocks of 2^40 bytes are too small. If a size will do, each larger size will do.
+// The block size is the smallest multiple of 4096 bytes that will do: if a size will do, each larger size will do.
+// Returns `None` if blocks of 2^40 bytes are too small.
 fn cut_small(data_bytes: u64, wanted: u64, recovery: Recovery) -> Option<Cut> {
     let mut low = 0u64;
     let mut high = MOST_PAGES;
@@ -88,8 +87,7 @@ fn cut_small(data_bytes: u64, wanted: u64, recovery: Recovery) -> Option<Cut> {
     Some(cut)
 }
 
-// Returns the largest block that data may have: the number of its bytes rounded up to a multiple of 4096, or 4096 if it
-// has no bytes.
+// Data without bytes may have a block of 4096 bytes.
 fn largest_block(data_bytes: u64) -> u64 {
     data_bytes.div_ceil(PAGE).max(1).saturating_mul(PAGE)
 }
@@ -106,8 +104,7 @@ fn largest_block(data_bytes: u64) -> u64 {
 /// - the data has 2^62 bytes or more,
 /// - the block size is odd, 0, or above 2^40,
 /// - the data has more than 65536 blocks, or the code does not support the numbers of blocks. The message says which
-///   block
-///   size would do, or why none would do.
+///   block size would do, or why none would do.
 pub fn cut_data(data_bytes: u64, block: Option<u64>, recovery: Recovery) -> Result<Cut> {
     if data_bytes >= 1 << 62 {
         return Err(Failure::of("the files have 2^62 bytes or more: no set can have such files"));
@@ -137,7 +134,6 @@ pub fn cut_data(data_bytes: u64, block: Option<u64>, recovery: Recovery) -> Resu
     }
 }
 
-// Returns the failure for data that cannot be cut into blocks of any size.
 fn too_much(data_bytes: u64, recovery: Recovery) -> Failure {
     if cut_small(data_bytes, MOST_BLOCKS, recovery).is_some() {
         return Failure::of(format_args!(
@@ -157,8 +153,7 @@ fn too_much(data_bytes: u64, recovery: Recovery) -> Failure {
     )
 }
 
-// Returns the number of recovery blocks that a request asks for. A percentage gives at least 1 and at most 65536
-// blocks. A set without blocks has no recovery blocks.
+// A percentage gives at least 1 and at most 65536 blocks. A set without blocks has no recovery blocks.
 fn recovery_count(blocks: u64, recovery: Recovery) -> u32
     requires { blocks < 2 ^ 32 }
 {

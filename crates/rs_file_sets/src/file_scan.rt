@@ -79,7 +79,6 @@ fn in_its_place(reason: &'static str) -> io::Error {
     io::Error::new(ErrorKind::InvalidInput, reason)
 }
 
-// Returns that an entry is whole or damaged.
 fn state_if(is_whole: bool) -> State {
     if is_whole {
         State::Whole
@@ -106,7 +105,7 @@ struct EntryScan<'a, R: Files + Clock + Eprint> {
 }
 
 impl<'a, R: Files + Clock + Eprint> EntryScan<'a, R> {
-    // Looks what has the names of the entries, and reads no file.
+    // No file is read.
     fn look_at_all(&mut self, alloc: Global) -> Result<()> {
         let entries = self.description.entries.as_slice();
         for (index, entry) in entries.iter().enumerate() {
@@ -116,7 +115,6 @@ impl<'a, R: Files + Clock + Eprint> EntryScan<'a, R> {
         Ok(())
     }
 
-    // Looks what has the name of an entry.
     fn look_at(&mut self, alloc: Global, index: usize, entry: &Entry) -> State {
         if text_of(entry.name.as_slice()).is_none() {
             return self.unnamed(entry);
@@ -126,8 +124,7 @@ impl<'a, R: Files + Clock + Eprint> EntryScan<'a, R> {
         self.known(path, outcome)
     }
 
-    // Returns a state that was found. If it was not found, the entry is missing, and the function prints why, unless
-    // nothing has its name.
+    // After an error the entry is missing, and the function prints why, unless nothing has its name.
     fn known(&mut self, path: &str, outcome: io::Result<State>) -> State {
         match outcome {
             Ok(state) => state,
@@ -140,7 +137,6 @@ impl<'a, R: Files + Clock + Eprint> EntryScan<'a, R> {
         }
     }
 
-    // Returns that an entry is missing, because its name is not UTF-8, and prints this.
     fn unnamed(&mut self, entry: &Entry) -> State {
         let name = Name(entry.name.as_slice());
         self.scanner.progress.end(self.rt);
@@ -150,7 +146,6 @@ impl<'a, R: Files + Clock + Eprint> EntryScan<'a, R> {
         State::Missing
     }
 
-    // Returns the path of an entry.
     fn path(&self, index: usize) -> &'a str {
         match self.paths.get(index) {
             Some(path) => path.as_str(),
@@ -158,19 +153,16 @@ impl<'a, R: Files + Clock + Eprint> EntryScan<'a, R> {
         }
     }
 
-    // Returns the state of an entry.
     fn state(&self, index: usize) -> State {
         self.states.get(index).copied().unwrap_or(State::Missing)
     }
 
-    // Sets the state of an entry.
     fn set_state(&mut self, index: usize, state: State) {
         if let Some(own) = self.states.get_mut(index) {
             *own = state;
         }
     }
 
-    // Compares a block that lies in files with its digest. Records where it was found, or that its files are not whole.
     fn scan_block(&mut self, block: usize, places: &[Place]) {
         let size = self.description.block_bytes;
         if places
@@ -191,7 +183,7 @@ impl<'a, R: Files + Clock + Eprint> EntryScan<'a, R> {
         }
     }
 
-    // Records that the files of a block may be damaged. If only one file has bytes in the block, it is damaged.
+    // A file is known to be damaged only if no other file has bytes in the block.
     fn doubt(&mut self, places: &[Place]) {
         if let [place] = places {
             if self.state(place.file) == State::Whole {
@@ -205,8 +197,7 @@ impl<'a, R: Files + Clock + Eprint> EntryScan<'a, R> {
         }
     }
 
-    // Returns the SHA-256 of a block: of the bytes of files at its places, and zeros elsewhere. Returns `None` if bytes
-    // of a file cannot be read.
+    // Bytes of the block that are in no file are zeros. Returns `None` if bytes of a file cannot be read.
     fn hash_block(&mut self, places: &[Place], size: u64) -> Option<ComputedDigest> {
         let mut hasher = ByteHasher::new();
         let mut next = 0;
@@ -225,7 +216,6 @@ impl<'a, R: Files + Clock + Eprint> EntryScan<'a, R> {
         Some(hasher.finish())
     }
 
-    // Adds the bytes of a place to a hasher.
     fn add_place(&mut self, hasher: &mut ByteHasher, place: &Place) -> io::Result<()> {
         self.open(place.file)?;
         match &mut self.opened {
@@ -238,7 +228,7 @@ impl<'a, R: Files + Clock + Eprint> EntryScan<'a, R> {
         }
     }
 
-    // Opens a file, unless it was read last. A file that cannot be opened is missing, and the function prints why.
+    // A file that cannot be opened is missing, and the function prints why.
     fn open(&mut self, holder: usize) -> io::Result<()> {
         if let Some(opened) = &self.opened {
             if opened.holder == holder {
@@ -257,7 +247,7 @@ impl<'a, R: Files + Clock + Eprint> EntryScan<'a, R> {
         Ok(())
     }
 
-    // Closes the file that was read last, and prints how many of its blocks cannot be read.
+    // Prints how many blocks of the file cannot be read.
     fn close(&mut self) {
         if let Some(opened) = self.opened.take() {
             let path = self.path(opened.holder);
@@ -265,8 +255,7 @@ impl<'a, R: Files + Clock + Eprint> EntryScan<'a, R> {
         }
     }
 
-    // Reads each file again that may be whole although a block with its bytes is wrong, and compares it with its
-    // digest.
+    // A file may be whole although a block with its bytes is wrong, so it is read again.
     fn check_suspects(&mut self) {
         let entries = self.description.entries.as_slice();
         for (index, entry) in entries.iter().enumerate() {
@@ -278,7 +267,7 @@ impl<'a, R: Files + Clock + Eprint> EntryScan<'a, R> {
         }
     }
 
-    // Compares a file with its digest. Returns that it is damaged if it cannot be read.
+    // A file that cannot be read counts as damaged.
     fn compare(&mut self, index: usize, entry: &Entry) -> State {
         let path = self.path(index);
         match hash_path(self.rt, path, true, entry.size, &mut self.buffer) {

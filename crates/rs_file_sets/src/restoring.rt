@@ -38,7 +38,6 @@ struct FileSink<'a, 'b, 'c, R: Files + Eprint> {
 }
 
 impl<'a, 'b, 'c, R: Files + Eprint> FileSink<'a, 'b, 'c, R> {
-    // Writes the bytes of a piece of a block that are in a file.
     fn write(&mut self, run: &Run, piece: &[u8]) {
         let bytes = piece.get(run.from..run.to).unwrap_or(&[]);
         if let Err(error) = self.targets.write(run.file, run.offset, bytes) {
@@ -46,7 +45,6 @@ impl<'a, 'b, 'c, R: Files + Eprint> FileSink<'a, 'b, 'c, R> {
         }
     }
 
-    // Gives up all files with bytes in a block that has its digest, but has bytes in no file that are not zero.
     fn give_up_unpadded(&mut self) {
         for block in 0..self.unpadded.len() {
             if !self.unpadded.get(block).copied().unwrap_or(false) {
@@ -81,8 +79,8 @@ impl<'a, 'b, 'c, R: Files + Eprint> BlockSink for FileSink<'a, 'b, 'c, R> {
     }
 }
 
-// Returns which blocks a restore of some original blocks reads and writes. If one of these blocks is lost, it reads all
-// blocks that were found and as many recovery blocks as original blocks are lost.
+// If a wanted block is lost, all original blocks that were found are read, and as many recovery blocks as original
+// blocks are lost.
 fn plan_for(alloc: Global, scan: &Scan, wanted: Vec<bool>) -> Result<Plan, AllocError> {
     let loses_wanted = loses_wanted(scan, wanted.as_slice());
     let originals = original_blocks(alloc, scan, wanted.as_slice(), loses_wanted)?;
@@ -95,19 +93,16 @@ fn plan_for(alloc: Global, scan: &Scan, wanted: Vec<bool>) -> Result<Plan, Alloc
     })
 }
 
-// Returns whether an original block was found.
 fn is_found(scan: &Scan, index: usize) -> bool {
     scan.found.has(index)
 }
 
-// Returns whether one of the original blocks that must be written was not found.
 fn loses_wanted(scan: &Scan, wanted: &[bool]) -> bool {
     let mut numbered = wanted.iter().enumerate();
     numbered.any(|(index, is_wanted)| *is_wanted && !is_found(scan, index))
 }
 
-// Returns the indexes of the original blocks that were found, all of them if `all` is set, and otherwise those that
-// must be written.
+// If `all` is set, these are all original blocks that were found, and otherwise only the wanted ones.
 fn original_blocks(
     alloc: Global,
     scan: &Scan,
@@ -123,7 +118,7 @@ fn original_blocks(
     Ok(originals)
 }
 
-// Returns for each original block whether one of its files has a part, so that the block must be written.
+// A block must be written if one of its files has a part.
 fn wanted_blocks<R: Files>(
     alloc: Global,
     scan: &Scan,
@@ -140,7 +135,7 @@ fn wanted_blocks<R: Files>(
     Ok(wanted)
 }
 
-// Returns the numbers of the first recovery blocks that were found, at most `count` of them.
+// These are the first recovery blocks that were found, at most `count` of them.
 fn recovery_blocks(
     alloc: Global,
     scan: &Scan,
@@ -218,7 +213,7 @@ pub fn restore_lost<'a, R: Files + Clock + Eprint, W: BlockSink>(
     }
 }
 
-// Returns the blocks that were found, which counts the bytes of those that a plan reads.
+// The progress counts the bytes of the blocks that the plan reads.
 fn source_of<'a, R: Files + Clock + Eprint>(
     rt: &'a R,
     alloc: Global,
@@ -232,8 +227,7 @@ fn source_of<'a, R: Files + Clock + Eprint>(
     FileBlocks::new(rt, alloc, holders, Progress::new(rt, shown, total))
 }
 
-// Restores the blocks of a plan: reads the blocks of a source, and writes blocks into the sink. Returns whether all
-// blocks have their digests.
+// Returns whether all blocks have their digests.
 fn restore_blocks<R: Files + Clock + Eprint, W: BlockSink>(
     alloc: Global,
     scan: &Scan,
@@ -257,7 +251,6 @@ fn restore_blocks<R: Files + Clock + Eprint, W: BlockSink>(
     }
 }
 
-// Gives up the files with wrong bytes.
 fn give_up_wrong<R: Files + Eprint>(
     rt: &R,
     alloc: Global,
@@ -277,7 +270,6 @@ fn give_up_wrong<R: Files + Eprint>(
     Ok(())
 }
 
-// Fails if the part of a file cannot be read, or if its bytes are wrong.
 fn check_bytes<R: Files>(
     rt: &R,
     scan: &Scan,
@@ -295,8 +287,7 @@ fn check_bytes<R: Files>(
     Err(io::Error::new(ErrorKind::InvalidData, reason))
 }
 
-// Returns whether a file has the bytes that a set describes: its digest, or in a set of version 1 the digests of its
-// blocks.
+// A set of version 1 has no digests of files, so there the digests of the blocks are compared.
 fn has_digests<F: Read + Seek>(
     handle: &mut F,
     scan: &Scan,

@@ -122,7 +122,7 @@ pub fn scan_opened<R: Files + Clock + Eprint>(
     })
 }
 
-// Returns empty paths: the files of a set are nowhere.
+// The files of the set are nowhere.
 fn no_paths(alloc: Global, count: usize) -> Result<Vec<String>, AllocError> {
     let mut paths = Vec::new(alloc);
     for _ in 0..count {
@@ -131,8 +131,7 @@ fn no_paths(alloc: Global, count: usize) -> Result<Vec<String>, AllocError> {
     Ok(paths)
 }
 
-// Returns the number of bytes that a scan reads at most: the original blocks, if the files are searched, and the
-// volumes.
+// A scan reads at most this many bytes. It reads original blocks only if the files are searched.
 fn bytes_to_read<R: Files>(
     rt: &R,
     alloc: Global,
@@ -151,7 +150,7 @@ fn bytes_to_read<R: Files>(
     Ok(total)
 }
 
-// Looks for blocks in all volumes, and appends the paths of the volumes to `paths`.
+// Appends the paths of the volumes to `paths`.
 fn scan_volumes<R: Files + Clock + Eprint>(
     alloc: Global,
     scan: &mut VolumeScan<'_, R>,

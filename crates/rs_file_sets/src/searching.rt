@@ -114,7 +114,6 @@ pub fn find_elsewhere<R: Runtime>(
 }
 
 impl<'a, R: Runtime> Search<'a, R> {
-    // Returns the state of an entry.
     fn state(&self, index: usize) -> State {
         self.scan
             .states
@@ -123,8 +122,8 @@ impl<'a, R: Runtime> Search<'a, R> {
             .unwrap_or(State::Missing)
     }
 
-    // Returns whether a path of the scan is that of a volume or of a whole file. Links and empty folders of the set do
-    // not count: a file can have been moved into such a folder, or to the place to which such a link leads.
+    // Volumes and whole files are known. Links and empty folders of the set do not count: a file can have been moved
+    // into such a folder, or to the place to which such a link leads.
     fn is_known(&self, index: usize) -> bool {
         match self.scan.description().entries.get(index) {
             Some(entry) => matches!(entry.kind, Kind::File) && self.state(index) == State::Whole,
@@ -132,8 +131,8 @@ impl<'a, R: Runtime> Search<'a, R> {
         }
     }
 
-    // Returns the identities of the whole files of the set, of the volumes, and of the folder into which files are
-    // restored, in order. No lost block is looked for there.
+    // No lost block is looked for in the whole files of the set, in the volumes, and in the folder into which files are
+    // restored. The result is sorted.
     fn known(&self, to: &Option<String>) -> Result<Vec<Identity>, AllocError> {
         let mut known = Vec::new(self.alloc);
         if let Some(to) = to {
@@ -152,7 +151,6 @@ impl<'a, R: Runtime> Search<'a, R> {
         Ok(known)
     }
 
-    // Collects the regular files below the folders, in order of their sizes.
     fn collect(&mut self, folders: &[&str], to: &Option<String>) -> Result<()> {
         let known = self.known(to)?;
         let mut waiting = Vec::new(self.alloc);
@@ -174,7 +172,6 @@ impl<'a, R: Runtime> Search<'a, R> {
         Ok(())
     }
 
-    // Prints that a search takes a while, and below which folders it looks.
     fn tell_long(&self, folders: &[&str], what: &'static str) -> io::Result<()> {
         if self.is_told {
             for folder in folders {
@@ -185,7 +182,7 @@ impl<'a, R: Runtime> Search<'a, R> {
         Ok(())
     }
 
-    // Adds the regular files of a folder to the candidates, and its folders to `waiting`. Symbolic links are left out.
+    // Adds files to the candidates, and folders to `waiting`. Symbolic links are left out.
     fn list(
         &mut self,
         folder: &str,
@@ -220,8 +217,8 @@ impl<'a, R: Runtime> Search<'a, R> {
         Ok(())
     }
 
-    // Looks for each file that is not whole among the whole files of the set, and among the candidates with its length.
-    // A file with its digest takes its place as the source of its blocks. Returns whether one was found.
+    // Looks among the whole files of the set, and among the candidates with the same length. A file that is found
+    // becomes the source of the blocks. Returns whether one was found.
     fn find_files(&mut self) -> Result<bool> {
         let whole = self.whole_files()?;
         let sought = self.sought()?;
@@ -254,7 +251,7 @@ impl<'a, R: Runtime> Search<'a, R> {
         Ok(sought)
     }
 
-    // Returns the whole files of the set with their digests, in order of these.
+    // Returns digests and indexes, in order of the digests.
     fn whole_files(&self) -> Result<Vec<([u8; 32], usize)>, AllocError> {
         let mut whole = Vec::new(self.alloc);
         for (index, entry) in self.scan.description().entries.iter().enumerate() {
@@ -266,7 +263,6 @@ impl<'a, R: Runtime> Search<'a, R> {
         Ok(whole)
     }
 
-    // Returns the path of a whole file of the set.
     fn path_of_copy(&self, copy: Option<([u8; 32], usize)>) -> Result<Option<String>, AllocError> {
         let Some((_, index)) = copy else {
             return Ok(None);
@@ -277,8 +273,7 @@ impl<'a, R: Runtime> Search<'a, R> {
         }
     }
 
-    // Returns the path of a candidate with the length and the digest of an entry, which was renamed or moved. No
-    // candidate is hashed twice. `is_alone` says that no other file of this length is looked for.
+    // No candidate is hashed twice. `is_alone` says that no other file of this length is looked for.
     fn file_with(
         &mut self,
         index: usize,
@@ -306,7 +301,7 @@ impl<'a, R: Runtime> Search<'a, R> {
         }
     }
 
-    // Hashes candidates with a length that were not hashed before, until one has a digest. The file `own` is left out.
+    // Hashes no candidate twice, and leaves out the file `own`.
     fn hash_until(
         &mut self,
         size: u64,
@@ -338,7 +333,7 @@ impl<'a, R: Runtime> Search<'a, R> {
         Ok(())
     }
 
-    // Compares the lost blocks with their digests again, now that files were found elsewhere.
+    // Blocks that were lost can be in files that were found elsewhere.
     fn check_blocks(&mut self) -> Result<()> {
         let k = self.scan.description().original_count as usize;
         let in_files = vec![in self.alloc; Some(Origin::Files); k]?;
@@ -350,7 +345,7 @@ impl<'a, R: Runtime> Search<'a, R> {
         Ok(())
     }
 
-    // Returns the digest of the bytes of a block at its origin. Returns `None` if they cannot be read.
+    // Returns `None` if the bytes of the block cannot be read.
     fn hash_block(&self, block: usize, origins: &[Option<Origin>]) -> Option<ComputedDigest> {
         let holders = self.scan.holders(origins);
         let size = self.scan.description().block_bytes;
@@ -372,14 +367,13 @@ impl<'a, R: Runtime> Search<'a, R> {
         Some(hasher.finish())
     }
 
-    // Returns the digest of a block.
     fn digest(&self, block: usize) -> &[u8] {
         let start = block.saturating_mul(32);
         let digests = self.scan.description().digests.as_slice();
         digests.get(start..start.saturating_add(32)).unwrap_or(&[])
     }
 
-    // Returns the place of a block that was found, if all its bytes lie one after another in one file or volume.
+    // Returns `None` if the bytes of the block do not lie one after another in one file or volume.
     fn single_place(&self, block: usize) -> Option<Origin> {
         match self.scan.found.places.get(block).copied()?? {
             Origin::Files => match places_in(self.scan.places.as_slice(), block) {
@@ -395,7 +389,7 @@ impl<'a, R: Runtime> Search<'a, R> {
         }
     }
 
-    // Looks for each lost block among the blocks that were found: a block with its digest has its bytes.
+    // A block with the digest of a lost block has its bytes.
     fn find_equal_blocks(&mut self) -> Result<()> {
         let lost = self.scan.lost(self.alloc)?;
         if lost.is_empty() {
@@ -416,15 +410,14 @@ impl<'a, R: Runtime> Search<'a, R> {
         Ok(())
     }
 
-    // Returns the first of these blocks, which are in order of their digests, whose digest is not below that of a
-    // block.
+    // `found` is in order of the digests. The result may have another digest: `note_equal` compares the digests.
     fn equal_block(&self, found: &[(usize, Origin)], block: usize) -> Option<(usize, Origin)> {
         let digest = self.digest(block);
         let at = found.partition_point(|(other, _)| self.digest(*other) < digest);
         found.get(at).copied()
     }
 
-    // Looks for the blocks that are still lost at any byte of the candidates, unless enough recovery blocks are left.
+    // Looks at each byte of the candidates, unless enough recovery blocks are left.
     fn find_anywhere(&mut self, folders: &[&str]) -> Result<()> {
         let counts = self.scan.counts();
         if counts.lost <= counts.recovery {
@@ -452,9 +445,8 @@ impl<'a, R: Runtime> Search<'a, R> {
         Ok(())
     }
 
-    // Looks for blocks in a candidate. If one is found, its path is added to those of the scan. The search goes on one
-    // byte after a block: in data with many zeros, or if files are equal, other blocks can overlap with it. A block
-    // that was found is looked for no more, so a run of zeros is hashed once.
+    // The search goes on one byte after a block: in data with many zeros, or if files are equal, other blocks can
+    // overlap with it. A block that was found is looked for no more, so a run of zeros is hashed once.
     fn find_in(&mut self, index: usize, sums: &mut Sums) -> Result<()> {
         let Some(candidate) = self.candidates.get(index) else {
             return Ok(());
@@ -488,8 +480,7 @@ impl<'a, R: Runtime> Search<'a, R> {
         Ok(())
     }
 
-    // Notes and returns the lost blocks that are in the window: those with its digest. `holder` is the index that the
-    // file gets in the list of paths.
+    // Notes where the blocks are. `holder` is the index that the file gets in the list of paths.
     fn blocks_in<F: Read + Seek + Drop>(
         &mut self,
         windows: &mut Windows<F>,
@@ -515,7 +506,7 @@ impl<'a, R: Runtime> Search<'a, R> {
     }
 }
 
-// Returns whether only one of the files that are looked for, which are in order of their sizes, has this size.
+// `sought` is in order of the sizes.
 fn is_alone(sought: &[(usize, u64, [u8; 32])], size: u64) -> bool {
     let from = sought.partition_point(|(_, own, _)| *own < size);
     let to = sought.partition_point(|(_, own, _)| *own <= size);
@@ -539,7 +530,6 @@ struct Windows<F: Drop> {
 }
 
 impl<F: Read + Seek + Drop> Windows<F> {
-    // Begins with the first window.
     fn new(alloc: Global, file: F, size: u64, length: u64) -> Result<Windows<F>, AllocError> {
         Ok(Windows {
             file,
@@ -553,7 +543,7 @@ impl<F: Read + Seek + Drop> Windows<F> {
         })
     }
 
-    // Moves the window by one byte. At the end of the file, or if it cannot be read, the window has no sum.
+    // At the end of the file, or if it cannot be read, the window has no sum.
     fn pass(&mut self) {
         if self.slide_one().is_err() {
             self.at = self.at.saturating_add(1);
@@ -561,7 +551,6 @@ impl<F: Read + Seek + Drop> Windows<F> {
         }
     }
 
-    // Moves the window by one byte.
     fn slide_one(&mut self) -> io::Result<()> {
         let (mut first, mut next) = ([0u8; 1], [0u8; 1]);
         read_at(&mut self.file, self.at, &mut first)?;
@@ -575,7 +564,6 @@ impl<F: Read + Seek + Drop> Windows<F> {
         Ok(())
     }
 
-    // Computes the sum of the window.
     fn add_up(&mut self) -> io::Result<()> {
         self.sum = RollingSum::new(self.length);
         let mut start = 0u64;
@@ -595,8 +583,7 @@ impl<F: Read + Seek + Drop> Windows<F> {
         Ok(())
     }
 
-    // Moves the window until its sum is one of the sums. Returns false at the end of the file, or if the file cannot be
-    // read.
+    // Returns false at the end of the file, or if the file cannot be read.
     fn find(&mut self, sums: &Sums) -> bool {
         let last = match self.size.checked_sub(self.length) {
             Some(last) if self.length > 0 && self.at <= last => last,
@@ -617,7 +604,7 @@ impl<F: Read + Seek + Drop> Windows<F> {
         false
     }
 
-    // Moves the window by at most `left` bytes, until its sum is one of the sums.
+    // Moves the window by at most `left` bytes.
     fn roll(&mut self, sums: &Sums, left: u64) -> io::Result<()> {
         let count = self.leaving.len().min(self.entering.len());
         let count = left.min(count as u64) as usize;

@@ -89,12 +89,10 @@ impl<'a, R: Files + Eprint> Targets<'a, R> {
         Ok(())
     }
 
-    // Returns whether an entry is to be restored.
     fn is_wanted(&self, index: usize) -> bool {
         self.wanted.get(index).copied().unwrap_or(false)
     }
 
-    // Keeps a part that was begun, or the reason why it was not.
     fn keep(&mut self, index: usize, begun: Result<Part<R>>) {
         match begun {
             Ok(mut part) => {
@@ -107,14 +105,12 @@ impl<'a, R: Files + Eprint> Targets<'a, R> {
         }
     }
 
-    // Records what was done with an entry.
     fn set_outcome(&mut self, index: usize, outcome: Outcome) {
         if let Some(own) = self.outcomes.get_mut(index) {
             *own = outcome;
         }
     }
 
-    // Closes a part that was begun, if as many parts are open as may stay open.
     fn limit_open(&mut self, part: &mut Part<R>) {
         if self.open < MOST_OPEN {
             self.open += 1;
@@ -141,7 +137,6 @@ impl<'a, R: Files + Eprint> Targets<'a, R> {
         }
     }
 
-    // Closes the part that was written last, unless it stays open.
     fn close_last(&mut self) {
         if let Some(Some(part)) = self.parts.get_mut(self.last) {
             part.close_again();
@@ -172,7 +167,6 @@ impl<'a, R: Files + Eprint> Targets<'a, R> {
         self.placing.sync();
     }
 
-    // Finishes the entries of one kind.
     fn finish_kind(&mut self, kind: Kind) {
         for (index, entry) in self.entries.iter().enumerate() {
             if entry.kind == kind && self.is_wanted(index) {
@@ -181,7 +175,6 @@ impl<'a, R: Files + Eprint> Targets<'a, R> {
         }
     }
 
-    // Finishes an entry, and records the outcome.
     fn finish_one(&mut self, index: usize, entry: &Entry) {
         let part = match self.parts.get_mut(index) {
             Some(slot) => slot.take(),
