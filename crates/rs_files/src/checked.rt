@@ -22,7 +22,6 @@ pub struct Checked<'a> {
 }
 
 impl<'a> Checked<'a> {
-    // Returns the word for a state.
     fn word_of(&self, state: State) -> &'static str {
         let [whole, damaged, missing] = self.words;
         match state {

@@ -106,9 +106,8 @@ impl KnownBlocks {
     }
 }
 
-// Returns the digest of a new block with these places, if it is known: a block of the old set has the same bytes of the
-// same files, and was found in them. This is the block with the first of these bytes. Its index is another one if the
-// data before it became longer or shorter.
+// The digest is known if a block of the old set has the same bytes of the same files, and was found in them. Its index
+// is another one if the data before it became longer or shorter.
 fn old_digest(
     old: &Scan,
     new: &Description,
@@ -138,7 +137,6 @@ fn old_digest(
     }
 }
 
-// Returns whether a place in an old set and a place in a new set are the same bytes of one file.
 fn is_same_place(
     old: &Description,
     was: &Place,
@@ -155,15 +153,14 @@ fn is_same_place(
         && (was.offset, was.at, was.bytes) == (is.offset, is.at, is.bytes)
 }
 
-// Returns whether a file whose bytes have changed is rotten: its length and the time of its last change have not. A file
-// that was cut or got longer is rotten, too, if its time has not changed and is not a whole second, which archives and
-// builds give to many files.
+// A file whose bytes have changed is rotten if its length and the time of its last change have not. A file that was cut
+// or got longer is rotten, too, if its time has not changed and is not a whole second, which archives and builds give
+// to many files.
 fn is_rotten(entry: &Entry, metadata: &Metadata, version: Version) -> bool {
     has_time(entry, metadata, version)
         || (entry.nanoseconds > 0 && has_own_time(entry, metadata, version))
 }
 
-// Returns how an entry has changed, which is at a path now and has a state.
 fn change_of<R: Files>(
     rt: &R,
     entry: &Entry,
@@ -183,7 +180,6 @@ fn change_of<R: Files>(
     }
 }
 
-// Returns how each entry of an old set has changed.
 fn changes_of<R: Files>(rt: &R, alloc: Global, old: &Scan) -> Result<Vec<Change>, AllocError> {
     let description = old.description();
     let mut changes = Vec::new(alloc);
@@ -194,7 +190,6 @@ fn changes_of<R: Files>(rt: &R, alloc: Global, old: &Scan) -> Result<Vec<Change>
     Ok(changes)
 }
 
-// Returns whether a name was accepted on the command line.
 fn is_accepted(request: &Request, name: &[u8]) -> bool {
     request
         .accept
@@ -202,7 +197,7 @@ fn is_accepted(request: &Request, name: &[u8]) -> bool {
         .any(|accepted| accepted.as_str().as_bytes() == name)
 }
 
-// Prints how the entries of an old set have changed. Returns the number of rotten files that were not accepted.
+// Returns the number of rotten files that were not accepted.
 fn tell_changes<R: Print + Eprint>(
     rt: &R,
     request: &Request,
@@ -230,9 +225,8 @@ fn tell_changes<R: Print + Eprint>(
     Ok(rotten)
 }
 
-// Prints which entries are new, and which files are rotten that were moved: `origins` has for each entry the index of
-// the old entry from which it was moved and whose bytes it does not have. Returns the number of those that were not
-// accepted.
+// `origins` has for each entry the index of the old entry from which it was moved and whose bytes it does not have.
+// Returns the number of these files that were not accepted.
 fn tell_new<R: Print + Eprint>(
     rt: &R,
     request: &Request,
@@ -260,7 +254,6 @@ fn tell_new<R: Print + Eprint>(
     Ok(rotten)
 }
 
-// Returns the index of the entry of a set with this name.
 fn index_in(set: &Description, name: &[u8]) -> Option<usize> {
     let found = set
         .entries
@@ -272,7 +265,6 @@ fn index_in(set: &Description, name: &[u8]) -> Option<usize> {
     found.ok()
 }
 
-// Returns those of the paths at which something exists.
 fn existing<R: Files>(rt: &R, alloc: Global, paths: &[String]) -> Result<Vec<String>, AllocError> {
     let mut found = Vec::new(alloc);
     for path in paths {
@@ -283,8 +275,8 @@ fn existing<R: Files>(rt: &R, alloc: Global, paths: &[String]) -> Result<Vec<Str
     Ok(found)
 }
 
-// Returns for each entry that was found the digest of the file, if it is known: the file was compared with an old set,
-// and all its blocks are as they were. A file that was found by a symbolic link is not known.
+// The digest of a file is known if the file was compared with an old set, and all its blocks are as they were. A file
+// that was found by a symbolic link is not known.
 fn known_digests(
     alloc: Global,
     old: &Scan,
@@ -302,8 +294,7 @@ fn known_digests(
     Ok(known)
 }
 
-// Returns the digest of the file with the name and the length of an entry, if it is whole in an old set. Version 1 has
-// no digests of files.
+// Version 1 has no digests of files.
 fn digest_in(old: &Scan, entry: &Entry) -> Option<[u8; 32]> {
     let set = old.description();
     if set.version != Version::Second || entry.kind != Kind::File {
@@ -322,7 +313,7 @@ fn digest_in(old: &Scan, entry: &Entry) -> Option<[u8; 32]> {
 // The length of a file, and the seconds and nanoseconds of the time of its last change.
 type Stamp = (u64, u64, u32);
 
-// Returns the stamp of a file that has bytes, or `None` for another entry.
+// A file without bytes has no stamp.
 fn stamp_of(entry: &Entry) -> Option<Stamp> {
     if entry.kind == Kind::File && entry.size > 0 {
         Some((entry.size, entry.seconds, entry.nanoseconds))
@@ -342,9 +333,8 @@ struct OldFile {
     is_found: bool,
 }
 
-// Returns the files of an old set that can have been moved or copied, in order of their stamps and digests: those under
-// whose names nothing is any more, and those whose time is no whole second. Many files can have the same whole second,
-// for example those from one archive, so there a file with the time of another is not taken for this one.
+// The result is in order of stamps and digests. Many files can have the same whole second, for example those from one
+// archive. So a file with such a time counts only if nothing has its name any more.
 // Version 1 has no digests of files and no nanoseconds, so there are none.
 fn old_files(
     alloc: Global,
@@ -370,7 +360,7 @@ fn old_files(
     Ok(files)
 }
 
-// Returns the digests of all files of a set, in order.
+// The digests are sorted.
 fn digests_of(alloc: Global, set: &Description) -> Result<Vec<[u8; 32]>, AllocError> {
     let mut digests = Vec::new(alloc);
     for entry in &set.entries {
@@ -382,10 +372,9 @@ fn digests_of(alloc: Global, set: &Description) -> Result<Vec<[u8; 32]>, AllocEr
     Ok(digests)
 }
 
-// Looks for files that were moved or copied, and whose bytes changed since: those under a new name, or under that of
-// another file, whose length and time are those of an old file, and whose bytes no file of the old set had. The old
-// file can be there again, because it was restored. Sets the digests of the files that are compared in `known`. Returns
-// for each entry that was found the index of the old entry whose bytes it does not have, if it is such a file.
+// A moved or copied file is rotten if its length and its time are those of an old file, and no file of the old set had
+// its bytes. The old file can be there again, because it was restored. Sets the digests of the files that are compared
+// in `known`. Returns for each entry the index of the old entry whose bytes it does not have.
 fn moved_rotten<R: Files>(
     rt: &R,
     alloc: Global,
@@ -422,9 +411,8 @@ fn moved_rotten<R: Files>(
     Ok(origins)
 }
 
-// Returns the index of the old file that a file probably was whose bytes no old file had: an old file with its stamp
-// that was not found. If all of these were found and the time is no whole second, the first one of them, unless the
-// file is one that `repair` kept.
+// Takes an old file with the same stamp that was not found. If all of these were found and the time is no whole second,
+// takes the first one of them, unless the file is one that `repair` kept.
 fn origin_of(old: &Description, files: &[OldFile], entry: &Entry) -> Option<usize> {
     let same = with_stamp(files, entry);
     let lost = same.iter().find(|file| !file.is_found);
@@ -439,7 +427,7 @@ fn origin_of(old: &Description, files: &[OldFile], entry: &Entry) -> Option<usiz
     lost.or(any).map(|file| file.index)
 }
 
-// Returns whether a name is one under which `repair` keeps a damaged file: that of an old entry with `.damaged`.
+// `repair` keeps a damaged file under its name with `.damaged`.
 fn is_kept_for(old: &Description, index: usize, name: &[u8]) -> bool {
     let Some(entry) = old.entries.get(index) else {
         return false;
@@ -448,8 +436,8 @@ fn is_kept_for(old: &Description, index: usize, name: &[u8]) -> bool {
         .is_some_and(|rest| rest.starts_with(b".damaged"))
 }
 
-// Marks the entries of an old set under whose names there are rotten files now that were moved there. `origins` has for
-// each entry that was found the old entry from which it was moved, if it is such a file.
+// An entry is replaced if a rotten file was moved to its name. `origins` has for each entry that was found the old
+// entry from which it was moved.
 fn mark_replaced(
     request: &Request,
     old: &Description,
@@ -467,7 +455,7 @@ fn mark_replaced(
     }
 }
 
-// Returns the old files with the stamp of an entry.
+// `files` is in order of the stamps.
 fn with_stamp<'a>(files: &'a [OldFile], entry: &Entry) -> &'a [OldFile] {
     let Some(stamp) = stamp_of(entry) else {
         return &[];
@@ -477,8 +465,6 @@ fn with_stamp<'a>(files: &'a [OldFile], entry: &Entry) -> &'a [OldFile] {
     files.get(from..to).unwrap_or(&[])
 }
 
-// Returns whether an entry can be a file that was moved or copied: one of the old files has its stamp, and the old set
-// has no file with its name and its stamp.
 fn is_moved(old: &Description, entry: &Entry, files: &[OldFile]) -> bool {
     if with_stamp(files, entry).is_empty() {
         return false;
@@ -487,7 +473,6 @@ fn is_moved(old: &Description, entry: &Entry, files: &[OldFile]) -> bool {
     same.is_none_or(|same| stamp_of(same) != stamp_of(entry))
 }
 
-// Marks the old files with the stamp of an entry and with a digest as found.
 fn mark_found(files: &mut [OldFile], entry: &Entry, digest: &[u8; 32]) {
     let Some(stamp) = stamp_of(entry) else {
         return;
@@ -517,8 +502,7 @@ pub fn check_accepted(alloc: Global, request: &Request, found: &Found) -> Result
     Ok(())
 }
 
-// Compares the files of a request with the old volumes at `outputs`. Returns `None` if there are none. If none can be
-// read, the function prints why, and returns `None` too.
+// Returns `None` if there are no old volumes. If none can be read, the function prints why, and returns `None` too.
 fn old_set<R: Runtime>(
     rt: &R,
     alloc: Global,
@@ -593,7 +577,7 @@ pub fn may_replace<R: Runtime>(
     }))
 }
 
-// Prints what to do about rotten files. `has_moved` says whether one of them was moved.
+// `has_moved` says whether one of the files was moved.
 fn tell_rotten<R: Eprint>(rt: &R, has_moved: bool) -> Result<()> {
     eprintln!(rt;
         "rs_files: the bytes of these files changed, but not their times: no new volume was made, and \

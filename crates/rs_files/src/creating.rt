@@ -31,7 +31,7 @@ use std::io::ErrorKind;
 use std::rt::{Clock, Files, Runtime};
 use std::{fs, io};
 
-// Returns the path of the volume that `create` writes: the path after `-o`, or the only FILE with `.rsv` at its end.
+// The path is the one after `-o`, or the only FILE with `.rsv` at its end.
 fn output_of(alloc: Global, request: &Request) -> Result<String> {
     if let Some(path) = &request.output {
         return Ok(path.clone()?);
@@ -42,7 +42,6 @@ fn output_of(alloc: Global, request: &Request) -> Result<String> {
     }
 }
 
-// Returns the name and the version of this program as a field of a description.
 fn creator(alloc: Global) -> Result<Field, AllocError> {
     let text = format!(in alloc; "rs_files {VERSION}")?;
     Ok(Field {
@@ -51,7 +50,7 @@ fn creator(alloc: Global) -> Result<Field, AllocError> {
     })
 }
 
-// Returns the description of a set, without the digests and sums of its blocks.
+// The blocks have no digests and no sums yet.
 fn description_of(
     alloc: Global,
     entries: Vec<Entry>,
@@ -101,7 +100,7 @@ struct Making<'a, R: Files + Clock + Eprint> {
 }
 
 impl<'a, R: Files + Clock + Eprint> Making<'a, R> {
-    // Begins to make `volumes` volumes of the files that were found. No digest is known yet.
+    // No digest is known yet.
     fn new(
         rt: &'a R,
         alloc: Global,
@@ -127,14 +126,13 @@ impl<'a, R: Files + Clock + Eprint> Making<'a, R> {
         })
     }
 
-    // Returns the digest of the file with this index, if it is known from old volumes. The file was compared with it
-    // after its length and its time were read, and `check_unchanged` compares these once more.
+    // The file was compared with the digest after its length and its time were read, and `check_unchanged` compares
+    // these once more.
     fn known_digest(&self, index: usize) -> Option<[u8; 32]> {
         self.known.files.get(index).copied().flatten()
     }
 
-    // Returns the number of bytes of the description with all digests and sums. Fails if it is larger than 1 GiB: no
-    // reader reads such a description.
+    // Also counts the digests and sums that are not there yet. No reader reads a description of more than 1 GiB.
     fn description_bytes(&self) -> Result<u64> {
         let originals = u64::from(self.description.original_count);
         let recovery = u64::from(self.description.recovery_count);
@@ -151,7 +149,7 @@ impl<'a, R: Files + Clock + Eprint> Making<'a, R> {
         Ok(bytes)
     }
 
-    // Returns the number of bytes that are read: each file for its own digest, unless this is known, and all blocks.
+    // Each file is read for its own digest, unless this is known, and all blocks are read.
     fn bytes_to_read(&self) -> u64 {
         let blocks = u64::from(self.description.original_count);
         let mut total = blocks.saturating_mul(self.description.block_bytes);
@@ -163,7 +161,6 @@ impl<'a, R: Files + Clock + Eprint> Making<'a, R> {
         total
     }
 
-    // Computes the digests of all files.
     fn hash_files(&mut self, progress: &mut Progress) -> Result<()> {
         let mut buffer = vec![in self.alloc; 0u8; CHUNK]?;
         for index in 0..self.paths.len() {
@@ -178,7 +175,6 @@ impl<'a, R: Files + Clock + Eprint> Making<'a, R> {
         Ok(())
     }
 
-    // Returns the failure for a file that cannot be read.
     fn failure_at(&self, index: usize, error: io::Error) -> Failure {
         match self.paths.get(index) {
             Some(path) => Failure::at(self.alloc, path.as_str(), error),
@@ -186,8 +182,7 @@ impl<'a, R: Files + Clock + Eprint> Making<'a, R> {
         }
     }
 
-    // Returns the SHA-256 of the file with this index, and 32 zeros for another entry. A file without bytes is not
-    // opened.
+    // An entry that is no file has 32 zeros. A file without bytes is not opened.
     fn hash_file(
         &self,
         index: usize,
@@ -223,8 +218,7 @@ impl<'a, R: Files + Clock + Eprint> Making<'a, R> {
         Ok(hasher.finish().bytes)
     }
 
-    // Makes the recovery blocks, and writes blocks into the sink. Sets the digests and the sums of all blocks. A set
-    // without blocks has none. Digests that are known from old volumes are not computed again.
+    // A set without blocks has no digests and no sums. Digests that are known from old volumes are not computed again.
     fn code(&mut self, progress: Progress, sink: &mut Volumes<'_, R>) -> Result<()> {
         let shape = shape_of(&self.description);
         if shape.original_count == 0 {
@@ -267,7 +261,6 @@ impl<'a, R: Files + Clock + Eprint> Making<'a, R> {
         }
     }
 
-    // Fails if a file is not as it was when it was found.
     fn check_unchanged(&self) -> Result<()> {
         for (path, entry) in self.paths.iter().zip(self.description.entries.as_slice()) {
             if entry.kind == Kind::File {
@@ -277,15 +270,14 @@ impl<'a, R: Files + Clock + Eprint> Making<'a, R> {
         Ok(())
     }
 
-    // Writes the description and the heads of all records into the volumes. Fails if `read_description` does not accept
-    // the description, so that no volume with an unsound description is written.
+    // Fails if `read_description` does not accept the description, so that no volume with an unsound description is
+    // written.
     fn describe(&self, sink: &mut Volumes<'_, R>) -> Result<()> {
         let bytes = written(self.alloc, &self.description)?;
         rs_volumes::read_description(self.alloc, bytes.as_slice())?;
         sink.describe(bytes.as_slice())
     }
 
-    // Begins all volumes, with room for their records, writes into them, and gives them their final names.
     fn write(&mut self, outputs: &[String], volumes: &mut Volumes<'_, R>) -> Result<()> {
         for output in outputs {
             let part = part_of(self.alloc, output.as_str())?;
@@ -301,7 +293,6 @@ impl<'a, R: Files + Clock + Eprint> Making<'a, R> {
     }
 }
 
-// Prints for how many bytes of new volumes the disk has no room, if it is full.
 fn tell_full<R: Files + Eprint>(rt: &R, sink: &Volumes<'_, R>, error: &CodingError) {
     if is_full(error) {
         let missing = Counted(sink.missing(), "byte");
@@ -309,7 +300,6 @@ fn tell_full<R: Files + Eprint>(rt: &R, sink: &Volumes<'_, R>, error: &CodingErr
     }
 }
 
-// Returns whether a block could not be written because the disk is full.
 fn is_full(error: &CodingError) -> bool {
     match error {
         CodingError::Write(_, error) => error.kind() == ErrorKind::StorageFull,
@@ -317,7 +307,6 @@ fn is_full(error: &CodingError) -> bool {
     }
 }
 
-// Fails if the length of a file, or the time of its last change, is not the one in its description.
 fn check_file<R: Files>(rt: &R, alloc: Global, path: &str, entry: &Entry) -> Result<()> {
     let metadata = at_path(alloc, path, fs::metadata(rt, path))?;
     if has_time(entry, &metadata, Version::Second) {
@@ -360,7 +349,6 @@ struct Made {
     status: u8,
 }
 
-// Returns what is made of entries.
 fn made_of(alloc: Global, request: &Request, found: &Found, cut: Cut) -> Result<Made, AllocError> {
     let mut entries = Kinds::none();
     let mut largest: (u64, &[u8]) = (0, b"");
@@ -438,7 +426,7 @@ pub fn make<R: Runtime>(rt: &R, alloc: Global, task: Task<'_>) -> Result<u8> {
     log.end(rt, made.status)
 }
 
-// Makes volumes. Returns `None` if old volumes must not be replaced.
+// Returns `None` if old volumes must not be replaced.
 fn make_volumes<R: Runtime>(
     rt: &R,
     alloc: Global,
@@ -472,7 +460,7 @@ fn make_volumes<R: Runtime>(
     Ok(Some(made))
 }
 
-// Prints what was left out, and why. What is not UTF-8 was printed before.
+// What is not UTF-8 was printed before.
 fn tell_left_out<R: Print>(rt: &R, found: &Found, log: &mut Log) -> Result<()> {
     for left in found.unreadable.iter().chain(found.left_out.iter()) {
         let reason = Some(("reason", left.reason.as_str()));
@@ -505,7 +493,6 @@ pub fn create<R: Runtime>(rt: &R, alloc: Global, request: &Request) -> Result<u8
     make(rt, alloc, task)
 }
 
-// Prints what was made. Warns if the largest file is larger than what one volume of recovery blocks can restore.
 fn tell<R: Print + Eprint>(rt: &R, task: Task<'_>, made: &Made) -> io::Result<()> {
     let (entries, cut) = (made.entries, made.cut);
     let [output] = task.outputs else {

@@ -15,7 +15,6 @@ use std::io;
 use std::io::ErrorKind;
 use std::rt::Files;
 
-// Returns the name and the version of the program that made a set, if the description has them.
 fn creator_of(description: &Description) -> Option<&[u8]> {
     for field in &description.fields {
         if field.kind == CREATOR {
@@ -25,8 +24,7 @@ fn creator_of(description: &Description) -> Option<&[u8]> {
     None
 }
 
-// Prints what a volume with this number of blocks describes as JSON. There can be many entries, so each of them is
-// printed by itself.
+// There can be many entries, so each of them is printed by itself.
 fn tell_json<R: Print>(
     rt: &R,
     alloc: Global,
@@ -45,7 +43,6 @@ fn tell_json<R: Print>(
     println!(rt; "]}}")
 }
 
-// Returns what a volume with this number of blocks describes, without the entries, as the text of a JSON object.
 fn numbers_json(alloc: Global, description: &Description, here: u64) -> Result<String, AllocError> {
     let version = match description.version {
         Version::First => 1,
@@ -67,7 +64,6 @@ fn numbers_json(alloc: Global, description: &Description, here: u64) -> Result<S
     Value::Object(object).to_string(alloc)
 }
 
-// Prints what a volume with this number of blocks describes.
 fn tell<R: Print>(rt: &R, path: &str, description: &Description, here: u64) -> io::Result<()> {
     let block = description.block_bytes;
     let k = Counted(u64::from(description.original_count), "original block");
@@ -85,7 +81,6 @@ fn tell<R: Print>(rt: &R, path: &str, description: &Description, here: u64) -> i
     Ok(())
 }
 
-// Prints the size and the name of a file, or what another entry is, and its name.
 fn tell_entry<R: Print>(rt: &R, entry: &Entry) -> io::Result<()> {
     let name = Name(entry.name.as_slice());
     let size = entry.size;
@@ -100,7 +95,7 @@ fn tell_entry<R: Print>(rt: &R, entry: &Entry) -> io::Result<()> {
     }
 }
 
-// Returns the number of blocks in a volume, which may be damaged.
+// The volume may be damaged, so its records are counted.
 fn blocks_in<R: Files>(rt: &R, alloc: Global, set: &Set, path: &str, form: Form) -> Result<u64> {
     if let Form::First(_, records) = form {
         return Ok(records.count);
@@ -119,7 +114,7 @@ fn blocks_in<R: Files>(rt: &R, alloc: Global, set: &Set, path: &str, form: Form)
     Ok(count)
 }
 
-// Opens a volume, and prints what it describes. Returns whether somebody still reads what is printed.
+// Returns whether somebody still reads what is printed.
 fn tell_volume<R: Files + Print>(
     rt: &R,
     alloc: Global,

@@ -70,8 +70,7 @@ pub fn folder_for<R: Files>(
     Ok(Some(folder_of(rt, alloc, request, set)?))
 }
 
-// Returns the folder above `folder` if this is a folder of the set, and no entry of the set is found from `folder` on.
-// Otherwise returns `folder`.
+// Returns `folder` itself unless it is a folder of the set, and no entry of the set is found from `folder` on.
 fn folder_around<R: Files>(
     rt: &R,
     alloc: Global,
@@ -99,7 +98,6 @@ fn folder_around<R: Files>(
     String::from_str(alloc, folder)
 }
 
-// Checks that a folder is there.
 fn check_folder<R: Files>(rt: &R, alloc: Global, folder: &str) -> Result<()> {
     match fs::metadata(rt, folder) {
         Ok(found) if found.is_dir() => Ok(()),
@@ -155,7 +153,6 @@ pub fn chosen_of(alloc: Global, request: &Request, set: &Description) -> Result<
     Ok(chosen)
 }
 
-// Returns whether an entry has a name, or is in a folder of this name.
 fn is_at_or_below(entry: &Entry, name: &[u8]) -> bool {
     let rest = entry.name.as_slice().strip_prefix(name);
     rest.is_some_and(|rest| rest.is_empty() || rest.starts_with(b"/"))
@@ -224,8 +221,7 @@ impl Look {
         self.renamed == Renamed::Here
     }
 
-    // Returns the files that were renamed or moved, each with the path at which it is now. Returns `None` if the
-    // request is not about the file.
+    // The path is the one at which the file is now. Returns `None` if the request is not about the file.
     fn moved(&self, number: usize) -> Option<(&Entry, &str)> {
         let index = self.elsewhere.files.get(number).copied()?;
         if !self.is_chosen(index) {

@@ -71,7 +71,6 @@ pub fn repair<R: Runtime>(rt: &R, alloc: Global, request: &Request) -> Result<u8
     log.end(rt, status)
 }
 
-// Restores the entries of a request in the folder in which they were looked for. Returns the exit status.
 fn mend_in_place<'a, R: Runtime>(
     rt: &'a R,
     alloc: Global,
@@ -97,7 +96,7 @@ fn mend_in_place<'a, R: Runtime>(
     mend(&job, log)
 }
 
-// Returns what is found of a set whose files are whole by now. If they were whole before, nothing is read.
+// If the files were whole before, nothing is read.
 fn scanned_again<R: Runtime>(
     rt: &R,
     alloc: Global,
@@ -112,8 +111,7 @@ fn scanned_again<R: Runtime>(
     scan_paths(rt, alloc, paths, request.memory, shown, Some(folder))
 }
 
-// Writes the damaged ones of the volumes of `split` again, from the blocks in all of them. No file of the set is read
-// or written. Returns the exit status.
+// The blocks are in the volumes, so no file of the set is read or written.
 fn mend_spread<R: Runtime>(
     rt: &R,
     alloc: Global,
@@ -139,7 +137,6 @@ fn mend_spread<R: Runtime>(
     mend_volumes(rt, alloc, request, found.scan, log)
 }
 
-// Writes the damaged volumes of a set again. Returns the exit status.
 fn mend_volumes<R: Runtime>(
     rt: &R,
     alloc: Global,
@@ -190,8 +187,6 @@ pub fn restore<R: Runtime>(rt: &R, alloc: Global, request: &Request) -> Result<u
     log.end(rt, status)
 }
 
-// Restores the entries of a request that are not whole and can be restored, and names the others. Returns the exit
-// status.
 fn mend<R: Runtime>(job: &Job<'_, R>, log: &mut Log) -> Result<u8> {
     let (rt, found) = (job.rt, job.found);
     found.note_moved(log)?;
@@ -228,7 +223,7 @@ fn mend<R: Runtime>(job: &Job<'_, R>, log: &mut Log) -> Result<u8> {
     Ok(if all { STATUS_WHOLE } else { STATUS_FAILED })
 }
 
-// Returns which entries of a request are not whole: those that can be restored, and those that cannot.
+// The first list marks the entries that can be restored, and the second one those that cannot.
 fn divided(alloc: Global, found: &Look) -> Result<(Vec<bool>, Vec<bool>), AllocError> {
     let restorable = found.scan.restorable(alloc)?;
     let mut wanted = Vec::new(alloc);
@@ -240,8 +235,8 @@ fn divided(alloc: Global, found: &Look) -> Result<(Vec<bool>, Vec<bool>), AllocE
     Ok((wanted, lost))
 }
 
-// Unmarks the entries that are already in the folder into which files are restored, with the right bytes, and names
-// them. Returns whether there are some. With `--force`, all entries are written again.
+// Unmarks the entries that are already there with the right bytes. Returns whether there are some. With `--force`, all
+// entries are written again.
 fn leave_existing<R: Runtime>(
     job: &Job<'_, R>,
     wanted: &mut [bool],
@@ -263,8 +258,7 @@ fn leave_existing<R: Runtime>(
     Ok(existing)
 }
 
-// Prints that nothing was written, and why: `existing` says whether the entries are already where `restore` writes
-// them.
+// `existing` says whether the entries are already where `restore` writes them.
 fn tell_nothing<R: Runtime>(job: &Job<'_, R>, existing: bool, log: &Log) -> Result<()> {
     let (rt, to) = (job.rt, Shown(job.goal.folder));
     if existing {
@@ -280,8 +274,7 @@ fn tell_nothing<R: Runtime>(job: &Job<'_, R>, existing: bool, log: &Log) -> Resu
     Ok(())
 }
 
-// Prints which entries cannot be restored, unless `is_short` is set, which volumes are damaged, and how many blocks are
-// needed.
+// If `is_short` is set, the entries are not named.
 fn tell_beyond<R: Print + Eprint>(
     rt: &R,
     found: &Look,
@@ -307,8 +300,7 @@ fn tell_beyond<R: Print + Eprint>(
     Ok(())
 }
 
-// Restores the entries that `wanted` marks, and prints what became of each. Returns whether all were restored. If this
-// fails, all files that do not have their final names are removed.
+// Returns whether all entries were restored. All files that do not have their final names are removed.
 fn restore_entries<R: Runtime>(job: &Job<'_, R>, wanted: Vec<bool>, log: &mut Log) -> Result<bool> {
     let (rt, read) = (job.rt, job.found.scan.paths.as_slice());
     let mut targets = Targets::new(rt, job.alloc, job.goal, wanted, read)?;
@@ -328,7 +320,6 @@ fn restore_entries<R: Runtime>(job: &Job<'_, R>, wanted: Vec<bool>, log: &mut Lo
     tell_outcomes(job, outcomes, log)
 }
 
-// Begins the parts of files, writes their blocks, and gives all entries their final names.
 fn restore_into<R: Runtime>(job: &Job<'_, R>, targets: &mut Targets<'_, R>) -> Result<()> {
     let (scan, memory, shown) = (&job.found.scan, job.request.memory, job.request.progress);
     targets.begin()?;
@@ -337,7 +328,7 @@ fn restore_into<R: Runtime>(job: &Job<'_, R>, targets: &mut Targets<'_, R>) -> R
     Ok(())
 }
 
-// Prints what became of each entry, and how many were restored. Returns whether all were.
+// Returns whether all entries were restored.
 fn tell_outcomes<R: Runtime>(
     job: &Job<'_, R>,
     outcomes: &[Outcome],
@@ -373,7 +364,6 @@ fn tell_outcomes<R: Runtime>(
     Ok(failed == 0)
 }
 
-// Prints that an entry was restored, and which damaged file was kept.
 fn note_restored<R: Print>(
     rt: &R,
     entry: &Entry,
@@ -396,7 +386,6 @@ fn note_restored<R: Print>(
     Ok(())
 }
 
-// Prints how many entries were restored.
 fn tell_restored<R: Print>(rt: &R, restored: Kinds, kept: u64) -> io::Result<()> {
     if kept == 0 {
         return println!(rt; "restored {restored}");

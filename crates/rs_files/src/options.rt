@@ -26,7 +26,6 @@ pub enum Parsed {
     Wrong(u8, String),
 }
 
-// Returns an option as clap takes it.
 fn arg_of<'a>(alloc: Global, choice: Choice) -> Arg<'a> {
     let Choice(name, letter, takes, help) = choice;
     let arg = Arg::new(alloc, name).long(name).help(help);
@@ -42,7 +41,6 @@ fn arg_of<'a>(alloc: Global, choice: Choice) -> Arg<'a> {
     }
 }
 
-// Returns the paths of a command as clap takes them.
 fn paths_arg<'a>(alloc: Global, form: &Form) -> Arg<'a> {
     let (shown, help) = form.paths;
     Arg::new(alloc, "paths")
@@ -53,7 +51,6 @@ fn paths_arg<'a>(alloc: Global, form: &Form) -> Arg<'a> {
         .num_args(1..)
 }
 
-// Returns a command that takes paths, with its options.
 fn command_of<'a>(alloc: Global, form: &Form) -> Result<Command<'a>, AllocError> {
     let mut args = Vec::new(alloc);
     args.push(paths_arg(alloc, form))?;
@@ -66,7 +63,6 @@ fn command_of<'a>(alloc: Global, form: &Form) -> Result<Command<'a>, AllocError>
         .args(args)
 }
 
-// Returns the program with all commands, as clap takes it.
 fn program<'a>(alloc: Global) -> Result<Command<'a>, AllocError> {
     let mut commands = Vec::new(alloc);
     for form in COMMANDS {
@@ -80,8 +76,7 @@ fn program<'a>(alloc: Global) -> Result<Command<'a>, AllocError> {
     top.subcommands(commands)
 }
 
-// Returns the exit status after an error of the command line. The help text and the version are no error, and a lack of
-// memory is no wrong command line.
+// The help text and the version are no error, and a lack of memory is no wrong command line.
 fn status_of(error: &clap::Error) -> u8 {
     match error.kind() {
         ErrorKind::OutOfMemory => STATUS_FAILED,
@@ -126,7 +121,6 @@ pub fn wants_json<R: Env>(rt: &R) -> bool {
     false
 }
 
-// Returns the request of a command line. If an option has a wrong value, the function prints a message.
 fn read_matches<R: Eprint>(
     rt: &R,
     alloc: Global,
@@ -146,7 +140,6 @@ fn read_matches<R: Eprint>(
     }
 }
 
-// Returns the command with a name. Every unknown name gives `Action::Info`.
 fn action_of(name: &str) -> Action {
     match name {
         "create" => Action::Create,
@@ -159,7 +152,6 @@ fn action_of(name: &str) -> Action {
     }
 }
 
-// Returns a copy of the text of an option, if the option is given.
 fn text_of(
     alloc: Global,
     matches: &ArgMatches<'_>,
@@ -171,7 +163,6 @@ fn text_of(
     }
 }
 
-// Returns copies of the texts of an option that can be given several times, or of the paths.
 fn texts_of(
     alloc: Global,
     matches: &ArgMatches<'_>,
@@ -186,8 +177,7 @@ fn texts_of(
     Ok(copies)
 }
 
-// Returns a request with the paths, the folders and the flags of the command line. All other options have their
-// defaults.
+// The options that are not read here have their defaults.
 fn plain_request(
     alloc: Global,
     name: &str,
@@ -219,8 +209,7 @@ fn plain_request(
     })
 }
 
-// Returns the request of the command line, or a message about an option with a wrong value. Fails if memory cannot be
-// allocated.
+// The inner error is a message about an option with a wrong value.
 fn request_of(
     alloc: Global,
     name: &str,
@@ -234,7 +223,6 @@ fn request_of(
     }
 }
 
-// Reads the options whose values are no folders, and checks that the command has the options that it needs.
 fn set_options(request: &mut Request, matches: &ArgMatches<'_>) -> Result<(), &'static str> {
     set_numbers(request, matches)?;
     set_progress(request, matches)?;
@@ -243,12 +231,11 @@ fn set_options(request: &mut Request, matches: &ArgMatches<'_>) -> Result<(), &'
     check_needed(request)
 }
 
-// Returns whether an option is given with an empty text.
 fn is_empty(option: &Option<String>) -> bool {
     option.as_ref().is_some_and(|text| text.as_str().is_empty())
 }
 
-// Checks that no path of an option is empty. A variable of a shell that is not set gives an empty path.
+// A variable of a shell that is not set gives an empty path.
 fn check_filled(request: &Request) -> Result<(), &'static str> {
     if is_empty(&request.output) {
         return Err("--output: the path is empty");
@@ -267,7 +254,6 @@ fn check_filled(request: &Request) -> Result<(), &'static str> {
     Ok(())
 }
 
-// Reads `--recovery`, `--block` and `--memory`.
 fn set_numbers(request: &mut Request, matches: &ArgMatches<'_>) -> Result<(), &'static str> {
     if let Some(text) = matches.get_str("recovery") {
         let fault =
@@ -286,7 +272,6 @@ fn set_numbers(request: &mut Request, matches: &ArgMatches<'_>) -> Result<(), &'
     Ok(())
 }
 
-// Reads `--progress`.
 fn set_progress(request: &mut Request, matches: &ArgMatches<'_>) -> Result<(), &'static str> {
     match matches.get_str("progress") {
         None | Some("auto") => {}
@@ -297,7 +282,6 @@ fn set_progress(request: &mut Request, matches: &ArgMatches<'_>) -> Result<(), &
     Ok(())
 }
 
-// Reads `--volumes` and `--lose`.
 fn set_volumes(request: &mut Request, matches: &ArgMatches<'_>) -> Result<(), &'static str> {
     if let Some(text) = matches.get_str("volumes") {
         let count = text
@@ -313,7 +297,6 @@ fn set_volumes(request: &mut Request, matches: &ArgMatches<'_>) -> Result<(), &'
     Ok(())
 }
 
-// Checks that a command has the options that it needs, and that they can be combined.
 fn check_needed(request: &Request) -> Result<(), &'static str> {
     match request.action {
         Action::Create

@@ -64,7 +64,7 @@ pub fn verify_quick<R: Files + Print + Eprint>(
     log.end(rt, status)
 }
 
-// Returns the numbers of chosen entries that are whole, and of the others.
+// Counts the chosen entries that are whole, and the others.
 fn counted(checked: &Checked<'_>) -> (Kinds, Kinds) {
     let (mut whole, mut other) = (Kinds::none(), Kinds::none());
     let states = checked.states.iter().zip(checked.chosen);
@@ -79,7 +79,6 @@ fn counted(checked: &Checked<'_>) -> (Kinds, Kinds) {
     (whole, other)
 }
 
-// Prints how many entries have their sizes and times, and what was not compared.
 fn tell_quick<R: Print>(rt: &R, same: Kinds, other: Kinds) -> io::Result<()> {
     if other.is_empty() {
         println!(rt; "unchanged by size and time: {same}")?;

@@ -25,7 +25,7 @@ use std::io;
 use std::io::ErrorKind;
 use std::rt::{Files, Runtime};
 
-// Returns for each volume of a set the path of the damaged volume that has its number, if one was scanned.
+// The index of a path is the number of its volume.
 fn damaged_paths(alloc: Global, found: &Scan) -> Result<Vec<Option<&str>>, AllocError> {
     let set = found.description();
     let deal = Deal::of(set.original_count, set.recovery_count, set.volumes);
@@ -42,7 +42,6 @@ fn damaged_paths(alloc: Global, found: &Scan) -> Result<Vec<Option<&str>>, Alloc
     Ok(paths)
 }
 
-// Returns the first of these paths.
 fn first_damaged(alloc: Global, found: &Scan) -> Result<Option<String>, AllocError> {
     let paths = damaged_paths(alloc, found)?;
     match paths.iter().flatten().next() {
@@ -124,7 +123,6 @@ pub fn rebuild<R: Runtime>(
     outcome
 }
 
-// Restores the lost original blocks into a file.
 fn restore_into<R: Runtime>(
     rt: &R,
     alloc: Global,
@@ -149,7 +147,7 @@ fn restore_into<R: Runtime>(
     )
 }
 
-// Returns where each block is, now that lost blocks are in the file at a path. Adds the path to those of the scan.
+// The lost blocks are in the file at `path`, one after another. Adds the path to those of the scan.
 fn with_restored(
     alloc: Global,
     found: &mut Scan,
@@ -168,8 +166,7 @@ fn with_restored(
     Ok(origins)
 }
 
-// Writes the damaged volumes of a scan again. `origins` says where each original block is. Returns whether all volumes
-// are whole now. Fails as [`rebuild`] does.
+// `origins` says where each original block is. Returns whether all volumes are whole now.
 fn rebuild_from<R: Runtime>(
     rt: &R,
     alloc: Global,
@@ -204,7 +201,7 @@ fn rebuild_from<R: Runtime>(
     Ok(count == damaged && found.unreadable.is_empty())
 }
 
-// Prints which volumes were written again: those of the first paths, whose damaged files were kept.
+// `kept` has one path for each volume that was written, in the order of `paths`.
 fn tell_written<R: Print>(
     rt: &R,
     paths: &[Option<&str>],
@@ -222,7 +219,6 @@ fn tell_written<R: Print>(
     Ok(())
 }
 
-// Begins the volumes that have a path.
 fn begin<R: Runtime>(
     alloc: Global,
     paths: &[Option<&str>],
@@ -237,7 +233,7 @@ fn begin<R: Runtime>(
     Ok(())
 }
 
-// Codes the blocks of a set again, and writes those of some volumes. Fails if a block does not have its digest.
+// Fails if a block does not have its digest.
 fn code<R: Runtime>(
     rt: &R,
     alloc: Global,

@@ -31,8 +31,8 @@ pub fn tops_of(alloc: Global, set: &Description) -> Result<Vec<&str>, AllocError
 pub enum Renamed {
     /// Nothing says that the folder was renamed.
     No,
-    /// Perhaps the folder was renamed: nothing has its name any more, and a file of the set was found in another folder,
-    /// with the same path below this folder.
+    /// Perhaps the folder was renamed: nothing has its name any more, and a file of the set was found in another
+    /// folder, with the same path below this folder.
     Perhaps,
     /// The folder after `--folder` is the renamed one: it has all files of the set, so none of them is lost.
     Here,
@@ -71,7 +71,7 @@ pub fn renaming_of<R: Files>(
     Ok(Renamed::Perhaps)
 }
 
-// Returns the name of an entry without the first folder. It is empty if the entry is in no folder.
+// The first folder is left out. The result is empty if the entry is in no folder.
 fn rest_of(entry: &Entry) -> &str {
     let name = text_of(entry.name.as_slice()).unwrap_or("");
     name.split_once('/').map_or("", |(_, rest)| rest)

@@ -12,7 +12,6 @@ use std::rt::{Files, Runtime};
 /// The largest number of volumes.
 const MOST_VOLUMES: u32 = 1000;
 
-// Returns the paths of all volumes in a folder.
 fn outputs_in(alloc: Global, volumes: u32, folder: &str) -> Result<Vec<String>, AllocError> {
     let mut paths = Vec::new(alloc);
     for number in 0..volumes {
@@ -53,7 +52,7 @@ pub fn split<R: Runtime>(rt: &R, alloc: Global, request: &Request) -> Result<u8>
     Ok(status)
 }
 
-// Prints which volumes are there whose numbers the new volumes do not have.
+// The new volumes do not have the numbers of these volumes.
 fn tell_older<R: Files + Eprint>(rt: &R, paths: &[String]) {
     for path in paths {
         if exists(rt, path.as_str()) {

@@ -12,7 +12,7 @@ use rs_volumes::description::{Description, Version};
 use std::alloc::{AllocError, Global};
 use std::rt::{Files, Runtime};
 
-// Returns the paths of the files and folders of a set in its folder: those of the first parts of all names.
+// Takes the first parts of all names: the files and folders that are in the folder itself.
 fn paths_in<R: Files>(
     rt: &R,
     alloc: Global,
@@ -29,7 +29,6 @@ fn paths_in<R: Files>(
     Ok(paths)
 }
 
-// Returns the share of recovery blocks of a set in percent, at least 1.
 fn share_of(set: &Description) -> Recovery {
     let k = u64::from(set.original_count).max(1);
     let percent = u64::from(set.recovery_count)
@@ -38,8 +37,7 @@ fn share_of(set: &Description) -> Recovery {
     Recovery::Percent(percent.clamp(1, 10_000) as u32)
 }
 
-// Returns the block size of a set if it was given, and not chosen by default. Version 1 has other defaults, so there it
-// counts as chosen.
+// Returns `None` if the block size was chosen by default. Version 1 has other defaults, so there it counts as chosen.
 fn block_of(set: &Description) -> Option<u64> {
     if set.version == Version::First || set.original_count == 0 {
         return None;

@@ -16,10 +16,8 @@ use std::alloc::{AllocError, Global};
 use std::io;
 use std::rt::Runtime;
 
-// Returns the exit status for what was found: `STATUS_LOST` if an entry that the request is about cannot be restored,
-// or more blocks are lost than recovery blocks are left, `STATUS_WHOLE` if all is whole, and `STATUS_DAMAGED`
-// otherwise. All is whole if the entries are, or the volumes hold them. If the request is about all entries, all
-// recovery blocks and all volumes must be whole too.
+// All is whole if the entries are, or the volumes hold them. If the request is about all entries, all recovery blocks
+// and all volumes must be whole too.
 fn status_of(alloc: Global, found: &Look) -> Result<u8, AllocError> {
     let (scan, counts) = (&found.scan, found.scan.counts());
     let are_held = counts.lost == 0 && scan.is_spread();
@@ -41,7 +39,6 @@ fn status_of(alloc: Global, found: &Look) -> Result<u8, AllocError> {
     })
 }
 
-// Returns the states of the entries.
 fn checked(found: &Look) -> Checked<'_> {
     Checked {
         entries: found.scan.description().entries.as_slice(),
@@ -63,7 +60,7 @@ pub fn tell_volumes<R: Print>(rt: &R, scan: &Scan) -> io::Result<()> {
     Ok(())
 }
 
-// Prints what is damaged in a volume. Prints nothing for a whole volume.
+// Prints nothing for a whole volume.
 fn tell_volume<R: Print>(rt: &R, volume: &ScannedVolume) -> io::Result<()> {
     let path = Shown(volume.path.as_str());
     let damage = volume.damage;
@@ -81,7 +78,6 @@ fn tell_volume<R: Print>(rt: &R, volume: &ScannedVolume) -> io::Result<()> {
     Ok(())
 }
 
-// Prints whether the files can be restored, or what to do about damaged volumes.
 fn tell_blocks<R: Print>(rt: &R, found: &Look, counts: Counts) -> io::Result<()> {
     let scan = &found.scan;
     let whole = counts.recovery;
@@ -111,7 +107,6 @@ fn tell_blocks<R: Print>(rt: &R, found: &Look, counts: Counts) -> io::Result<()>
     }
 }
 
-// Prints whether volumes of `split` hold all blocks, and what to do.
 fn tell_spread<R: Print>(rt: &R, scan: &Scan, counts: Counts) -> io::Result<()> {
     let k = scan.description().original_count;
     let (lost, left, r) = (counts.lost, counts.recovery, counts.recovery_count);
@@ -213,7 +208,6 @@ pub fn add_counts(log: &mut Log, scan: &Scan) -> Result<(), AllocError> {
     ])
 }
 
-// Returns the name of a volume, a word for its state and numbers as JSON.
 fn volume_json(
     alloc: Global,
     name: &str,
@@ -226,7 +220,6 @@ fn volume_json(
     Ok(Value::Object(object))
 }
 
-// Returns the volumes that can be read with their states as JSON.
 fn volumes_json(alloc: Global, scan: &Scan) -> Result<Vec<Value>, AllocError> {
     let mut volumes = Vec::new(alloc);
     for volume in &scan.volumes {
@@ -241,7 +234,6 @@ fn volumes_json(alloc: Global, scan: &Scan) -> Result<Vec<Value>, AllocError> {
     Ok(volumes)
 }
 
-// Appends the volumes that cannot be read, as JSON.
 fn add_unreadable(alloc: Global, scan: &Scan, volumes: &mut Vec<Value>) -> Result<(), AllocError> {
     for path in &scan.unreadable {
         volumes.push(volume_json(alloc, path.as_str(), "unreadable", &[])?)?;
