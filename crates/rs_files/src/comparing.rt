@@ -226,7 +226,7 @@ fn tell_changes<R: Print + Eprint>(
 }
 
 // `origins` has for each entry the index of the old entry from which it was moved and whose bytes it does not have.
-// Returns the number of these files that were not accepted.
+// Returns the number of these entries that were not accepted.
 fn tell_new<R: Print + Eprint>(
     rt: &R,
     request: &Request,

@@ -52,7 +52,7 @@ pub fn split<R: Runtime>(rt: &R, alloc: Global, request: &Request) -> Result<u8>
     Ok(status)
 }
 
-// The new volumes do not have the numbers of these volumes.
+// The new volumes do not have the numbers of the volumes at `paths`.
 fn tell_older<R: Files + Eprint>(rt: &R, paths: &[String]) {
     for path in paths {
         if exists(rt, path.as_str()) {

@@ -147,7 +147,7 @@ fn is_same_folder<R: Files>(rt: &R, one: &str, other: &str) -> bool {
     }
 }
 
-// The list must be sorted. An entry below another one is given twice as well.
+// The list must be sorted. An entry below another one counts as given twice.
 fn check_apart(alloc: Global, found: &[FoundEntry]) -> Result<()> {
     let mut previous: &[u8] = b"";
     for FoundEntry { entry, .. } in found {
@@ -214,8 +214,7 @@ impl<'a, R: Files + Eprint + Alloc + Clone + Drop> FolderWalk<'a, R> {
         Ok(())
     }
 
-    // Leaves out old volumes, other things, as pipes, and files that a run of this program has not finished, unless
-    // these are named.
+    // Leaves out old volumes, pipes and the like. Unfinished files of a run are left out, too, unless they are named.
     fn visit(&mut self, next: &Waiting) -> Result<()> {
         let path = next.path.as_str();
         let found = at_path(self.alloc, path, fs::symlink_metadata(self.rt, path))?;
