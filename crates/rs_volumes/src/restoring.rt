@@ -160,7 +160,6 @@ pub fn restore_found<P: Copy, S: BlockSource, W: BlockSink>(
     )
 }
 
-// The error names the first of these blocks that was not found.
 fn first_lost<P: Copy>(
     numbers: &[usize],
     first: usize,
