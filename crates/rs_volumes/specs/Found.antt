@@ -30,8 +30,8 @@ pub record ReadsRight {P : Type 0} (shape : Shape) (plan : Plan) (digests : List
     pub originals : All (λ n. IsRight digests places (0 + n)) plan.originals.items
     pub recovery : All (λ n. IsRight digests places (shape.original_count + n)) plan.recovery.items
 
--- block n, counted from `first` on, was not found: the error has its index, or its number if its index does not fit into
--- 64 bits
+-- block n, counted from `first` on, was not found: the error has its index, or its number if its index does not fit
+-- into 64 bits
 abbrev pub NamesBlock : {P : Type 0} → List (Option P) → ℕ → ℕ → CodingError → Type 0
 NamesBlock places first n errors.Memory = ⊥
 NamesBlock places first n (errors.Read i e) = ⊥

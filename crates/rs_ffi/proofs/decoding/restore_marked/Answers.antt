@@ -31,8 +31,8 @@ restore_buffers-requires-clause-set_up g c =
 pub restore_buffers-requires-clause-fit : goal.restore_buffers-requires-clause-fit
 restore_buffers-requires-clause-fit g c =
     rw (c.as_slice.ensures.value, c.in_ok-lost.ensures)
-    (lost-long c.args.size c.args.counts.original_count c.args.marks.0.now c.args.originals.now c.requires.original_marks
-    c.requires.originals_whole)
+    (lost-long c.args.size c.args.counts.original_count c.args.marks.0.now c.args.originals.now
+    c.requires.original_marks c.requires.originals_whole)
 
 pub returns-clause-answer : goal.returns-clause-answer
 returns-clause-answer g c =
