@@ -25,7 +25,7 @@ use crate::words::{GF_MODULUS, GF_ORDER, GfElement, Steps};
 /// separately for each symbol. The points of the values are `skew_delta`, `skew_delta + 1` and so on. Every call
 /// succeeds and allocates nothing.
 ///
-/// A type that provides `fft`, `ifft`, `mul` and `eval_poly` is an engine. The other seven calls have default bodies.
+/// A type that provides `fft`, `ifft`, `mul` and `eval_poly` is an engine. The other eight calls have default bodies.
 pub trait Engine: Drop {
     /// Transforms the `size` rows from `pos` on forward, at `skew_delta`.
     ///
@@ -191,6 +191,35 @@ pub trait Engine: Drop {
     {
         self.mul_add(steps, x, y0, logs.first);
         self.mul_add(steps, x, y1, logs.second);
+    }
+
+    /// Adds `y` to each of two rows, times a factor of its own, symbol by symbol: `logs.first` is the logarithm of the
+    /// factor for `x0`, and `logs.second` of the factor for `x1`. All three rows have the same number of chunks.
+    ///
+    /// The default body calls `mul_add` twice. An engine can have a body of its own that loads each symbol of `y` once
+    /// for both.
+    fn mul_add_to_two(
+        &self,
+        steps: &mut Steps,
+        x0: &mut [[u8; 64]],
+        x1: &mut [[u8; 64]],
+        y: &[[u8; 64]],
+        logs: TwoLogarithms,
+    )
+        requires first { length x0.old ≡ length y.now }
+        requires second { length x1.old ≡ length y.now }
+        ensures first_sums { (k s : ℕ) → k < length x0.old → s < 32
+            → symbol (chunk x0.new k) s
+            ≡ bit_xor (symbol (chunk x0.old k) s)
+            (times_factor logs.first (symbol (chunk y.now k) s)) }
+        ensures second_sums { (k s : ℕ) → k < length x1.old → s < 32
+            → symbol (chunk x1.new k) s
+            ≡ bit_xor (symbol (chunk x1.old k) s)
+            (times_factor logs.second (symbol (chunk y.now k) s)) }
+        ensures counts { TwoSumCounts steps.old steps.new }
+    {
+        self.mul_add(steps, x0, y, logs.first);
+        self.mul_add(steps, x1, y, logs.second);
     }
 
     /// Adds `y` times the generator to the power `log_m` to the chunks of bytes `x`, symbol by symbol and in place.

@@ -138,6 +138,34 @@ pub trait Kernel: Drop {
         self.mul_add_row(x, y1, logs.second);
     }
 
+    /// Adds `y` to each of two rows, times the factor of a butterfly: `logs.first` is the logarithm of the factor for
+    /// `x0`, and `logs.second` of the factor for `x1`. 65535 represents the factor zero. All three rows have the same
+    /// number of chunks.
+    ///
+    /// The default body calls `mul_add_row` twice. An engine can have a body of its own that loads each word of `y`
+    /// once for both.
+    fn mul_add_to_two(
+        &self,
+        x0: &mut [[u8; 64]],
+        x1: &mut [[u8; 64]],
+        y: &[[u8; 64]],
+        logs: TwoLogarithms,
+    )
+        requires first { length x0.old ≡ length y.now }
+        requires second { length x1.old ≡ length y.now }
+        ensures first_sums { (k s : ℕ) → k < length x0.old → s < 32
+            → symbol (chunk x0.new k) s
+            ≡ bit_xor (symbol (chunk x0.old k) s)
+            (times_factor logs.first (symbol (chunk y.now k) s)) }
+        ensures second_sums { (k s : ℕ) → k < length x1.old → s < 32
+            → symbol (chunk x1.new k) s
+            ≡ bit_xor (symbol (chunk x1.old k) s)
+            (times_factor logs.second (symbol (chunk y.now k) s)) }
+    {
+        self.mul_add_row(x0, y, logs.first);
+        self.mul_add_row(x1, y, logs.second);
+    }
+
     /// Adds `y` times the factor of a butterfly to the chunks of bytes `x`; 65535 represents the factor zero. The bytes
     /// are as many as those of `y`.
     ///

@@ -92,6 +92,18 @@ impl<K: Kernel> Engine for K {
         Kernel::mul_add_two(self, x, y0, y1, logs);
     }
 
+    fn mul_add_to_two(
+        &self,
+        steps: &mut Steps,
+        x0: &mut [[u8; 64]],
+        x1: &mut [[u8; 64]],
+        y: &[[u8; 64]],
+        logs: TwoLogarithms,
+    ) {
+        steps.row_steps(2);
+        Kernel::mul_add_to_two(self, x0, x1, y, logs);
+    }
+
     fn mul_add_bytes(&self, steps: &mut Steps, x: &mut [u8], y: &[[u8; 64]], log_m: GfElement) {
         steps.row_step();
         Kernel::mul_add_bytes(self, x, y, log_m);
