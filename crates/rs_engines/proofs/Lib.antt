@@ -4,3 +4,4 @@ pub mod Stored
 pub mod WordBytes
 pub mod LookUp
 pub mod Kept
+pub mod Halves

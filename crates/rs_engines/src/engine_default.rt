@@ -316,6 +316,22 @@ impl Engine for DefaultEngine<'_> {
         }
     }
 
+    fn mul_add_to_two(
+        &self,
+        steps: &mut Steps,
+        x0: &mut [[u8; 64]],
+        x1: &mut [[u8; 64]],
+        y: &[[u8; 64]],
+        logs: TwoLogarithms,
+    ) {
+        match self {
+            Self::Naive(engine) => Engine::mul_add_to_two(engine, steps, x0, x1, y, logs),
+            Self::NoSimd(engine) => Engine::mul_add_to_two(engine, steps, x0, x1, y, logs),
+            Self::Avx2(engine) => Engine::mul_add_to_two(engine, steps, x0, x1, y, logs),
+            Self::Ssse3(engine) => Engine::mul_add_to_two(engine, steps, x0, x1, y, logs),
+        }
+    }
+
     fn mul_add_bytes(&self, steps: &mut Steps, x: &mut [u8], y: &[[u8; 64]], log_m: GfElement) {
         match self {
             Self::Naive(engine) => Engine::mul_add_bytes(engine, steps, x, y, log_m),

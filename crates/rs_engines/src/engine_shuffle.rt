@@ -10,7 +10,7 @@ use crate::butterflies::{Backward, Forward};
 use crate::byte_vector::ByteVector;
 use crate::factors::ThreeFactors;
 use crate::shuffle_rows::{
-    add_row, add_row_to_bytes, add_two_rows, mul_chunks, one_layer, two_layers,
+    add_row, add_row_to_bytes, add_row_to_two, add_two_rows, mul_chunks, one_layer, two_layers,
 };
 use crate::shuffle_tables::ShuffleTables;
 use rs_field::engine::kernel::{Kernel, ThreeLogarithms};
@@ -179,6 +179,20 @@ impl<V: ByteVector, T: ShuffleTables> Kernel for ByShuffles<V, T> {
         let f0 = factor_of(p0.lend(), logs.first);
         let f1 = factor_of(p1.lend(), logs.second);
         add_two_rows::<V>(x, y0, y1, f0, f1);
+    }
+
+    fn mul_add_to_two(
+        &self,
+        x0: &mut [[u8; 64]],
+        x1: &mut [[u8; 64]],
+        y: &[[u8; 64]],
+        logs: TwoLogarithms,
+    ) {
+        let p0 = self.tables.products(logs.first);
+        let p1 = self.tables.products(logs.second);
+        let f0 = factor_of(p0.lend(), logs.first);
+        let f1 = factor_of(p1.lend(), logs.second);
+        add_row_to_two::<V>(x0, x1, y, f0, f1);
     }
 
     fn mul_add_bytes(&self, x: &mut [u8], y: &[[u8; 64]], log_m: GfElement) {

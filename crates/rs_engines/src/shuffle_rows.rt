@@ -12,11 +12,13 @@ use crate::any_factor::{AnyFactor, bytewise};
 use crate::butterflies::Butterflies;
 use crate::byte_vector::ByteVector;
 use crate::factors::{Bytewise, Factor, General, Small, ThreeFactors};
-use crate::shuffle_chunks::{add_chunk, add_two_chunks, four_chunks, mul_chunk, two_chunks};
+use crate::shuffle_chunks::{
+    add_chunk, add_chunk_to_two, add_two_chunks, four_chunks, mul_chunk, two_chunks,
+};
 use rs_field::engine::byte_chunks::{chunk_at, put_chunk};
 use rs_field::engine::tables::Multiply128lutT;
 
-// Two rows of at most this many chunks are added one after the other.
+// Two sums of rows of at most this many chunks are made one after the other.
 const FEW_CHUNKS: usize = 8;
 
 /// Multiplies each symbol of a row by a factor.
@@ -62,6 +64,31 @@ fn add_chunk_pairs<V: ByteVector, F: Factor>(
 {
     for k in 0..x.len() {
         add_two_chunks::<V, F>(&mut x[k], &y0[k], &y1[k], f0, f1);
+    }
+}
+
+// Adds to each symbol of two rows the product of the same symbol of another row, each with a factor of class F.
+#[inline(always)]
+fn add_chunks_to_two<V: ByteVector, F: Factor>(
+    x0: &mut [[u8; 64]],
+    x1: &mut [[u8; 64]],
+    y: &[[u8; 64]],
+    f0: F,
+    f1: F,
+)
+    requires first { length x0.old ≡ length y.now }
+    requires second { length x1.old ≡ length y.now }
+    ensures first_sums { (k s : ℕ) → k < length x0.old → s < 32
+        → symbol (chunk x0.new k) s
+        ≡ bit_xor (symbol (chunk x0.old k) s)
+        (times_factor (F.log f0) (symbol (chunk y.now k) s)) }
+    ensures second_sums { (k s : ℕ) → k < length x1.old → s < 32
+        → symbol (chunk x1.new k) s
+        ≡ bit_xor (symbol (chunk x1.old k) s)
+        (times_factor (F.log f1) (symbol (chunk y.now k) s)) }
+{
+    for k in 0..y.len() {
+        add_chunk_to_two::<V, F>(&mut x0[k], &mut x1[k], &y[k], f0, f1);
     }
 }
 
@@ -130,6 +157,18 @@ fn copied(products: &Multiply128lutT) -> Multiply128lutT
     Multiply128lutT {
         lo: products.lo,
         hi: products.hi,
+    }
+}
+
+// Returns the same factor over a copy of its products.
+#[inline(always)]
+fn over<'t>(factor: Bytewise<'_>, copy: &'t Multiply128lutT) -> Bytewise<'t>
+    requires { copy.now ≡ factor.products.now }
+    ensures { result.log_m ≡ factor.entry.log_m }
+{
+    Bytewise {
+        log_m: factor.log_m,
+        products: copy,
     }
 }
 
@@ -205,15 +244,65 @@ fn add_two_bytewise<V: ByteVector>(
 {
     let p0 = &copied(f0.products);
     let p1 = &copied(f1.products);
-    let first = Bytewise {
-        log_m: f0.log_m,
-        products: p0,
-    };
-    let second = Bytewise {
-        log_m: f1.log_m,
-        products: p1,
-    };
-    add_chunk_pairs::<V, _>(x, y0, y1, first, second);
+    add_chunk_pairs::<V, _>(x, y0, y1, over(f0, p0), over(f1, p1));
+}
+
+/// Adds to each symbol of two rows the product of the same symbol of another row, each with a factor of its own. If
+/// both factors need only four numbers, there is one loop over chunks for both. The row is added first to one row and
+/// then to the other if it has few chunks, because it takes time to find out about the numbers.
+#[inline(always)]
+pub fn add_row_to_two<V: ByteVector>(
+    x0: &mut [[u8; 64]],
+    x1: &mut [[u8; 64]],
+    y: &[[u8; 64]],
+    f0: AnyFactor<'_>,
+    f1: AnyFactor<'_>,
+)
+    requires first { length x0.old ≡ length y.now }
+    requires second { length x1.old ≡ length y.now }
+    ensures first_sums { (k s : ℕ) → k < length x0.old → s < 32
+        → symbol (chunk x0.new k) s
+        ≡ bit_xor (symbol (chunk x0.old k) s)
+        (times_factor (log_of f0.entry) (symbol (chunk y.now k) s)) }
+    ensures second_sums { (k s : ℕ) → k < length x1.old → s < 32
+        → symbol (chunk x1.new k) s
+        ≡ bit_xor (symbol (chunk x1.old k) s)
+        (times_factor (log_of f1.entry) (symbol (chunk y.now k) s)) }
+{
+    if y.len() > FEW_CHUNKS {
+        if let (Some(f0), Some(f1)) = (bytewise(f0), bytewise(f1)) {
+            add_to_two_bytewise::<V>(x0, x1, y, f0, f1);
+            return;
+        }
+    }
+    add_row::<V>(x0, y, f0);
+    add_row::<V>(x1, y, f1);
+}
+
+// Adds to each symbol of two rows the product of the same symbol of another row, each with a factor that needs only
+// four numbers.
+#[inline(always)]
+fn add_to_two_bytewise<V: ByteVector>(
+    x0: &mut [[u8; 64]],
+    x1: &mut [[u8; 64]],
+    y: &[[u8; 64]],
+    f0: Bytewise<'_>,
+    f1: Bytewise<'_>,
+)
+    requires first { length x0.old ≡ length y.now }
+    requires second { length x1.old ≡ length y.now }
+    ensures first_sums { (k s : ℕ) → k < length x0.old → s < 32
+        → symbol (chunk x0.new k) s
+        ≡ bit_xor (symbol (chunk x0.old k) s)
+        (times_factor f0.entry.log_m (symbol (chunk y.now k) s)) }
+    ensures second_sums { (k s : ℕ) → k < length x1.old → s < 32
+        → symbol (chunk x1.new k) s
+        ≡ bit_xor (symbol (chunk x1.old k) s)
+        (times_factor f1.entry.log_m (symbol (chunk y.now k) s)) }
+{
+    let p0 = &copied(f0.products);
+    let p1 = &copied(f1.products);
+    add_chunks_to_two::<V, _>(x0, x1, y, over(f0, p0), over(f1, p1));
 }
 
 /// Adds to each symbol of the chunks of bytes the product of the same symbol of a row with a factor. There is a loop
