@@ -1,5 +1,5 @@
 //! Products, butterflies and two layers of butterflies of rows by shuffles, chunk by chunk.
-ghost use Rattle.std.specs.Prelude.{◌≡◌, ℕ, ◌*◌, ◌<◌, length, bit_xor};
+ghost use Rattle.std.specs.Prelude.{◌≡◌, ℕ, ◌*◌, ◌<◌, length, bit_xor, IfSome};
 ghost use Rattle.rs_field.specs.words.Tables.{times_factor};
 ghost use Rattle.rs_field.specs.words.Field.{product};
 ghost use Rattle.rs_field.specs.rows.Rows.{byte_symbol, chunk, symbol};
@@ -195,9 +195,29 @@ pub fn add_row<V: ByteVector>(x: &mut [[u8; 64]], y: &[[u8; 64]], factor: AnyFac
     }
 }
 
+// Returns both factors if each needs only four numbers and rows of `count` chunks are to be summed in one loop. If the
+// rows have few chunks, this does not pay, because it takes time to find out about the numbers.
+#[inline(always)]
+fn both_bytewise<'t>(
+    count: usize,
+    f0: AnyFactor<'t>,
+    f1: AnyFactor<'t>,
+) -> Option<(Bytewise<'t>, Bytewise<'t>)>
+    ensures { IfSome result (λ found. (found.0.log_m ≡ log_of f0.entry)
+        × (found.1.log_m ≡ log_of f1.entry)) }
+{
+    if count <= FEW_CHUNKS {
+        return None;
+    }
+    match (bytewise(f0), bytewise(f1)) {
+        (Some(f0), Some(f1)) => Some((f0, f1)),
+        _ => None,
+    }
+}
+
 /// Adds to each symbol of a row the products of the same symbol of two other rows, each with a factor of its own. If
 /// both factors need only four numbers, there is one loop over chunks for both. The rows are added one after the other
-/// if they have few chunks, because it takes time to find out about the numbers.
+/// if they have few chunks.
 #[inline(always)]
 pub fn add_two_rows<V: ByteVector>(
     x: &mut [[u8; 64]],
@@ -214,11 +234,9 @@ pub fn add_two_rows<V: ByteVector>(
         (times_factor (log_of f0.entry) (symbol (chunk y0.now k) s)))
         (times_factor (log_of f1.entry) (symbol (chunk y1.now k) s)) }
 {
-    if x.len() > FEW_CHUNKS {
-        if let (Some(f0), Some(f1)) = (bytewise(f0), bytewise(f1)) {
-            add_two_bytewise::<V>(x, y0, y1, f0, f1);
-            return;
-        }
+    if let Some((f0, f1)) = both_bytewise(x.len(), f0, f1) {
+        add_two_bytewise::<V>(x, y0, y1, f0, f1);
+        return;
     }
     add_row::<V>(x, y0, f0);
     add_row::<V>(x, y1, f1);
@@ -249,7 +267,7 @@ fn add_two_bytewise<V: ByteVector>(
 
 /// Adds to each symbol of two rows the product of the same symbol of another row, each with a factor of its own. If
 /// both factors need only four numbers, there is one loop over chunks for both. The row is added first to one row and
-/// then to the other if it has few chunks, because it takes time to find out about the numbers.
+/// then to the other if it has few chunks.
 #[inline(always)]
 pub fn add_row_to_two<V: ByteVector>(
     x0: &mut [[u8; 64]],
@@ -269,11 +287,9 @@ pub fn add_row_to_two<V: ByteVector>(
         ≡ bit_xor (symbol (chunk x1.old k) s)
         (times_factor (log_of f1.entry) (symbol (chunk y.now k) s)) }
 {
-    if y.len() > FEW_CHUNKS {
-        if let (Some(f0), Some(f1)) = (bytewise(f0), bytewise(f1)) {
-            add_to_two_bytewise::<V>(x0, x1, y, f0, f1);
-            return;
-        }
+    if let Some((f0, f1)) = both_bytewise(y.len(), f0, f1) {
+        add_to_two_bytewise::<V>(x0, x1, y, f0, f1);
+        return;
     }
     add_row::<V>(x0, y, f0);
     add_row::<V>(x1, y, f1);
