@@ -89,7 +89,8 @@ fn check_sums_to_two<E: Engine>(
     for count in 0..11 {
         let mut first = mixed_row(101);
         let mut second = mixed_row(201);
-        let mut wanted = [first, second];
+        let mut first_wanted = first;
+        let mut second_wanted = second;
         let added = &y[..count];
         engine.mul_add_to_two(
             &mut steps,
@@ -98,9 +99,10 @@ fn check_sums_to_two<E: Engine>(
             added,
             logs,
         );
-        naive.mul_add(&mut steps, &mut wanted[0][..count], added, logs.first);
-        naive.mul_add(&mut steps, &mut wanted[1][..count], added, logs.second);
-        assert_eq!(rt; (count, logs, [first, second]), (count, logs, wanted));
+        naive.mul_add(&mut steps, &mut first_wanted[..count], added, logs.first);
+        naive.mul_add(&mut steps, &mut second_wanted[..count], added, logs.second);
+        assert_eq!(rt; (count, first), (count, first_wanted));
+        assert_eq!(rt; (count, second), (count, second_wanted));
     }
 }
 
