@@ -193,8 +193,9 @@ pub trait Engine: Drop {
         self.mul_add(steps, x, y1, logs.second);
     }
 
-    /// Adds `y` to each of two rows, times a factor of its own, symbol by symbol: `logs.first` is the logarithm of the
-    /// factor for `x0`, and `logs.second` of the factor for `x1`. All three rows have the same number of chunks.
+    /// Adds `y` to each of two rows, times a factor of its own, symbol by symbol. `logs.first` is the logarithm of the
+    /// factor for `x0`, and `logs.second` that of the factor for `x1`. 65535 represents the factor zero. All three rows
+    /// have the same number of chunks.
     ///
     /// The default body calls `mul_add` twice. An engine can have a body of its own that loads each symbol of `y` once
     /// for both.

@@ -138,9 +138,9 @@ pub trait Kernel: Drop {
         self.mul_add_row(x, y1, logs.second);
     }
 
-    /// Adds `y` to each of two rows, times the factor of a butterfly: `logs.first` is the logarithm of the factor for
-    /// `x0`, and `logs.second` of the factor for `x1`. 65535 represents the factor zero. All three rows have the same
-    /// number of chunks.
+    /// Adds `y` to each of two rows, times the factor of a butterfly. `logs.first` is the logarithm of the factor for
+    /// `x0`, and `logs.second` that of the factor for `x1`. 65535 represents the factor zero. All three rows have the
+    /// same number of chunks.
     ///
     /// The default body calls `mul_add_row` twice. An engine can have a body of its own that loads each word of `y`
     /// once for both.
