@@ -1,6 +1,6 @@
 -- A sum in two parts: its first chunks, which take the whole chunks of pieces, and the others, which take the tails.
 use Rattle.std.proofs.Common.{◌≡◌, ℕ, ◌+◌, ◌-◌, ◌*◌, ◌/◌, ◌<◌, ◌≤◌, ◌++◌, length, take, drop, sym, ap, ◌∙◌, inl, inr}
-use Rattle.std.proofs.Common.{arith}
+use Rattle.std.proofs.Common.{arith, bit_xor}
 use Rattle.std.proofs.lemmas.Bool.{cases_lt}
 use Rattle.std.proofs.lemmas.List.{take-append-drop, length-take-le}
 use Rattle.std.specs.Simd.{first_chunks}
@@ -69,3 +69,21 @@ tail-product n log_m piece end is within i =
     (ap (column i) is
     ∙ column-rest (n * 64) i piece (omega arith)
     ∙ ap (λ (l : ℕ). column l piece) (let e : n * 64 / 2 + i ≡ 32 * n + i = omega arith in e))
+
+-- The words of a sum to which a piece was added, times a factor: its whole chunks and its tail.
+pub piece-added : (n m log_m : ℕ) (piece end : Shard) (whole sum now last front back : Chunks) → log_m < 65535
+    → n * 64 ≤ length piece → whole ≡ first_chunks 64 n piece → end ≡ drop (n * 64) piece
+    → n ≤ length sum → length now ≡ n → front ≡ take n sum → back ≡ drop n sum
+    → ((j : ℕ) → j / 32 < n → sum_word now j ≡ bit_xor (sum_word front j) (times_factor log_m (sum_word whole j)))
+    → ((i : ℕ) → i < m → sum_word last i ≡ bit_xor (sum_word back i) (product (column i end) (power log_m)))
+    → (j : ℕ) → j < 32 * n + m
+    → sum_word (now ++ last) j ≡ bit_xor (sum_word sum j) (product (column j piece) (power log_m))
+piece-added n m log_m piece end whole sum now last front back factor within are is room long first rest added tail j
+    inside =
+    split-words n m (λ i w. bit_xor w (product (column i piece) (power log_m))) sum now last front back room long first
+    rest
+    (λ i h. added i h
+    ∙ ap (bit_xor (sum_word front i)) (whole-product n log_m piece whole factor within are i h))
+    (λ i h. tail i h
+    ∙ ap (bit_xor (sum_word back i)) (tail-product n log_m piece end is within i))
+    j inside

@@ -4,7 +4,7 @@ use Rattle.std.proofs.Common.{◌++◌, take, drop, replicate, length, bit_xor, 
 use Rattle.std.proofs.Common.{get_or, subst}
 use Rattle.std.proofs.lemmas.Nat.{xor_lt}
 use Rattle.std.specs.Prelude.{slice_index}
-use Rattle.std.specs.Int.Bits.{xor_zero_r}
+use Rattle.std.specs.Int.Bits.{xor_assoc, xor_zero_r}
 use Rattle.std.proofs.Math.Nat.{mod-eq_of_lt}
 use Rattle.std.proofs.Math.Seq.{get_or-append_seam, take-append_seam}
 use Rattle.std.proofs.lemmas.Bool.{cases_lt}
@@ -15,7 +15,7 @@ use Rattle.rs_field.specs.code.Frame.{row_count}
 use Rattle.rs_field.specs.code.Given.{Shards}
 use Rattle.rs_field.specs.declared.code.frame.Frame.{Frame}
 use Rattle.rs_field.specs.rows.Layout.{row_len}
-use Rattle.rs_field.specs.code.Column.{column}
+use Rattle.rs_field.specs.code.Column.{Shard, column}
 use Rattle.rs_field.specs.rows.MarkedRows.{is_marked}
 use Rattle.rs_field.specs.rows.Rows.{Chunks, chunk, symbol}
 use Rattle.rs_field.specs.words.DirectSum.{direct_factor, direct_sum}
@@ -165,6 +165,20 @@ pub base_sum-listed : (base : SumBase) (words : ℕ → ℕ) (y : ℕ)
     ≡ base_sum base words y
 unfolding direct_sum
 base_sum-listed base words y = base.listed.sums (base_term base words y)
+
+-- The product of a word of a piece and its factor is the term of the row of the piece.
+pub term-of : (base : SumBase) (words : ℕ → ℕ) (j y x log_m : ℕ) (piece : Shard) → column j piece ≡ words x
+    → log_m ≡ direct_factor (λ z. slice_index base.locator.now z) x y
+    → product (column j piece) (power log_m) ≡ base_term base words y x
+term-of base words j y x log_m piece is factor = ap₂ (λ v l. product v (power l)) is factor
+
+-- One more term is added.
+pub one_more : (term : ℕ → ℕ) (a s n m : ℕ) → s ≡ bit_xor a (sum_below n term) → m ≡ n
+    → bit_xor s (term m) ≡ bit_xor a (sum_below (n + 1) term)
+one_more term a s n m is same =
+    ap₂ (λ w i. bit_xor w (term i)) is same
+    ∙ xor_assoc a (sum_below n term) (term n)
+    ∙ ap (bit_xor a) (sym (sum_below-suc n term) ∙ ap (λ i. sum_below i term) (sym (add-one n)))
 
 -- ---- the factors
 

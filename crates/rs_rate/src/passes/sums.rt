@@ -243,6 +243,39 @@ pub fn add_two_times<E: Engine>(
     }
 }
 
+/// Adds a piece of a shard to two sums of pieces of its size, each time with a factor of its own. Both sums are as for
+/// [`add_times`], and so is the size of the piece. Both factors have logarithms below 65535.
+pub fn add_times_to_two<E: Engine>(
+    engine: &E,
+    steps: &mut Steps,
+    first: &mut [[u8; 64]],
+    second: &mut [[u8; 64]],
+    piece: &[u8],
+    logs: TwoLogarithms,
+)
+    requires first_room { length first.old ≡ row_len (length piece.now) }
+    requires second_room { length second.old ≡ row_len (length piece.now) }
+    requires even { length piece.now % 2 ≡ 0 }
+    requires first_factor { logs.first < 65535 }
+    requires second_factor { logs.second < 65535 }
+    ensures first_words { (j : ℕ) → j < length piece.now / 2
+        → sum_word first.new j
+        ≡ bit_xor (sum_word first.old j) (product (column j piece.now) (power logs.first)) }
+    ensures second_words { (j : ℕ) → j < length piece.now / 2
+        → sum_word second.new j
+        ≡ bit_xor (sum_word second.old j) (product (column j piece.now) (power logs.second)) }
+    ensures counts { length piece.now % 64 ≡ 0 → TwoSumCounts steps.old steps.new }
+{
+    let (whole, tail) = piece.as_chunks::<64>();
+    let (first_chunks, first_last) = first.split_at_mut(whole.len());
+    let (second_chunks, second_last) = second.split_at_mut(whole.len());
+    engine.mul_add_to_two(steps, first_chunks, second_chunks, whole, logs);
+    if !tail.is_empty() {
+        add_tail_times(engine, steps, first_last, tail, logs.first);
+        add_tail_times(engine, steps, second_last, tail, logs.second);
+    }
+}
+
 // Adds the tail of a piece, which is less than a chunk, times a factor, to the chunk of its words in a sum.
 fn add_tail_times<E: Engine>(
     engine: &E,

@@ -11,22 +11,8 @@ use Rattle.rs_field.proofs.words_lemmas.Combination.{sum_below-zero, sum_below-s
 use Rattle.rs_field.proofs.words_lemmas.Counting.{counts_then}
 use Rattle.rs_rate.specs.declared.passes.sums.SumBase.{SumBase}
 use Rattle.rs_rate.specs.passes.Sums.{sum_word}
-use Rattle.rs_rate.proofs.passes_lemmas.SumLemmas.{base_term, base_sum-listed}
+use Rattle.rs_rate.proofs.passes_lemmas.SumLemmas.{base_term, base_sum-listed, term-of, one_more}
 use Rattle.rs_rate.proofs.passes.base_sums.add_base_sum.Goals as goal
-
--- The product of a word of a piece and its factor is the term of the row of the piece.
-term-of : (base : SumBase) (words : ℕ → ℕ) (j y x log_m : ℕ) (piece : Shard) → column j piece ≡ words x
-    → log_m ≡ direct_factor (λ z. slice_index base.locator.now z) x y
-    → product (column j piece) (power log_m) ≡ base_term base words y x
-term-of base words j y x log_m piece is factor = ap₂ (λ v l. product v (power l)) is factor
-
--- One more term is added.
-one_more : (term : ℕ → ℕ) (a s n m : ℕ) → s ≡ bit_xor a (sum_below n term) → m ≡ n
-    → bit_xor s (term m) ≡ bit_xor a (sum_below (n + 1) term)
-one_more term a s n m is same =
-    ap₂ (λ w i. bit_xor w (term i)) is same
-    ∙ xor_assoc a (sum_below n term) (term n)
-    ∙ ap (bit_xor a) (sym (sum_below-suc n term) ∙ ap (λ i. sum_below i term) (sym (add-one n)))
 
 -- Two more terms are added.
 two_more : (term : ℕ → ℕ) (a s n : ℕ) → s ≡ bit_xor a (sum_below (2 * n) term)
