@@ -24,6 +24,7 @@ pub mod Checking
 pub mod ConsistentStrips
 pub mod ComparedStrips
 pub mod RebuiltStrips
+pub mod PutPieces
 pub mod Making
 pub mod RoundLemmas
 pub mod RoundLocators

@@ -29,7 +29,7 @@ use rs_field::engine::layout::row_len;
 use rs_field::engine::{Engine, Steps};
 use rs_field::error::Error;
 use rs_field::frame::Frame;
-use rs_rate::rate::base_sums::{BasePieces, add_base_sum};
+use rs_rate::rate::base_sums::{BasePieces, add_base_sum, add_two_base_sums};
 use rs_rate::rate::sums::{SumBase, clear_sum, finish_sum, list_base, locate_base, summed_piece};
 use std::alloc::Global;
 
@@ -179,12 +179,15 @@ impl<'a, 'b, E: Engine> Way for Sums<'a, 'b, E> {
 
     fn strip<S: Store>(&mut self, start: usize, end: usize, store: &mut S) -> Result<(), Error> {
         let len = row_len(end - start);
-        let mut sum = [[0; 64]; SUM_STRIP_BYTES / 64];
-        let sum = &mut sum[..len];
-        if self.surplus > 0 && !self.agree_in_strip(&*store, start, end, sum) {
+        let (mut first, mut second) = (
+            [[0; 64]; SUM_STRIP_BYTES / 64],
+            [[0; 64]; SUM_STRIP_BYTES / 64],
+        );
+        let (first, second) = (&mut first[..len], &mut second[..len]);
+        if self.surplus > 0 && !self.agree_in_strip(&*store, start, end, first) {
             return Err(inconsistent(&*store));
         }
-        self.put_sums(start, end, sum, store)
+        self.put_sums(start, end, first, second, store)
     }
 }
 
@@ -235,17 +238,20 @@ impl<'a, 'b, E: Engine> Sums<'a, 'b, E> {
         summed_piece(sum, end - start) == piece
     }
 
-    // Writes the piece of each wanted shard into its room, after the first `start` bytes.
+    // Writes the piece of each wanted shard into its room, after the first `start` bytes. The sums are made two at a
+    // time.
     fn put_sums<S: Store>(
         &self,
         start: usize,
         end: usize,
-        sum: &mut [[u8; 64]],
+        first: &mut [[u8; 64]],
+        second: &mut [[u8; 64]],
         store: &mut S,
     ) -> Result<(), Error>
         requires ready { CanSum (S.received store.old) self.now.base start end }
         requires consistent { IsConsistent (state_of_pieces start end (S.received store.old)) }
-        requires room { length sum.old ≡ row_len (end - start) }
+        requires first_room { length first.old ≡ row_len (end - start) }
+        requires second_room { length second.old ≡ row_len (end - start) }
         requires can { All (CanBeRebuilt (S.received store.old)) self.now.wanted.now }
         requires rooms { AreRooms S.grows start (S.received store.old).configuration.shard_bytes
             (length self.now.wanted.now) (S.held store.old) }
@@ -258,12 +264,65 @@ impl<'a, 'b, E: Engine> Sums<'a, 'b, E> {
         ensures loan { S.loan store.new ≡ S.loan store.old }
     {
         let frame = store.counts().frame;
-        for room in 0..self.wanted.len() {
-            let row = row_of(frame, self.wanted[room]);
-            self.sum_piece(&*store, row, start, end, sum);
-            store.put(room, start, summed_piece(sum, end - start))?;
+        let count = self.wanted.len();
+        for pair in 0..count / 2 {
+            let room = 2 * pair;
+            let one = row_of(frame, self.wanted[room]);
+            let other = row_of(frame, self.wanted[room + 1]);
+            self.sum_two_pieces(&*store, (one, other), start, end, first, second);
+            store.put(room, start, summed_piece(first, end - start))?;
+            store.put(room + 1, start, summed_piece(second, end - start))?;
+        }
+        if count % 2 == 1 {
+            let row = row_of(frame, self.wanted[count - 1]);
+            self.sum_piece(&*store, row, start, end, first);
+            store.put(count - 1, start, summed_piece(first, end - start))?;
         }
         Ok(())
+    }
+
+    // Sets two sums to the direct sums over a strip of the base, for two rows outside of the base.
+    fn sum_two_pieces<P: Pieces>(
+        &self,
+        received: &P,
+        rows: (usize, usize),
+        start: usize,
+        end: usize,
+        first: &mut [[u8; 64]],
+        second: &mut [[u8; 64]],
+    )
+        requires ready { CanSum (P.received received.now) self.now.base start end }
+        requires one { rows.0 < row_count (frame_at (P.received received.now).configuration) }
+        requires other { rows.1 < row_count (frame_at (P.received received.now).configuration) }
+        requires one_outside { is_marked self.now.base.marks.now rows.0 ≡ false }
+        requires other_outside { is_marked self.now.base.marks.now rows.1 ≡ false }
+        requires first_room { length first.old ≡ row_len (end - start) }
+        requires second_room { length second.old ≡ row_len (end - start) }
+        ensures first { IsBaseSum self.now.base.marks.now
+            (state_of_pieces start end (P.received received.now)) rows.0
+            (shard_in_order first.new (end - start) 0) }
+        ensures second { IsBaseSum self.now.base.marks.now
+            (state_of_pieces start end (P.received received.now)) rows.1
+            (shard_in_order second.new (end - start) 0) }
+    {
+        clear_sum(first);
+        clear_sum(second);
+        let pieces = StripPieces {
+            received,
+            start,
+            end,
+        };
+        add_two_base_sums(
+            self.engine,
+            &mut Steps::new(),
+            first,
+            second,
+            &self.base,
+            &pieces,
+            rows,
+        );
+        finish_sum(first, end - start);
+        finish_sum(second, end - start);
     }
 
     // Sets a sum to the direct sum over a strip of the base, for a row outside of the base.
