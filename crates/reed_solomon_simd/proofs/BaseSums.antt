@@ -1,13 +1,12 @@
 -- What direct sums over a base of received shards tell of a strip: whether the shards are consistent, and the pieces of
 -- the shards that were not received.
-use Rattle.std.proofs.Common.{rules, ◌≡◌, ℕ, ◌+◌, ◌-◌, ◌/◌, ◌<◌, Bool, true, false, List, length, sym, ap, ◌∙◌, inl}
-use Rattle.std.proofs.Common.{inr, arith, All, [], get_or}
+use Rattle.std.proofs.Common.{rules, ◌≡◌, ℕ, ◌+◌, ◌-◌, ◌/◌, ◌<◌, Bool, true, false, List, sym, ap, ◌∙◌, inl}
+use Rattle.std.proofs.Common.{inr, arith, subst}
 use Rattle.std.proofs.lemmas.Grind.{common_steps}
 use Rattle.std.specs.Prelude.{Some, None, is_some, ◌↔◌}
 use Rattle.std.specs.List.{between}
 use Rattle.std.specs.Option.{option_map}
 use Rattle.std.proofs.lemmas.Bool.{cases_Bool}
-use Rattle.std.proofs.lemmas.List.{get_or-map}
 use Rattle.rs_field.specs.code.Column.{Shard, IsShard, column, shard_at}
 use Rattle.rs_field.specs.code.Counts.{default_rate, supports}
 use Rattle.rs_field.specs.code.Decoder.{DecoderState, IsDecoder, IsAgreeing, IsConsistent, originals_given}
@@ -18,7 +17,6 @@ use Rattle.rs_field.specs.code.Given.{Shards, AreWithin}
 use Rattle.rs_field.specs.code.Pieces.{IsStrip}
 use Rattle.rs_field.specs.code.PieceStates.{pieces_of, state_of_pieces}
 use Rattle.rs_field.specs.rows.MarkedRows.{is_marked}
-use Rattle.rs_field.proofs.code_lemmas.Agreement.{one_message}
 use Rattle.rs_field.proofs.code_lemmas.DirectColumn.{direct_original, direct_recovery}
 use Rattle.rs_field.proofs.code_lemmas.GivenRows.{AreGiven, given_within, given-either, given-below}
 use Rattle.rs_field.proofs.code_lemmas.BaseShards.{AreSums, all_located, base_given, agrees_with_part}
@@ -30,9 +28,9 @@ use Rattle.reed_solomon_simd.specs.declared.shard_index.ShardIndex.TheVariants.{
 use Rattle.reed_solomon_simd.specs.Base.{row_of, marked_part, marked_state, MarkBase, base_sum, IsBaseSum, AgreesInRow}
 use Rattle.reed_solomon_simd.specs.Reconstructed.{CanBeRebuilt}
 use Rattle.reed_solomon_simd.specs.ShardNames.{shard_named}
+use Rattle.reed_solomon_simd.specs.StripSums.{IsPieceOf}
 use Rattle.reed_solomon_simd.proofs.BaseLemmas.{decoder_frame, marked_part-at, base_marks, base-pieces}
 use Rattle.reed_solomon_simd.proofs.ConsistentStrips.{even-strip}
-use Rattle.reed_solomon_simd.proofs.RebuiltStrips.{named_shards}
 
 -- ---- pieces
 
@@ -161,7 +159,7 @@ module _ (s : DecoderState) (is : IsDecoder default_rate s) (start end : ℕ)
     wanted-missing (Recovery i) can = search (rules, decoder_frame)
 
     -- The direct sum is the piece of a wanted shard.
-    pub wanted-piece : (message : List Shard) (agrees : IsAgreeing (state_of_pieces start end s) message)
+    wanted-piece : (message : List Shard) (agrees : IsAgreeing (state_of_pieces start end s) message)
         (w : ShardIndex) (piece : Shard) → CanBeRebuilt s w
         → IsBaseSum marks (state_of_pieces start end s) (row_of (frame_at s.configuration) w) piece
         → piece ≡ shard_named message agrees.coded.0 w
@@ -200,21 +198,14 @@ module _ (s : DecoderState) (is : IsDecoder default_rate s) (start end : ℕ)
       | inr not ↦ not
     ]
 
-    -- At most one message agrees with the strip.
-    pub only-message : (one other : List Shard) → IsAgreeing (state_of_pieces start end s) one
-        → IsAgreeing (state_of_pieces start end s) other → other ≡ one
-    only-message one other agrees also =
-        let enough = chosen_enough in
-        one_message supported (even-strip s is start end strip) (omega (arith, enough)) (agrees_with_base other also).0
-        (agrees_with_base one agrees).0
-
-    -- The same for a wanted shard in a list.
-    pub wanted-at : (message : List Shard) (agrees : IsAgreeing (state_of_pieces start end s) message)
-        (wanted : List ShardIndex) (n x : ℕ) (d : ShardIndex) (piece : Shard) → All (CanBeRebuilt s) wanted
-        → n < length wanted → x ≡ row_of (frame_at s.configuration) (get_or wanted n d)
-        → IsBaseSum marks (state_of_pieces start end s) x piece
-        → (piece ≡ get_or (named_shards message agrees.coded.0 wanted) n []) × (length piece ≡ end - start)
-    wanted-at message agrees wanted n x d piece can inside at sum = search (rules, wanted-piece, get_or-map)
+    -- The direct sum for the row of a wanted shard is its piece.
+    pub sum-piece : (w : ShardIndex) (x : ℕ) (piece : Shard) → CanBeRebuilt s w
+        → x ≡ row_of (frame_at s.configuration) w → IsBaseSum marks (state_of_pieces start end s) x piece
+        → IsPieceOf s start end w piece
+    sum-piece w x piece can at sum =
+        let here : IsBaseSum marks (state_of_pieces start end s) (row_of (frame_at s.configuration) w) piece =
+        subst (λ (y : ℕ). IsBaseSum marks (state_of_pieces start end s) y piece) at sum in
+        record { long = sum.is_shard.length_is; is = λ message agrees. wanted-piece message agrees w piece can here }
 
 -- The row of a shard that can be rebuilt is a row of a decoder.
 pub row-inside : (s : DecoderState) → IsDecoder default_rate s → (w : ShardIndex) → CanBeRebuilt s w

@@ -1,7 +1,7 @@
 -- The names of the missing originals, in order of index, and what rooms hold after these were rebuilt.
 use Rattle.std.proofs.Common.{rules, ◌≡◌, ℕ, ◌+◌, ◌<◌, ◌≤◌, Bool, true, false, cond, List, [], ◌∷◌, ◌++◌, length}
 use Rattle.std.proofs.Common.{get_or, Option, Some, None, refl, sym, ap, ap₂, ◌∙◌, inl, inr, arith, append-nil, add-one}
-use Rattle.std.proofs.Common.{subst, zero, suc, map, Result, Ok, Err}
+use Rattle.std.proofs.Common.{subst, zero, suc, map, All, Result, Ok, Err}
 use Rattle.std.proofs.Math.Path.{fun_ext}
 use Rattle.std.specs.Prelude.{◌&&◌, not, is_some}
 use Rattle.std.proofs.lemmas.Bool.{cases_lt, le-ltb}
@@ -21,7 +21,7 @@ use Rattle.rs_rate.proofs.rows_lemmas.AddedShards.{none_of}
 use Rattle.reed_solomon_simd.specs.declared.shard_index.ShardIndex.{ShardIndex}
 use Rattle.reed_solomon_simd.specs.declared.shard_index.ShardIndex.TheVariants.{Original}
 use Rattle.reed_solomon_simd.specs.Making.{missing_below, missing_names, Makes, MakesMissing}
-use Rattle.reed_solomon_simd.specs.Reconstructed.{AreReconstructed, CanBeRebuilt, NamesMissing}
+use Rattle.reed_solomon_simd.specs.Reconstructed.{AreReconstructed, CanBeRebuilt, IsMissing, NamesMissing}
 use Rattle.reed_solomon_simd.specs.ShardNames.{shard_named}
 use Rattle.reed_solomon_simd.proofs.RebuiltStrips.{missing-there}
 
@@ -44,6 +44,14 @@ listed-more : (n : ℕ) (given : Shards)
 listed-more n given =
     ap (λ m. items_below m given) (add-one n) ∙ items_from-more 0 n given
     ∙ ap (λ m. items_below n given ++ items_at m (given m)) (let e : 0 + n ≡ n = omega arith in e)
+
+-- Missing originals can be rebuilt.
+pub rebuilt-one : (s : DecoderState) (w : ShardIndex) → IsMissing s w → CanBeRebuilt s w
+rebuilt-one s w (index, inside, none, is) = subst (CanBeRebuilt s) (sym is) (inside, none)
+
+pub missing-rebuilt : (s : DecoderState) (wanted : List ShardIndex) → All (IsMissing s) wanted
+    → All (CanBeRebuilt s) wanted
+missing-rebuilt s wanted all = λ i d h. rebuilt-one s (get_or wanted i d) (all i d h)
 
 pub names-none : (s : DecoderState) → NamesMissing 0 s []
 names-none s = search (rules, count_below-zero, items_from-zero)
@@ -74,14 +82,14 @@ names-missing n s wanted names inside not =
     record {
       each = λ i d h. elim (cases_lt i (length wanted)) [
         | inl earlier ↦
-            subst (CanBeRebuilt s) (sym (get_or_append_left wanted (Original n ∷ []) d i earlier))
+            subst (IsMissing s) (sym (get_or_append_left wanted (Original n ∷ []) d i earlier))
             (names.each i d earlier)
         | inr late ↦
             let here : i ≡ length wanted = omega (arith, h, late, long) in
-            subst (CanBeRebuilt s)
+            subst (IsMissing s)
             (sym (ap (λ (m : ℕ). get_or (wanted ++ Original n ∷ []) m d) here
             ∙ get_or-append_seam wanted (Original n) [] d))
-            (inside, none)
+            (n, inside, none, refl)
       ];
       number = ap₂ (λ (a b : ℕ). a + b) long
           (ap (λ m. count_below m s.originals) (add-one n) ∙ count_below-suc n s.originals

@@ -1,14 +1,24 @@
 -- Putting pieces into rooms, one after another.
-use Rattle.std.proofs.Common.{◌≡◌, ◌≢◌, ℕ, ◌+◌, ◌<◌, ◌≤◌, List, [], ◌++◌, length, take, drop, get_or, sym, ap, ap₂, ◌∙◌}
-use Rattle.std.proofs.Common.{inl, inr, arith}
+use Rattle.std.proofs.Common.{◌≡◌, ◌≢◌, ℕ, ◌+◌, ◌<◌, List, [], ◌++◌, length, take, drop, get_or, refl, sym, ap, ap₂}
+use Rattle.std.proofs.Common.{◌∙◌, inl, inr, arith}
 use Rattle.std.proofs.lemmas.Bool.{cases_eq}
+use Rattle.std.proofs.lemmas.List.{get_or-map}
 use Rattle.rs_field.specs.code.Column.{Shard}
-
--- The rooms below n hold their pieces, from byte start up to byte end, and the others hold what they held.
-pub record PutBelow (start end : ℕ) (pieces old now : List Shard) (n : ℕ) : Type 0 where
-  pub put : (i : ℕ) → i < n → get_or now i []
-      ≡ take start (get_or old i []) ++ (get_or pieces i [] ++ drop end (get_or old i []))
-  pub others : (i : ℕ) → n ≤ i → get_or now i [] ≡ get_or old i []
+use Rattle.rs_field.specs.code.Decoder.{DecoderState, IsAgreeing, IsConsistent}
+use Rattle.rs_field.specs.code.Pieces.{IsStrip, ArePut}
+use Rattle.rs_field.specs.code.PieceStates.{state_of_pieces}
+use Rattle.rs_field.proofs.code_lemmas.Agreement.{one_message}
+use Rattle.rs_field.proofs.code_lemmas.MissingShards.{count-pieces}
+use Rattle.rs_rate.proofs.rows_lemmas.DecoderRows.{enough-least}
+use Rattle.rs_rate.proofs.rows_lemmas.StateLemmas.{valid-supported}
+use Rattle.reed_solomon_simd.specs.declared.shard_index.ShardIndex.{ShardIndex}
+use Rattle.reed_solomon_simd.specs.declared.shard_index.ShardIndex.TheVariants.{Original}
+use Rattle.reed_solomon_simd.specs.Making.{CanMake}
+use Rattle.reed_solomon_simd.specs.Reconstructed.{AreReconstructed}
+use Rattle.reed_solomon_simd.specs.ShardNames.{shard_named}
+use Rattle.reed_solomon_simd.specs.StripSums.{IsPieceOf, PutBelow}
+use Rattle.reed_solomon_simd.proofs.ConsistentStrips.{even-strip}
+use Rattle.reed_solomon_simd.proofs.RebuiltStrips.{named_shards}
 
 -- The next piece is put into its room.
 pub put-more : (start end n : ℕ) (pieces old now new : List Shard) (piece : Shard)
@@ -29,3 +39,38 @@ put-more start end n pieces old now new piece held here others is ends = record 
   ];
   others = λ i h. others i (λ same. let e : i ≡ n = same in omega (arith, h, e)) ∙ held.others i (omega (arith, h));
 }
+
+module _ (s : DecoderState) (start end : ℕ) (strip : IsStrip start end s.configuration.shard_bytes)
+    (wanted : List ShardIndex) where
+  -- The piece of a wanted shard ends at the end of the strip.
+  pub piece-ends : (w : ShardIndex) (piece : Shard) → IsPieceOf s start end w piece → start + length piece ≡ end
+  piece-ends w piece of = let long = of.long in omega (arith, long, strip.order)
+
+  -- The piece of a wanted shard has the place of its name.
+  pub piece-named : (n : ℕ) (piece : Shard) → n < length wanted
+      → IsPieceOf s start end (get_or wanted n (Original 0)) piece
+      → (message : List Shard) (agrees : IsAgreeing (state_of_pieces start end s) message)
+      → piece ≡ get_or (named_shards message agrees.coded.0 wanted) n []
+  piece-named n piece inside of message agrees =
+      of.is message agrees ∙ sym (get_or-map (shard_named message agrees.coded.0) wanted n (Original 0) [] inside)
+
+  -- If each room holds the piece of its wanted shard, the wanted shards of the strip are in the rooms.
+  pub all-put : CanMake s wanted → IsConsistent (state_of_pieces start end s) → (old new : List Shard)
+      → length new ≡ length old → length old ≡ length wanted
+      → ((message : List Shard) (agrees : IsAgreeing (state_of_pieces start end s) message)
+      → PutBelow start end (named_shards message agrees.coded.0 wanted) old new (length wanted))
+      → (made : List Shard) × AreReconstructed (state_of_pieces start end s) wanted made × ArePut start end made old new
+  all-put can (message, agrees) old new number rooms put =
+      let own = count-pieces start end s.configuration.original_count s.originals in
+      let coded = count-pieces start end s.configuration.recovery_count s.recovery in
+      let enough = enough-least s (sym can.enough) in (
+        named_shards message agrees.coded.0 wanted,
+        record {
+          message = message;
+          agrees = agrees;
+          only = λ other also. one_message (valid-supported s.configuration can.set_up.valid)
+              (even-strip s can.set_up start end strip) (omega (arith, own, coded, enough)) also agrees;
+          named = refl;
+        },
+        (number, λ i h. (put message agrees).put i (omega (arith, h, rooms))),
+      )

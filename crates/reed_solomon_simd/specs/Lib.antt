@@ -54,5 +54,6 @@ pub use Rattle.rs_field.specs.code.CodeLaws
 pub use Rattle.rs_field.specs.code.CountLaws
 pub use Rattle.rs_rate.specs.objects.Calls
 pub use Rattle.rs_rate.specs.objects.Giving
+pub mod StripSums
 pub mod Base
 pub mod Syndromes

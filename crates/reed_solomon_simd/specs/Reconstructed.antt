@@ -66,9 +66,14 @@ abbrev pub CanBeRebuilt : DecoderState → ShardIndex → Type 0
 CanBeRebuilt s (Original i) = (i < s.configuration.original_count) × (s.originals i ≡ None)
 CanBeRebuilt s (Recovery i) = (i < s.configuration.recovery_count) × (s.recovery i ≡ None)
 
+-- a missing original
+abbrev pub IsMissing : DecoderState → ShardIndex → Type 0
+IsMissing s shard =
+    (i : ℕ) × (i < s.configuration.original_count) × (s.originals i ≡ None) × (shard ≡ Original i)
+
 -- a list names the missing originals with indexes below n, in order of index
 pub record NamesMissing (n : ℕ) (s : DecoderState) (wanted : List ShardIndex) : Type 0 where
-  pub each : All (CanBeRebuilt s) wanted
+  pub each : All (IsMissing s) wanted
   pub number : length wanted + count_below n s.originals ≡ n
   pub named : (message recovery : List Shard)
       → map (shard_named message recovery) wanted ≡ shards_listed (items_below n (missing_of s message))

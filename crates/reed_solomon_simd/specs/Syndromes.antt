@@ -1,10 +1,10 @@
 -- Syndromes: the received recovery shards of a strip, each XOR the recovery shard of the received originals with
 -- zeros for
 -- the missing ones.
-use Rattle.std.specs.Prelude.{◌≡◌, ℕ, ◌+◌, ◌-◌, ◌/◌, ◌<◌, ◌≤◌, Bool, true, false, List, length, replicate, unwrap_or}
+use Rattle.std.specs.Prelude.{◌≡◌, ℕ, ◌+◌, ◌-◌, ◌<◌, ◌≤◌, Bool, true, false, List, length, replicate, unwrap_or}
 use Rattle.std.specs.Prelude.{Some, is_some}
 use Rattle.rs_field.specs.code.Code.{AreRecovery}
-use Rattle.rs_field.specs.code.Column.{Shard, IsShard, shard_at, column}
+use Rattle.rs_field.specs.code.Column.{Shard, shard_at, column}
 use Rattle.rs_field.specs.code.Counts.{default_rate}
 use Rattle.rs_field.specs.code.Decoder.{DecoderState, IsDecoder, originals_given, recovery_given}
 use Rattle.rs_field.specs.code.Encoder.{fresh_encoder}
@@ -21,7 +21,10 @@ use Rattle.rs_rate.specs.rows.EncoderView.{encoder_state, lent_shards}
 use Rattle.rs_rate.specs.rows.ShardRows.{IsByteSum}
 use Rattle.reed_solomon_simd.specs.Base.{MarkBase}
 use Rattle.reed_solomon_simd.specs.Making.{strip_configuration}
+use Rattle.reed_solomon_simd.specs.declared.shard_index.ShardIndex.{ShardIndex}
+use Rattle.reed_solomon_simd.specs.Reconstructed.{NamesMissing}
 use Rattle.reed_solomon_simd.specs.Rounds.{IsReadyToEncode}
+use Rattle.reed_solomon_simd.specs.StripSums.{HasSums}
 
 -- the received originals, with zeros for the missing ones
 abbrev pub zeroed : DecoderState → List Shard
@@ -75,11 +78,14 @@ pub record CanSumSyndromes (s : DecoderState) (base : SumBase) (rows : EncoderRo
   pub fresh : encoder_state default_rate rows ≡ fresh_encoder (strip_configuration s (end - start))
   pub made : AreSyndromes (state_of_pieces start end s) (lent_shards rows)
 
--- an encoder and a base for the syndromes of strips of n bytes, with the number of surplus shards
-pub record AreSyndromesReady (rows : EncoderRows) (base : SumBase) (surplus : ℕ) (s : DecoderState) (n : ℕ) : Type 0
+-- an encoder and a base for the syndromes of strips of n bytes, with the names of the missing originals and the number
+-- of surplus shards
+pub record AreSyndromesReady (rows : EncoderRows) (base : SumBase) (wanted : List ShardIndex) (surplus : ℕ)
+    (s : DecoderState) (n : ℕ) : Type 0
   where
     pub encoder : IsReadyToEncode rows s n
     pub based : IsSyndromeBase s base
+    pub names : NamesMissing s.configuration.original_count s wanted
     pub surplus_is : originals_given s + recovery_given s ≡ s.configuration.original_count + surplus
     pub few : n ≤ 2048
 
@@ -89,10 +95,10 @@ syndrome_sum s base shards j y =
     sum_of base (λ x. column j (shard_at shards (x - (frame_at s.configuration).recovery_from))) y
 
 -- a shard has the sums of the syndromes as its words
-pub record IsSyndromeSum (s : DecoderState) (base : SumBase) (shards : List Shard) (y : ℕ) (shard : Shard) : Type 0
-  where
-    pub is_shard : IsShard s.configuration.shard_bytes shard
-    pub words : (j : ℕ) → j < s.configuration.shard_bytes / 2 → column j shard ≡ syndrome_sum s base shards j y
+abbrev pub IsSyndromeSum : DecoderState → SumBase → List Shard → ℕ → Shard → Type 0
+IsSyndromeSum s base shards y shard =
+    HasSums base (λ j x. column j (shard_at shards (x - (frame_at s.configuration).recovery_from)))
+    s.configuration.shard_bytes y shard
 
 -- the syndrome of a recovery shard that was received and is not in the base is the sum of those of the base
 abbrev pub AgreesAt : DecoderState → SumBase → List Shard → ℕ → Type 0

@@ -39,6 +39,7 @@ mod strip_message;
 mod strip_rebuilder;
 mod strip_rounds;
 mod strip_summer;
+mod strip_sums;
 mod strip_syndromes;
 mod strips;
 mod updating;

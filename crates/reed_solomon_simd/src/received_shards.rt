@@ -1,10 +1,10 @@
 //! The shards that were received of a message, as slices of the caller's memory.
-ghost use Rattle.std.specs.Prelude.{◌≡◌, ◌<◌, ◌≤◌, ◌+◌, ◌==◌, nat_lt, IfOk, if◌then◌else◌, None};
+ghost use Rattle.std.specs.Prelude.{◌≡◌, ◌<◌, ◌+◌, ◌==◌, IfOk, if◌then◌else◌, None};
 ghost use Rattle.std.specs.Prelude.{Ok, Err, length, MatchResult, OnOk};
 ghost use Rattle.rs_field.specs.code.Column.{IsShard};
 ghost use Rattle.rs_field.specs.code.Configuration.{start_outcome};
 ghost use Rattle.rs_field.specs.code.Counts.{default_rate};
-ghost use Rattle.rs_field.specs.code.Decoder.{fresh_decoder, with_original, with_recovery, enough_given};
+ghost use Rattle.rs_field.specs.code.Decoder.{fresh_decoder, with_original, with_recovery};
 ghost use Rattle.rs_field.specs.code.Given.{AreWithin, nothing, with_entry, count_below};
 ghost use Rattle.rs_field.specs.code.OneCall.{default_of};
 ghost use Rattle.rs_field.specs.code.Outcome.{answer_of, state_after};
@@ -76,7 +76,6 @@ pub struct ReceivedShards<'a> {
 impl<'a> ReceivedShards<'a> {
     ghost use Rattle.std.specs.Prelude.{◌+◌, IfOk};
     ghost use Rattle.rs_field.specs.code.Configuration.{UpToMemory};
-    ghost use Rattle.rs_field.specs.code.Decoder.{originals_given, recovery_given};
     ghost use Rattle.reed_solomon_simd.specs.ReceivedState.{received_state};
 
     // Makes an empty set of received shards for these counts and this size. Fails with `InvalidShardSize`, and then

@@ -1,7 +1,7 @@
 //! Reconstructing wanted shards strip by strip. Few shards are rebuilt by direct sums. Otherwise the received shards of
 //! each strip are decoded. If a recovery shard is wanted, the originals are then encoded. The wanted pieces are copied
 //! into the rooms.
-ghost use Rattle.std.specs.Prelude.{◌≡◌, ℕ, ◌+◌, ◌-◌, ◌<◌, ◌≤◌, All, true, List, length, map, Ok, Some};
+ghost use Rattle.std.specs.Prelude.{◌≡◌, ℕ, ◌-◌, ◌<◌, ◌≤◌, All, true, List, length, map, Ok, Some};
 ghost use Rattle.std.specs.Prelude.{[], OnOk, IfOk, IfErr, IfSome, is_some, option_copied, unwrap_or};
 ghost use Rattle.std.specs.Option.{option_map};
 ghost use Rattle.std.specs.List.{list_any};

@@ -1,13 +1,11 @@
 //! Reconstructing few wanted shards strip by strip, by direct sums. As many received shards as there are originals are
 //! the base. Each word of a wanted shard is the sum of the words of the base, each times a factor.
-ghost use Rattle.std.specs.Prelude.{◌≡◌, ◌⊎◌, ◌↔◌, ◌+◌, ◌-◌, ◌^◌, ◌<◌, ◌≤◌, All, true, false, List};
-ghost use Rattle.std.specs.Prelude.{length, Ok, Some, None, MatchOption, IsTrue, OnOk, IfOk, IfErr};
+ghost use Rattle.std.specs.Prelude.{◌≡◌, ◌⊎◌, ◌↔◌, ◌+◌, ◌-◌, ◌^◌, ◌<◌, ◌≤◌, true, false};
+ghost use Rattle.std.specs.Prelude.{length, Ok, Some, None, MatchOption, IsTrue, IfOk, IfErr};
 ghost use Rattle.std.specs.Prelude.{option_copied};
-ghost use Rattle.rs_field.specs.code.Column.{Shard};
 ghost use Rattle.rs_field.specs.code.Counts.{default_rate};
 ghost use Rattle.rs_field.specs.code.Decoder.{IsDecoder, enough_given, IsConsistent};
 ghost use Rattle.rs_field.specs.code.Frame.{row_count};
-ghost use Rattle.rs_field.specs.code.Pieces.{ArePut};
 ghost use Rattle.rs_field.specs.code.PieceStates.{state_of_pieces};
 ghost use Rattle.rs_field.specs.rows.Layout.{row_len};
 ghost use Rattle.rs_field.specs.rows.MarkedRows.{is_marked};
@@ -17,20 +15,21 @@ ghost use Rattle.rs_field.specs.code.Frame.{frame_at};
 ghost use Rattle.rs_field.specs.code.DirectLaws.{shard_in_row};
 ghost use Rattle.reed_solomon_simd.specs.Base.{IsBaseSum, AgreesInRow};
 ghost use Rattle.reed_solomon_simd.specs.Making.{CanMake, AreRooms, Makes, MakesMissing, missing_names};
-ghost use Rattle.reed_solomon_simd.specs.Reconstructed.{AreReconstructed, CanBeRebuilt, NamesMissing};
+ghost use Rattle.reed_solomon_simd.specs.Reconstructed.{CanBeRebuilt, NamesMissing};
 
 use crate::pieces::{Pieces, inconsistent, is_received, missing_count, surplus_count};
 use crate::shard_index::ShardIndex;
 use crate::store::Store;
 use crate::strip_bytes::SUM_STRIP_BYTES;
+use crate::strip_sums::{BaseSums, StripSums, put_sums};
 use crate::strips::{Way, make_strips};
 use crate::wanted_shards::no_marks;
 use rs_field::engine::layout::row_len;
 use rs_field::engine::{Engine, Steps};
 use rs_field::error::Error;
 use rs_field::frame::Frame;
-use rs_rate::rate::base_sums::{BasePieces, add_base_sum, add_two_base_sums};
-use rs_rate::rate::sums::{SumBase, clear_sum, finish_sum, list_base, locate_base, summed_piece};
+use rs_rate::rate::base_sums::BasePieces;
+use rs_rate::rate::sums::{SumBase, list_base, locate_base, summed_piece};
 use std::alloc::Global;
 
 // Returns a mark for each row: whether a shard was received in it. Fails with `OutOfMemory`.
@@ -102,7 +101,11 @@ pub(crate) fn sum_missing<E: Engine, S: Store>(
     sum_listed(alloc, engine, wanted.as_slice(), store)
 }
 
-fn missing_originals<P: Pieces>(alloc: Global, received: &P) -> Result<Vec<ShardIndex>, Error>
+/// Returns the names of the missing originals, in order of index. Fails with `OutOfMemory`.
+pub(crate) fn missing_originals<P: Pieces>(
+    alloc: Global,
+    received: &P,
+) -> Result<Vec<ShardIndex>, Error>
     requires { IsDecoder default_rate (P.received received.now) }
     ensures made { IfOk result (λ wanted.
         NamesMissing (P.received received.now).configuration.original_count
@@ -178,34 +181,59 @@ impl<'a, 'b, E: Engine> Way for Sums<'a, 'b, E> {
     ghost ready = { λ x s n. AreSumsReady x.base x.surplus s n };
 
     fn strip<S: Store>(&mut self, start: usize, end: usize, store: &mut S) -> Result<(), Error> {
-        let len = row_len(end - start);
-        let (mut first, mut second) = (
-            [[0; 64]; SUM_STRIP_BYTES / 64],
-            [[0; 64]; SUM_STRIP_BYTES / 64],
-        );
-        let (first, second) = (&mut first[..len], &mut second[..len]);
-        if self.surplus > 0 && !self.agree_in_strip(&*store, start, end, first) {
+        if self.surplus > 0 && !self.agree_in_strip(&*store, start, end) {
             return Err(inconsistent(&*store));
         }
-        self.put_sums(start, end, first, second, store)
+        put_sums(&*self, self.wanted, start, end, store)
+    }
+}
+
+impl<'a, 'b, E: Engine> StripSums for Sums<'a, 'b, E> {
+    ghost use Rattle.reed_solomon_simd.specs.Base.{CanSum};
+    ghost use Rattle.reed_solomon_simd.specs.Reconstructed.{CanBeRebuilt};
+
+    ghost ready = { λ x s start end. CanSum s x.base start end };
+
+    ghost can = { λ _ s wanted. CanBeRebuilt s wanted };
+
+    fn sum_piece<P: Pieces>(
+        &self,
+        received: &P,
+        wanted: ShardIndex,
+        start: usize,
+        end: usize,
+        sum: &mut [[u8; 64]],
+    ) {
+        let row = row_of(received.counts().frame, wanted);
+        self.sum_row(received, row, start, end, sum);
+    }
+
+    fn sum_two_pieces<P: Pieces>(
+        &self,
+        received: &P,
+        wanted: (ShardIndex, ShardIndex),
+        start: usize,
+        end: usize,
+        first: &mut [[u8; 64]],
+        second: &mut [[u8; 64]],
+    ) {
+        let frame = received.counts().frame;
+        let rows = (row_of(frame, wanted.0), row_of(frame, wanted.1));
+        self.sum_two_rows(received, rows, start, end, first, second);
     }
 }
 
 impl<'a, 'b, E: Engine> Sums<'a, 'b, E> {
     // Returns whether some message agrees with a strip of all received shards: each shard outside of the base is the
     // direct sum.
-    fn agree_in_strip<P: Pieces>(
-        &self,
-        received: &P,
-        start: usize,
-        end: usize,
-        sum: &mut [[u8; 64]],
-    ) -> bool
+    fn agree_in_strip<P: Pieces>(&self, received: &P, start: usize, end: usize) -> bool
         requires ready { CanSum (P.received received.now) self.now.base start end }
-        requires room { length sum.old ≡ row_len (end - start) }
+        requires few { end - start ≤ 4096 }
         ensures { IsTrue result
             ↔ IsConsistent (state_of_pieces start end (P.received received.now)) }
     {
+        let mut sum = [[0; 64]; SUM_STRIP_BYTES / 64];
+        let sum = &mut sum[..row_len(end - start)];
         for row in self.base.marks.len()..self.base.locator.len() {
             if !self.agrees_in_row(received, row, start, end, sum) {
                 return false;
@@ -234,55 +262,43 @@ impl<'a, 'b, E: Engine> Sums<'a, 'b, E> {
         let Some(piece) = piece_in_row(received, row, start, end) else {
             return true;
         };
-        self.sum_piece(received, row, start, end, sum);
+        self.sum_row(received, row, start, end, sum);
         summed_piece(sum, end - start) == piece
     }
 
-    // Writes the piece of each wanted shard into its room, after the first `start` bytes. The sums are made two at a
-    // time.
-    fn put_sums<S: Store>(
+    // Sets a sum to the direct sum over a strip of the base, for a row outside of the base.
+    fn sum_row<P: Pieces>(
         &self,
+        received: &P,
+        row: usize,
         start: usize,
         end: usize,
-        first: &mut [[u8; 64]],
-        second: &mut [[u8; 64]],
-        store: &mut S,
-    ) -> Result<(), Error>
-        requires ready { CanSum (S.received store.old) self.now.base start end }
-        requires consistent { IsConsistent (state_of_pieces start end (S.received store.old)) }
-        requires first_room { length first.old ≡ row_len (end - start) }
-        requires second_room { length second.old ≡ row_len (end - start) }
-        requires can { All (CanBeRebuilt (S.received store.old)) self.now.wanted.now }
-        requires rooms { AreRooms S.grows start (S.received store.old).configuration.shard_bytes
-            (length self.now.wanted.now) (S.held store.old) }
-        ensures put { OnOk result ((made : List Shard)
-            × AreReconstructed (state_of_pieces start end (S.received store.old))
-            self.now.wanted.now made
-            × ArePut start end made (S.held store.old) (S.held store.new)) }
-        ensures refused { IfErr result (λ e. (S.grows ≡ true) × (e ≡ Error.OutOfMemory)) }
-        ensures places { S.places store.new ≡ S.places store.old }
-        ensures loan { S.loan store.new ≡ S.loan store.old }
+        sum: &mut [[u8; 64]],
+    )
+        requires ready { CanSum (P.received received.now) self.now.base start end }
+        requires row { row < row_count (frame_at (P.received received.now).configuration) }
+        requires outside { is_marked self.now.base.marks.now row ≡ false }
+        requires room { length sum.old ≡ row_len (end - start) }
+        ensures { IsBaseSum self.now.base.marks.now
+            (state_of_pieces start end (P.received received.now)) row
+            (shard_in_order sum.new (end - start) 0) }
     {
-        let frame = store.counts().frame;
-        let count = self.wanted.len();
-        for pair in 0..count / 2 {
-            let room = 2 * pair;
-            let one = row_of(frame, self.wanted[room]);
-            let other = row_of(frame, self.wanted[room + 1]);
-            self.sum_two_pieces(&*store, (one, other), start, end, first, second);
-            store.put(room, start, summed_piece(first, end - start))?;
-            store.put(room + 1, start, summed_piece(second, end - start))?;
-        }
-        if count % 2 == 1 {
-            let row = row_of(frame, self.wanted[count - 1]);
-            self.sum_piece(&*store, row, start, end, first);
-            store.put(count - 1, start, summed_piece(first, end - start))?;
-        }
-        Ok(())
+        let pieces = StripPieces {
+            received,
+            start,
+            end,
+        };
+        let sums = BaseSums {
+            engine: self.engine,
+            base: &self.base,
+            pieces: &pieces,
+            piece_len: end - start,
+        };
+        sums.make(row, sum);
     }
 
     // Sets two sums to the direct sums over a strip of the base, for two rows outside of the base.
-    fn sum_two_pieces<P: Pieces>(
+    fn sum_two_rows<P: Pieces>(
         &self,
         received: &P,
         rows: (usize, usize),
@@ -305,58 +321,18 @@ impl<'a, 'b, E: Engine> Sums<'a, 'b, E> {
             (state_of_pieces start end (P.received received.now)) rows.1
             (shard_in_order second.new (end - start) 0) }
     {
-        clear_sum(first);
-        clear_sum(second);
         let pieces = StripPieces {
             received,
             start,
             end,
         };
-        add_two_base_sums(
-            self.engine,
-            &mut Steps::new(),
-            first,
-            second,
-            &self.base,
-            &pieces,
-            rows,
-        );
-        finish_sum(first, end - start);
-        finish_sum(second, end - start);
-    }
-
-    // Sets a sum to the direct sum over a strip of the base, for a row outside of the base.
-    fn sum_piece<P: Pieces>(
-        &self,
-        received: &P,
-        row: usize,
-        start: usize,
-        end: usize,
-        sum: &mut [[u8; 64]],
-    )
-        requires ready { CanSum (P.received received.now) self.now.base start end }
-        requires row { row < row_count (frame_at (P.received received.now).configuration) }
-        requires outside { is_marked self.now.base.marks.now row ≡ false }
-        requires room { length sum.old ≡ row_len (end - start) }
-        ensures { IsBaseSum self.now.base.marks.now
-            (state_of_pieces start end (P.received received.now)) row
-            (shard_in_order sum.new (end - start) 0) }
-    {
-        clear_sum(sum);
-        let pieces = StripPieces {
-            received,
-            start,
-            end,
+        let sums = BaseSums {
+            engine: self.engine,
+            base: &self.base,
+            pieces: &pieces,
+            piece_len: end - start,
         };
-        add_base_sum(
-            self.engine,
-            &mut Steps::new(),
-            sum,
-            &self.base,
-            &pieces,
-            row,
-        );
-        finish_sum(sum, end - start);
+        sums.make_two(rows, first, second);
     }
 }
 
@@ -397,7 +373,7 @@ fn piece_of_strip<P: Pieces>(received: &P, row: usize, start: usize, end: usize)
     piece_in_row(received, row, start, end).unwrap_or(&[])
 }
 
-fn row_of(frame: Frame, shard: ShardIndex) -> usize
+pub(crate) fn row_of(frame: Frame, shard: ShardIndex) -> usize
     requires { row_of frame shard < 2 ^ 64 }
     ensures { result ≡ row_of frame shard }
 {

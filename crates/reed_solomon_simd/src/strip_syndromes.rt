@@ -2,39 +2,40 @@
 //! are encoded, with zeros for the missing ones. The syndrome of a received recovery shard is its XOR with the encoded
 //! one. The missing originals are direct sums over the syndromes alone: the base of these sums has all received
 //! originals, but in their rows the received word and the encoded word are the same.
-ghost use Rattle.std.specs.Prelude.{◌≡◌, ◌↔◌, ℕ, ◌+◌, ◌-◌, ◌<◌, ◌≤◌, true, false, List, length, vec_len, IsTrue};
-ghost use Rattle.std.specs.Prelude.{OnOk, IfOk, IfErr, replicate, unwrap_or};
+ghost use Rattle.std.specs.Prelude.{◌≡◌, ◌↔◌, ℕ, ◌-◌, ◌<◌, ◌≤◌, true, false, length, vec_len, IsTrue};
+ghost use Rattle.std.specs.Prelude.{IfOk, IfErr, replicate, unwrap_or};
 ghost use Rattle.rs_field.specs.code.Code.{AreRecovery};
-ghost use Rattle.rs_field.specs.code.Column.{Shard, shard_at};
+ghost use Rattle.rs_field.specs.code.Column.{shard_at};
 ghost use Rattle.rs_field.specs.code.Counts.{default_rate};
 ghost use Rattle.rs_field.specs.code.Decoder.{IsDecoder, enough_given, IsConsistent};
 ghost use Rattle.rs_field.specs.code.Encoder.{fresh_encoder};
 ghost use Rattle.rs_field.specs.code.Frame.{frame_at, row_count};
-ghost use Rattle.rs_field.specs.code.Pieces.{IsStrip, ArePut};
+ghost use Rattle.rs_field.specs.code.Pieces.{IsStrip};
 ghost use Rattle.rs_field.specs.code.PieceStates.{state_of_pieces};
 ghost use Rattle.rs_field.specs.rows.Layout.{row_len};
 ghost use Rattle.rs_field.specs.rows.MarkedRows.{is_marked};
 ghost use Rattle.rs_rate.specs.rows.EncoderView.{encoder_state, lent_shards};
 ghost use Rattle.rs_rate.specs.rows.ShardRows.{shard_in_order};
 ghost use Rattle.reed_solomon_simd.specs.Making.{AreRooms, MakesMissing, missing_names};
-ghost use Rattle.reed_solomon_simd.specs.Reconstructed.{AreReconstructed};
 ghost use Rattle.reed_solomon_simd.specs.Rounds.{IsReadyToEncode};
 ghost use Rattle.reed_solomon_simd.specs.Syndromes.{zeroed, AreSyndromes, MarksRecovery, AddsOriginals, AgreesAt};
 ghost use Rattle.reed_solomon_simd.specs.Syndromes.{CanSumSyndromes, IsSyndromeSum};
 
-use crate::pieces::{Pieces, inconsistent, is_received, missing_count, surplus_count};
+use crate::pieces::{Pieces, inconsistent, is_received, surplus_count};
 use crate::shard_index::ShardIndex;
 use crate::store::Store;
 use crate::strip_bytes::DECODE_STRIP_BYTES;
 use crate::strip_message::{StripMessage, encode_message};
+use crate::strip_summer::{missing_originals, row_of};
+use crate::strip_sums::{BaseSums, StripSums, put_sums};
 use crate::strips::{Way, make_strips};
 use crate::wanted_shards::no_marks;
 use rs_field::engine::layout::row_len;
 use rs_field::engine::{Engine, Steps};
 use rs_field::error::Error;
-use rs_rate::rate::base_sums::{BasePieces, add_base_sum};
+use rs_rate::rate::base_sums::BasePieces;
 use rs_rate::rate::strips::StripEncoder;
-use rs_rate::rate::sums::{SumBase, clear_sum, finish_sum, list_base, locate_base, summed_piece};
+use rs_rate::rate::sums::{SumBase, list_base, locate_base, summed_piece};
 use std::alloc::Global;
 
 /// Writes the missing originals into the rooms of a store, in order of index, by sums of syndromes. Enough shards were
@@ -60,12 +61,12 @@ pub(crate) fn restore_by_syndromes<E: Engine, S: Store>(
     ensures loan { S.loan store.new ≡ S.loan store.old }
 {
     let counts = store.counts();
-    let missing = missing_count(&*store);
+    let wanted = missing_originals(alloc, &*store)?;
     let surplus = surplus_count(&*store);
     let width = DECODE_STRIP_BYTES.min(store.shard_bytes());
     let encoder = StripEncoder::with_counts(alloc, counts, width, (), None)?;
     let recovery = recovery_marks(alloc, &*store)?;
-    let mut rows = vec![in alloc; 0; missing]?;
+    let mut rows = vec![in alloc; 0; wanted.len()]?;
     let end = list_base(&mut rows, &recovery);
     let marks = &recovery[..end];
     let all = marks_with_originals(alloc, &*store, marks)?;
@@ -80,6 +81,7 @@ pub(crate) fn restore_by_syndromes<E: Engine, S: Store>(
         engine,
         encoder,
         base,
+        wanted: wanted.as_slice(),
         surplus,
     };
     make_strips(DECODE_STRIP_BYTES, &mut way, store)
@@ -146,26 +148,59 @@ struct Syndromes<'a, 'b, E: Engine> {
     encoder: StripEncoder,
     /// The recovery rows of the base. The factors are those of a base to which all received originals belong, too.
     base: SumBase<'b>,
+    /// The names of the missing originals.
+    wanted: &'b [ShardIndex],
     surplus: usize,
 }
 
 impl<'a, 'b, E: Engine> Way for Syndromes<'a, 'b, E> {
-    ghost use Rattle.reed_solomon_simd.specs.Making.{missing_names};
     ghost use Rattle.reed_solomon_simd.specs.Syndromes.{AreSyndromesReady};
 
-    ghost wanted = { λ _ s. missing_names s };
+    ghost wanted = { λ x _. x.wanted.now };
 
-    ghost ready = { λ x s n. AreSyndromesReady x.encoder.rows x.base x.surplus s n };
+    ghost ready = { λ x s n. AreSyndromesReady x.encoder.rows x.base x.wanted.now x.surplus s n };
 
     fn strip<S: Store>(&mut self, start: usize, end: usize, store: &mut S) -> Result<(), Error> {
         make_syndromes(self.engine, &mut self.encoder, &*store, start, end);
-        let len = row_len(end - start);
-        let mut sum = [[0; 64]; DECODE_STRIP_BYTES / 64];
-        let sum = &mut sum[..len];
-        if self.surplus > 0 && !self.agree_in_strip(&*store, start, end, sum) {
+        if self.surplus > 0 && !self.agree_in_strip(&*store, start, end) {
             return Err(inconsistent(&*store));
         }
-        self.put_sums(start, end, sum, store)
+        put_sums(&*self, self.wanted, start, end, store)
+    }
+}
+
+impl<'a, 'b, E: Engine> StripSums for Syndromes<'a, 'b, E> {
+    ghost use Rattle.reed_solomon_simd.specs.Reconstructed.{IsMissing};
+    ghost use Rattle.reed_solomon_simd.specs.Syndromes.{CanSumSyndromes};
+
+    ghost ready = { λ x s start end. CanSumSyndromes s x.base x.encoder.rows start end };
+
+    ghost can = { λ _ s wanted. IsMissing s wanted };
+
+    fn sum_piece<P: Pieces>(
+        &self,
+        received: &P,
+        wanted: ShardIndex,
+        start: usize,
+        end: usize,
+        sum: &mut [[u8; 64]],
+    ) {
+        let row = row_of(received.counts().frame, wanted);
+        self.sum_row(received, row, start, end, sum);
+    }
+
+    fn sum_two_pieces<P: Pieces>(
+        &self,
+        received: &P,
+        wanted: (ShardIndex, ShardIndex),
+        start: usize,
+        end: usize,
+        first: &mut [[u8; 64]],
+        second: &mut [[u8; 64]],
+    ) {
+        let frame = received.counts().frame;
+        let rows = (row_of(frame, wanted.0), row_of(frame, wanted.1));
+        self.sum_two_rows(received, rows, start, end, first, second);
     }
 }
 
@@ -270,19 +305,15 @@ fn add_received<P: Pieces>(encoder: &mut StripEncoder, received: &P, start: usiz
 impl<'a, 'b, E: Engine> Syndromes<'a, 'b, E> {
     // Returns whether some message agrees with a strip of all received shards: each syndrome outside of the base is the
     // sum of those of the base.
-    fn agree_in_strip<P: Pieces>(
-        &self,
-        received: &P,
-        start: usize,
-        end: usize,
-        sum: &mut [[u8; 64]],
-    ) -> bool
+    fn agree_in_strip<P: Pieces>(&self, received: &P, start: usize, end: usize) -> bool
         requires ready { CanSumSyndromes (P.received received.now) self.now.base
             self.now.encoder.rows start end }
-        requires room { length sum.old ≡ row_len (end - start) }
+        requires few { end - start ≤ 2048 }
         ensures { IsTrue result
             ↔ IsConsistent (state_of_pieces start end (P.received received.now)) }
     {
+        let mut sum = [[0; 64]; DECODE_STRIP_BYTES / 64];
+        let sum = &mut sum[..row_len(end - start)];
         for index in 0..received.counts().recovery_count {
             if !self.agrees(received, index, start, end, sum) {
                 return false;
@@ -317,47 +348,12 @@ impl<'a, 'b, E: Engine> Syndromes<'a, 'b, E> {
         if row < self.base.marks.len() {
             return true;
         }
-        self.sum_syndromes(received, row, start, end, sum);
+        self.sum_row(received, row, start, end, sum);
         summed_piece(sum, end - start) == syndrome_at(&self.encoder, index)
     }
 
-    // Writes a strip of each missing original into its room, after the first `start` bytes.
-    fn put_sums<S: Store>(
-        &self,
-        start: usize,
-        end: usize,
-        sum: &mut [[u8; 64]],
-        store: &mut S,
-    ) -> Result<(), Error>
-        requires ready { CanSumSyndromes (S.received store.old) self.now.base
-            self.now.encoder.rows start end }
-        requires consistent { IsConsistent (state_of_pieces start end (S.received store.old)) }
-        requires room { length sum.old ≡ row_len (end - start) }
-        requires rooms { AreRooms S.grows start (S.received store.old).configuration.shard_bytes
-            (length (missing_names (S.received store.old))) (S.held store.old) }
-        ensures put { OnOk result ((made : List Shard)
-            × AreReconstructed (state_of_pieces start end (S.received store.old))
-            (missing_names (S.received store.old)) made
-            × ArePut start end made (S.held store.old) (S.held store.new)) }
-        ensures refused { IfErr result (λ e. (S.grows ≡ true) × (e ≡ Error.OutOfMemory)) }
-        ensures places { S.places store.new ≡ S.places store.old }
-        ensures loan { S.loan store.new ≡ S.loan store.old }
-    {
-        let counts = store.counts();
-        let mut room = 0;
-        for index in 0..counts.original_count {
-            if !is_received(&*store, ShardIndex::Original(index)) {
-                let row = counts.frame.original_row(index);
-                self.sum_syndromes(&*store, row, start, end, sum);
-                store.put(room, start, summed_piece(sum, end - start))?;
-                room += 1;
-            }
-        }
-        Ok(())
-    }
-
     // Sets a sum to the sum of the syndromes of the base, for a row outside of the base.
-    fn sum_syndromes<P: Pieces>(
+    fn sum_row<P: Pieces>(
         &self,
         received: &P,
         row: usize,
@@ -374,20 +370,55 @@ impl<'a, 'b, E: Engine> Syndromes<'a, 'b, E> {
             self.now.base (lent_shards self.now.encoder.rows) row
             (shard_in_order sum.new (end - start) 0) }
     {
-        clear_sum(sum);
         let pieces = SyndromePieces {
             encoder: &self.encoder,
             recovery_from: received.counts().frame.recovery_from,
         };
-        add_base_sum(
-            self.engine,
-            &mut Steps::new(),
-            sum,
-            &self.base,
-            &pieces,
-            row,
-        );
-        finish_sum(sum, end - start);
+        let sums = BaseSums {
+            engine: self.engine,
+            base: &self.base,
+            pieces: &pieces,
+            piece_len: end - start,
+        };
+        sums.make(row, sum);
+    }
+
+    // Sets two sums to the sums of the syndromes of the base, for two rows outside of the base.
+    fn sum_two_rows<P: Pieces>(
+        &self,
+        received: &P,
+        rows: (usize, usize),
+        start: usize,
+        end: usize,
+        first: &mut [[u8; 64]],
+        second: &mut [[u8; 64]],
+    )
+        requires ready { CanSumSyndromes (P.received received.now) self.now.base
+            self.now.encoder.rows start end }
+        requires one { rows.0 < row_count (frame_at (P.received received.now).configuration) }
+        requires other { rows.1 < row_count (frame_at (P.received received.now).configuration) }
+        requires one_outside { is_marked self.now.base.marks.now rows.0 ≡ false }
+        requires other_outside { is_marked self.now.base.marks.now rows.1 ≡ false }
+        requires first_room { length first.old ≡ row_len (end - start) }
+        requires second_room { length second.old ≡ row_len (end - start) }
+        ensures first { IsSyndromeSum (state_of_pieces start end (P.received received.now))
+            self.now.base (lent_shards self.now.encoder.rows) rows.0
+            (shard_in_order first.new (end - start) 0) }
+        ensures second { IsSyndromeSum (state_of_pieces start end (P.received received.now))
+            self.now.base (lent_shards self.now.encoder.rows) rows.1
+            (shard_in_order second.new (end - start) 0) }
+    {
+        let pieces = SyndromePieces {
+            encoder: &self.encoder,
+            recovery_from: received.counts().frame.recovery_from,
+        };
+        let sums = BaseSums {
+            engine: self.engine,
+            base: &self.base,
+            pieces: &pieces,
+            piece_len: end - start,
+        };
+        sums.make_two(rows, first, second);
     }
 }
 

@@ -1,4 +1,5 @@
 use Rattle.std.proofs.Common.{rules, ◌≡◌, ◌<◌, ◌≤◌, List, ℕ, Bool, length, take, sym, ap, ◌∙◌, subst, arith, pow_mono}
+use Rattle.std.proofs.Common.{All}
 use Rattle.std.specs.Prelude.{is_some}
 use Rattle.rs_field.specs.declared.code.frame.Frame.{Frame}
 use Rattle.rs_field.specs.code.Decoder.{DecoderState}
@@ -8,9 +9,11 @@ use Rattle.rs_rate.specs.passes.Decoding.{IsLocatorOf}
 use Rattle.rs_rate.specs.passes.Sums.{ListsMarked}
 use Rattle.rs_rate.specs.rows.Marks.{how_many}
 use Rattle.rs_rate.proofs.passes_lemmas.ChangeLemmas.{distinct_rows_of}
+use Rattle.reed_solomon_simd.specs.declared.shard_index.ShardIndex.{ShardIndex}
+use Rattle.reed_solomon_simd.specs.Reconstructed.{CanBeRebuilt}
 use Rattle.reed_solomon_simd.specs.Syndromes.{AddsOriginals}
 use Rattle.reed_solomon_simd.proofs.BaseLemmas.{decoder_frame, frame_same}
-use Rattle.reed_solomon_simd.proofs.MissingLemmas.{names-all, makes-missing}
+use Rattle.reed_solomon_simd.proofs.MissingLemmas.{names-all, missing-rebuilt, makes-missing}
 use Rattle.reed_solomon_simd.proofs.SyndromeBases.{OnlyCoded, first-same, enough-coded, marks-only, all-base}
 use Rattle.reed_solomon_simd.proofs.strip_syndromes.restore_by_syndromes.Goals as goal
 
@@ -21,11 +24,11 @@ pub list_base-end-requires-clause-enough : goal.list_base-end-requires-clause-en
 list_base-end-requires-clause-enough g c =
     let s : DecoderState = g.S.Pieces.received c.args.store.now in
     let marks : List Bool = c.in_ok-recovery.recovery.items in
-    let rows : length c.deref_mut.result.now ≡ c.missing_count-missing.result = search rules in
+    let rows : length c.deref_mut.result.now ≡ length c.in_ok-wanted.wanted.items = search rules in
     let given : c.deref.result.now ≡ c.in_ok-recovery.recovery.items = search rules in
-    let enough = enough-coded s c.requires.set_up marks c.missing_count-missing.result c.surplus_count-surplus.result
-    c.in_ok-recovery.ensures.marks
-    c.missing_count-missing.ensures c.surplus_count-surplus.ensures in
+    let enough = enough-coded s c.requires.set_up marks (length c.in_ok-wanted.wanted.items)
+    c.surplus_count-surplus.result c.in_ok-recovery.ensures.marks c.in_ok-wanted.ensures.made.number
+    c.surplus_count-surplus.ensures in
     subst (λ (m : List Bool). length c.deref_mut.result.now ≤ how_many (length m) (is_marked m)) (sym given)
     (omega (arith, rows, enough))
 
@@ -34,11 +37,15 @@ locate_base-requires g c =
     (distinct_rows_of c.counts-counts.result.framed c.counts-counts.result.supported).few
 
 pub make_strips-requires-clause-can : goal.make_strips-requires-clause-can
-make_strips-requires-clause-can g c = record {
-  set_up = c.requires.set_up;
-  enough = c.requires.enough;
-  can = (names-all (g.S.Pieces.received c.args.store.now)).each;
-}
+make_strips-requires-clause-can g c =
+    let s : DecoderState = g.S.Pieces.received c.args.store.now in
+    let lent : c.as_slice.result.now ≡ c.in_ok-wanted.wanted.items = search rules in
+    record {
+      set_up = c.requires.set_up;
+      enough = c.requires.enough;
+      can = subst (λ (l : List ShardIndex). All (CanBeRebuilt (g.S.Pieces.received c.args.store.now)) l) (sym lent)
+          (missing-rebuilt s c.in_ok-wanted.wanted.items c.in_ok-wanted.ensures.made.each);
+    }
 
 pub make_strips-requires-clause-ready : goal.make_strips-requires-clause-ready
 make_strips-requires-clause-ready g c =
@@ -51,7 +58,7 @@ make_strips-requires-clause-ready g c =
     let given : c.deref.result.now ≡ c.in_ok-recovery.recovery.items = search rules in
     let lent : c.deref-2.result.now ≡ c.in_ok-recovery.recovery.items = search rules in
     let kept : c.deref-3.result.now ≡ c.in_ok-all.all.items = search rules in
-    let rows : length c.list_base-end.new.rows ≡ c.missing_count-missing.result = search rules in
+    let rows : length c.list_base-end.new.rows ≡ length c.in_ok-wanted.wanted.items = search rules in
     let locator : c.deref-5.result.now ≡ c.in_ok-factors.factors.locator.items = search rules in
     let frame = frame_same s is c.counts-counts.result.framed c.counts-counts.ensures.originals
     c.counts-counts.ensures.recovery in
@@ -67,8 +74,8 @@ make_strips-requires-clause-ready g c =
       encoder = search rules;
       based = record {
         all = all;
-        marked = all-base s is marks all end exact adds c.missing_count-missing.result c.missing_count-missing.ensures
-            count;
+        marked = all-base s is marks all end exact adds (length c.in_ok-wanted.wanted.items)
+            c.in_ok-wanted.ensures.made.number count;
         located = subst (λ (l : List ℕ). IsLocatorOf (frame_at (g.S.Pieces.received c.args.store.now).configuration)
             c.in_ok-all.all.items l) (sym locator)
             (subst (λ (f : Frame). IsLocatorOf f c.in_ok-all.all.items c.in_ok-factors.factors.locator.items) frame
@@ -86,11 +93,20 @@ make_strips-requires-clause-ready g c =
             ≡ is_some ((g.S.Pieces.received c.args.store.now).recovery i)) (sym lent)
             (λ i hi early. first-same marks end (recovery_row (frame_at s.configuration) i) early ∙ exact.coded i hi);
       };
+      names = search rules;
       surplus_is = c.surplus_count-surplus.ensures;
       few = omega arith;
     }
 
+pub make_strips-requires-clause-rooms : goal.make_strips-requires-clause-rooms
+make_strips-requires-clause-rooms g c =
+    let names = (names-all (g.S.Pieces.received c.args.store.now)).number in
+    let lent : c.as_slice.result.now ≡ c.in_ok-wanted.wanted.items = search rules in
+    let long = ap length lent in
+    record {
+      number = omega (arith, names, long, c.in_ok-wanted.ensures.made.number, c.requires.rooms.number);
+      fit = c.requires.rooms.fit;
+    }
+
 pub returns-clause-made : goal.returns-clause-made
-returns-clause-made g c =
-    makes-missing g.S.Rooms.grows (g.S.Pieces.received c.args.store.now) _ _ _ _
-    (names-all (g.S.Pieces.received c.args.store.now)) c.make_strips.ensures.made
+returns-clause-made g c = search (rules, makes-missing)

@@ -16,10 +16,10 @@ returns g c =
           let one : ◌≡◌ {A = Shard} c.in-Some.piece.now shard = cc same in
           subst (λ (p : Shard). IsBaseSum c.args.self.now.base.marks.now
           (state_of_pieces c.args.start c.args.end (g.P.Pieces.received c.args.received.now)) c.args.row p)
-          (sym c.summed_piece.ensures ∙ equal.0 is ∙ one) c.sum_piece.ensures,
+          (sym c.summed_piece.ensures ∙ equal.0 is ∙ one) c.sum_row.ensures,
       λ agrees.
           equal.1 (c.summed_piece.ensures
           ∙ sums-same (g.P.Pieces.received c.args.received.now) ready.set_up c.args.start c.args.end ready.strip
-          marks ready.based.marked c.args.row _ c.in-Some.piece.now c.sum_piece.ensures
+          marks ready.based.marked c.args.row _ c.in-Some.piece.now c.sum_row.ensures
           (agrees c.in-Some.piece.now (sym c.in-Some.ensures) c.requires.outside)),
     )

@@ -73,11 +73,11 @@ returns g c =
     let sum : IsSyndromeSum (state_of_pieces c.args.start c.args.end (g.P.Pieces.received c.args.received.now))
     c.args.self.now.base (lent_shards c.args.self.now.encoder.rows)
     (recovery_row (frame_at (g.P.Pieces.received c.args.received.now).configuration) c.args.index)
-    (shard_in_order c.sum_syndromes.new.sum (c.args.end - c.args.start) 0) =
+    (shard_in_order c.sum_row.new.sum (c.args.end - c.args.start) 0) =
     subst (λ (y : ℕ). IsSyndromeSum
     (state_of_pieces c.args.start c.args.end (g.P.Pieces.received c.args.received.now)) c.args.self.now.base
-    (lent_shards c.args.self.now.encoder.rows) y (shard_in_order c.sum_syndromes.new.sum (c.args.end - c.args.start) 0))
-    row c.sum_syndromes.ensures in
+    (lent_shards c.args.self.now.encoder.rows) y (shard_in_order c.sum_row.new.sum (c.args.end - c.args.start) 0))
+    row c.sum_row.ensures in
     let outside : is_marked c.args.self.now.base.marks.now
     (recovery_row (frame_at (g.P.Pieces.received c.args.received.now).configuration) c.args.index) ≡ false =
     get_or_past c.args.self.now.base.marks.now _ false (omega (arith, row, c.if-row-self.false)) in
@@ -96,6 +96,6 @@ returns g c =
           equal.1 (c.summed_piece.ensures
           ∙ sums-one s ready.set_up c.args.start c.args.end ready.strip base ready.based shards ready.made
           (recovery_row (frame_at s.configuration) n)
-          (shard_in_order c.sum_syndromes.new.sum (c.args.end - c.args.start) 0) (shard_at shards n) sum
+          (shard_in_order c.sum_row.new.sum (c.args.end - c.args.start) 0) (shard_at shards n) sum
           (agrees piece found outside) ∙ sym c.syndrome_at.ensures),
     )

@@ -1,10 +1,7 @@
-use Rattle.std.proofs.Common.{rules, ℕ, sym, ap, ◌∙◌, bit_xor}
-use Rattle.std.specs.Int.Bits.{xor_zero_l}
-use Rattle.rs_field.specs.code.DirectLaws.{shard_in_row, word_of}
+use Rattle.std.proofs.Common.{sym, ◌∙◌}
 use Rattle.rs_field.specs.code.PieceStates.{state_of_pieces}
-use Rattle.rs_rate.specs.passes.BaseSum.{base_sum as sum_of}
 use Rattle.reed_solomon_simd.proofs.BaseLemmas.{base-pieces, some-pieces, sum-same}
-use Rattle.reed_solomon_simd.proofs.strip_summer.Sums.sum_piece.Goals as goal
+use Rattle.reed_solomon_simd.proofs.strip_summer.Sums.sum_row.Goals as goal
 
 pub returns : goal.returns
 returns g c =
@@ -12,14 +9,10 @@ returns g c =
     let t = state_of_pieces c.args.start c.args.end s in
     let based = c.requires.ready.based in
     let base = c.args.self.now.base in
-    let words : ℕ → ℕ → ℕ = λ j x. word_of j (shard_in_row t x) in
     record {
-      is_shard = c.finish_sum.ensures.bytes;
+      is_shard = c.make.ensures.is_shard;
       words = λ j inside.
-          c.finish_sum.ensures.words j inside
-          ∙ c.add_base_sum.ensures.words j inside
-          ∙ ap (λ w. bit_xor w (sum_of base (words j) c.args.row)) (c.clear_sum.ensures j (search rules))
-          ∙ xor_zero_l (sum_of base (words j) c.args.row)
+          c.make.ensures.words j inside
           ∙ sum-same t base j c.args.row (record {
             marked = base-pieces c.args.start c.args.end base.marks.now s based.marked;
             exact = λ x inside. based.exact x inside ∙ sym (some-pieces c.args.start c.args.end s x);
