@@ -56,11 +56,11 @@ static size_t factor_bytes(struct shape shape) {
 }
 
 /* A decode from syndromes requests the rows of an encode, what the factors are made of, further marks for each row of a
-   decode, and a list of the rows of as many recovery shards as originals are lost. At least eight are lost. */
+   decode, a list of the lost originals, and a list of the rows of as many recovery shards. At least eight are lost. */
 static size_t syndrome_bytes(struct shape shape, size_t shard_bytes, size_t lost) {
     if (lost < 8) return 0;
     return row_bytes(shape.encoder_rows, shard_bytes, 2048) + factor_bytes(shape) + block_bytes(shape.decoder_rows, 1) +
-           block_bytes(lost, 2);
+           block_bytes(lost, 16) + block_bytes(lost, 2);
 }
 
 /* A call that sums shards has no rows. It requests what the factors are made of, and a list of the rows that it sums. */

@@ -119,7 +119,7 @@ fn calls_of_decode(
 }
 
 // A decode of all originals transforms the rows of each strip, and a decode of one adds rows. From syndromes, each of
-// eight sums adds eight rows in each strip, two at a time, and the tails of the last strip one by one.
+// four pairs of sums adds eight rows in each strip, and the tails of the last strip to one sum after the other.
 #[test]
 fn a_decode_computes_one_locator(rt: HostRuntime) {
     let alloc = rt.alloc();
@@ -133,7 +133,8 @@ fn a_decode_computes_one_locator(rt: HostRuntime) {
     let by_syndromes = calls_of_decode(&rt, alloc, &tables, (60, 8), &eight, &[]);
     let wanted = AddCalls {
         one: 8 * 8,
-        two: 8 * 4 * 3,
+        two: 0,
+        to_two: 4 * 8 * 3,
         in_place: 0,
         locators: 1,
     };

@@ -11,35 +11,82 @@ use std::alloc::Global;
 use std::cell::Cell;
 use std::process::Abort;
 
-// Loses original 1 of a message, and returns whether a decode with one recovery shard restores it.
-fn is_restored<E: Engine>(
+/// A message with lost originals, of which as many recovery shards are received.
+#[derive(Clone, Copy, Debug, PartialEq, Eq)]
+struct Loss {
+    originals: usize,
+    recovery: usize,
+    lost: usize,
+    size: usize,
+}
+
+impl Loss {
+    // One lost original of a message with four recovery shards.
+    fn of_one(originals: usize, size: usize) -> Loss {
+        Loss {
+            originals,
+            recovery: 4,
+            lost: 1,
+            size,
+        }
+    }
+}
+
+// The indexes from one up to another.
+fn indexes(alloc: Global, from: usize, to: usize) -> Vec<usize> {
+    let mut indexes = Vec::new(alloc);
+    for index in from..to {
+        let _ = indexes.push(index);
+    }
+    indexes
+}
+
+// As many rooms as are given.
+fn rooms(rt: &impl Abort, alloc: Global, count: usize, size: usize) -> Vec<Vec<u8>> {
+    let mut rooms = Vec::new(alloc);
+    for _ in 0..count {
+        let room = vec![in alloc; 0; size].expect(rt, "a room");
+        rooms.push(room).expect(rt, "a list");
+    }
+    rooms
+}
+
+// Loses originals of a message, from index 1 on, and returns whether a decode with the last recovery shards restores
+// them.
+fn are_restored<E: Engine>(
     rt: &impl Abort,
     alloc: Global,
     tables: &Tables,
-    original_count: usize,
-    size: usize,
+    loss: Loss,
     engine: E,
 ) -> bool {
     let coding = DefaultEngine::new(tables, EngineKind::NoSimd);
-    let message = drawn(alloc, original_count, size).expect(rt, "a message");
-    let recovery = encode_slice(alloc, original_count, 4, &message, coding).expect(rt, "shards");
-    let original = left(alloc, &message, &[1]).expect(rt, "originals");
-    let one = left(alloc, &recovery, &[0, 1, 3]).expect(rt, "a recovery shard");
-    let room = vec![in alloc; 0; size].expect(rt, "a room");
-    let mut restored = vec![in alloc; room].expect(rt, "a list");
-    let mut rooms = lent(alloc, &mut restored).expect(rt, "rooms");
+    let message = drawn(alloc, loss.originals, loss.size).expect(rt, "a message");
+    let recovery = encode_slice(alloc, loss.originals, loss.recovery, &message, coding).expect(
+        rt, "shards",
+    );
+    let lost = indexes(alloc, 1, loss.lost.saturating_add(1));
+    let unused = indexes(alloc, 0, loss.recovery.saturating_sub(loss.lost));
+    let original = left(alloc, &message, &lost).expect(rt, "originals");
+    let others = left(alloc, &recovery, &unused).expect(rt, "recovery shards");
+    let mut restored = rooms(rt, alloc, loss.lost, loss.size);
+    let mut lent_rooms = lent(alloc, &mut restored).expect(rt, "rooms");
     decode_into(
         alloc,
-        original_count,
-        4,
+        loss.originals,
+        loss.recovery,
         &original,
-        &one,
-        &mut rooms,
+        &others,
+        &mut lent_rooms,
         engine,
     )
-    .expect(rt, "an original");
-    drop(rooms);
-    restored.first() == message.get(1)
+    .expect(rt, "originals");
+    drop(lent_rooms);
+    let mut are_restored = restored.len() == loss.lost;
+    for (index, shard) in restored.iter().enumerate() {
+        are_restored = are_restored && message.get(index.saturating_add(1)) == Some(shard);
+    }
+    are_restored
 }
 
 // In each strip of at most 4096 bytes, the pieces of ten originals are five pairs, and those of three originals are a
@@ -60,10 +107,12 @@ fn a_sum_calls_its_engine_so_often(rt: HostRuntime) {
     ] {
         let calls = Cell::new(AddCalls::default());
         let engine = Additions::new(&tables, &calls);
-        let restored = is_restored(&rt, rt.alloc(), &tables, original_count, size, engine);
+        let loss = Loss::of_one(original_count, size);
+        let restored = are_restored(&rt, rt.alloc(), &tables, loss, engine);
         let wanted = AddCalls {
             one,
             two,
+            to_two: 0,
             in_place: 0,
             locators: 1,
         };
@@ -71,6 +120,43 @@ fn a_sum_calls_its_engine_so_often(rt: HostRuntime) {
             (original_count, size, restored, calls.get()),
             (original_count, size, true, wanted)
         );
+    }
+}
+
+// Two sums are made at a time, so each piece of the base is added to both by one call. If their number is odd, the last
+// sum adds two pieces at a time. Eight and nine lost originals of 60 are sums of as many syndromes, in strips of 2048
+// bytes.
+#[test]
+fn two_sums_call_their_engine_so_often(rt: HostRuntime) {
+    let tables = Tables::new(rt.alloc()).expect(&rt, "tables");
+    for (originals, recovery, lost, size, calls_to_two, two, one) in [
+        (10, 4, 2, 64, 10, 0, 0),
+        (10, 4, 2, 66, 10, 0, 20),
+        (10, 4, 2, 4096, 10, 0, 0),
+        (10, 4, 2, 8192, 20, 0, 0),
+        (10, 4, 3, 64, 10, 5, 0),
+        (10, 4, 4, 64, 20, 0, 0),
+        (60, 12, 8, 2048, 32, 0, 0),
+        (60, 12, 8, 4096, 64, 0, 0),
+        (60, 12, 9, 2048, 36, 4, 1),
+    ] {
+        let loss = Loss {
+            originals,
+            recovery,
+            lost,
+            size,
+        };
+        let calls = Cell::new(AddCalls::default());
+        let engine = Additions::new(&tables, &calls);
+        let restored = are_restored(&rt, rt.alloc(), &tables, loss, engine);
+        let wanted = AddCalls {
+            one,
+            two,
+            to_two: calls_to_two,
+            in_place: 0,
+            locators: 1,
+        };
+        assert_eq!(rt; (loss, restored, calls.get()), (loss, true, wanted));
     }
 }
 
@@ -89,6 +175,7 @@ fn an_object_adds_two_rows_at_a_time(rt: HostRuntime) {
         let wanted = AddCalls {
             one: 0,
             two: added / 2,
+            to_two: 0,
             in_place: 0,
             locators: 1,
         };
@@ -103,8 +190,9 @@ fn each_engine_sums_to_the_same_original(rt: HostRuntime) {
     let tables = Tables::new(rt.alloc()).expect(&rt, "tables");
     for original_count in [2, 3, 10, 300] {
         for size in [62, 64, 512, 576, 640, 2112] {
+            let loss = Loss::of_one(original_count, size);
             let engine = FourCalls::new(&tables);
-            assert!(rt; is_restored(&rt, rt.alloc(), &tables, original_count, size, engine));
+            assert!(rt; are_restored(&rt, rt.alloc(), &tables, loss, engine));
             for kind in [
                 EngineKind::Naive,
                 EngineKind::NoSimd,
@@ -112,7 +200,7 @@ fn each_engine_sums_to_the_same_original(rt: HostRuntime) {
                 EngineKind::Avx2,
             ] {
                 let engine = DefaultEngine::new(&tables, kind);
-                assert!(rt; is_restored(&rt, rt.alloc(), &tables, original_count, size, engine));
+                assert!(rt; are_restored(&rt, rt.alloc(), &tables, loss, engine));
             }
         }
     }

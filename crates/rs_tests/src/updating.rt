@@ -26,8 +26,10 @@ pub struct Additions<'t> {
 pub struct AddCalls {
     /// The number of calls that add one row.
     pub one: u32,
-    /// The number of calls that add two rows.
+    /// The number of calls that add two rows to one.
     pub two: u32,
+    /// The number of calls that add one row to two.
+    pub to_two: u32,
     /// The number of calls that add a row to a shard in place.
     pub in_place: u32,
     /// The number of calls that compute a locator.
@@ -99,6 +101,20 @@ impl Engine for Additions<'_> {
         let two = calls.two.saturating_add(1);
         self.calls.set(AddCalls { two, ..calls });
         Engine::mul_add_two(&self.naive, steps, x, y0, y1, logs);
+    }
+
+    fn mul_add_to_two(
+        &self,
+        steps: &mut Steps,
+        x0: &mut [[u8; 64]],
+        x1: &mut [[u8; 64]],
+        y: &[[u8; 64]],
+        logs: TwoLogarithms,
+    ) {
+        let calls = self.calls.get();
+        let to_two = calls.to_two.saturating_add(1);
+        self.calls.set(AddCalls { to_two, ..calls });
+        Engine::mul_add_to_two(&self.naive, steps, x0, x1, y, logs);
     }
 
     fn mul_add_bytes(&self, steps: &mut Steps, x: &mut [u8], y: &[[u8; 64]], log_m: GfElement) {
