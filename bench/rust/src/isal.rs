@@ -6,7 +6,7 @@ pub use linked::side;
 
 /// Returns None, as ISA-L isn't linked.
 #[cfg(not(isal))]
-pub fn side(_: &'static crate::work::Work) -> Option<Box<dyn crate::side::Side>> {
+pub fn side(_: &str, _: &'static crate::work::Work) -> Option<Box<dyn crate::side::Side>> {
     None
 }
 
@@ -21,11 +21,33 @@ mod linked {
         fn gf_invert_matrix(from: *mut u8, to: *mut u8, k: i32) -> i32;
         fn ec_init_tables(k: i32, rows: i32, from: *mut u8, tables: *mut u8);
         fn ec_encode_data(size: i32, k: i32, rows: i32, tables: *mut u8, from: *mut *mut u8, to: *mut *mut u8);
+        fn ec_encode_data_avx2(size: i32, k: i32, rows: i32, tables: *mut u8, from: *mut *mut u8, to: *mut *mut u8);
         fn ec_encode_data_update(size: i32, k: i32, rows: i32, index: i32, tables: *mut u8, change: *mut u8, to: *mut *mut u8);
+        fn ec_encode_data_update_avx2(size: i32, k: i32, rows: i32, index: i32, tables: *mut u8, change: *mut u8, to: *mut *mut u8);
+    }
+
+    /// The functions of ISA-L that multiply: those that it chooses on this machine, or those for AVX2.
+    #[derive(Clone, Copy)]
+    struct Code {
+        encode: unsafe extern "C" fn(i32, i32, i32, *mut u8, *mut *mut u8, *mut *mut u8),
+        update: unsafe extern "C" fn(i32, i32, i32, i32, *mut u8, *mut u8, *mut *mut u8),
+    }
+
+    impl Code {
+        fn named(who: &str) -> Option<Code> {
+            match who {
+                "isal" => Some(Code { encode: ec_encode_data, update: ec_encode_data_update }),
+                "isal-avx2" if std::arch::is_x86_feature_detected!("avx2") => {
+                    Some(Code { encode: ec_encode_data_avx2, update: ec_encode_data_update_avx2 })
+                }
+                _ => None,
+            }
+        }
     }
 
     /// A call. The tables of an encode are made once, those of a decode in each round, since lost shards differ.
     struct Coder {
+        code: Code,
         work: &'static Work,
         matrix: Vec<u8>,
         tables: Vec<u8>,
@@ -34,8 +56,9 @@ mod linked {
         change: Shards,
     }
 
-    /// Makes the side, or returns None if the counts are too large for ISA-L.
-    pub fn side(work: &'static Work) -> Option<Box<dyn Side>> {
+    /// Makes the side, or returns None if the counts are too large for ISA-L, or if the machine has no AVX2.
+    pub fn side(who: &str, work: &'static Work) -> Option<Box<dyn Side>> {
+        let code = Code::named(who)?;
         let Row { call, k, r, size } = work.row;
         if !(call.codes() || matches!(call, Call::Recover | Call::Update)) || k + r > 256 {
             return None;
@@ -47,7 +70,7 @@ mod linked {
             gf_gen_cauchy1_matrix(matrix.as_mut_ptr(), (k + r) as i32, k as i32);
             ec_init_tables(k as i32, r as i32, matrix[k * k..].as_mut_ptr(), tables.as_mut_ptr());
         }
-        let mut coder = Coder { work, matrix, tables, recovery: Shards::new(r, size), change: Shards::new(1, size) };
+        let mut coder = Coder { code, work, matrix, tables, recovery: Shards::new(r, size), change: Shards::new(1, size) };
         coder.encode(r, (0..r).map(|index| coder.recovery.pointer(index)).collect());
         Some(Box::new(coder))
     }
@@ -59,7 +82,7 @@ mod linked {
             let mut from: Vec<*mut u8> = (0..k).map(|index| self.work.originals.pointer(index)).collect();
             // SAFETY: each pointer has `size` bytes.
             unsafe {
-                ec_encode_data(size as i32, k as i32, count as i32, self.tables.as_mut_ptr(), from.as_mut_ptr(), to.as_mut_ptr());
+                (self.code.encode)(size as i32, k as i32, count as i32, self.tables.as_mut_ptr(), from.as_mut_ptr(), to.as_mut_ptr());
             }
         }
 
@@ -73,7 +96,7 @@ mod linked {
             let mut to = self.rooms();
             let (change, tables) = (self.change.start(), self.tables.as_mut_ptr());
             // SAFETY: each pointer has `size` bytes.
-            unsafe { ec_encode_data_update(size as i32, k as i32, r as i32, 0, tables, change, to.as_mut_ptr()) };
+            unsafe { (self.code.update)(size as i32, k as i32, r as i32, 0, tables, change, to.as_mut_ptr()) };
         }
 
         fn rooms(&self) -> Vec<*mut u8> {
@@ -98,7 +121,7 @@ mod linked {
             unsafe {
                 assert_eq!(gf_invert_matrix(left.as_mut_ptr(), inverse.as_mut_ptr(), k), 0);
                 ec_init_tables(k, lost, inverse.as_mut_ptr(), tables.as_mut_ptr());
-                ec_encode_data(size, k, lost, tables.as_mut_ptr(), from.as_mut_ptr(), to.as_mut_ptr());
+                (self.code.encode)(size, k, lost, tables.as_mut_ptr(), from.as_mut_ptr(), to.as_mut_ptr());
             }
         }
 
@@ -109,7 +132,7 @@ mod linked {
             from[0] = self.work.before.start();
             let (mut to, tables) = (self.rooms(), self.tables.as_mut_ptr());
             // SAFETY: each pointer has `size` bytes.
-            unsafe { ec_encode_data(size as i32, k as i32, r as i32, tables, from.as_mut_ptr(), to.as_mut_ptr()) };
+            unsafe { (self.code.encode)(size as i32, k as i32, r as i32, tables, from.as_mut_ptr(), to.as_mut_ptr()) };
         }
 
         fn round(&mut self) {

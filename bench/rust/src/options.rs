@@ -24,7 +24,7 @@ pub const USAGE: &str =
        bench/run --print FILE
 CALL: encode decode decode1 lost1 lost2 recover1 verify update new-encoder new-decoder reset-encoder reset-decoder tables
 SIDE: WHO.WAY[.ENGINE]
-  WHO: crate, isal, plain, v3, plain_before, v3_before
+  WHO: crate, isal, isal-avx2, plain, v3, plain_before, v3_before
   WAY: c-shards, c-buffers, into, call, slice, object; of the crate: object, call; of ISA-L none
   ENGINE: naive nosimd avx2 ssse3; of the crate also default";
 

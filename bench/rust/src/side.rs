@@ -23,7 +23,7 @@ pub const ENGINES: [&str; 4] = ["naive", "nosimd", "avx2", "ssse3"];
 /// The name of a side: `WHO.WAY.ENGINE`, where the engine can be left out.
 #[derive(Clone, PartialEq, Eq, Debug)]
 pub struct Name {
-    /// `crate`, `isal`, or a build of this library: `plain`, `v3`, `plain_before`, `v3_before`.
+    /// `crate`, `isal`, `isal-avx2`, or a build of this library: `plain`, `v3`, `plain_before`, `v3_before`.
     pub who: String,
     /// `object`, `call`, `slice`, `into`, `c-shards`, `c-buffers`.
     pub way: String,
@@ -48,7 +48,7 @@ impl Name {
     fn is_possible(&self) -> bool {
         let ways: &[&str] = match self.who.as_str() {
             "crate" => &["object", "call"],
-            "isal" => &["call"],
+            "isal" | "isal-avx2" => &["call"],
             "plain" | "v3" => &["object", "call", "slice", "into", "c-shards", "c-buffers"],
             "plain_before" | "v3_before" => &["object", "call", "slice", "into", "c-shards", "c-buffers"],
             _ => &[],
@@ -72,7 +72,7 @@ impl Name {
     pub fn side(&self, work: &'static Work) -> Option<Box<dyn Side>> {
         match self.who.as_str() {
             "crate" => theirs::side(self, work),
-            "isal" => isal::side(work),
+            "isal" | "isal-avx2" => isal::side(&self.who, work),
             _ => ours::side(self, work),
         }
     }
@@ -81,7 +81,7 @@ impl Name {
 /// The fastest engine of a build, and the crate's choice on a machine with AVX2.
 fn usual_engine(who: &str, way: &str) -> &'static str {
     match (who, way) {
-        ("isal", _) | (_, "c-shards" | "c-buffers") => "-",
+        ("isal" | "isal-avx2", _) | (_, "c-shards" | "c-buffers") => "-",
         ("crate", "call") => "default",
         ("crate" | "v3" | "v3_before", _) => "avx2",
         _ => "ssse3",

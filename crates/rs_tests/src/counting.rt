@@ -5,7 +5,7 @@ ghost use Rattle.std.specs.Prelude.{◌<◌};
 use reed_solomon_simd::Error;
 use reed_solomon_simd::engine::tables::Tables;
 use reed_solomon_simd::engine::{Engine, GfElement, Naive, ShardsRefMut, Steps};
-use reed_solomon_simd::rate::{HighRate, LowRate, Rate, RateDecoder, RateEncoder};
+use reed_solomon_simd::rate::{DefaultRate, Rate, RateDecoder, RateEncoder};
 use rs_field::engine::kernel::Kernel;
 use rs_field::engine::lent_tables::LentTables;
 use std::alloc::Global;
@@ -172,14 +172,14 @@ impl Engine for FourCalls<'_> {
 }
 
 // Returns how often an encode of these originals calls its engine.
-fn calls_of_encode<'t, R: Rate<Counting<'t>>>(
+fn calls_of_encode(
     alloc: Global,
-    tables: &'t Tables,
+    tables: &Tables,
     original: &[[u8; 2]],
     recovery_count: usize,
 ) -> Result<Calls, Error> {
     let engine = Counting::new(tables, false);
-    let mut encoder = R::encoder(alloc, original.len(), recovery_count, 2, engine, None)?;
+    let mut encoder = DefaultRate::encoder(alloc, original.len(), recovery_count, 2, engine, None)?;
     for shard in original {
         encoder.add_original_shard(shard)?;
     }
@@ -190,51 +190,37 @@ fn calls_of_encode<'t, R: Rate<Counting<'t>>>(
 /// The index of a shard, and its two bytes.
 pub type Item = (usize, [u8; 2]);
 
-// Gives a decoder these originals.
-fn give_originals<E: Engine>(
-    decoder: &mut impl RateDecoder<E>,
-    original: &[Item],
-) -> Result<(), Error> {
-    for (index, shard) in original {
-        decoder.add_original_shard(*index, shard)?;
-    }
-    Ok(())
-}
-
-// Gives a decoder these recovery shards, and decodes.
-fn decode_given<E: Engine>(
-    decoder: &mut impl RateDecoder<E>,
-    recovery: &[Item],
-) -> Result<(), Error> {
-    for (index, shard) in recovery {
-        decoder.add_recovery_shard(*index, shard)?;
-    }
-    decoder.decode(&mut Steps::new()).map(drop)
-}
-
-/// Returns the engine after a decode of these shards, for `count` originals and as many recovery shards.
+/// Returns the engine after a decode of these shards, with these numbers of originals and of recovery shards.
 ///
 /// # Errors
 ///
 /// The error of the decoder.
-pub fn after_decode<E: Engine, R: Rate<E>>(
+pub fn after_decode<E: Engine>(
     alloc: Global,
-    count: usize,
+    (original_count, recovery_count): (usize, usize),
     original: &[Item],
     recovery: &[Item],
     engine: E,
 ) -> Result<E, Error> {
-    let mut decoder = R::decoder(alloc, count, count, 2, engine, None)?;
-    give_originals(&mut decoder, original)?;
-    decode_given(&mut decoder, recovery)?;
+    let mut decoder = DefaultRate::decoder(alloc, original_count, recovery_count, 2, engine, None)?;
+    for (index, shard) in original {
+        decoder.add_original_shard(*index, shard)?;
+    }
+    for (index, shard) in recovery {
+        decoder.add_recovery_shard(*index, shard)?;
+    }
+    decoder.decode(&mut Steps::new()).map(drop)?;
     Ok(decoder.into_parts().0)
 }
+
+// Four originals and three recovery shards have the low rate, and four and four the high rate.
+const LOW_AND_HIGH: [(usize, usize); 2] = [(4, 3), (4, 4)];
 
 // The shards that a decode is given, how often it calls `fft`, `ifft` and a method for a locator, and how often it
 // calls `mul` at most: once for each given shard and once for each restored shard.
 type Decode<'a> = (&'a [Item], &'a [Item], [u32; 3], u32);
 
-// All shards belong to one message of four originals and four recovery shards. A decode transforms once to check and
+// All shards belong to one message of four originals. A decode transforms once to check and
 // once to restore.
 const DECODES: [Decode<'static>; 3] = [
     (
@@ -258,55 +244,18 @@ const DECODES: [Decode<'static>; 3] = [
 ];
 
 // Checks how often a decode calls its engine.
-fn check_decode<'t, R: Rate<Counting<'t>>>(
+fn check_decode(
     rt: &impl Abort,
     alloc: Global,
-    tables: &'t Tables,
+    tables: &Tables,
+    counts: (usize, usize),
     (original, recovery, others, most): Decode<'_>,
 ) {
     let engine = Counting::new(tables, false);
-    let engine = after_decode::<_, R>(alloc, 4, original, recovery, engine).expect(rt, "an engine");
+    let engine = after_decode(alloc, counts, original, recovery, engine).expect(rt, "an engine");
     let [fft, ifft, mul, locator, sums] = engine.calls.get();
     assert_eq!(rt; ([fft, ifft, locator], sums), (others, 0));
     assert!(rt; mul <= most);
-}
-
-// Eight recovery shards of zeros. From these alone, a decode restores eight originals.
-const ZEROS: [Item; 8] = [
-    (0, [0; 2]),
-    (1, [0; 2]),
-    (2, [0; 2]),
-    (3, [0; 2]),
-    (4, [0; 2]),
-    (5, [0; 2]),
-    (6, [0; 2]),
-    (7, [0; 2]),
-];
-
-// Returns at how many points a decode over 16 rows locates.
-fn located_points<'t, R: Rate<Counting<'t>>>(
-    alloc: Global,
-    tables: &'t Tables,
-) -> Result<usize, Error> {
-    let engine = after_decode::<_, R>(alloc, 8, &[], &ZEROS, Counting::new(tables, false))?;
-    Ok(engine.entries.get())
-}
-
-// Checks how often the objects of a rate call their engine. An encode of these originals makes the calls in `encode`. A
-// decode over 16 rows locates at 16 points.
-fn check_rate<'t, R: Rate<Counting<'t>>>(
-    rt: &impl Abort,
-    alloc: Global,
-    tables: &'t Tables,
-    (original, recovery_count): (&[[u8; 2]], usize),
-    encode: Calls,
-) {
-    let calls = calls_of_encode::<R>(alloc, tables, original, recovery_count);
-    let points = located_points::<R>(alloc, tables);
-    assert_eq!(rt; (calls, points), (Ok(encode), Ok(16)));
-    for decode in DECODES {
-        check_decode::<R>(rt, alloc, tables, decode);
-    }
 }
 
 // An encode transforms each block, and once more. At the low rate there are two blocks of two recovery shards, and at
@@ -315,15 +264,73 @@ fn check_rate<'t, R: Rate<Counting<'t>>>(
 fn each_rate_calls_its_engine_so_often(rt: HostRuntime) {
     let alloc = rt.alloc();
     let tables = Tables::new(alloc).expect(&rt, "tables");
-    let (low, high) = ([[0, 0], [1, 0]], [[2, 0], [0, 0], [4, 0]]);
-    check_rate::<LowRate<Counting<'_>>>(&rt, alloc, &tables, (&low, 3), [2, 1, 0, 0, 0]);
-    check_rate::<HighRate<Counting<'_>>>(&rt, alloc, &tables, (&high, 2), [1, 2, 0, 0, 0]);
+    let low = calls_of_encode(alloc, &tables, &[[0, 0], [1, 0]], 3);
+    let high = calls_of_encode(alloc, &tables, &[[2, 0], [0, 0], [4, 0]], 2);
+    assert_eq!(rt; (low, high), (Ok([2, 1, 0, 0, 0]), Ok([1, 2, 0, 0, 0])));
+    for counts in LOW_AND_HIGH {
+        for decode in DECODES {
+            check_decode(&rt, alloc, &tables, counts, decode);
+        }
+    }
+}
+
+// The counts of a message of zeros, the originals and the recovery shards that a decode over 16 rows is given, and the
+// numbers of butterflies of its backward and of its forward transform.
+type Zeros<'a> = ((usize, usize), &'a [Item], &'a [Item], [usize; 2]);
+
+// A transform of 16 rows has two layers of eight butterflies between its quarters, and four butterflies in each
+// quarter. At the low rate, the second quarter has no given row, and the last two quarters have no wanted row. At the
+// high rate, the last two quarters have no given row, and the first two have no wanted row.
+const OVER_SIXTEEN_ROWS: [Zeros<'static>; 2] = [
+    (
+        (8, 7),
+        &[(0, [0; 2])],
+        &[
+            (0, [0; 2]),
+            (1, [0; 2]),
+            (2, [0; 2]),
+            (3, [0; 2]),
+            (4, [0; 2]),
+            (5, [0; 2]),
+            (6, [0; 2]),
+        ],
+        [28, 24],
+    ),
+    (
+        (8, 8),
+        &[],
+        &[
+            (0, [0; 2]),
+            (1, [0; 2]),
+            (2, [0; 2]),
+            (3, [0; 2]),
+            (4, [0; 2]),
+            (5, [0; 2]),
+            (6, [0; 2]),
+            (7, [0; 2]),
+        ],
+        [24, 24],
+    ),
+];
+
+// A decode over 16 rows locates at 16 points.
+#[test]
+fn a_decode_locates_its_own_rows(rt: HostRuntime) {
+    let tables = Tables::new(rt.alloc()).expect(&rt, "tables");
+    for (counts, original, recovery, _) in OVER_SIXTEEN_ROWS {
+        let engine = Counting::new(&tables, false);
+        let engine = after_decode(rt.alloc(), counts, original, recovery, engine).expect(
+            &rt,
+            "an engine",
+        );
+        assert_eq!(rt; engine.entries.get(), 16);
+    }
 }
 
 /// The shards that a decode is given, how many multiples of rows its sums add, and how often it calls `mul` if the
 /// engine has no sums of its own. There is one direct sum for each missing original and one for each surplus shard. A
 /// sum adds a multiple of each of four shards, and without sums of the engine this takes two products. All shards
-/// belong to one message of four originals and four recovery shards.
+/// belong to one message of four originals.
 pub type Sums<'a> = (&'a [Item], &'a [Item], u32, u32);
 
 /// Decodes by direct sums.
@@ -342,34 +349,32 @@ pub const FEW_LOST: [Sums<'static>; 3] = [
     ),
     (
         &[(0, [0, 0]), (1, [0, 0]), (2, [2, 0])],
-        &[(3, [13, 0]), (1, [9, 0])],
+        &[(2, [14, 0]), (1, [9, 0])],
         8,
         16,
     ),
 ];
 
-// Checks how often a decode by direct sums calls its engine. It makes one locator and no transform.
-fn check_sums<'t, A: Rate<Counting<'t>>, B: Rate<FourCalls<'t>>>(
-    rt: &impl Abort,
-    alloc: Global,
-    tables: &'t Tables,
-    (original, recovery, sums, products): Sums<'_>,
-) {
-    let engine = Counting::new(tables, true);
-    let engine = after_decode::<_, A>(alloc, 4, original, recovery, engine).expect(rt, "an engine");
-    assert_eq!(rt; engine.calls.get(), [0, 0, 0, 1, sums]);
-    let engine = FourCalls::new(tables);
-    let engine = after_decode::<_, B>(alloc, 4, original, recovery, engine).expect(rt, "an engine");
-    assert_eq!(rt; engine.counting.calls.get(), [0, 0, products, 1, 0]);
-}
-
+// A decode by direct sums makes one locator and no transform.
 #[test]
 fn a_decode_of_few_lost_shards_calls_its_engine_so_often(rt: HostRuntime) {
     let alloc = rt.alloc();
     let tables = Tables::new(alloc).expect(&rt, "tables");
-    for decode in FEW_LOST {
-        check_sums::<LowRate<Counting<'_>>, LowRate<FourCalls<'_>>>(&rt, alloc, &tables, decode);
-        check_sums::<HighRate<Counting<'_>>, HighRate<FourCalls<'_>>>(&rt, alloc, &tables, decode);
+    for counts in LOW_AND_HIGH {
+        for (original, recovery, sums, products) in FEW_LOST {
+            let engine = Counting::new(&tables, true);
+            let engine = after_decode(alloc, counts, original, recovery, engine).expect(
+                &rt,
+                "an engine",
+            );
+            assert_eq!(rt; engine.calls.get(), [0, 0, 0, 1, sums]);
+            let engine = FourCalls::new(&tables);
+            let engine = after_decode(alloc, counts, original, recovery, engine).expect(
+                &rt,
+                "an engine",
+            );
+            assert_eq!(rt; engine.counting.calls.get(), [0, 0, products, 1, 0]);
+        }
     }
 }
 
@@ -406,26 +411,20 @@ impl Kernel for Butterflies<'_> {
     }
 }
 
-// Checks that a decode leaves out the quarters in which no row is used. A transform of 16 rows has two layers of eight
-// butterflies between its quarters, and four butterflies in each quarter. Two quarters hold no given row: the first two
-// at the low rate, and the last two at the high rate. In the other two quarters, no row is wanted.
-fn check_empty_quarters<'t, R: Rate<Butterflies<'t>>>(
-    rt: &impl Abort,
-    alloc: Global,
-    tables: &'t Tables,
-) {
-    let engine = Butterflies {
-        naive: Naive::new(tables),
-        forward: Cell::new(0),
-        backward: Cell::new(0),
-    };
-    let engine = after_decode::<_, R>(alloc, 8, &[], &ZEROS, engine).expect(rt, "an engine");
-    assert_eq!(rt; [engine.backward.get(), engine.forward.get()], [24, 24]);
-}
-
+// A decode leaves out the quarters in which no row is used.
 #[test]
 fn a_decode_leaves_empty_quarters_out(rt: HostRuntime) {
     let tables = Tables::new(rt.alloc()).expect(&rt, "tables");
-    check_empty_quarters::<LowRate<Butterflies<'_>>>(&rt, rt.alloc(), &tables);
-    check_empty_quarters::<HighRate<Butterflies<'_>>>(&rt, rt.alloc(), &tables);
+    for (counts, original, recovery, butterflies) in OVER_SIXTEEN_ROWS {
+        let engine = Butterflies {
+            naive: Naive::new(&tables),
+            forward: Cell::new(0),
+            backward: Cell::new(0),
+        };
+        let engine = after_decode(rt.alloc(), counts, original, recovery, engine).expect(
+            &rt,
+            "an engine",
+        );
+        assert_eq!(rt; [engine.backward.get(), engine.forward.get()], butterflies);
+    }
 }

@@ -2,11 +2,7 @@
 #![tactic(auto)]
 
 #[cfg(test)]
-mod command_lines;
-#[cfg(test)]
 mod counting;
-#[cfg(test)]
-mod descriptions;
 #[cfg(test)]
 mod examples;
 #[cfg(test)]
@@ -16,8 +12,6 @@ mod locators;
 #[cfg(test)]
 mod messages;
 #[cfg(test)]
-mod reconstructing;
-#[cfg(test)]
 mod rows;
 #[cfg(test)]
 mod shards;
@@ -26,12 +20,6 @@ mod stripes;
 #[cfg(test)]
 mod summing;
 #[cfg(test)]
-mod syndromes;
-#[cfg(test)]
 mod tables;
 #[cfg(test)]
 mod updating;
-#[cfg(test)]
-mod verifying;
-#[cfg(test)]
-mod volumes;

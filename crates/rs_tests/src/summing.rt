@@ -5,7 +5,6 @@ use super::shards::{drawn, left};
 use super::updating::{AddCalls, Additions, lent};
 use reed_solomon_simd::engine::tables::Tables;
 use reed_solomon_simd::engine::{DefaultEngine, Engine, EngineKind};
-use reed_solomon_simd::rate::DefaultRate;
 use reed_solomon_simd::{decode_into, encode_slice};
 use std::alloc::Global;
 use std::cell::Cell;
@@ -168,9 +167,10 @@ fn an_object_adds_two_rows_at_a_time(rt: HostRuntime) {
     for (original, recovery, added, _) in FEW_LOST {
         let calls = Cell::new(AddCalls::default());
         let engine = Additions::new(&tables, &calls);
-        let engine = after_decode::<_, DefaultRate<Additions<'_>>>(
-            alloc, 4, original, recovery, engine,
-        ).expect(&rt, "an engine");
+        let engine = after_decode(alloc, (4, 4), original, recovery, engine).expect(
+            &rt,
+            "an engine",
+        );
         drop(engine);
         let wanted = AddCalls {
             one: 0,

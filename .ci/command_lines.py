@@ -1,0 +1,39 @@
+#!/usr/bin/env python3
+"""command_lines.py PROGRAM: runs each row of command_lines.txt with every engine, and checks the status and both streams."""
+import os
+import subprocess
+import sys
+from concurrent.futures import ThreadPoolExecutor
+from pathlib import Path
+
+ENGINES = ["naive", "nosimd", "avx2", "ssse3"]
+
+
+def rows():
+    """Yields the words, the status and the text of each row."""
+    for line in Path(__file__).with_suffix(".txt").read_text().splitlines():
+        if line and not line.startswith("#"):
+            words, status, text = line.split("\t")
+            yield words, int(status), text.replace("\\n", "\n")
+
+
+def difference(program, engine, row):
+    """Runs a row with an engine, and returns what is not as it has to be, or None."""
+    line, status, text = row
+    words = [engine if word == "ENGINE" else word for word in line.split(" ")]
+    done = subprocess.run([program, *words], capture_output=True, text=True)
+    wanted = (status, text, "") if status == 0 else (status, "", text)
+    got = (done.returncode, done.stdout, done.stderr)
+    return None if got == wanted else f"{' '.join(words)}: {got}, and not {wanted}"
+
+
+def main():
+    runs = [(engine, row) for engine in ENGINES for row in rows()]
+    with ThreadPoolExecutor(os.cpu_count()) as threads:
+        wrong = [text for text in threads.map(lambda run: difference(sys.argv[1], *run), runs) if text]
+    if wrong or not runs:
+        sys.exit("program: not as it has to be:\n" + "\n".join(wrong))
+    print(f"program: {len(runs)} command lines end with their status, and write what they have to")
+
+
+main()
