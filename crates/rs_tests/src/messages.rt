@@ -1,16 +1,11 @@
-//! Tests of messages of any length: the examples of doc comments, and messages that come back, which shows that the
-//! calls can allocate memory.
-use rand_chacha::ChaCha8Rng;
-use rand_core::{Rng, SeedableRng};
+//! Tests of messages of any length: the examples of doc comments.
 use reed_solomon_simd::engine::DefaultEngine;
 use reed_solomon_simd::engine::tables::Tables;
 use reed_solomon_simd::{
     Error, ShardIndex, complete, encode, join, reconstruct, shard_bytes, split,
 };
-use rs_examples::message_round_trip::{reconstruction_of_a_message, round_trip_of_a_message};
-use std::alloc::{AllocError, Global};
+use std::alloc::Global;
 use std::collections::BTreeMap;
-use std::process::Abort;
 use std::test::Fail;
 
 #[test]
@@ -98,49 +93,4 @@ fn the_fastest_engine_encodes(rt: HostRuntime) -> Result<(), Error> {
     assert_eq!(rt; recovery.len(), 1);
     assert_eq!(rt; recovery[0].as_slice(), [21, 42].as_slice());
     Ok(())
-}
-
-// Returns a file of `length` bytes that the generator ChaCha8 draws.
-fn file_of(alloc: Global, length: usize) -> Result<Vec<u8>, AllocError> {
-    let mut rng = ChaCha8Rng::from_seed([41; 32]);
-    let mut bytes: Vec<u8> = Vec::from_elem(alloc, 0, length)?;
-    rng.fill_bytes(bytes.as_mut_slice());
-    Ok(bytes)
-}
-
-// The counts of originals and recovery shards, and the indexes of lost shards of both kinds.
-type Loss<'a> = (usize, usize, &'a [usize], &'a [usize]);
-
-const LOSSES: [Loss<'static>; 4] = [
-    (1, 1, &[0], &[]),
-    (2, 3, &[0, 1], &[1]),
-    (10, 4, &[0, 3, 9], &[2]),
-    (100, 30, &[], &[0, 29]),
-];
-
-// Checks that a file of this length comes back after each loss.
-fn check_length(rt: &impl Abort, alloc: Global, length: usize, engine: DefaultEngine<'_>) {
-    let file = file_of(alloc, length).expect(rt, "a file");
-    for (k, r, own, other) in LOSSES {
-        let decoded = round_trip_of_a_message(alloc, &file, k, r, own, other, engine).expect(
-            rt,
-            "a decoded file",
-        );
-        let made = reconstruction_of_a_message(alloc, &file, k, r, own, other, engine).expect(
-            rt,
-            "a reconstructed file",
-        );
-        let outcome = (length, k, r, decoded == file, made == file);
-        assert_eq!(rt; outcome, (length, k, r, true, true));
-    }
-}
-
-#[test]
-fn files_of_any_length_come_back(rt: HostRuntime) {
-    let alloc = rt.alloc();
-    let tables = Tables::new(alloc).expect(&rt, "tables");
-    let engine = DefaultEngine::fastest(&tables);
-    for length in [0, 1, 2, 3, 999, 1000, 1001, 100_003] {
-        check_length(&rt, alloc, length, engine);
-    }
 }

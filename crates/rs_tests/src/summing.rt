@@ -1,6 +1,6 @@
 //! How a decode calls its engine if it restores an original by a direct sum. Its contract states the bytes for each
 //! lawful engine. How often it calls its engine is in no contract.
-use super::counting::{FEW_LOST, FourCalls, after_decode};
+use super::counting::{FEW_LOST, after_decode};
 use super::shards::{drawn, left};
 use super::updating::{AddCalls, Additions, lent};
 use reed_solomon_simd::engine::tables::Tables;
@@ -180,28 +180,5 @@ fn an_object_adds_two_rows_at_a_time(rt: HostRuntime) {
             locators: 1,
         };
         assert_eq!(rt; calls.get(), wanted);
-    }
-}
-
-// An engine with the four calls that every engine has sums by its products, and every engine of this library restores
-// the same original: with few and with many chunks, and with factors below 256 and above.
-#[test]
-fn each_engine_sums_to_the_same_original(rt: HostRuntime) {
-    let tables = Tables::new(rt.alloc()).expect(&rt, "tables");
-    for original_count in [2, 3, 10, 300] {
-        for size in [62, 64, 512, 576, 640, 2112] {
-            let loss = Loss::of_one(original_count, size);
-            let engine = FourCalls::new(&tables);
-            assert!(rt; are_restored(&rt, rt.alloc(), &tables, loss, engine));
-            for kind in [
-                EngineKind::Naive,
-                EngineKind::NoSimd,
-                EngineKind::Ssse3,
-                EngineKind::Avx2,
-            ] {
-                let engine = DefaultEngine::new(&tables, kind);
-                assert!(rt; are_restored(&rt, rt.alloc(), &tables, loss, engine));
-            }
-        }
     }
 }

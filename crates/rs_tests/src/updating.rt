@@ -1,18 +1,12 @@
-//! How `update_into` calls its engine, and what it makes of sizes with and without whole chunks. Its contract states
-//! the bytes for each lawful engine. How often it calls its engine is in no contract.
-use super::counting::FourCalls;
+//! How `update_into` calls its engine. Its contract states the bytes for each lawful engine. How often it calls its
+//! engine is in no contract.
 use super::shards::drawn;
 use reed_solomon_simd::engine::tables::Tables;
-use reed_solomon_simd::engine::{
-    DefaultEngine, Engine, EngineKind, GfElement, Naive, ShardsRefMut, Steps, TwoLogarithms,
-};
-use reed_solomon_simd::{Error, encode_slice, update_into};
+use reed_solomon_simd::engine::{Engine, GfElement, Naive, ShardsRefMut, Steps, TwoLogarithms};
+use reed_solomon_simd::{Error, update_into};
 use std::alloc::Global;
 use std::cell::Cell;
 use std::process::Abort;
-
-// Sizes of shards: without a whole chunk, with and without a tail, and with one to three strips of 2048 bytes.
-const SIZES: [usize; 8] = [2, 62, 64, 66, 2046, 2048, 2050, 4226];
 
 /// The plain engine, which counts the calls that add rows or compute a locator.
 #[derive(Drop)]
@@ -142,41 +136,18 @@ pub fn lent(alloc: Global, shards: &mut [Vec<u8>]) -> Result<Vec<&mut [u8]>, Err
     Ok(rooms)
 }
 
-// Changes original 1 of three originals, and returns whether the updated recovery shards are those of the new message.
-fn is_updated<E: Engine>(
-    rt: &impl Abort,
-    alloc: Global,
-    tables: &Tables,
-    recovery_count: usize,
-    size: usize,
-    engine: E,
-) -> bool {
-    let coding = DefaultEngine::new(tables, EngineKind::NoSimd);
-    let old = drawn(alloc, 3, size).expect(rt, "a message");
-    let mut new = drawn(alloc, 3, size).expect(rt, "a message");
-    if let Some(changed) = new.get_mut(1) {
-        for byte in changed.iter_mut() {
-            *byte = byte.wrapping_mul(3) ^ 1;
-        }
-    }
-    let before = old.get(1).expect(rt, "an original");
-    let after = new.get(1).expect(rt, "an original");
-    let mut updated = encode_slice(alloc, 3, recovery_count, &old, coding).expect(rt, "shards");
-    let encoded = encode_slice(alloc, 3, recovery_count, &new, coding).expect(rt, "shards");
-    let mut rooms = lent(alloc, &mut updated).expect(rt, "rooms");
-    update_into(
-        alloc,
-        3,
-        recovery_count,
-        1,
-        before,
-        after,
-        &mut rooms,
-        engine,
-    )
-    .expect(rt, "an update");
+// Changes original 1 of three originals, and returns how often the update of three recovery shards calls its engine.
+fn calls_of_update(rt: &impl Abort, alloc: Global, tables: &Tables, size: usize) -> AddCalls {
+    let calls = Cell::new(AddCalls::default());
+    let engine = Additions::new(tables, &calls);
+    let shards = drawn(alloc, 2, size).expect(rt, "shards");
+    let mut recovery = drawn(alloc, 3, size).expect(rt, "recovery shards");
+    let mut rooms = lent(alloc, &mut recovery).expect(rt, "rooms");
+    let before = shards.get(0).expect(rt, "an original");
+    let after = shards.get(1).expect(rt, "an original");
+    update_into(alloc, 3, 3, 1, before, after, &mut rooms, engine).expect(rt, "an update");
     drop(rooms);
-    updated == encoded
+    calls.get()
 }
 
 // Each strip with a whole chunk is added to each recovery shard in place.
@@ -192,25 +163,7 @@ fn an_update_calls_its_engine_so_often(rt: HostRuntime) {
         (2050, 1),
         (4226, 3),
     ] {
-        let calls = Cell::new(AddCalls::default());
-        let engine = Additions::new(&tables, &calls);
-        let updated = is_updated(&rt, rt.alloc(), &tables, 3, size, engine);
-        assert_eq!(rt;
-            (size, updated, calls.get().in_place),
-            (size, true, 3 * strips)
-        );
-    }
-}
-
-// An engine with the four calls that every engine has adds in place by its products.
-#[test]
-fn an_update_with_four_calls_gives_the_same_shards(rt: HostRuntime) {
-    let tables = Tables::new(rt.alloc()).expect(&rt, "tables");
-    for size in SIZES {
-        for recovery_count in [1, 2, 3] {
-            let engine = FourCalls::new(&tables);
-            let updated = is_updated(&rt, rt.alloc(), &tables, recovery_count, size, engine);
-            assert_eq!(rt; (size, updated), (size, true));
-        }
+        let calls = calls_of_update(&rt, rt.alloc(), &tables, size);
+        assert_eq!(rt; (size, calls.in_place), (size, 3 * strips));
     }
 }
