@@ -21,11 +21,11 @@
  * rs_encode and rs_encode_shards take memory for their rows alone. Beside its rows, rs_decode takes a list of 8 bytes
  * for each original. rs_decode_shards, rs_verify and rs_reconstruct take two lists of references to shards, 24 bytes
  * for each of the k + r shards. rs_reconstruct also takes 16 bytes for each wanted shard, and 1 byte for each of the k
- * + r shards and for each row of a decode. If few shards are lost or wanted, rs_decode_shards and rs_reconstruct take
- * no rows, but 5 bytes for each row of a decode, 2 bytes for each original, and 16 bytes for each lost shard.
- * rs_update takes 2 bytes for each recovery shard, and 5 bytes for each row of a decode. A decode without recovery
- * shards takes no memory. If an entry of an array of shards or rooms has NULL as its pointer, the call makes a copy of
- * this array, and fails with RS_OUT_OF_MEMORY before all other checks if it cannot allocate the copy.
+ * + r shards and for each row of a decode. If few shards are lost or wanted, rs_decode, rs_decode_shards and
+ * rs_reconstruct take no rows, but 5 bytes for each row of a decode, 2 bytes for each original, and 16 bytes for each
+ * lost shard. rs_update takes 2 bytes for each recovery shard, and 5 bytes for each row of a decode. A decode without
+ * recovery shards takes no memory. If an entry of an array of shards or rooms has NULL as its pointer, the call makes a
+ * copy of this array, and fails with RS_OUT_OF_MEMORY before all other checks if it cannot allocate the copy.
  *
  * A call that encodes, decodes, verifies, reconstructs or updates takes its first blocks from about 4 KB of its stack.
  * It allocates the others by malloc, or by an allocator of the program. A program that must not allocate uses the
@@ -172,9 +172,9 @@ uint32_t rs_supports(size_t original_count, size_t recovery_count);
  * write zeros to *fault. If they fail, they write nothing but *fault. The comment of each call lists its faults in the
  * order in which the call checks for them. This order is proved, except for the place of RS_OUT_OF_MEMORY: the
  * contracts allow it at any place after the checks of the counts, of the lengths of buffers and of the size of the
- * first shard that the call looks at. There is one more place: if an entry of an array has NULL as its pointer, the
- * call copies this array before it checks anything, even the tables, and fails with RS_OUT_OF_MEMORY if it cannot
- * allocate the copy.
+ * first shard that the call looks at. rs_update is stricter: it can return RS_OUT_OF_MEMORY only instead of RS_OK.
+ * There is one more place: if an entry of an array has NULL as its pointer, the call copies this array before it checks
+ * anything, even the tables, and fails with RS_OUT_OF_MEMORY if it cannot allocate the copy.
  *
  * Before all checks that these comments list, each call checks the tables. It fails with RS_TABLES_NOT_MADE if
  * rs_tables_make has not filled them: for example, if they hold only zeros, or if a version with another layout, such

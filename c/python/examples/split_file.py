@@ -1,7 +1,8 @@
 """Splits a file into k + r parts, any k of which give it back. Each part has a digest, so damaged parts are found and
 left out.
 
-python3 split_file.py split FILE FOLDER K R python3 split_file.py join FOLDER FILE
+    python3 split_file.py split FILE FOLDER K R
+    python3 split_file.py join FOLDER FILE
 """
 import hashlib
 import struct
