@@ -220,8 +220,7 @@ const LOW_AND_HIGH: [(usize, usize); 2] = [(4, 3), (4, 4)];
 // calls `mul` at most: once for each given shard and once for each restored shard.
 type Decode<'a> = (&'a [Item], &'a [Item], [u32; 3], u32);
 
-// All shards belong to one message of four originals. A decode transforms once to check and
-// once to restore.
+// All shards belong to one message of four originals. A decode transforms once to check and once to restore.
 const DECODES: [Decode<'static>; 3] = [
     (
         &[(3, [3, 0]), (1, [0, 0])],

@@ -432,3 +432,15 @@ fn examples_of_objects(rt: HostRuntime) -> Result<(), Fail> {
     a_decode_needs_as_many_shards_as_originals(&rt, alloc, engine)?;
     a_decoder_decodes_twice(&rt, alloc, engine)
 }
+
+#[test]
+fn the_fastest_engine_encodes(rt: HostRuntime) -> Result<(), Error> {
+    let alloc = rt.alloc();
+    let tables = Tables::new(alloc)?;
+    let engine = DefaultEngine::fastest(&tables);
+    let original: [&[u8]; 3] = [&[1, 2], &[4, 8], &[16, 32]];
+    let recovery = encode(alloc, 3, 1, original.into_iter(), engine)?;
+    assert_eq!(rt; recovery.len(), 1);
+    assert_eq!(rt; recovery[0].as_slice(), [21, 42].as_slice());
+    Ok(())
+}

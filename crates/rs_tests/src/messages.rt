@@ -82,15 +82,3 @@ fn two_reconstructed_originals_are_completed(rt: HostRuntime) {
     let message = join(alloc, &originals, 10).expect(&rt, "a message");
     assert_eq!(rt; message.as_slice(), b"ten bytes.".as_slice());
 }
-
-#[test]
-fn the_fastest_engine_encodes(rt: HostRuntime) -> Result<(), Error> {
-    let alloc = rt.alloc();
-    let tables = Tables::new(alloc)?;
-    let engine = DefaultEngine::fastest(&tables);
-    let original: [&[u8]; 3] = [&[1, 2], &[4, 8], &[16, 32]];
-    let recovery = encode(alloc, 3, 1, original.into_iter(), engine)?;
-    assert_eq!(rt; recovery.len(), 1);
-    assert_eq!(rt; recovery[0].as_slice(), [21, 42].as_slice());
-    Ok(())
-}

@@ -1,10 +1,9 @@
 //! Tests of rows that are known by hand: transforms and products of each engine, and rows that are lent, cleared and
 //! summed. The contracts state this for all rows, and these tests show numbers.
-use super::counting::FourCalls;
 use reed_solomon_simd::engine::tables::{Tables, get_exp_log};
 use reed_solomon_simd::engine::utils::xor_within;
 use reed_solomon_simd::engine::{
-    DefaultEngine, Engine, EngineKind, GfElement, Naive, ShardsRefMut, Steps, TwoLogarithms,
+    DefaultEngine, Engine, EngineKind, GfElement, Naive, ShardsRefMut, Steps,
 };
 use std::process::Abort;
 
@@ -65,74 +64,6 @@ fn transforms_and_products_of_each_engine(rt: HostRuntime) {
         for log_m in [0, log_2, 65535] {
             check_products(&rt, engine, Naive::new(&tables), log_m);
         }
-    }
-}
-
-// Returns a row of chunks that differ.
-fn mixed_row(first: u8) -> [[u8; 64]; 10] {
-    let mut row = [[0; 64]; 10];
-    for k in 0..10 {
-        row[k] = mixed((k as u8).wrapping_mul(2).wrapping_add(first));
-    }
-    row
-}
-
-// Adds a row of 0 to 10 chunks to two rows, and checks both against the sums of the plain engine.
-fn check_sums_to_two<E: Engine>(
-    rt: &impl Abort,
-    engine: &E,
-    naive: Naive<'_>,
-    logs: TwoLogarithms,
-) {
-    let y = mixed_row(3);
-    let mut steps = Steps::new();
-    for count in 0..11 {
-        let mut first = mixed_row(101);
-        let mut second = mixed_row(201);
-        let mut first_wanted = first;
-        let mut second_wanted = second;
-        let added = &y[..count];
-        engine.mul_add_to_two(
-            &mut steps,
-            &mut first[..count],
-            &mut second[..count],
-            added,
-            logs,
-        );
-        naive.mul_add(&mut steps, &mut first_wanted[..count], added, logs.first);
-        naive.mul_add(&mut steps, &mut second_wanted[..count], added, logs.second);
-        assert_eq!(rt; (count, first), (count, first_wanted));
-        assert_eq!(rt; (count, second), (count, second_wanted));
-    }
-}
-
-// Each engine, and one with the four calls that every engine has, adds a row to two rows: with the factors zero and
-// one, with factors below 256, and with others.
-#[test]
-fn a_row_is_added_to_two(rt: HostRuntime) {
-    let tables = Tables::new(rt.alloc()).expect(&rt, "tables");
-    let naive = Naive::new(&tables);
-    let t = get_exp_log(&tables);
-    for (first, second) in [
-        (65535, 65535),
-        (65535, t.log[2]),
-        (t.log[2], 65535),
-        (0, t.log[255]),
-        (t.log[255], t.log[2]),
-        (t.log[2], t.log[256]),
-        (t.log[40000], t.log[255]),
-        (t.log[256], t.log[40000]),
-    ] {
-        let logs = TwoLogarithms { first, second };
-        for kind in [
-            EngineKind::Naive,
-            EngineKind::NoSimd,
-            EngineKind::Avx2,
-            EngineKind::Ssse3,
-        ] {
-            check_sums_to_two(&rt, &DefaultEngine::new(&tables, kind), naive, logs);
-        }
-        check_sums_to_two(&rt, &FourCalls::new(&tables), naive, logs);
     }
 }
 

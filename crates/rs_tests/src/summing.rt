@@ -1,4 +1,4 @@
-//! How a decode calls its engine if it restores an original by a direct sum. Its contract states the bytes for each
+//! How a decode calls its engine if it restores originals by direct sums, or from syndromes. Its contract states the bytes for each
 //! lawful engine. How often it calls its engine is in no contract.
 use super::counting::{FEW_LOST, after_decode};
 use super::shards::{drawn, left};
@@ -21,7 +21,7 @@ struct Loss {
 
 impl Loss {
     // One lost original of a message with four recovery shards.
-    fn of_one(originals: usize, size: usize) -> Loss {
+    fn one_lost(originals: usize, size: usize) -> Loss {
         Loss {
             originals,
             recovery: 4,
@@ -40,7 +40,7 @@ fn indexes(alloc: Global, from: usize, to: usize) -> Vec<usize> {
     indexes
 }
 
-// As many rooms as are given.
+// Returns `count` rooms of `size` bytes.
 fn rooms(rt: &impl Abort, alloc: Global, count: usize, size: usize) -> Vec<Vec<u8>> {
     let mut rooms = Vec::new(alloc);
     for _ in 0..count {
@@ -106,7 +106,7 @@ fn a_sum_calls_its_engine_so_often(rt: HostRuntime) {
     ] {
         let calls = Cell::new(AddCalls::default());
         let engine = Additions::new(&tables, &calls);
-        let loss = Loss::of_one(original_count, size);
+        let loss = Loss::one_lost(original_count, size);
         let restored = are_restored(&rt, rt.alloc(), &tables, loss, engine);
         let wanted = AddCalls {
             one,
