@@ -23,7 +23,9 @@ mod linked {
         fn ec_encode_data(size: i32, k: i32, rows: i32, tables: *mut u8, from: *mut *mut u8, to: *mut *mut u8);
         fn ec_encode_data_avx2(size: i32, k: i32, rows: i32, tables: *mut u8, from: *mut *mut u8, to: *mut *mut u8);
         fn ec_encode_data_update(size: i32, k: i32, rows: i32, index: i32, tables: *mut u8, change: *mut u8, to: *mut *mut u8);
-        fn ec_encode_data_update_avx2(size: i32, k: i32, rows: i32, index: i32, tables: *mut u8, change: *mut u8, to: *mut *mut u8);
+        fn ec_encode_data_update_avx2(
+            size: i32, k: i32, rows: i32, index: i32, tables: *mut u8, change: *mut u8, to: *mut *mut u8,
+        );
     }
 
     /// The functions of ISA-L that multiply: those that it chooses on this machine, or those for AVX2.
@@ -56,7 +58,8 @@ mod linked {
         change: Shards,
     }
 
-    /// Makes the side, or returns None if the counts are too large for ISA-L, or if the machine has no AVX2.
+    /// Makes the side, or returns None if the counts are too large for ISA-L, or if `who` is `isal-avx2` and the machine has no
+    /// AVX2.
     pub fn side(who: &str, work: &'static Work) -> Option<Box<dyn Side>> {
         let code = Code::named(who)?;
         let Row { call, k, r, size } = work.row;
@@ -82,7 +85,8 @@ mod linked {
             let mut from: Vec<*mut u8> = (0..k).map(|index| self.work.originals.pointer(index)).collect();
             // SAFETY: each pointer has `size` bytes.
             unsafe {
-                (self.code.encode)(size as i32, k as i32, count as i32, self.tables.as_mut_ptr(), from.as_mut_ptr(), to.as_mut_ptr());
+                let tables = self.tables.as_mut_ptr();
+                (self.code.encode)(size as i32, k as i32, count as i32, tables, from.as_mut_ptr(), to.as_mut_ptr());
             }
         }
 
