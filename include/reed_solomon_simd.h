@@ -23,9 +23,9 @@
  * for each of the k + r shards. rs_reconstruct also takes 16 bytes for each wanted shard, and 1 byte for each of the k
  * + r shards. If few shards are lost or wanted, rs_decode, rs_decode_shards and rs_reconstruct take no rows. All calls
  * but encodes also take a few bytes for each row of a decode and for each lost shard. The document C.md has a table of
- * all this memory. A decode without recovery shards takes no memory. If an entry of an array of shards or rooms has NULL
- * as its pointer, the call makes a copy of this array, and fails with RS_OUT_OF_MEMORY before all other checks if it
- * cannot allocate the copy.
+ * all this memory. A decode without recovery shards takes no memory. If an entry of an array of shards or rooms has
+ * NULL as its pointer, the call makes a copy of this array, and fails with RS_OUT_OF_MEMORY before all other checks if
+ * it cannot allocate the copy.
  *
  * A call that encodes, decodes, verifies, reconstructs or updates takes its first blocks from about 4 KB of its stack.
  * It allocates the others by malloc, or by an allocator of the program. A program that must not allocate uses the

@@ -24,7 +24,13 @@ mod linked {
         fn ec_encode_data_avx2(size: i32, k: i32, rows: i32, tables: *mut u8, from: *mut *mut u8, to: *mut *mut u8);
         fn ec_encode_data_update(size: i32, k: i32, rows: i32, index: i32, tables: *mut u8, change: *mut u8, to: *mut *mut u8);
         fn ec_encode_data_update_avx2(
-            size: i32, k: i32, rows: i32, index: i32, tables: *mut u8, change: *mut u8, to: *mut *mut u8,
+            size: i32,
+            k: i32,
+            rows: i32,
+            index: i32,
+            tables: *mut u8,
+            change: *mut u8,
+            to: *mut *mut u8,
         );
     }
 
