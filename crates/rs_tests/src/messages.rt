@@ -1,9 +1,10 @@
-//! Tests of messages of any length: the examples of doc comments.
+//! Tests of messages of any length: the examples of doc comments, and a message that is filled up with zeros.
 use reed_solomon_simd::engine::DefaultEngine;
 use reed_solomon_simd::engine::tables::Tables;
 use reed_solomon_simd::{
     Error, ShardIndex, complete, encode, join, reconstruct, shard_bytes, split,
 };
+use rs_examples::message_round_trip::{reconstruction_of_a_message, round_trip_of_a_message};
 use std::alloc::Global;
 use std::collections::BTreeMap;
 use std::test::Fail;
@@ -81,4 +82,17 @@ fn two_reconstructed_originals_are_completed(rt: HostRuntime) {
     let originals = complete(alloc, 3, &received, restored).expect(&rt, "originals");
     let message = join(alloc, &originals, 10).expect(&rt, "a message");
     assert_eq!(rt; message.as_slice(), b"ten bytes.".as_slice());
+}
+
+// The message has one byte, so the last byte of its original, and both other originals, are filled up with zeros.
+#[test]
+fn a_message_of_one_byte_comes_back(rt: HostRuntime) -> Result<(), Fail> {
+    let alloc = rt.alloc();
+    let tables = Tables::new(alloc)?;
+    let engine = DefaultEngine::fastest(&tables);
+    let decoded = round_trip_of_a_message(alloc, &[7], 3, 2, &[0, 2], &[], engine)?;
+    let made = reconstruction_of_a_message(alloc, &[7], 3, 2, &[0], &[1], engine)?;
+    assert_eq!(rt; decoded.as_slice(), [7].as_slice());
+    assert_eq!(rt; made.as_slice(), [7].as_slice());
+    Ok(())
 }
