@@ -21,8 +21,8 @@
  * rs_encode and rs_encode_shards take memory for their rows alone. Beside its rows, rs_decode takes a list of 8 bytes
  * for each original. rs_decode_shards, rs_verify and rs_reconstruct take two lists of references to shards, 24 bytes
  * for each of the k + r shards. rs_reconstruct also takes 16 bytes for each wanted shard, and 1 byte for each of the k
- * + r shards. If few shards are lost or wanted, rs_decode, rs_decode_shards and rs_reconstruct take no rows. A call that
- * does not only encode also takes a few bytes for each row of a decode and for each lost shard. C.md has a table of all
+ * + r shards. If few shards are lost or wanted, rs_decode, rs_decode_shards and rs_reconstruct take no rows. Most calls
+ * that do not encode also take a few bytes for each row of a decode and for each lost shard. C.md has a table of all
  * this memory. A decode without recovery shards takes no memory. If an entry of an array of shards or rooms has
  * NULL as its pointer, the call makes a copy of this array, and fails with RS_OUT_OF_MEMORY before all other checks if
  * it cannot allocate the copy.
