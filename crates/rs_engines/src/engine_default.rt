@@ -1,6 +1,7 @@
 //! The engine that is chosen by name when the program runs.
 use crate::engine_nosimd::NoSimd;
 use crate::engine_shuffle::{Avx2, Ssse3};
+use rs_field::engine::kernel::FourRows;
 use rs_field::engine::tables::Tables;
 use rs_field::engine::{Engine, GfElement, Naive, ShardsRefMut, Steps, TwoLogarithms};
 use std::fmt;
@@ -279,6 +280,37 @@ impl Engine for DefaultEngine<'_> {
             Self::NoSimd(engine) => engine.ifft_given(steps, data, pos, given, skew_delta),
             Self::Avx2(engine) => engine.ifft_given(steps, data, pos, given, skew_delta),
             Self::Ssse3(engine) => engine.ifft_given(steps, data, pos, given, skew_delta),
+        }
+    }
+
+    fn add_ifft_of_two(
+        &self,
+        steps: &mut Steps,
+        x: &mut [[u8; 64]],
+        y0: &[[u8; 64]],
+        y1: &[[u8; 64]],
+        skew_delta: usize,
+    ) -> bool {
+        match self {
+            Self::Naive(engine) => engine.add_ifft_of_two(steps, x, y0, y1, skew_delta),
+            Self::NoSimd(engine) => engine.add_ifft_of_two(steps, x, y0, y1, skew_delta),
+            Self::Avx2(engine) => engine.add_ifft_of_two(steps, x, y0, y1, skew_delta),
+            Self::Ssse3(engine) => engine.add_ifft_of_two(steps, x, y0, y1, skew_delta),
+        }
+    }
+
+    fn add_ifft_of_four(
+        &self,
+        steps: &mut Steps,
+        x: &mut [[u8; 64]],
+        y: FourRows<'_>,
+        skew_delta: usize,
+    ) -> bool {
+        match self {
+            Self::Naive(engine) => engine.add_ifft_of_four(steps, x, y, skew_delta),
+            Self::NoSimd(engine) => engine.add_ifft_of_four(steps, x, y, skew_delta),
+            Self::Avx2(engine) => engine.add_ifft_of_four(steps, x, y, skew_delta),
+            Self::Ssse3(engine) => engine.add_ifft_of_four(steps, x, y, skew_delta),
         }
     }
 

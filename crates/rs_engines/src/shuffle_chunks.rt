@@ -5,13 +5,13 @@ ghost use Rattle.rs_field.specs.words.Tables.{times_factor};
 ghost use Rattle.rs_field.specs.words.Field.{product};
 ghost use Rattle.rs_field.specs.rows.Rows.{symbol};
 ghost use Rattle.rs_field.specs.words.Products.{IsNibbleBytes};
-ghost use Rattle.rs_field.specs.rows.Pairs.{at_two_symbols};
-ghost use Rattle.rs_field.specs.rows.TwoLayers.{at_four_symbols};
+ghost use Rattle.rs_field.specs.rows.Pairs.{at_two_added, at_two_symbols};
+ghost use Rattle.rs_field.specs.rows.TwoLayers.{at_four_added, at_four_symbols};
 
 use crate::butterflies::Butterflies;
 use crate::byte_vector::ByteVector;
 use crate::factors::{Factor, ThreeFactors};
-use crate::word_lanes::{put_words, times, words_at};
+use crate::word_lanes::{add_words, put_words, times, words_at};
 use rs_field::engine::tables::Multiply128lutT;
 
 // Multiplies as many symbols of a chunk as a vector has lanes, from symbol `at` on.
@@ -248,5 +248,122 @@ pub fn four_chunks<V: ByteVector, D: Butterflies, F02: Factor, F01: Factor, F23:
     lanes_of_four::<V, D, F02, F01, F23>(c0, c1, c2, c3, 0, factors);
     if V::LANES < 32 {
         lanes_of_four::<V, D, F02, F01, F23>(c0, c1, c2, c3, 16, factors);
+    }
+}
+
+// Adds to as many symbols of two chunks as a vector has lanes, from symbol `at` on, what a butterfly makes of two other
+// chunks.
+#[inline(always)]
+fn lanes_of_two_added<V: ByteVector, D: Butterflies, F: Factor>(
+    c0: &mut [u8; 64],
+    c1: &mut [u8; 64],
+    y0: &[u8; 64],
+    y1: &[u8; 64],
+    at: usize,
+    factor: F,
+)
+    requires { at + V.LANES ≤ 32 }
+    ensures added { (i s : ℕ) → i < V.LANES → s ≡ at + i
+        → at_two_added s (D.two (F.log factor)) y0.now y1.now c0.old c1.old c0.new c1.new }
+    ensures kept_0 { (s : ℕ) → s < 32 → (s < at) ⊎ (at + V.LANES ≤ s)
+        → symbol c0.new s ≡ symbol c0.old s }
+    ensures kept_1 { (s : ℕ) → s < 32 → (s < at) ⊎ (at + V.LANES ≤ s)
+        → symbol c1.new s ≡ symbol c1.old s }
+{
+    let x0 = words_at::<V>(y0, at);
+    let x1 = words_at::<V>(y1, at);
+    let (z0, z1) = D::of_two(x0, x1, factor);
+    add_words(z0, c0, at);
+    add_words(z1, c1, at);
+}
+
+/// Adds to two chunks what a butterfly makes of two other chunks.
+#[inline(always)]
+pub fn two_chunks_added<V: ByteVector, D: Butterflies, F: Factor>(
+    c0: &mut [u8; 64],
+    c1: &mut [u8; 64],
+    y0: &[u8; 64],
+    y1: &[u8; 64],
+    factor: F,
+)
+    ensures { (s : ℕ) → s < 32
+        → at_two_added s (D.two (F.log factor)) y0.now y1.now c0.old c1.old c0.new c1.new }
+{
+    lanes_of_two_added::<V, D, F>(c0, c1, y0, y1, 0, factor);
+    if V::LANES < 32 {
+        lanes_of_two_added::<V, D, F>(c0, c1, y0, y1, 16, factor);
+    }
+}
+
+/// Four chunks that are only read.
+#[derive(Clone, Copy)]
+pub struct FourChunks<'a> {
+    /// The first chunk.
+    pub chunk_0: &'a [u8; 64],
+    /// The second chunk.
+    pub chunk_1: &'a [u8; 64],
+    /// The third chunk.
+    pub chunk_2: &'a [u8; 64],
+    /// The fourth chunk.
+    pub chunk_3: &'a [u8; 64],
+}
+
+// Adds to as many symbols of four chunks as a vector has lanes, from symbol `at` on, what two layers of butterflies
+// make of four other chunks.
+#[inline(always)]
+fn lanes_of_four_added<V: ByteVector, D: Butterflies, F02: Factor, F01: Factor, F23: Factor>(
+    c0: &mut [u8; 64],
+    c1: &mut [u8; 64],
+    c2: &mut [u8; 64],
+    c3: &mut [u8; 64],
+    y: FourChunks<'_>,
+    at: usize,
+    factors: ThreeFactors<F02, F01, F23>,
+)
+    requires { at + V.LANES ≤ 32 }
+    ensures added { (i s : ℕ) → i < V.LANES → s ≡ at + i
+        → at_four_added s
+        (D.four (F02.log factors.f02) (F01.log factors.f01) (F23.log factors.f23))
+        y.entry.chunk_0.now y.entry.chunk_1.now y.entry.chunk_2.now y.entry.chunk_3.now
+        c0.old c1.old c2.old c3.old c0.new c1.new c2.new c3.new }
+    ensures kept_0 { (s : ℕ) → s < 32 → (s < at) ⊎ (at + V.LANES ≤ s)
+        → symbol c0.new s ≡ symbol c0.old s }
+    ensures kept_1 { (s : ℕ) → s < 32 → (s < at) ⊎ (at + V.LANES ≤ s)
+        → symbol c1.new s ≡ symbol c1.old s }
+    ensures kept_2 { (s : ℕ) → s < 32 → (s < at) ⊎ (at + V.LANES ≤ s)
+        → symbol c2.new s ≡ symbol c2.old s }
+    ensures kept_3 { (s : ℕ) → s < 32 → (s < at) ⊎ (at + V.LANES ≤ s)
+        → symbol c3.new s ≡ symbol c3.old s }
+{
+    let x0 = words_at::<V>(y.chunk_0, at);
+    let x1 = words_at::<V>(y.chunk_1, at);
+    let x2 = words_at::<V>(y.chunk_2, at);
+    let x3 = words_at::<V>(y.chunk_3, at);
+    let (z0, z1, z2, z3) = D::of_four(x0, x1, x2, x3, factors);
+    add_words(z0, c0, at);
+    add_words(z1, c1, at);
+    add_words(z2, c2, at);
+    add_words(z3, c3, at);
+}
+
+/// Adds to four chunks what two layers of butterflies make of four other chunks.
+#[inline(always)]
+pub fn four_chunks_added<V: ByteVector, D: Butterflies, F02: Factor, F01: Factor, F23: Factor>(
+    c0: &mut [u8; 64],
+    c1: &mut [u8; 64],
+    c2: &mut [u8; 64],
+    c3: &mut [u8; 64],
+    y: FourChunks<'_>,
+    factors: ThreeFactors<F02, F01, F23>,
+)
+    ensures { (s : ℕ) → s < 32
+        → at_four_added s
+        (D.four (F02.log factors.f02) (F01.log factors.f01) (F23.log factors.f23))
+        y.entry.chunk_0.now y.entry.chunk_1.now y.entry.chunk_2.now y.entry.chunk_3.now
+        c0.old c1.old c2.old c3.old c0.new c1.new c2.new c3.new }
+{
+    lanes_of_four_added::<V, D, F02, F01, F23>(c0, c1, c2, c3, y, 0, factors);
+    if V::LANES < 32 {
+        lanes_of_four_added::<V, D, F02, F01, F23>(c0, c1, c2, c3, y, 16, factors);
     }
 }

@@ -4,8 +4,8 @@ ghost use Rattle.rs_field.specs.words.Tables.{times_factor};
 ghost use Rattle.rs_field.specs.words.Field.{product};
 ghost use Rattle.rs_field.specs.rows.Rows.{byte_symbol, chunk, symbol};
 ghost use Rattle.rs_field.specs.words.Products.{IsNibbleBytes};
-ghost use Rattle.rs_field.specs.rows.Pairs.{at_two_symbols};
-ghost use Rattle.rs_field.specs.rows.TwoLayers.{at_four_symbols};
+ghost use Rattle.rs_field.specs.rows.Pairs.{at_two_added, at_two_symbols};
+ghost use Rattle.rs_field.specs.rows.TwoLayers.{at_four_added, at_four_symbols};
 ghost use Rattle.rs_engines.specs.Factors.{log_of};
 
 use crate::any_factor::{AnyFactor, bytewise};
@@ -13,9 +13,10 @@ use crate::butterflies::Butterflies;
 use crate::byte_vector::ByteVector;
 use crate::factors::{Bytewise, Factor, General, Small, ThreeFactors};
 use crate::shuffle_chunks::{
-    add_chunk, add_chunk_to_two, add_two_chunks, four_chunks, mul_chunk, two_chunks,
+    FourChunks, add_chunk, add_chunk_to_two, add_two_chunks, four_chunks, four_chunks_added,
+    mul_chunk, two_chunks, two_chunks_added,
 };
-use rs_field::engine::byte_chunks::{chunk_at, put_chunk};
+use rs_field::engine::kernel::FourRows;
 use rs_field::engine::tables::Multiply128lutT;
 
 // Two sums of rows of at most this many chunks are made one after the other.
@@ -92,6 +93,20 @@ fn add_chunks_to_two<V: ByteVector, F: Factor>(
     }
 }
 
+// Adds to each symbol of the bytes of a chunk the product of the same symbol of another chunk with a factor of class F.
+#[inline(always)]
+fn add_to_chunk_bytes<V: ByteVector, F: Factor>(x: &mut [u8], y: &[u8; 64], factor: F)
+    requires { length x.old ≡ 64 }
+    ensures length { length x.new ≡ 64 }
+    ensures sums { (s : ℕ) → s < 32
+        → symbol x.new s ≡ bit_xor (symbol x.old s) (times_factor (F.log factor) (symbol y.now s)) }
+{
+    let Some(chunk) = x.as_mut_array() else {
+        unreachable!()
+    };
+    add_chunk::<V, F>(chunk, y, factor);
+}
+
 // Adds to each symbol of the chunks of bytes the product of the same symbol of a row with a factor of class F.
 #[inline(always)]
 fn add_to_bytes<V: ByteVector, F: Factor>(x: &mut [u8], y: &[[u8; 64]], factor: F)
@@ -103,9 +118,7 @@ fn add_to_bytes<V: ByteVector, F: Factor>(x: &mut [u8], y: &[[u8; 64]], factor: 
         (times_factor (F.log factor) (symbol (chunk y.now k) s)) }
 {
     for k in 0..y.len() {
-        let mut sum = chunk_at(x, k);
-        add_chunk::<V, F>(&mut sum, &y[k], factor);
-        put_chunk(x, k, &sum);
+        add_to_chunk_bytes::<V, F>(&mut x[k * 64..k * 64 + 64], &y[k], factor);
     }
 }
 
@@ -145,6 +158,65 @@ fn four_rows<V: ByteVector, D: Butterflies, F02: Factor, F01: Factor, F23: Facto
 {
     for k in 0..x0.len() {
         four_chunks::<V, D, F02, F01, F23>(&mut x0[k], &mut x1[k], &mut x2[k], &mut x3[k], factors);
+    }
+}
+
+// Adds to two rows what a butterfly, with a factor of class F, makes of two other rows.
+#[inline(always)]
+fn two_rows_added<V: ByteVector, D: Butterflies, F: Factor>(
+    x0: &mut [[u8; 64]],
+    x1: &mut [[u8; 64]],
+    y0: &[[u8; 64]],
+    y1: &[[u8; 64]],
+    factor: F,
+)
+    requires one { length x0.old ≡ length x1.old }
+    requires two { length x0.old ≡ length y0.now }
+    requires three { length x0.old ≡ length y1.now }
+    ensures { (k s : ℕ) → k < length x0.old → s < 32
+        → at_two_added s (D.two (F.log factor)) (chunk y0.now k) (chunk y1.now k)
+        (chunk x0.old k) (chunk x1.old k) (chunk x0.new k) (chunk x1.new k) }
+{
+    for k in 0..x0.len() {
+        two_chunks_added::<V, D, F>(&mut x0[k], &mut x1[k], &y0[k], &y1[k], factor);
+    }
+}
+
+// Adds to four rows what two layers of butterflies, with factors of the classes F02, F01 and F23, make of four other
+// rows.
+fn four_rows_added<V: ByteVector, D: Butterflies, F02: Factor, F01: Factor, F23: Factor>(
+    x0: &mut [[u8; 64]],
+    x1: &mut [[u8; 64]],
+    x2: &mut [[u8; 64]],
+    x3: &mut [[u8; 64]],
+    y: FourRows<'_>,
+    factors: ThreeFactors<F02, F01, F23>,
+)
+    requires one { length x0.old ≡ length x1.old }
+    requires two { length x0.old ≡ length x2.old }
+    requires three { length x0.old ≡ length x3.old }
+    requires first { length x0.old ≡ length y.row_0.now }
+    requires second { length x0.old ≡ length y.row_1.now }
+    requires third { length x0.old ≡ length y.row_2.now }
+    requires fourth { length x0.old ≡ length y.row_3.now }
+    ensures { (k s : ℕ) → k < length x0.old → s < 32
+        → at_four_added s
+        (D.four (F02.log factors.f02) (F01.log factors.f01) (F23.log factors.f23))
+        (chunk y.entry.row_0.now k) (chunk y.entry.row_1.now k) (chunk y.entry.row_2.now k)
+        (chunk y.entry.row_3.now k)
+        (chunk x0.old k) (chunk x1.old k) (chunk x2.old k) (chunk x3.old k)
+        (chunk x0.new k) (chunk x1.new k) (chunk x2.new k) (chunk x3.new k) }
+{
+    for k in 0..x0.len() {
+        let y = FourChunks {
+            chunk_0: &y.row_0[k],
+            chunk_1: &y.row_1[k],
+            chunk_2: &y.row_2[k],
+            chunk_3: &y.row_3[k],
+        };
+        four_chunks_added::<V, D, F02, F01, F23>(
+            &mut x0[k], &mut x1[k], &mut x2[k], &mut x3[k], y, factors,
+        );
     }
 }
 
@@ -408,5 +480,69 @@ pub fn two_layers<V: ByteVector, D: Butterflies>(
             four_rows::<V, D, _, _, _>(x0, x1, x2, x3, factors)
         }
         _ => four_rows::<V, D, _, _, _>(x0, x1, x2, x3, factors),
+    }
+}
+
+/// Adds to two rows what a butterfly makes of two other rows. There is a loop over chunks for each class of factors.
+#[inline(always)]
+pub fn one_layer_added<V: ByteVector, D: Butterflies>(
+    x0: &mut [[u8; 64]],
+    x1: &mut [[u8; 64]],
+    y0: &[[u8; 64]],
+    y1: &[[u8; 64]],
+    factor: AnyFactor<'_>,
+)
+    requires one { length x0.old ≡ length x1.old }
+    requires two { length x0.old ≡ length y0.now }
+    requires three { length x0.old ≡ length y1.now }
+    ensures { (k s : ℕ) → k < length x0.old → s < 32
+        → at_two_added s (D.two (log_of factor.entry)) (chunk y0.now k) (chunk y1.now k)
+        (chunk x0.old k) (chunk x1.old k) (chunk x0.new k) (chunk x1.new k) }
+{
+    match factor {
+        AnyFactor::Zero(factor) => two_rows_added::<V, D, _>(x0, x1, y0, y1, factor),
+        AnyFactor::Small(Small { log_m, products }) => {
+            let products = &copied(products);
+            two_rows_added::<V, D, _>(x0, x1, y0, y1, Small { log_m, products })
+        }
+        AnyFactor::General(General { log_m, products }) => {
+            let products = &copied(products);
+            two_rows_added::<V, D, _>(x0, x1, y0, y1, General { log_m, products })
+        }
+    }
+}
+
+/// Adds to four rows what two layers of butterflies make of four other rows. There is a loop over chunks for three
+/// small factors. For all other combinations, the code finds the class of a factor again for each product.
+#[inline(always)]
+pub fn two_layers_added<V: ByteVector, D: Butterflies>(
+    x0: &mut [[u8; 64]],
+    x1: &mut [[u8; 64]],
+    x2: &mut [[u8; 64]],
+    x3: &mut [[u8; 64]],
+    y: FourRows<'_>,
+    factors: ThreeFactors<AnyFactor<'_>, AnyFactor<'_>, AnyFactor<'_>>,
+)
+    requires one { length x0.old ≡ length x1.old }
+    requires two { length x0.old ≡ length x2.old }
+    requires three { length x0.old ≡ length x3.old }
+    requires first { length x0.old ≡ length y.row_0.now }
+    requires second { length x0.old ≡ length y.row_1.now }
+    requires third { length x0.old ≡ length y.row_2.now }
+    requires fourth { length x0.old ≡ length y.row_3.now }
+    ensures { (k s : ℕ) → k < length x0.old → s < 32
+        → at_four_added s
+        (D.four (log_of factors.entry.f02) (log_of factors.entry.f01) (log_of factors.entry.f23))
+        (chunk y.entry.row_0.now k) (chunk y.entry.row_1.now k) (chunk y.entry.row_2.now k)
+        (chunk y.entry.row_3.now k)
+        (chunk x0.old k) (chunk x1.old k) (chunk x2.old k) (chunk x3.old k)
+        (chunk x0.new k) (chunk x1.new k) (chunk x2.new k) (chunk x3.new k) }
+{
+    match (factors.f02, factors.f01, factors.f23) {
+        (AnyFactor::Small(f02), AnyFactor::Small(f01), AnyFactor::Small(f23)) => {
+            let factors = ThreeFactors { f02, f01, f23 };
+            four_rows_added::<V, D, _, _, _>(x0, x1, x2, x3, y, factors)
+        }
+        _ => four_rows_added::<V, D, _, _, _>(x0, x1, x2, x3, y, factors),
     }
 }

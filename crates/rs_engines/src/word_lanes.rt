@@ -116,3 +116,17 @@ pub fn add<V: ByteVector>(x: Words<V>, y: Words<V>) -> Words<V>
         high: x.high.sum(y.high),
     }
 }
+
+/// Adds words to the symbols of a chunk, from symbol `at` on.
+#[inline(always)]
+pub fn add_words<V: ByteVector>(words: Words<V>, c: &mut [u8; 64], at: usize)
+    requires { at + V.LANES ≤ 32 }
+    ensures added { (i s : ℕ) → i < V.LANES → s ≡ at + i
+        → bit_xor (symbol c.old s) (symbol c.new s)
+        ≡ lane (V.bytes words.low) (V.bytes words.high) i }
+    ensures kept { (s : ℕ) → s < 32 → (s < at) ⊎ (at + V.LANES ≤ s)
+        → symbol c.new s ≡ symbol c.old s }
+{
+    let sum = add(words_at(c, at), words);
+    put_words(sum, c, at);
+}

@@ -1,8 +1,59 @@
 -- Rows that are added to the chunks of bytes, one chunk after another.
-use Rattle.std.proofs.Common.{◌≡◌, ℕ, ◌+◌, ◌<◌, ◌≤◌, ◌≢◌, List, take, drop, bit_xor, ap, ap₂, ◌∙◌, inl, inr, arith}
+use Rattle.std.proofs.Common.{◌≡◌, ℕ, ◌+◌, ◌-◌, ◌*◌, ◌<◌, ◌≤◌, ◌≢◌, ◌⊎◌, List, length, take, drop, get_or, bit_xor}
+use Rattle.std.proofs.Common.{ap, ap₂, ◌∙◌, inl, inr, arith}
 use Rattle.std.proofs.lemmas.Bool.{cases_lt}
 use Rattle.std.proofs.lemmas.Grind.{common_steps}
+use borrow.Rule.Slice.PartMut.{mid_of, put_mid}
 use Rattle.rs_field.specs.rows.Rows.{Chunks, byte_symbol, chunk, symbol}
+
+-- A byte outside a part that was written is unchanged.
+outside : (bytes part : List ℕ) (a n i : ℕ) → a + n ≤ length bytes → length part ≡ n → (i < a) ⊎ (a + n ≤ i)
+    → get_or (put_mid a n bytes part) i 0 ≡ get_or bytes i 0
+outside bytes part a n i fits same (inl before) = grind (arith, common_steps)
+outside bytes part a n i fits same (inr after) = grind (arith, common_steps)
+
+-- A byte of a part is a byte of the list.
+in_part : (bytes : List ℕ) (a n i : ℕ) → i < n → get_or (mid_of a n bytes) i 0 ≡ get_or bytes (a + i) 0
+in_part bytes a n i within = grind (arith, common_steps)
+
+-- A byte of a part that was written is what was written.
+written : (bytes part : List ℕ) (a n i : ℕ) → a + n ≤ length bytes → length part ≡ n → i < n
+    → get_or (put_mid a n bytes part) (a + i) 0 ≡ get_or part i 0
+written bytes part a n i fits same within = grind (arith, common_steps)
+
+-- The bytes of chunk k hold the symbols of chunk k.
+pub read_chunk : (bytes : List ℕ) (k s : ℕ) → s < 32
+    → symbol (mid_of (k * 64) (k * 64 + 64 - k * 64) bytes) s ≡ byte_symbol bytes k s
+read_chunk bytes k s small =
+    ap₂ (λ a b. a + 256 * b)
+    (in_part bytes (k * 64) (k * 64 + 64 - k * 64) s (omega (arith, small)))
+    (in_part bytes (k * 64) (k * 64 + 64 - k * 64) (s + 32) (omega (arith, small)))
+
+-- After chunk k was written, it holds what was written.
+pub written_chunk : (bytes part : List ℕ) (k : ℕ) → k * 64 + 64 ≤ length bytes
+    → length part ≡ k * 64 + 64 - k * 64 → (s : ℕ) → s < 32
+    → byte_symbol (put_mid (k * 64) (k * 64 + 64 - k * 64) bytes part) k s ≡ symbol part s
+written_chunk bytes part k fits long s small =
+    ap₂ (λ a b. a + 256 * b)
+    (written bytes part (k * 64) (k * 64 + 64 - k * 64) s (omega (arith, fits)) long (omega (arith, small)))
+    (written bytes part (k * 64) (k * 64 + 64 - k * 64) (s + 32) (omega (arith, fits)) long (omega (arith, small)))
+
+-- After chunk k was written, the other chunks are as before.
+pub other_chunks : (bytes part : List ℕ) (k : ℕ) → k * 64 + 64 ≤ length bytes
+    → length part ≡ k * 64 + 64 - k * 64
+    → (j s : ℕ) → s < 32 → j ≢ k
+    → byte_symbol (put_mid (k * 64) (k * 64 + 64 - k * 64) bytes part) j s ≡ byte_symbol bytes j s
+other_chunks bytes part k fits long j s small other =
+    let n : ℕ = k * 64 + 64 - k * 64 in
+    let far : (i : ℕ) → i < 64
+    → (j * 64 + i < k * 64) ⊎ (k * 64 + (k * 64 + 64 - k * 64) ≤ j * 64 + i) =
+    λ i h. elim (cases_lt j k) [
+      | inl before ↦ inl (omega (arith, before))
+      | inr from ↦ inr (omega (arith, from, other))
+    ] in
+    ap₂ (λ a b. a + 256 * b)
+    (outside bytes part (k * 64) n (j * 64 + s) (omega (arith, fits)) long (far s (omega arith)))
+    (outside bytes part (k * 64) n (j * 64 + (s + 32)) (omega (arith, fits)) long (far (s + 32) (omega arith)))
 
 -- The first chunk of a part is the chunk of the list where the part begins.
 first-of_part : (y : Chunks) (k n : ℕ) → 0 < n → chunk (take n (drop k y)) 0 ≡ chunk y k

@@ -182,7 +182,7 @@ one_used Direction.Backward used size shift f few words = λ i hi.
 
 -- ---- blocks whose parts are single rows
 
-one_row_of_part : (size : ℕ) → 1 < size → size ≤ 4 → (d : ℕ) × (size ≡ 2 ^ d) → rows_of_part size ≡ 1
+pub one_row_of_part : (size : ℕ) → 1 < size → size ≤ 4 → (d : ℕ) × (size ≡ 2 ^ d) → rows_of_part size ≡ 1
 unfolding rows_of_part is_halved
 one_row_of_part size large few power =
     elim (cases_eq size 2) [

@@ -1,19 +1,21 @@
 //! The trait of an engine.
-ghost use Rattle.std.specs.Prelude.{◌≡◌, ℕ, ◌+◌, ◌*◌, ◌%◌, ◌^◌, ◌<◌, ◌≤◌, true, length, slice_index};
+ghost use Rattle.std.specs.Prelude.{◌≡◌, ℕ, ◌+◌, ◌*◌, ◌%◌, ◌^◌, ◌<◌, ◌≤◌, true, false, length, slice_index};
 ghost use Rattle.std.specs.Prelude.{bit_xor};
 ghost use Rattle.rs_field.specs.words.Field.{product, power, log};
 ghost use Rattle.rs_field.specs.words.Tables.{times_factor};
 ghost use Rattle.rs_field.specs.rows.MarkedRows.{is_marked, OthersAreZero};
 ghost use Rattle.rs_field.specs.words.Transform.{forward};
+ghost use Rattle.rs_field.specs.rows.Added.{AreAdded, row_of_two, row_of_four};
 ghost use Rattle.rs_field.specs.rows.Rows.{byte_symbol, chunk, symbol};
 ghost use Rattle.rs_field.specs.rows.View.{word, Fits, SameExtent, SameRowsOutside, AreZero};
 ghost use Rattle.rs_field.specs.words.Locator.{IsLocator, IsLocatorBelow};
 ghost use Rattle.rs_field.specs.words.StepBounds.{LocatorCounts, TransformCounts, RowProductCounts, RowSumCounts};
-ghost use Rattle.rs_field.specs.words.StepBounds.{ByteSumCounts, TwoSumCounts};
+ghost use Rattle.rs_field.specs.words.StepBounds.{ByteSumCounts, CountsUpTo, TwoSumCounts};
 
 use super::ShardsRefMut;
 use super::byte_chunks::{chunk_at, put_chunk};
 use super::bytes::symbols_are_words;
+use super::kernel::FourRows;
 use super::marked_rows::marked_end;
 use super::sums::{TwoLogarithms, xor};
 use crate::words::{GF_MODULUS, GF_ORDER, GfElement, Steps};
@@ -25,7 +27,7 @@ use crate::words::{GF_MODULUS, GF_ORDER, GfElement, Steps};
 /// separately for each symbol. The points of the values are `skew_delta`, `skew_delta + 1` and so on. Every call
 /// succeeds and allocates nothing.
 ///
-/// A type that provides `fft`, `ifft`, `mul` and `eval_poly` is an engine. The other eight calls have default bodies.
+/// A type that provides `fft`, `ifft`, `mul` and `eval_poly` is an engine. The other ten calls have default bodies.
 pub trait Engine: Drop {
     /// Transforms the `size` rows from `pos` on forward, at `skew_delta`.
     ///
@@ -138,6 +140,57 @@ pub trait Engine: Drop {
     {
         let end = marked_end(given);
         self.ifft(steps, data, pos, given.len(), end, skew_delta);
+    }
+
+    /// Adds to two rows, which lie end to end in `x`, the rows of which `y0` and `y1` are the forward transform at
+    /// `skew_delta`, and returns true. Or returns false, and does nothing.
+    ///
+    /// An encoder reads originals with this call where they are. If the call returns false, the encoder copies them and
+    /// calls `ifft`. The default body returns false.
+    fn add_ifft_of_two(
+        &self,
+        steps: &mut Steps,
+        x: &mut [[u8; 64]],
+        y0: &[[u8; 64]],
+        y1: &[[u8; 64]],
+        skew_delta: usize,
+    ) -> bool
+        requires room { length x.old ≡ 2 * length y0.now }
+        requires same { length y1.now ≡ length y0.now }
+        requires shift { skew_delta % 2 ≡ 0 }
+        requires points { skew_delta + 2 ≤ 65536 }
+        ensures length { length x.new ≡ length x.old }
+        ensures added { result ≡ true → (k s : ℕ) → k < length y0.now → s < 32
+            → AreAdded 2 skew_delta (length y0.now) k s (row_of_two y0.now y1.now) x.old x.new }
+        ensures kept { result ≡ false → x.new ≡ x.old }
+        ensures counts { CountsUpTo 3 0 0 steps.old steps.new }
+    {
+        false
+    }
+
+    /// Adds to four rows, which lie end to end in `x`, the rows of which the rows `y` are the forward transform at
+    /// `skew_delta`, and returns true. Or returns false, and does nothing, as the default body does.
+    fn add_ifft_of_four(
+        &self,
+        steps: &mut Steps,
+        x: &mut [[u8; 64]],
+        y: FourRows<'_>,
+        skew_delta: usize,
+    ) -> bool
+        requires room { length x.old ≡ 4 * length y.row_0.now }
+        requires one { length y.row_1.now ≡ length y.row_0.now }
+        requires two { length y.row_2.now ≡ length y.row_0.now }
+        requires three { length y.row_3.now ≡ length y.row_0.now }
+        requires shift { skew_delta % 4 ≡ 0 }
+        requires points { skew_delta + 4 ≤ 65536 }
+        ensures length { length x.new ≡ length x.old }
+        ensures added { result ≡ true → (k s : ℕ) → k < length y.entry.row_0.now → s < 32
+            → AreAdded 4 skew_delta (length y.entry.row_0.now) k s (row_of_four y.entry)
+            x.old x.new }
+        ensures kept { result ≡ false → x.new ≡ x.old }
+        ensures counts { CountsUpTo 8 0 0 steps.old steps.new }
+    {
+        false
     }
 
     /// Multiplies every symbol of every chunk of a row by the generator to the power `log_m`. 65535 is the factor one.

@@ -1,9 +1,11 @@
 //! The parts of an engine that differ from engine to engine.
-ghost use Rattle.std.specs.Prelude.{◌≡◌, ℕ, ◌*◌, ◌<◌, length, bit_xor};
+ghost use Rattle.std.specs.Prelude.{◌≡◌, ℕ, ◌*◌, ◌<◌, true, false, length, bit_xor};
 ghost use Rattle.rs_field.specs.words.Field.{product, power};
 ghost use Rattle.rs_field.specs.words.Tables.{times_factor};
 ghost use Rattle.rs_field.specs.rows.Rows.{byte_symbol, chunk, symbol};
+ghost use Rattle.rs_field.specs.rows.Pairs.{IsBackwardTwo, at_two_added};
 ghost use Rattle.rs_field.specs.rows.TwoLayers.{IsForwardTwoLayers, IsBackwardTwoLayers};
+ghost use Rattle.rs_field.specs.rows.TwoLayers.{IsBackwardFour, at_four_added};
 
 use super::byte_chunks::{chunk_at, put_chunk};
 use super::sums::TwoLogarithms;
@@ -20,6 +22,19 @@ pub struct ThreeLogarithms {
     pub log_m01: GfElement,
     /// The logarithm of the factor of the butterfly on rows 2 and 3.
     pub log_m23: GfElement,
+}
+
+/// Four rows that are only read.
+#[derive(Clone, Copy)]
+pub struct FourRows<'a> {
+    /// The first row.
+    pub row_0: &'a [[u8; 64]],
+    /// The second row.
+    pub row_1: &'a [[u8; 64]],
+    /// The third row.
+    pub row_2: &'a [[u8; 64]],
+    /// The fourth row.
+    pub row_3: &'a [[u8; 64]],
 }
 
 /// The parts in which engines differ: the tables that they read, the butterflies of two rows, and the products of a
@@ -105,6 +120,63 @@ pub trait Kernel: Drop {
         self.ifft_butterfly(x2, x3, logs.log_m23);
         self.ifft_butterfly(x0, x2, logs.log_m02);
         self.ifft_butterfly(x1, x3, logs.log_m02);
+    }
+
+    /// Adds to two rows what an `ifft_butterfly` would make of the rows `y0` and `y1`, which are only read, and returns
+    /// true. Or returns false, and does nothing. All four rows have the same number of chunks.
+    ///
+    /// The default body returns false. An engine can have a body of its own, which spares a copy of `y0` and `y1`.
+    fn add_ifft_butterfly(
+        &self,
+        x0: &mut [[u8; 64]],
+        x1: &mut [[u8; 64]],
+        y0: &[[u8; 64]],
+        y1: &[[u8; 64]],
+        log_m: GfElement,
+    ) -> bool
+        requires one { length x0.old ≡ length x1.old }
+        requires two { length x0.old ≡ length y0.now }
+        requires three { length x0.old ≡ length y1.now }
+        ensures added { result ≡ true → (k s : ℕ) → k < length x0.old → s < 32
+            → at_two_added s (IsBackwardTwo log_m) (chunk y0.now k) (chunk y1.now k)
+            (chunk x0.old k) (chunk x1.old k) (chunk x0.new k) (chunk x1.new k) }
+        ensures kept_0 { result ≡ false → x0.new ≡ x0.old }
+        ensures kept_1 { result ≡ false → x1.new ≡ x1.old }
+    {
+        false
+    }
+
+    /// Adds to four rows what `ifft_two_layers` would make of the rows `y`, which are only read, and returns true. Or
+    /// returns false, and does nothing. All eight rows have the same number of chunks.
+    ///
+    /// The default body returns false. An engine can have a body of its own, which spares a copy of the rows `y`.
+    fn add_ifft_two_layers(
+        &self,
+        x0: &mut [[u8; 64]],
+        x1: &mut [[u8; 64]],
+        x2: &mut [[u8; 64]],
+        x3: &mut [[u8; 64]],
+        y: FourRows<'_>,
+        logs: ThreeLogarithms,
+    ) -> bool
+        requires one { length x0.old ≡ length x1.old }
+        requires two { length x0.old ≡ length x2.old }
+        requires three { length x0.old ≡ length x3.old }
+        requires first { length x0.old ≡ length y.row_0.now }
+        requires second { length x0.old ≡ length y.row_1.now }
+        requires third { length x0.old ≡ length y.row_2.now }
+        requires fourth { length x0.old ≡ length y.row_3.now }
+        ensures added { result ≡ true → (k s : ℕ) → k < length x0.old → s < 32
+            → at_four_added s (IsBackwardFour logs.log_m02 logs.log_m01 logs.log_m23)
+            (chunk y.entry.row_0.now k) (chunk y.entry.row_1.now k) (chunk y.entry.row_2.now k) (chunk y.entry.row_3.now k)
+            (chunk x0.old k) (chunk x1.old k) (chunk x2.old k) (chunk x3.old k)
+            (chunk x0.new k) (chunk x1.new k) (chunk x2.new k) (chunk x3.new k) }
+        ensures kept_0 { result ≡ false → x0.new ≡ x0.old }
+        ensures kept_1 { result ≡ false → x1.new ≡ x1.old }
+        ensures kept_2 { result ≡ false → x2.new ≡ x2.old }
+        ensures kept_3 { result ≡ false → x3.new ≡ x3.old }
+    {
+        false
     }
 
     /// Multiplies every symbol of every chunk of a row by the generator to the power `log_m`; 65535 is the factor one.

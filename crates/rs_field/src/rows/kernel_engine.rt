@@ -6,9 +6,11 @@ ghost use Rattle.rs_field.specs.words.Locator.{IsLocatorBelow};
 
 use super::ShardsRefMut;
 use super::block::Block;
+use super::bytes::symbols_are_words;
 use super::engine::Engine;
-use super::kernel::Kernel;
+use super::kernel::{FourRows, Kernel, ThreeLogarithms};
 use super::layers::Direction::{Backward, Forward};
+use super::layers::{add_butterflies, add_two_layers};
 use super::marked_rows::UsedRows;
 use super::sums::TwoLogarithms;
 use super::transform::transform;
@@ -68,6 +70,48 @@ impl<K: Kernel> Engine for K {
         let block = Block::new(pos, given.len(), skew_delta);
         let given = UsedRows::Marked(given);
         transform(Backward, self, steps, data, block, given);
+    }
+
+    fn add_ifft_of_two(
+        &self,
+        steps: &mut Steps,
+        x: &mut [[u8; 64]],
+        y0: &[[u8; 64]],
+        y1: &[[u8; 64]],
+        skew_delta: usize,
+    ) -> bool {
+        let log_m = self.tables().skew[skew_delta];
+        symbols_are_words(y0);
+        symbols_are_words(y1);
+        let is_added = add_butterflies(self, x, y0, y1, log_m);
+        if is_added {
+            steps.row_steps(3);
+        }
+        is_added
+    }
+
+    fn add_ifft_of_four(
+        &self,
+        steps: &mut Steps,
+        x: &mut [[u8; 64]],
+        y: FourRows<'_>,
+        skew_delta: usize,
+    ) -> bool {
+        let skew = self.tables().skew;
+        let logs = ThreeLogarithms {
+            log_m02: skew[skew_delta + 1],
+            log_m01: skew[skew_delta],
+            log_m23: skew[skew_delta + 2],
+        };
+        symbols_are_words(y.row_0);
+        symbols_are_words(y.row_1);
+        symbols_are_words(y.row_2);
+        symbols_are_words(y.row_3);
+        let is_added = add_two_layers(self, x, y, logs);
+        if is_added {
+            steps.row_steps(8);
+        }
+        is_added
     }
 
     fn mul(&self, steps: &mut Steps, x: &mut [[u8; 64]], log_m: GfElement) {

@@ -1,0 +1,31 @@
+use Rattle.std.proofs.Common.{◌-◌, inl, inr, arith}
+use Rattle.std.proofs.lemmas.Bool.{cases_lt}
+use Rattle.rs_engines.proofs.Kept.{added_after, added_before, four_kept_after}
+use Rattle.rs_engines.proofs.shuffle_chunks.four_chunks_added.Goals as goal
+
+pub returns-then-LANES-lt32 : goal.returns-then-LANES-lt32
+returns-then-LANES-lt32 g c s h =
+    let width = g.met.V.ByteVector.width in
+    let factors = c.args.factors in
+    let layers = g.D.Butterflies.four (g.F02.Factor.log factors.f02) (g.F01.Factor.log factors.f01)
+    (g.F23.Factor.log factors.f23) in
+    elim (cases_lt s 16) [
+      | inl low ↦
+          let next = c.lanes_of_four_added-then-LANES-lt32.ensures in
+          four_kept_after layers _ _ _ _ _ _ _ _ _ _ _ _ (added_after _ _ _ (next.kept_0 s h (inl low)))
+          (added_after _ _ _ (next.kept_1 s h (inl low))) (added_after _ _ _ (next.kept_2 s h (inl low)))
+          (added_after _ _ _ (next.kept_3 s h (inl low)))
+          (c.lanes_of_four_added.ensures.added s s (omega arith) (omega arith))
+      | inr high ↦
+          let past = c.lanes_of_four_added.ensures in
+          four_kept_after layers _ _ _ _ _ _ _ _ _ _ _ _
+          (added_before _ _ _ (past.kept_0 s h (inr (omega arith))))
+          (added_before _ _ _ (past.kept_1 s h (inr (omega arith))))
+          (added_before _ _ _ (past.kept_2 s h (inr (omega arith))))
+          (added_before _ _ _ (past.kept_3 s h (inr (omega arith))))
+          (c.lanes_of_four_added-then-LANES-lt32.ensures.added (s - 16) s (omega arith) (omega arith))
+    ]
+
+pub returns-else-LANES-lt32 : goal.returns-else-LANES-lt32
+returns-else-LANES-lt32 g c s h = let width = g.met.V.ByteVector.width in
+    c.lanes_of_four_added.ensures.added s s (omega arith) (omega arith)
