@@ -15,3 +15,4 @@ pub mod SumLemmas
 pub mod SplitSums
 pub mod ChangeLemmas
 pub mod InPlace
+pub mod Reading

@@ -4,3 +4,4 @@ pub mod Decoding
 pub mod Located
 pub mod Sums
 pub mod BaseSum
+pub mod Reading

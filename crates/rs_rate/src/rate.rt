@@ -4,7 +4,7 @@ pub use crate::objects::encoders::{DefaultRateEncoder, HighRateEncoder, LowRateE
 pub use crate::objects::rates::{DefaultRate, HighRate, LowRate};
 pub use crate::objects::traits::{Rate, RateDecoder, RateEncoder};
 pub use crate::objects::{aliases, originals_alone, split_rounds, strips};
-pub use crate::passes::{base_sums, changes, sums};
+pub use crate::passes::{base_sums, changes, strip_message, sums};
 pub use crate::rows::decoder_work::DecoderWork;
 pub use crate::rows::encoder_work::EncoderWork;
 pub use crate::values::configuration::{check_decoder_rows, check_encoder_rows};

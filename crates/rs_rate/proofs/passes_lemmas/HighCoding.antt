@@ -3,12 +3,12 @@ use Rattle.std.proofs.Common.{rules, ◌≡◌, ℕ, zero, suc, ◌+◌, ◌-◌
 use Rattle.std.proofs.Common.{List, length, bit_xor, refl, sym, ap, ap₂, ◌∙◌, subst, inl, inr, arith, zero-add, add-one}
 use Rattle.std.proofs.Common.{pow-add}
 use Rattle.std.specs.Prelude.{All, nat_lt}
-use Rattle.std.specs.Int.Bits.{xor_self, xor_zero_r}
-use Rattle.std.proofs.Math.Nat.{zero-mod, mul-le-mul_right, div_self, add-div_right}
+use Rattle.std.specs.Int.Bits.{xor_assoc, xor_self, xor_zero_l, xor_zero_r}
+use Rattle.std.proofs.Math.Nat.{zero-div, zero-mod, mul-le-mul_right, div_self, add-div_right}
 use Rattle.std.proofs.lemmas.Bool.{cases_lt, lt-ltb, le-ltb, eq-eqb}
 use Rattle.std.proofs.lemmas.Nat.{pow_pos, div-add-mod'}
 use Rattle.rs_field.specs.words.Polynomial.{value}
-use Rattle.rs_field.specs.words.Transform.{sum_below, forward}
+use Rattle.rs_field.specs.words.Transform.{sum_below, forward, IsBackward}
 use Rattle.rs_field.specs.code.Counts.{next_power, supports, is_low, high_rate}
 use Rattle.rs_field.specs.code.Frame.{frame_of, high_frame}
 use Rattle.rs_field.proofs.words_lemmas.UpTo.{get-up_to}
@@ -109,6 +109,29 @@ sums-next m start k old now passed new some multiple left values kept added sums
     ∙ ap (λ t. zero_padded k old (t + i)) (sym whole))
     (λ q hq. ap new (sym (zero-add q)) ∙ added q hq
     ∙ ap (λ v. bit_xor v (passed (start + q))) (ap passed (zero-add q) ∙ kept q hq)) sums)
+
+-- The sums of no block are zero.
+pub sums-none : (m k : ℕ) (old sums : ℕ → ℕ) → ((q : ℕ) → q < m → sums q ≡ 0) → SumsBlocks m (0 / m) k old sums
+unfolding sum_below
+sums-none m k old sums zeros =
+    subst (λ (n : ℕ). SumsBlocks m n k old sums) (sym (zero-div m))
+    ((λ u q. 0), (λ u i none. absurd (omega (arith, none))), zeros)
+
+-- What is added for the next block to the sums gives the sums of one more block.
+pub sums-added : (m start k : ℕ) (old now new : ℕ → ℕ) → 0 < m → start % m ≡ 0
+    → IsBackward m (start + m) (λ i. zero_padded k old (start + i)) (λ q. bit_xor (now q) (new q))
+    → SumsBlocks m (start / m) k old now → SumsBlocks m ((start + m) / m) k old new
+sums-added m start k old now new some multiple added sums =
+    let parts : start / m * m + start % m ≡ start = div-add-mod' start m in
+    let whole : start / m * m ≡ start = omega arith in
+    let next : (start + m) / m ≡ suc (start / m) = add-div_right start some ∙ add-one (start / m) in
+    subst (λ (n : ℕ). SumsBlocks m n k old new) (sym next)
+    (sums-more m (start / m) k old now (λ q. bit_xor (now q) (new q)) new
+    (λ i hi.
+    ap (λ t. forward m (t + m) (λ q. bit_xor (now q) (new q)) i) whole ∙ sym (added i hi)
+    ∙ ap (λ t. zero_padded k old (t + i)) (sym whole))
+    (λ q hq. sym (sym (xor_assoc (now q) (now q) (new q)) ∙ ap (λ v. bit_xor v (new q)) (xor_self (now q))
+    ∙ xor_zero_l (new q))) sums)
 
 -- ---- the polynomial
 

@@ -11,8 +11,10 @@ ghost use Rattle.rs_rate.specs.rows.EncoderView.{encoder_state, lent_shards};
 use crate::objects::rate_object::RateObject;
 use crate::passes::decoding::decode_rows;
 use crate::passes::direct::are_sums_used;
-use crate::passes::encoding::encode_rows;
+use crate::passes::encoding::{encode_rows, read_rows};
 use crate::passes::locators::make_locator;
+use crate::passes::read_encoding::can_read;
+use crate::passes::strip_message::StripMessage;
 use crate::rows::decoder_work::DecoderRows;
 use crate::rows::encoder_work::EncoderRows;
 use crate::values::rate_marker::{DefaultRateMarker, RateMarker};
@@ -26,7 +28,7 @@ pub type StripEncoder = RateObject<(), DefaultRateMarker, EncoderRows>;
 pub type StripDecoder = RateObject<(), DefaultRateMarker, DecoderRows>;
 
 impl<C: RateMarker> RateObject<(), C, EncoderRows> {
-    ghost use Rattle.std.specs.Prelude.{◌≢◌, ℕ, [], MatchOption, length};
+    ghost use Rattle.std.specs.Prelude.{◌≢◌, ℕ, true, [], All, MatchOption, length};
     ghost use Rattle.rs_field.specs.code.Column.{shard_at};
     ghost use Rattle.rs_field.specs.code.Code.{AreRecovery};
     ghost use Rattle.rs_field.specs.code.Encoder.{with_shard, message_of};
@@ -57,6 +59,24 @@ impl<C: RateMarker> RateObject<(), C, EncoderRows> {
             (with_shard (encoder_state C.rate self.old.rows) shard.now) }
     {
         self.rows.take_original_shard(shard);
+    }
+
+    /// Encodes a message with an encoder that has no original, and returns true. The originals are read where they are,
+    /// and the recovery shards are then in the encoder. Or returns false if this configuration or the engine needs the
+    /// originals in the encoder.
+    pub fn encode_read<E: Engine, M: StripMessage>(&mut self, engine: &E, message: &M) -> bool
+        requires none { (encoder_state C.rate self.old.rows).given ≡ [] }
+        requires number { length (M.shards message.now)
+            ≡ (encoder_state C.rate self.old.rows).configuration.original_count }
+        requires sized { All (λ shard. length shard
+            ≡ (encoder_state C.rate self.old.rows).configuration.shard_bytes)
+            (M.shards message.now) }
+        ensures coded { result ≡ true
+            → AreRecovery (encoder_state C.rate self.old.rows).configuration
+            (M.shards message.now) (lent_shards self.new.rows) }
+        ensures state { encoder_state C.rate self.new.rows ≡ encoder_state C.rate self.old.rows }
+    {
+        can_read(self.rows.configuration) && read_rows(engine, &mut self.rows, message)
     }
 
     /// Encodes the added originals, of which none is missing, and ends the round. The recovery shards are then in the

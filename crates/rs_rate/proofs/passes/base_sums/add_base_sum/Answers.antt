@@ -1,15 +1,11 @@
-use Rattle.std.proofs.Common.{rules, ◌≡◌, ℕ, ◌*◌, ◌+◌, ◌-◌, length, refl, sym, ap, ap₂, ◌∙◌, arith, subst}
-use Rattle.std.proofs.Common.{add-one, bit_xor}
+use Rattle.std.proofs.Common.{rules, ◌≡◌, ℕ, ◌*◌, ◌+◌, ◌-◌, length, refl, ap, ap₂, ◌∙◌, arith, subst}
+use Rattle.std.proofs.Common.{bit_xor}
 use Rattle.std.specs.Prelude.{slice_index}
-use Rattle.std.specs.Int.Bits.{xor_assoc, xor_zero_r}
-use Rattle.rs_field.specs.code.Column.{Shard, column}
-use Rattle.rs_field.specs.words.DirectSum.{direct_factor}
-use Rattle.rs_field.specs.words.Field.{product, power}
+use Rattle.std.specs.Int.Bits.{xor_zero_r}
 use Rattle.rs_field.specs.words.StepBounds.{CountsUpTo}
 use Rattle.rs_field.specs.words.Transform.{sum_below}
-use Rattle.rs_field.proofs.words_lemmas.Combination.{sum_below-zero, sum_below-suc}
+use Rattle.rs_field.proofs.words_lemmas.Combination.{sum_below-zero}
 use Rattle.rs_field.proofs.words_lemmas.Counting.{counts_then}
-use Rattle.rs_rate.specs.declared.passes.sums.SumBase.{SumBase}
 use Rattle.rs_rate.specs.passes.Sums.{sum_word}
 use Rattle.rs_rate.proofs.passes_lemmas.SumLemmas.{base_term, base_sum-listed, term-of, one_more}
 use Rattle.rs_rate.proofs.passes.base_sums.add_base_sum.Goals as goal

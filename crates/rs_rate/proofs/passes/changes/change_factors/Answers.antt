@@ -1,4 +1,4 @@
-use Rattle.std.proofs.Common.{rules, ◌≡◌, ℕ, ◌<◌, Bool, List, subst, sym, pow_mono}
+use Rattle.std.proofs.Common.{rules, ◌≡◌, ℕ, ◌<◌, Bool, List, subst, pow_mono}
 use Rattle.std.specs.Prelude.{IfOk, slice_index}
 use Rattle.rs_field.specs.code.Frame.{recovery_row}
 use Rattle.rs_field.specs.words.DirectSum.{direct_factor}

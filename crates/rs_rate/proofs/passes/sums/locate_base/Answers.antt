@@ -1,4 +1,4 @@
-use Rattle.std.proofs.Common.{rules, ◌≡◌, List, ℕ, length, take, drop, ◌++◌, sym, subst, ◌∙◌, arith}
+use Rattle.std.proofs.Common.{rules, ◌≡◌, List, ℕ, length, take, drop, ◌++◌, sym, subst, ◌∙◌}
 use Rattle.rs_rate.specs.passes.Sums.{MakeFactors}
 use Rattle.rs_rate.proofs.passes_lemmas.SumLemmas.{factors_made, written-back}
 use Rattle.rs_rate.proofs.passes.sums.locate_base.Goals as goal

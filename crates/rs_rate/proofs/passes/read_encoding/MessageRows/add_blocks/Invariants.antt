@@ -1,0 +1,18 @@
+use Rattle.std.proofs.Common.{◌≡◌, ℕ, ◌+◌, ◌-◌, ◌/◌, ◌%◌, ◌<◌, ◌≤◌, length}
+use Rattle.rs_rate.specs.passes.Coding.{SumsBlocks}
+use Rattle.rs_rate.specs.passes.Reading.{message_word}
+use Rattle.rs_rate.specs.rows.ShardRows.{word_in}
+use Rattle.rs_rate.proofs.passes.read_encoding.MessageRows.add_blocks.Given as goal
+
+abbrev pub invariant-loop-start : goal.invariant-loop-start
+invariant-loop-start g l = record {
+  aligned : l.start % l.self.block ≡ 0;
+  points : l.start + l.self.block ≤ 65536;
+  length : length l.sums ≡ length l.initial.sums;
+  sums : (k s : ℕ) → k < l.self.len → s < 32
+      → SumsBlocks l.self.block (l.start / l.self.block) l.self.count
+      (message_word (g.M.StripMessage.shards l.self.message.now) k s) (word_in l.sums l.self.len k s);
+}
+
+abbrev pub decreases-loop-start : goal.decreases-loop-start
+decreases-loop-start g l = l.self.count - l.start
