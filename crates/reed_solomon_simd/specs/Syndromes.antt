@@ -89,16 +89,17 @@ pub record AreSyndromesReady (rows : EncoderRows) (base : SumBase) (wanted : Lis
     pub surplus_is : originals_given s + recovery_given s ≡ s.configuration.original_count + surplus
     pub few : n ≤ 2048
 
+-- word j of the syndrome in row x
+abbrev pub syndrome_word : DecoderState → List Shard → ℕ → ℕ → ℕ
+syndrome_word s shards j x = column j (shard_at shards (x - (frame_at s.configuration).recovery_from))
+
 -- the direct sum over the syndromes of the recovery rows of a base, for word j of the row y
 abbrev pub syndrome_sum : DecoderState → SumBase → List Shard → ℕ → ℕ → ℕ
-syndrome_sum s base shards j y =
-    sum_of base (λ x. column j (shard_at shards (x - (frame_at s.configuration).recovery_from))) y
+syndrome_sum s base shards j y = sum_of base (syndrome_word s shards j) y
 
 -- a shard has the sums of the syndromes as its words
 abbrev pub IsSyndromeSum : DecoderState → SumBase → List Shard → ℕ → Shard → Type 0
-IsSyndromeSum s base shards y shard =
-    HasSums base (λ j x. column j (shard_at shards (x - (frame_at s.configuration).recovery_from)))
-    s.configuration.shard_bytes y shard
+IsSyndromeSum s base shards y shard = HasSums base (syndrome_word s shards) s.configuration.shard_bytes y shard
 
 -- the syndrome of a recovery shard that was received and is not in the base is the sum of those of the base
 abbrev pub AgreesAt : DecoderState → SumBase → List Shard → ℕ → Type 0

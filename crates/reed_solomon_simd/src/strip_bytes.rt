@@ -8,5 +8,9 @@ pub(crate) const ENCODE_STRIP_BYTES: usize = 4096;
 /// The number of bytes of each shard that are decoded or updated at a time.
 pub(crate) const DECODE_STRIP_BYTES: usize = 2048;
 
-/// The number of bytes of each shard that are added to direct sums at a time. The sum has as many bytes on the stack.
+/// The number of bytes of each shard that are added to direct sums at a time. Two sums have as many bytes each on the
+/// stack.
 pub(crate) const SUM_STRIP_BYTES: usize = 4096;
+
+/// The number of bytes of each of two sums of short shards. To clear more of them would take longer than to add.
+pub(crate) const SHORT_STRIP_BYTES: usize = 512;

@@ -17,12 +17,13 @@ use crate::shard_index::ShardIndex;
 use crate::store::Store;
 use crate::strip_bytes::ENCODE_STRIP_BYTES;
 use crate::strip_encoder::strip_encoder;
-use crate::strip_message::{StripMessage, encode_message};
+use crate::strip_message::encode_message;
 use crate::strips::{Way, make_strips};
 use rs_field::engine::Engine;
 use rs_field::error::Error;
 use rs_rate::EncoderResult;
 use rs_rate::rate::split_rounds::lent_recovery;
+use rs_rate::rate::strip_message::StripMessage;
 use rs_rate::rate::strips::StripEncoder;
 use std::alloc::Global;
 

@@ -15,12 +15,13 @@ ghost use Rattle.rs_rate.specs.objects.ResultView.{recovery_shards};
 use crate::originals::Originals;
 use crate::rooms::Rooms;
 use crate::strip_bytes::ENCODE_STRIP_BYTES;
-use crate::strip_message::{StripMessage, encode_message};
+use crate::strip_message::encode_message;
 use rs_field::engine::Engine;
 use rs_field::error::Error;
 use rs_rate::EncoderResult;
 use rs_rate::rate::DefaultRateCounts;
 use rs_rate::rate::split_rounds::lent_recovery;
+use rs_rate::rate::strip_message::StripMessage;
 use rs_rate::rate::strips::StripEncoder;
 use std::alloc::Global;
 

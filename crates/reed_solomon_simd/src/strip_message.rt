@@ -7,25 +7,8 @@ ghost use Rattle.rs_field.specs.code.Encoder.{fresh_encoder};
 ghost use Rattle.rs_rate.specs.rows.EncoderView.{encoder_state, lent_shards};
 
 use rs_field::engine::{Engine, Steps};
+use rs_rate::rate::strip_message::StripMessage;
 use rs_rate::rate::strips::StripEncoder;
-
-/// The pieces of the originals of a message in one strip.
-pub(crate) trait StripMessage {
-    ghost use Rattle.std.specs.Prelude.{◌≡◌, ◌<◌, List, length};
-    ghost use Rattle.rs_field.specs.code.Column.{Shard, shard_at};
-
-    /// The piece of each original.
-    ghost shards: { Self → List Shard };
-
-    /// Returns the number of originals.
-    fn count(&self) -> usize
-        ensures { result ≡ length (shards self.now) };
-
-    /// Returns the piece of an original.
-    fn piece(&self, index: usize) -> &[u8]
-        requires { index < length (shards self.now) }
-        ensures { result.now ≡ shard_at (shards self.now) index };
-}
 
 /// Encodes a strip of a message, which has `bytes` bytes of each original, with an encoder that has no original. The
 /// recovery pieces are then in the encoder.
@@ -51,6 +34,9 @@ pub(crate) fn encode_message<E: Engine, M: StripMessage>(
         ≡ fresh_encoder (configuration c.rate c.original_count c.recovery_count bytes) }
 {
     encoder.narrow(bytes);
+    if encoder.encode_read(engine, message) {
+        return;
+    }
     take_message(encoder, message);
     encoder.encode(engine, &mut Steps::new());
 }

@@ -6,6 +6,7 @@ ghost use Rattle.std.specs.Prelude.{option_copied};
 ghost use Rattle.rs_field.specs.code.Counts.{default_rate};
 ghost use Rattle.rs_field.specs.code.Decoder.{IsDecoder, enough_given, IsConsistent};
 ghost use Rattle.rs_field.specs.code.Frame.{row_count};
+ghost use Rattle.rs_field.specs.code.Pieces.{IsStrip};
 ghost use Rattle.rs_field.specs.code.PieceStates.{state_of_pieces};
 ghost use Rattle.rs_field.specs.rows.Layout.{row_len};
 ghost use Rattle.rs_field.specs.rows.MarkedRows.{is_marked};
@@ -13,14 +14,14 @@ ghost use Rattle.rs_rate.specs.rows.ShardRows.{shard_in_order};
 ghost use Rattle.reed_solomon_simd.specs.Base.{row_of, MarksReceived, CanSum, HasPiece};
 ghost use Rattle.rs_field.specs.code.Frame.{frame_at};
 ghost use Rattle.rs_field.specs.code.DirectLaws.{shard_in_row};
-ghost use Rattle.reed_solomon_simd.specs.Base.{IsBaseSum, AgreesInRow};
-ghost use Rattle.reed_solomon_simd.specs.Making.{CanMake, AreRooms, Makes, MakesMissing, missing_names};
+ghost use Rattle.reed_solomon_simd.specs.Base.{IsBaseSum, AgreesInRow, AreSumsReady};
+ghost use Rattle.reed_solomon_simd.specs.Making.{CanMake, AreRooms, Makes, MakesMissing, MakesStrip, missing_names};
 ghost use Rattle.reed_solomon_simd.specs.Reconstructed.{CanBeRebuilt, NamesMissing};
 
 use crate::pieces::{Pieces, inconsistent, is_received, missing_count, surplus_count};
 use crate::shard_index::ShardIndex;
 use crate::store::Store;
-use crate::strip_bytes::SUM_STRIP_BYTES;
+use crate::strip_bytes::{SHORT_STRIP_BYTES, SUM_STRIP_BYTES};
 use crate::strip_sums::{BaseSums, StripSums, put_sums};
 use crate::strips::{Way, make_strips};
 use crate::wanted_shards::no_marks;
@@ -181,10 +182,14 @@ impl<'a, 'b, E: Engine> Way for Sums<'a, 'b, E> {
     ghost ready = { λ x s n. AreSumsReady x.base x.surplus s n };
 
     fn strip<S: Store>(&mut self, start: usize, end: usize, store: &mut S) -> Result<(), Error> {
-        if self.surplus > 0 && !self.agree_in_strip(&*store, start, end) {
-            return Err(inconsistent(&*store));
+        if end - start <= SHORT_STRIP_BYTES {
+            let mut first = [[0; 64]; SHORT_STRIP_BYTES / 64];
+            let mut second = [[0; 64]; SHORT_STRIP_BYTES / 64];
+            return self.make_strip(start, end, &mut first, &mut second, store);
         }
-        put_sums(&*self, self.wanted, start, end, store)
+        let mut first = [[0; 64]; SUM_STRIP_BYTES / 64];
+        let mut second = [[0; 64]; SUM_STRIP_BYTES / 64];
+        self.make_strip(start, end, &mut first, &mut second, store)
     }
 }
 
@@ -224,16 +229,50 @@ impl<'a, 'b, E: Engine> StripSums for Sums<'a, 'b, E> {
 }
 
 impl<'a, 'b, E: Engine> Sums<'a, 'b, E> {
+    // Makes a strip of the wanted shards, with memory for two sums.
+    fn make_strip<S: Store>(
+        &self,
+        start: usize,
+        end: usize,
+        first: &mut [[u8; 64]],
+        second: &mut [[u8; 64]],
+        store: &mut S,
+    ) -> Result<(), Error>
+        requires ready { AreSumsReady self.now.base self.now.surplus (S.received store.old)
+            (end - start) }
+        requires can { CanMake (S.received store.old) self.now.wanted.now }
+        requires strip { IsStrip start end (S.received store.old).configuration.shard_bytes }
+        requires rooms { AreRooms S.grows start (S.received store.old).configuration.shard_bytes
+            (length self.now.wanted.now) (S.held store.old) }
+        requires first_room { row_len (end - start) ≤ length first.old }
+        requires second_room { row_len (end - start) ≤ length second.old }
+        ensures made { MakesStrip S.grows (S.received store.old) self.now.wanted.now start end
+            (S.held store.old) (S.held store.new) result }
+        ensures places { S.places store.new ≡ S.places store.old }
+        ensures loan { S.loan store.new ≡ S.loan store.old }
+    {
+        let len = row_len(end - start);
+        let (first, second) = (&mut first[..len], &mut second[..len]);
+        if self.surplus > 0 && !self.agree_in_strip(&*store, start, end, first) {
+            return Err(inconsistent(&*store));
+        }
+        put_sums(self, self.wanted, start, end, first, second, store)
+    }
+
     // Returns whether some message agrees with a strip of all received shards: each shard outside of the base is the
     // direct sum.
-    fn agree_in_strip<P: Pieces>(&self, received: &P, start: usize, end: usize) -> bool
+    fn agree_in_strip<P: Pieces>(
+        &self,
+        received: &P,
+        start: usize,
+        end: usize,
+        sum: &mut [[u8; 64]],
+    ) -> bool
         requires ready { CanSum (P.received received.now) self.now.base start end }
-        requires few { end - start ≤ 4096 }
+        requires room { length sum.old ≡ row_len (end - start) }
         ensures { IsTrue result
             ↔ IsConsistent (state_of_pieces start end (P.received received.now)) }
     {
-        let mut sum = [[0; 64]; SUM_STRIP_BYTES / 64];
-        let sum = &mut sum[..row_len(end - start)];
         for row in self.base.marks.len()..self.base.locator.len() {
             if !self.agrees_in_row(received, row, start, end, sum) {
                 return false;
@@ -308,10 +347,10 @@ impl<'a, 'b, E: Engine> Sums<'a, 'b, E> {
         second: &mut [[u8; 64]],
     )
         requires ready { CanSum (P.received received.now) self.now.base start end }
-        requires one { rows.0 < row_count (frame_at (P.received received.now).configuration) }
-        requires other { rows.1 < row_count (frame_at (P.received received.now).configuration) }
-        requires one_outside { is_marked self.now.base.marks.now rows.0 ≡ false }
-        requires other_outside { is_marked self.now.base.marks.now rows.1 ≡ false }
+        requires first { rows.0 < row_count (frame_at (P.received received.now).configuration) }
+        requires second { rows.1 < row_count (frame_at (P.received received.now).configuration) }
+        requires first_outside { is_marked self.now.base.marks.now rows.0 ≡ false }
+        requires second_outside { is_marked self.now.base.marks.now rows.1 ≡ false }
         requires first_room { length first.old ≡ row_len (end - start) }
         requires second_room { length second.old ≡ row_len (end - start) }
         ensures first { IsBaseSum self.now.base.marks.now

@@ -1,6 +1,6 @@
-//! Writing wanted shards that are sums into rooms. Two sums are made at a time, so that each piece of the base is read
-//! once for both.
-ghost use Rattle.std.specs.Prelude.{◌≡◌, ℕ, ◌*◌, ◌+◌, ◌-◌, ◌/◌, ◌%◌, ◌<◌, ◌≤◌, true, false, All, List, length, map};
+//! Writes wanted shards, which are direct sums, into rooms. Two sums are made at a time, so that each piece of the base
+//! is read once for both.
+ghost use Rattle.std.specs.Prelude.{◌≡◌, ℕ, ◌*◌, ◌+◌, ◌-◌, ◌/◌, ◌%◌, ◌<◌, true, false, All, List, length, map};
 ghost use Rattle.std.specs.Prelude.{OnOk, IfErr};
 ghost use Rattle.rs_field.specs.code.Column.{Shard};
 ghost use Rattle.rs_field.specs.code.Decoder.{IsAgreeing, IsConsistent};
@@ -17,8 +17,6 @@ ghost use Rattle.reed_solomon_simd.specs.StripSums.{HasSums, PutBelow};
 use crate::pieces::Pieces;
 use crate::shard_index::ShardIndex;
 use crate::store::Store;
-use crate::strip_bytes::SUM_STRIP_BYTES;
-use rs_field::engine::layout::row_len;
 use rs_field::engine::{Engine, Steps};
 use rs_field::error::Error;
 use rs_rate::rate::base_sums::{BasePieces, add_base_sum, add_two_base_sums};
@@ -29,7 +27,6 @@ use rs_rate::rate::sums::{SumBase, clear_sum, finish_sum, summed_piece};
 pub(crate) struct BaseSums<'a, 'b, E: Engine, B: BasePieces> {
     /// The engine that adds.
     pub(crate) engine: &'a E,
-    /// The base.
     pub(crate) base: &'a SumBase<'b>,
     /// The pieces of the base.
     pub(crate) pieces: &'a B,
@@ -40,7 +37,7 @@ pub(crate) struct BaseSums<'a, 'b, E: Engine, B: BasePieces> {
 }
 
 impl<'a, 'b, E: Engine, B: BasePieces> BaseSums<'a, 'b, E, B> {
-    /// Sets a sum to that of a row.
+    /// Sets `sum` to the direct sum for a row outside of the base.
     pub(crate) fn make(&self, row: usize, sum: &mut [[u8; 64]])
         requires there { (x : ℕ) → x < length self.now.base.now.locator.now
             → is_marked self.now.base.now.marks.now x ≡ true → B.has self.now.pieces.now x }
@@ -62,7 +59,7 @@ impl<'a, 'b, E: Engine, B: BasePieces> BaseSums<'a, 'b, E, B> {
         finish_sum(sum, self.piece_len);
     }
 
-    /// Sets two sums to those of two rows.
+    /// Sets two sums to the direct sums for two rows outside of the base.
     pub(crate) fn make_two(
         &self,
         rows: (usize, usize),
@@ -71,10 +68,10 @@ impl<'a, 'b, E: Engine, B: BasePieces> BaseSums<'a, 'b, E, B> {
     )
         requires there { (x : ℕ) → x < length self.now.base.now.locator.now
             → is_marked self.now.base.now.marks.now x ≡ true → B.has self.now.pieces.now x }
-        requires one_outside { is_marked self.now.base.now.marks.now rows.0 ≡ false }
-        requires other_outside { is_marked self.now.base.now.marks.now rows.1 ≡ false }
-        requires one { rows.0 < length self.now.base.now.locator.now }
-        requires other { rows.1 < length self.now.base.now.locator.now }
+        requires first_outside { is_marked self.now.base.now.marks.now rows.0 ≡ false }
+        requires second_outside { is_marked self.now.base.now.marks.now rows.1 ≡ false }
+        requires first { rows.0 < length self.now.base.now.locator.now }
+        requires second { rows.1 < length self.now.base.now.locator.now }
         requires first_room { length first.old ≡ row_len self.now.piece_len }
         requires second_room { length second.old ≡ row_len self.now.piece_len }
         ensures first { HasSums self.now.base.now (B.word self.now.pieces.now) self.now.piece_len
@@ -110,7 +107,7 @@ pub(crate) trait StripSums {
     /// States that the sums over the strip from one byte up to another can be made.
     ghost ready: { Self → DecoderState → ℕ → ℕ → Type 0 };
 
-    /// States that the piece of a shard is such a sum.
+    /// States that the sums over the base give the piece of this shard.
     ghost can: { Self → DecoderState → ShardIndex → Type 0 };
 
     /// Sets a sum to the piece of a wanted shard.
@@ -139,8 +136,8 @@ pub(crate) trait StripSums {
         second: &mut [[u8; 64]],
     )
         requires ready { ready self.now (P.received received.now) start end }
-        requires one { can self.now (P.received received.now) wanted.0 }
-        requires other { can self.now (P.received received.now) wanted.1 }
+        requires first { can self.now (P.received received.now) wanted.0 }
+        requires second { can self.now (P.received received.now) wanted.1 }
         requires first_room { length first.old ≡ row_len (end - start) }
         requires second_room { length second.old ≡ row_len (end - start) }
         ensures first { IsPieceOf (P.received received.now) start end wanted.0
@@ -149,7 +146,8 @@ pub(crate) trait StripSums {
             (shard_in_order second.new (end - start) 0) };
 }
 
-/// Writes the piece of each wanted shard into its room, after the first `start` bytes.
+/// Writes the piece of each wanted shard into its room, after the first `start` bytes. The sums are made in `first` and
+/// `second`.
 ///
 /// # Errors
 ///
@@ -159,13 +157,16 @@ pub(crate) fn put_sums<M: StripSums, S: Store>(
     wanted: &[ShardIndex],
     start: usize,
     end: usize,
+    first: &mut [[u8; 64]],
+    second: &mut [[u8; 64]],
     store: &mut S,
 ) -> Result<(), Error>
     requires ready { M.ready sums.now (S.received store.old) start end }
+    requires first_room { length first.old ≡ row_len (end - start) }
+    requires second_room { length second.old ≡ row_len (end - start) }
     requires can { CanMake (S.received store.old) wanted.now }
     requires sums { All (M.can sums.now (S.received store.old)) wanted.now }
     requires strip { IsStrip start end (S.received store.old).configuration.shard_bytes }
-    requires few { end - start ≤ 4096 }
     requires consistent { IsConsistent (state_of_pieces start end (S.received store.old)) }
     requires rooms { AreRooms S.grows start (S.received store.old).configuration.shard_bytes
         (length wanted.now) (S.held store.old) }
@@ -176,13 +177,11 @@ pub(crate) fn put_sums<M: StripSums, S: Store>(
     ensures places { S.places store.new ≡ S.places store.old }
     ensures loan { S.loan store.new ≡ S.loan store.old }
 {
-    put_pairs(sums, wanted, start, end, store)?;
+    put_pairs(sums, wanted, start, end, first, second, store)?;
     let count = wanted.len();
     if count % 2 == 1 {
-        let mut sum = [[0; 64]; SUM_STRIP_BYTES / 64];
-        let sum = &mut sum[..row_len(end - start)];
-        sums.sum_piece(&*store, wanted[count - 1], start, end, sum);
-        store.put(count - 1, start, summed_piece(sum, end - start))?;
+        sums.sum_piece(&*store, wanted[count - 1], start, end, first);
+        store.put(count - 1, start, summed_piece(first, end - start))?;
     }
     Ok(())
 }
@@ -193,12 +192,15 @@ fn put_pairs<M: StripSums, S: Store>(
     wanted: &[ShardIndex],
     start: usize,
     end: usize,
+    first: &mut [[u8; 64]],
+    second: &mut [[u8; 64]],
     store: &mut S,
 ) -> Result<(), Error>
     requires ready { M.ready sums.now (S.received store.old) start end }
+    requires first_room { length first.old ≡ row_len (end - start) }
+    requires second_room { length second.old ≡ row_len (end - start) }
     requires sums { All (M.can sums.now (S.received store.old)) wanted.now }
     requires strip { IsStrip start end (S.received store.old).configuration.shard_bytes }
-    requires few { end - start ≤ 4096 }
     requires consistent { IsConsistent (state_of_pieces start end (S.received store.old)) }
     requires rooms { AreRooms S.grows start (S.received store.old).configuration.shard_bytes
         (length wanted.now) (S.held store.old) }
@@ -211,15 +213,7 @@ fn put_pairs<M: StripSums, S: Store>(
     ensures places { S.places store.new ≡ S.places store.old }
     ensures loan { S.loan store.new ≡ S.loan store.old }
 {
-    let count = wanted.len();
-    if count < 2 {
-        return Ok(());
-    }
-    let len = row_len(end - start);
-    let mut first = [[0; 64]; SUM_STRIP_BYTES / 64];
-    let mut second = [[0; 64]; SUM_STRIP_BYTES / 64];
-    let (first, second) = (&mut first[..len], &mut second[..len]);
-    for pair in 0..count / 2 {
+    for pair in 0..wanted.len() / 2 {
         let room = 2 * pair;
         let two = (wanted[room], wanted[room + 1]);
         sums.sum_two_pieces(&*store, two, start, end, first, second);

@@ -25,7 +25,7 @@ use crate::pieces::{Pieces, inconsistent, is_received, surplus_count};
 use crate::shard_index::ShardIndex;
 use crate::store::Store;
 use crate::strip_bytes::DECODE_STRIP_BYTES;
-use crate::strip_message::{StripMessage, encode_message};
+use crate::strip_message::encode_message;
 use crate::strip_summer::{missing_originals, row_of};
 use crate::strip_sums::{BaseSums, StripSums, put_sums};
 use crate::strips::{Way, make_strips};
@@ -34,6 +34,7 @@ use rs_field::engine::layout::row_len;
 use rs_field::engine::{Engine, Steps};
 use rs_field::error::Error;
 use rs_rate::rate::base_sums::BasePieces;
+use rs_rate::rate::strip_message::StripMessage;
 use rs_rate::rate::strips::StripEncoder;
 use rs_rate::rate::sums::{SumBase, list_base, locate_base, summed_piece};
 use std::alloc::Global;
@@ -43,7 +44,7 @@ use std::alloc::Global;
 ///
 /// # Errors
 ///
-/// - [`Error::OutOfMemory`] if the work area, the marks or the factors cannot be allocated.
+/// - [`Error::OutOfMemory`] if the work area or one of the lists cannot be allocated.
 /// - For each strip in order: [`Error::InconsistentShards`] if no message agrees with all received shards, and then
 ///   [`Error::OutOfMemory`] if a room cannot grow. The rooms may then hold some strips.
 pub(crate) fn restore_by_syndromes<E: Engine, S: Store>(
@@ -162,10 +163,14 @@ impl<'a, 'b, E: Engine> Way for Syndromes<'a, 'b, E> {
 
     fn strip<S: Store>(&mut self, start: usize, end: usize, store: &mut S) -> Result<(), Error> {
         make_syndromes(self.engine, &mut self.encoder, &*store, start, end);
-        if self.surplus > 0 && !self.agree_in_strip(&*store, start, end) {
+        let len = row_len(end - start);
+        let mut first = [[0; 64]; DECODE_STRIP_BYTES / 64];
+        let mut second = [[0; 64]; DECODE_STRIP_BYTES / 64];
+        let (first, second) = (&mut first[..len], &mut second[..len]);
+        if self.surplus > 0 && !self.agree_in_strip(&*store, start, end, first) {
             return Err(inconsistent(&*store));
         }
-        put_sums(&*self, self.wanted, start, end, store)
+        put_sums(&*self, self.wanted, start, end, first, second, store)
     }
 }
 
@@ -305,15 +310,19 @@ fn add_received<P: Pieces>(encoder: &mut StripEncoder, received: &P, start: usiz
 impl<'a, 'b, E: Engine> Syndromes<'a, 'b, E> {
     // Returns whether some message agrees with a strip of all received shards: each syndrome outside of the base is the
     // sum of those of the base.
-    fn agree_in_strip<P: Pieces>(&self, received: &P, start: usize, end: usize) -> bool
+    fn agree_in_strip<P: Pieces>(
+        &self,
+        received: &P,
+        start: usize,
+        end: usize,
+        sum: &mut [[u8; 64]],
+    ) -> bool
         requires ready { CanSumSyndromes (P.received received.now) self.now.base
             self.now.encoder.rows start end }
-        requires few { end - start ≤ 2048 }
+        requires room { length sum.old ≡ row_len (end - start) }
         ensures { IsTrue result
             ↔ IsConsistent (state_of_pieces start end (P.received received.now)) }
     {
-        let mut sum = [[0; 64]; DECODE_STRIP_BYTES / 64];
-        let sum = &mut sum[..row_len(end - start)];
         for index in 0..received.counts().recovery_count {
             if !self.agrees(received, index, start, end, sum) {
                 return false;
@@ -395,10 +404,10 @@ impl<'a, 'b, E: Engine> Syndromes<'a, 'b, E> {
     )
         requires ready { CanSumSyndromes (P.received received.now) self.now.base
             self.now.encoder.rows start end }
-        requires one { rows.0 < row_count (frame_at (P.received received.now).configuration) }
-        requires other { rows.1 < row_count (frame_at (P.received received.now).configuration) }
-        requires one_outside { is_marked self.now.base.marks.now rows.0 ≡ false }
-        requires other_outside { is_marked self.now.base.marks.now rows.1 ≡ false }
+        requires first { rows.0 < row_count (frame_at (P.received received.now).configuration) }
+        requires second { rows.1 < row_count (frame_at (P.received received.now).configuration) }
+        requires first_outside { is_marked self.now.base.marks.now rows.0 ≡ false }
+        requires second_outside { is_marked self.now.base.marks.now rows.1 ≡ false }
         requires first_room { length first.old ≡ row_len (end - start) }
         requires second_room { length second.old ≡ row_len (end - start) }
         ensures first { IsSyndromeSum (state_of_pieces start end (P.received received.now))

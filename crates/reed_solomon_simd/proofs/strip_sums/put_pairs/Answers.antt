@@ -15,15 +15,15 @@ sum_two_pieces-requires-clause-ready g c =
     subst (λ (s : DecoderState). g.M.StripSums.ready c.args.sums.now s c.args.start c.args.end)
     (sym c.loop-pair.invariant.received) c.requires.ready
 
-pub sum_two_pieces-requires-clause-one : goal.sum_two_pieces-requires-clause-one
-sum_two_pieces-requires-clause-one g c =
+pub sum_two_pieces-requires-clause-first : goal.sum_two_pieces-requires-clause-first
+sum_two_pieces-requires-clause-first g c =
     subst (λ (s : DecoderState). g.M.StripSums.can c.args.sums.now s
     (get_or c.args.wanted.now (2 * c.loop-pair.pair) (Original 0)))
     (sym c.loop-pair.invariant.received)
     (c.requires.sums (2 * c.loop-pair.pair) (Original 0) (omega (arith, c.loop-pair-test.true)))
 
-pub sum_two_pieces-requires-clause-other : goal.sum_two_pieces-requires-clause-other
-sum_two_pieces-requires-clause-other g c =
+pub sum_two_pieces-requires-clause-second : goal.sum_two_pieces-requires-clause-second
+sum_two_pieces-requires-clause-second g c =
     subst (λ (s : DecoderState). g.M.StripSums.can c.args.sums.now s
     (get_or c.args.wanted.now (2 * c.loop-pair.pair + 1) (Original 0)))
     (sym c.loop-pair.invariant.received)

@@ -17,7 +17,7 @@ returns-clause-first g c =
             marked = base-pieces c.args.start c.args.end base.marks.now s based.marked;
             exact = λ x inside. based.exact x inside ∙ sym (some-pieces c.args.start c.args.end s x);
             located = based.located;
-          }) c.requires.one;
+          }) c.requires.first;
     }
 
 pub returns-clause-second : goal.returns-clause-second
@@ -34,5 +34,5 @@ returns-clause-second g c =
             marked = base-pieces c.args.start c.args.end base.marks.now s based.marked;
             exact = λ x inside. based.exact x inside ∙ sym (some-pieces c.args.start c.args.end s x);
             located = based.located;
-          }) c.requires.other;
+          }) c.requires.second;
     }

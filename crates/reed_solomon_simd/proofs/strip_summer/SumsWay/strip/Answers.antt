@@ -1,20 +1,12 @@
-use Rattle.std.proofs.Common.{rules}
-use Rattle.rs_field.proofs.code_lemmas.MissingShards.{count-pieces}
-use Rattle.reed_solomon_simd.proofs.ConsistentStrips.{exact-consistent, consistent-cut}
+use Rattle.std.proofs.Common.{arith}
 use Rattle.reed_solomon_simd.proofs.strip_summer.SumsWay.strip.Goals as goal
 
-pub returns-then-not-agree_in_strip-clause-made : goal.returns-then-not-agree_in_strip-clause-made
-returns-then-not-agree_in_strip-clause-made g c = search (rules, count-pieces)
-
-pub put_sums-requires-clause-consistent : goal.put_sums-requires-clause-consistent
-put_sums-requires-clause-consistent g c = search (rules, consistent-cut, exact-consistent)
-
-pub agree_in_strip-requires-clause-ready : goal.agree_in_strip-requires-clause-ready
-agree_in_strip-requires-clause-ready g c =
+pub make_strip-requires-clause-ready : goal.make_strip-requires-clause-ready
+make_strip-requires-clause-ready g c =
     let (n, most, held) = c.requires.ready in
-    record { set_up = c.requires.can.set_up; based = held.based; strip = c.requires.strip }
+    record { based = held.based; surplus_is = held.surplus_is; few = omega (arith, most, held.few) }
 
-pub put_sums-requires-clause-ready : goal.put_sums-requires-clause-ready
-put_sums-requires-clause-ready g c =
+pub make_strip-requires-2-clause-ready : goal.make_strip-requires-2-clause-ready
+make_strip-requires-2-clause-ready g c =
     let (n, most, held) = c.requires.ready in
-    record { set_up = c.requires.can.set_up; based = held.based; strip = c.requires.strip }
+    record { based = held.based; surplus_is = held.surplus_is; few = omega (arith, most, held.few) }
