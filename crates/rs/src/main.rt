@@ -3,9 +3,19 @@
 //! recovery shard `rI=HEX`, where I is the index of the shard.
 #![tactic(auto)]
 
-use rs_cli::arguments::read_words;
-use rs_cli::program::run;
-use rs_cli::stream::Stream;
+mod arguments;
+mod coding;
+mod command;
+mod fault;
+mod hexadecimal;
+mod number;
+mod program;
+mod stream;
+mod writing;
+
+use crate::arguments::read_words;
+use crate::program::run;
+use crate::stream::Stream;
 use std::process::ExitCode;
 
 fn main(rt: HostRuntime) -> ExitCode {
