@@ -1,25 +1,32 @@
 //! The cases of a data file, as values.
-use std::alloc::{AllocError, Global};
+
+/// A value, after the word that names it in data files.
+pub type Named<T> = (&'static str, T);
+
+/// The form in which a call takes and returns shards.
+pub enum Form {
+    /// The call takes shards from iterators, and returns vectors.
+    Iterators,
+    /// The call takes slices of shards, and returns vectors.
+    Slices,
+    /// The call takes slices of shards, and writes into rooms.
+    Rooms,
+    /// `encode_slice`, and `reconstruct` of the missing originals.
+    Wanted,
+    /// `encode_slice`, and `reconstruct_into` of the missing originals.
+    WantedRooms,
+    /// `encode_slice`, and `verify` before `decode_slice`.
+    Verified,
+    /// `update_into` after an `encode_slice` of a message in which one original is zero, and `decode_slice`.
+    Updated,
+    /// `split` before `encode_slice`, and `complete` and `join` after `decode_slice`.
+    Messages,
+}
 
 /// The level of use at which an action is run.
-#[derive(Clone, Copy, PartialEq, Eq)]
 pub enum LevelName {
-    /// The one-call functions over iterators.
-    Call,
-    /// The one-call functions over slices.
-    Slices,
-    /// The one-call functions that write into rooms.
-    Rooms,
-    /// `reconstruct` instead of a decode.
-    Wanted,
-    /// `reconstruct_into` instead of a decode.
-    WantedRooms,
-    /// `verify` before each decode.
-    Verified,
-    /// `update_into` after an encode of a message in which one original is zero.
-    Updated,
-    /// `split` before each encode, and `complete` and `join` after each decode.
-    Messages,
+    /// The one-call functions in a form.
+    OneCall(Form),
     /// The plain objects.
     Plain,
     /// The objects of the low rate.
@@ -30,28 +37,30 @@ pub enum LevelName {
     Default,
 }
 
-impl LevelName {
-    /// Returns the word that names the level in data files.
-    pub fn word(self) -> &'static str {
-        match self {
-            LevelName::Call => "call",
-            LevelName::Slices => "slices",
-            LevelName::Rooms => "rooms",
-            LevelName::Wanted => "wanted",
-            LevelName::WantedRooms => "wanted-rooms",
-            LevelName::Verified => "verified",
-            LevelName::Updated => "updated",
-            LevelName::Messages => "messages",
-            LevelName::Plain => "plain",
-            LevelName::Low => "low",
-            LevelName::High => "high",
-            LevelName::Default => "default",
-        }
-    }
-}
+/// All levels, in the order in which a case is run by them.
+pub static LEVELS: [Named<LevelName>; 12] = [
+    ("call", LevelName::OneCall(Form::Iterators)),
+    ("slices", LevelName::OneCall(Form::Slices)),
+    ("rooms", LevelName::OneCall(Form::Rooms)),
+    ("wanted", LevelName::OneCall(Form::Wanted)),
+    ("wanted-rooms", LevelName::OneCall(Form::WantedRooms)),
+    ("verified", LevelName::OneCall(Form::Verified)),
+    ("updated", LevelName::OneCall(Form::Updated)),
+    ("messages", LevelName::OneCall(Form::Messages)),
+    ("plain", LevelName::Plain),
+    ("low", LevelName::Low),
+    ("high", LevelName::High),
+    ("default", LevelName::Default),
+];
+
+/// The levels of objects of a rate. These objects work with any engine.
+pub static RATES: [Named<LevelName>; 3] = [
+    ("low", LevelName::Low),
+    ("high", LevelName::High),
+    ("default", LevelName::Default),
+];
 
 /// The way in which a case gets its object.
-#[derive(Clone, Copy)]
 pub enum Way {
     /// The object is made without memory of another one.
     New,
@@ -61,34 +70,16 @@ pub enum Way {
     HandedOn,
 }
 
-impl Way {
-    /// Returns the word that names the way in data files.
-    pub fn word(self) -> &'static str {
-        match self {
-            Way::New => "new",
-            Way::Reset => "reset",
-            Way::HandedOn => "handed-on",
-        }
-    }
-}
+/// All ways.
+pub static WAYS: [Named<Way>; 3] = [
+    ("new", Way::New),
+    ("reset", Way::Reset),
+    ("handed-on", Way::HandedOn),
+];
 
-/// The counts of shards, and the size of a shard in bytes, that an object is made for.
-#[derive(Clone, Copy)]
-pub struct Configuration {
-    /// The number of originals.
-    pub original_count: usize,
-    /// The number of recovery shards.
-    pub recovery_count: usize,
-    /// The size of a shard in bytes.
-    pub shard_bytes: usize,
-}
-
-impl Configuration {
-    /// Returns the count of originals, the count of recovery shards, and the size.
-    pub fn numbers(self) -> (usize, usize, usize) {
-        (self.original_count, self.recovery_count, self.shard_bytes)
-    }
-}
+/// The number of originals, the number of recovery shards, and the size of a shard in bytes, that an object is made
+/// for.
+pub type Configuration = (usize, usize, usize);
 
 /// One of the two objects of a level.
 #[derive(Clone, Copy)]
@@ -100,7 +91,7 @@ pub enum Object {
 }
 
 /// The role in which a shard is given.
-#[derive(Clone, Copy)]
+#[derive(Drop)]
 pub enum Role {
     /// The encoder's next original.
     Next,
@@ -110,49 +101,26 @@ pub enum Role {
     Recovery,
 }
 
-/// A shard with its index.
-#[derive(Drop, PartialEq, Eq)]
-pub struct Shard {
-    /// The index of the shard.
-    pub index: usize,
-    /// The bytes of the shard.
-    pub bytes: Vec<u8>,
-}
-
-impl Shard {
-    /// Makes a shard with a copy of these bytes.
-    ///
-    /// # Errors
-    ///
-    /// [`AllocError`] if memory cannot be allocated.
-    pub fn copied(alloc: Global, index: usize, bytes: &[u8]) -> Result<Shard, AllocError> {
-        Ok(Shard {
-            index,
-            bytes: bytes.to_vec(alloc)?,
-        })
-    }
-}
+/// The index of a shard, and its bytes.
+pub type Shard = (usize, Vec<u8>);
 
 /// The shards that one word of a line names.
 #[derive(Drop)]
 pub enum Shards {
     /// One shard, whose bytes are in the word.
     Written(Shard),
-    /// The shards with the indexes from `start` to `end` - 1, of a message or of its recovery shards.
-    Range { start: usize, end: usize },
+    /// The shards with the indexes from the first number up to, but not including, the second one, of a message or of
+    /// its recovery shards.
+    Range(usize, usize),
+    /// No shard: the iterator ends once at this place. It continues if `next` is called again.
+    End,
 }
 
-/// The shards, or the end of an iterator, that one word of an action gives to an object.
-#[derive(Drop)]
-pub enum Given {
-    /// Shards in a role.
-    Shards(Role, Shards),
-    /// The iterator for this role ends once at this place. It continues if `next` is called again.
-    End(Role),
-}
+/// The shards that one word of an action gives to an object in a role.
+pub type Given = (Role, Shards);
 
 /// The rule that makes the originals of a message.
-#[derive(Clone, Copy)]
+#[derive(Drop)]
 pub enum Rule {
     /// Byte i of original j is (7 i + 13 j + 5) mod 251.
     Counted,
@@ -193,28 +161,14 @@ pub enum Action {
     Configure(Configuration),
 }
 
-/// The numbers of shards that a call has not taken from its iterators.
-#[derive(Clone, Copy, PartialEq, Eq)]
-pub struct Left {
-    /// The number of originals.
-    pub originals: usize,
-    /// The number of recovery shards.
-    pub recoveries: usize,
-}
-
-impl Left {
-    /// The value for a call that has taken all shards.
-    pub const NONE: Left = Left {
-        originals: 0,
-        recoveries: 0,
-    };
-}
+/// The numbers of originals and of recovery shards that a call has not taken from its iterators.
+pub type Left = (usize, usize);
 
 /// The expected result of an action.
 #[derive(Drop)]
 pub enum Expected {
     /// The action returns these shards, in order, or no shards.
-    Shards(Vec<Shards>),
+    Shards(Vec<Given>),
     /// The action returns this text: the text of an error, or a digest.
     Text(String),
 }
@@ -240,7 +194,7 @@ pub struct Step {
 #[derive(Drop)]
 pub enum Line {
     /// The lines after this one are run with this level.
-    By(LevelName),
+    By(&'static Named<LevelName>),
     /// The line holds this action.
     Step(Step),
 }
@@ -249,15 +203,15 @@ pub enum Line {
 #[derive(Drop)]
 pub struct Case {
     /// The levels that run the case.
-    pub levels: Vec<LevelName>,
+    pub levels: Vec<&'static Named<LevelName>>,
     /// The lines of the case, in order.
     pub lines: Vec<Line>,
 }
 
 impl Case {
-    /// Returns whether the level with this name runs the case.
-    pub fn is_by(&self, name: LevelName) -> bool {
-        self.levels.iter().any(|level| *level == name)
+    /// Returns whether this level runs the case.
+    pub fn is_by(&self, level: &Named<LevelName>) -> bool {
+        self.levels.iter().any(|own| own.0 == level.0)
     }
 }
 
@@ -265,22 +219,9 @@ impl Case {
 #[derive(Drop)]
 pub struct CaseFile {
     /// The ways in which cases get their objects. Every case is run once in each of these ways.
-    pub ways: Vec<Way>,
+    pub ways: Vec<&'static Named<Way>>,
     /// Whether the cases are run with every engine. Otherwise they are run with `ssse3` alone.
     pub every_engine: bool,
     /// The cases, in order.
     pub cases: Vec<Case>,
-}
-
-impl CaseFile {
-    /// Returns how many cases the level with this name runs.
-    pub fn count_by(&self, name: LevelName) -> usize {
-        let mut count = 0usize;
-        for case in &self.cases {
-            if case.is_by(name) {
-                count = count.saturating_add(1);
-            }
-        }
-        count
-    }
 }

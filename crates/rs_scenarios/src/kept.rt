@@ -1,19 +1,27 @@
 //! The values that a case keeps from one action to the next.
-use crate::cases::{Left, Object, Shard, Way};
+use crate::cases::{Left, Named, Object, Shard, Way};
 use crate::watch::Watch;
+use anyhow::{Result, ensure};
 use reed_solomon_simd::rate::{DecoderWork, EncoderWork};
-use reed_solomon_simd::{DecoderResult, EncoderResult, Error, Recovery, RestoredOriginal};
-use std::alloc::{AllocError, Global};
-use std::collections::BTreeMap;
+use reed_solomon_simd::{DecoderResult, EncoderResult};
+use std::alloc::Global;
 use std::mem;
 
 /// The memory of objects that were taken apart.
-#[derive(Default, Drop)]
+#[derive(Drop)]
 pub struct Works {
     /// The memory of an encoder.
     pub encoder: Option<EncoderWork>,
     /// The memory of a decoder.
     pub decoder: Option<DecoderWork>,
+}
+
+impl Works {
+    /// No memory.
+    pub const NONE: Works = Works {
+        encoder: None,
+        decoder: None,
+    };
 }
 
 /// The message and the last results of a case.
@@ -22,7 +30,7 @@ pub struct Kept {
     /// The allocator.
     pub alloc: Global,
     /// The way in which the case gets its objects.
-    pub way: Way,
+    pub way: &'static Named<Way>,
     /// The memory of objects that were taken apart.
     pub works: Works,
     /// The originals of the message.
@@ -31,8 +39,6 @@ pub struct Kept {
     pub recovery: Vec<Shard>,
     /// The originals that the last decoding restored.
     pub restored: Vec<Shard>,
-    /// Whether the last result gave the same shards by index and by its iterator, and the right number of shards.
-    pub agrees: bool,
     /// Whether results are forgotten, and not dropped.
     pub forgets: bool,
     /// The numbers of shards that the last call has not taken from its iterators.
@@ -41,17 +47,16 @@ pub struct Kept {
 
 impl Kept {
     /// Makes an empty value for a case that is run in the given way.
-    pub fn new(alloc: Global, way: Way) -> Kept {
+    pub fn new(alloc: Global, way: &'static Named<Way>) -> Kept {
         Kept {
             alloc,
             way,
-            works: Works::default(),
+            works: Works::NONE,
             message: Vec::new(alloc),
             recovery: Vec::new(alloc),
             restored: Vec::new(alloc),
-            agrees: true,
             forgets: false,
-            left: Left::NONE,
+            left: (0, 0),
         }
     }
 
@@ -63,38 +68,22 @@ impl Kept {
         }
     }
 
-    /// Takes the last result of the object out of this value.
-    pub fn take_result(&mut self, object: Object) -> Vec<Shard> {
-        let empty = Vec::new(self.alloc);
-        match object {
-            Object::Encoder => mem::replace(&mut self.recovery, empty),
-            Object::Decoder => mem::replace(&mut self.restored, empty),
-        }
-    }
-
     /// Keeps the recovery shards of a result. The result is checked before the watch ends, and copied after that.
     ///
     /// # Errors
     ///
-    /// [`Error::OutOfMemory`] if memory cannot be allocated for the copies.
-    pub fn keep_recovery(&mut self, lent: EncoderResult<'_>, watch: Watch) -> Result<(), Error> {
-        self.agrees = recovery_agrees(&lent);
+    /// If the result differs by index and by its iterator, or if memory cannot be allocated for the copies.
+    pub fn keep_recovery(&mut self, lent: EncoderResult<'_>, watch: Watch) -> Result<()> {
+        let agrees = recovery_agrees(&lent);
         drop(watch);
-        self.copy_recovery(&lent)?;
+        self.recovery.clear();
+        for (index, shard) in lent.recovery_iter().enumerate() {
+            self.recovery.push((index, shard.to_vec(self.alloc)?))?;
+        }
         if self.forgets {
             mem::forget(lent);
         }
-        Ok(())
-    }
-
-    // Copies the recovery shards of a result.
-    fn copy_recovery(&mut self, lent: &EncoderResult<'_>) -> Result<(), AllocError> {
-        self.recovery.clear();
-        for shard in lent.recovery_iter() {
-            let index = self.recovery.len();
-            self.recovery
-                .push(Shard::copied(self.alloc, index, shard)?)?;
-        }
+        ensure!(agrees, "the result differs by index, walk and counts");
         Ok(())
     }
 
@@ -102,107 +91,56 @@ impl Kept {
     ///
     /// # Errors
     ///
-    /// [`Error::OutOfMemory`] if memory cannot be allocated for the copies.
-    pub fn keep_restored(&mut self, lent: DecoderResult<'_>, watch: Watch) -> Result<(), Error> {
-        self.agrees = restored_agrees(&lent);
+    /// If the result differs by index and by its iterator, or if memory cannot be allocated for the copies.
+    pub fn keep_restored(&mut self, lent: DecoderResult<'_>, watch: Watch) -> Result<()> {
+        let agrees = restored_agrees(&lent);
         drop(watch);
-        self.copy_restored(&lent)?;
+        self.restored.clear();
+        for (index, shard) in lent.restored_original_iter() {
+            self.restored.push((index, shard.to_vec(self.alloc)?))?;
+        }
         if self.forgets {
             mem::forget(lent);
         }
-        Ok(())
-    }
-
-    // Copies the restored originals of a result.
-    fn copy_restored(&mut self, lent: &DecoderResult<'_>) -> Result<(), AllocError> {
-        self.restored.clear();
-        for (index, shard) in lent.restored_original_iter() {
-            self.restored
-                .push(Shard::copied(self.alloc, index, shard)?)?;
-        }
-        Ok(())
-    }
-
-    /// Adds recovery shards to the kept ones, in order of their index.
-    ///
-    /// # Errors
-    ///
-    /// [`AllocError`] if memory cannot be allocated.
-    pub fn add_recovery(&mut self, shards: Vec<Vec<u8>>) -> Result<(), AllocError> {
-        for (index, bytes) in shards.into_iter().enumerate() {
-            self.recovery.push(Shard { index, bytes })?;
-        }
-        Ok(())
-    }
-
-    /// Adds restored originals to the kept ones.
-    ///
-    /// # Errors
-    ///
-    /// [`AllocError`] if memory cannot be allocated.
-    pub fn add_restored(&mut self, originals: BTreeMap<usize, Vec<u8>>) -> Result<(), AllocError> {
-        for (index, bytes) in originals {
-            self.restored.push(Shard { index, bytes })?;
-        }
+        ensure!(agrees, "the result differs by index, walk and counts");
         Ok(())
     }
 }
 
-// Returns whether the result of an encoder has the same shards by index and by its iterator, and whether the counts of
-// the iterator are right.
+// Returns whether the iterator of an encoder's result returns the recovery shards by their indexes, counts them, and
+// stays at its end, and whether the result has no other shard.
 fn recovery_agrees(lent: &EncoderResult<'_>) -> bool {
     let mut walk = lent.recovery_iter();
     let all = walk.len();
-    walks_recovery(lent, &mut walk)
-        && lent.recovery(all).is_none()
-        && lent.recovery(usize::MAX).is_none()
-}
-
-// Returns whether an iterator returns the recovery shards by their indexes, counts them, and stays at its end.
-fn walks_recovery(lent: &EncoderResult<'_>, walk: &mut Recovery<'_>) -> bool {
-    let all = walk.len();
     for index in 0..all {
-        let counts = has_left(walk, all - index);
+        let counts = has_left(&walk, all - index);
         let shard = walk.next();
         if !counts || shard.is_none() || shard != lent.recovery(index) {
             return false;
         }
     }
-    has_left(walk, 0) && walk.next().is_none() && walk.next().is_none() && has_left(walk, 0)
+    let ends = has_left(&walk, 0) && walk.next().is_none() && walk.next().is_none();
+    let others = [lent.recovery(all), lent.recovery(usize::MAX)];
+    ends && has_left(&walk, 0) && others == [None, None]
 }
 
-// Returns whether the result of a decoder agrees with its iterator: the number of indexes that have a shard is
-// the number that the iterator states.
+// Returns whether the iterator of a decoder's result returns the restored originals by their indexes, counts them, and
+// stays at its end, and whether the result has no other shard.
 fn restored_agrees(lent: &DecoderResult<'_>) -> bool {
     let mut walk = lent.restored_original_iter();
     let all = walk.len();
-    walks_restored(lent, &mut walk)
-        && count_restored(lent) == all
-        && lent.restored_original(usize::MAX).is_none()
-}
-
-// Returns whether an iterator returns the restored originals by their indexes, counts them, and stays at its end.
-fn walks_restored(lent: &DecoderResult<'_>, walk: &mut RestoredOriginal<'_>) -> bool {
-    let all = walk.len();
     for walked in 0..all {
-        let counts = has_left(walk, all - walked);
+        let counts = has_left(&walk, all - walked);
         let (index, shard) = walk.next().unwrap_or((usize::MAX, &[]));
         if !counts || lent.restored_original(index) != Some(shard) {
             return false;
         }
     }
-    has_left(walk, 0) && walk.next().is_none() && walk.next().is_none() && has_left(walk, 0)
-}
-
-// Returns how many indexes have a restored original.
-fn count_restored(lent: &DecoderResult<'_>) -> usize {
-    let mut count = 0usize;
-    for index in 0..65536 {
-        if lent.restored_original(index).is_some() {
-            count = count.saturating_add(1);
-        }
-    }
-    count
+    let ends = has_left(&walk, 0) && walk.next().is_none() && walk.next().is_none();
+    let restored = (0..65536).filter(|index| lent.restored_original(*index).is_some());
+    ends && has_left(&walk, 0)
+        && restored.count() == all
+        && lent.restored_original(usize::MAX).is_none()
 }
 
 // Returns whether an iterator has `left` items left, by `len` and by `size_hint`.

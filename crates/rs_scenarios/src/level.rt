@@ -8,40 +8,36 @@ pub type Answer = Result<(), Error>;
 
 /// An encoder and a decoder of one level of use. A case can call each method at this level.
 pub trait Level {
-    /// Makes a new object. If `works` holds the memory of an earlier object, the new object uses this memory.
+    /// Makes a new object if there are `works`, and otherwise resets the object. If `works` holds the memory of an
+    /// earlier object, the new object uses this memory.
     ///
     /// # Errors
     ///
     /// The error of the library.
-    fn start(&mut self, object: Object, configuration: Configuration, works: &mut Works) -> Answer;
+    fn obtain(
+        &mut self,
+        object: Object,
+        configuration: Configuration,
+        works: Option<&mut Works>,
+    ) -> Answer;
 
-    /// Resets the object to a configuration.
-    ///
-    /// # Errors
-    ///
-    /// The error of the library.
-    fn reset(&mut self, object: Object, configuration: Configuration) -> Answer;
-
-    /// Gives a shard to the encoder or the decoder. The index of an original for the encoder is ignored.
+    /// Gives a shard to the encoder or the decoder. The index of an original for the encoder is ignored. If there is no
+    /// shard, the iterator for this role ends once at this place, and continues if `next` is called again. A level that
+    /// passes no iterators then does nothing.
     ///
     /// # Errors
     ///
     /// The error of the library, or [`Error::OutOfMemory`] if a copy of the shard cannot be allocated.
-    fn give(&mut self, role: Role, shard: &Shard) -> Answer;
+    fn give(&mut self, role: &Role, shard: Option<&Shard>) -> Answer;
 
-    /// Encodes the originals that were given, and keeps the recovery shards.
+    /// Encodes the originals that were given, and keeps the recovery shards. Or restores the missing originals, and
+    /// keeps them.
     ///
     /// # Errors
     ///
-    /// The error of the library, then [`Error::OutOfMemory`] if the recovery shards cannot be kept.
-    fn encode(&mut self, kept: &mut Kept) -> Answer;
-
-    /// Restores the missing originals, and keeps the restored originals.
-    ///
-    /// # Errors
-    ///
-    /// The error of the library, then [`Error::OutOfMemory`] if the restored originals cannot be kept.
-    fn decode(&mut self, kept: &mut Kept) -> Answer;
+    /// The error of the library. Then the text of what is wrong: if memory for the results cannot be allocated, or if
+    /// the call did something else than its documentation says.
+    fn run(&mut self, object: Object, kept: &mut Kept) -> anyhow::Result<()>;
 
     /// Takes both objects apart, and makes new objects for one original and one recovery shard. A level whose objects
     /// cannot be taken apart does nothing.
@@ -53,18 +49,8 @@ pub trait Level {
         Ok(())
     }
 
-    /// Lets the iterator for this role end once at this place. The iterator continues if `next` is called again. A
-    /// level that passes no iterators does nothing.
-    ///
-    /// # Errors
-    ///
-    /// [`Error::OutOfMemory`] if memory cannot be allocated.
-    fn end_once(&mut self, _role: Role) -> Answer {
-        Ok(())
-    }
-
-    /// Returns whether `supports`, `validate` and `new` of the objects return the same result as `start` did. Returns
-    /// false if the level has none of these calls.
+    /// Returns whether `supports`, `validate` and `new` of the objects return the same result as a new object did.
+    /// Returns false if the level has none of these calls.
     fn tells(&self, _configuration: Configuration, _answer: Answer) -> bool {
         false
     }

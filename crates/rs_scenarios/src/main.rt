@@ -7,30 +7,25 @@
 
 mod cases;
 mod comparison;
-mod fault;
+mod further;
 mod interpreter;
 mod kept;
+mod lending;
 mod level;
 mod levels;
 mod message;
-mod missing;
 mod one_call;
 mod plain;
 mod rated;
 mod reading;
-mod reconstructing;
 mod report;
 mod rooms;
-mod slices;
-mod splitting;
-mod updating;
-mod verifying;
 mod watch;
 mod words;
 
 use anyhow::{Result, ensure};
-use cases::{CaseFile, LevelName};
-use levels::{LEVELS, Levels, RATES};
+use cases::{CaseFile, LEVELS, LevelName, Named, RATES};
+use levels::Levels;
 use reading::read_file;
 use reed_solomon_simd::engine::tables::Tables;
 use reed_solomon_simd::engine::{Avx2, DefaultEngine, Engine, EngineKind, Naive, NoSimd, Ssse3};
@@ -44,10 +39,10 @@ fn run_over<E: Engine + Copy>(
     alloc: Global,
     file: &CaseFile,
     (engine, chosen, name): (E, DefaultEngine<'_>, &str),
-    names: &'static [LevelName],
+    levels: &'static [Named<LevelName>],
     report: &mut Report,
 ) -> Result<()> {
-    Ok(Levels::new(alloc, engine, chosen, names)?.run(file, name, report)?)
+    Ok(Levels::new(alloc, engine, chosen, levels)?.run(file, name, report)?)
 }
 
 // Runs a file's cases with each engine that can be chosen by name, or only with `ssse3`.
@@ -65,7 +60,7 @@ fn run_over_kinds(
     ] {
         if file.every_engine || kind == EngineKind::Ssse3 {
             let engine = DefaultEngine::new(tables, kind);
-            run_over(alloc, file, (engine, engine, name), LEVELS, report)?;
+            run_over(alloc, file, (engine, engine, name), &LEVELS, report)?;
         }
     }
     Ok(())
@@ -74,26 +69,30 @@ fn run_over_kinds(
 // Runs a file's cases with the objects of the rates over the type of each engine.
 fn run_over_types(alloc: Global, file: &CaseFile, t: &Tables, report: &mut Report) -> Result<()> {
     let idle = DefaultEngine::new(t, EngineKind::Naive);
-    run_over(alloc, file, (Naive::new(t), idle, "Naive"), RATES, report)?;
-    run_over(alloc, file, (NoSimd::new(t), idle, "NoSimd"), RATES, report)?;
-    run_over(alloc, file, (Avx2::new(t), idle, "Avx2"), RATES, report)?;
-    run_over(alloc, file, (Ssse3::new(t), idle, "Ssse3"), RATES, report)
+    run_over(alloc, file, (Naive::new(t), idle, "Naive"), &RATES, report)?;
+    run_over(
+        alloc,
+        file,
+        (NoSimd::new(t), idle, "NoSimd"),
+        &RATES,
+        report,
+    )?;
+    run_over(alloc, file, (Avx2::new(t), idle, "Avx2"), &RATES, report)?;
+    run_over(alloc, file, (Ssse3::new(t), idle, "Ssse3"), &RATES, report)
 }
 
-// Runs the cases of a file with each of its engines.
-fn run_cases(alloc: Global, file: &CaseFile, tables: &Tables, report: &mut Report) -> Result<()> {
-    run_over_kinds(alloc, file, tables, report)?;
-    if file.every_engine {
-        run_over_types(alloc, file, tables, report)?;
-    }
-    Ok(())
-}
-
-// Runs the cases of a file with this name and these contents, and returns the report.
+// Runs the cases of a file with this name and these contents with each of its engines, and returns the report.
 fn run_file(alloc: Global, name: String, text: &str, tables: &Tables) -> Result<Report> {
     let file = read_file(alloc, name.as_str(), text)?;
-    let mut report = Report::new(alloc, name);
-    run_cases(alloc, &file, tables, &mut report)?;
+    let mut report = Report {
+        file: name,
+        text: String::new(alloc),
+        differing: 0,
+    };
+    run_over_kinds(alloc, &file, tables, &mut report)?;
+    if file.every_engine {
+        run_over_types(alloc, &file, tables, &mut report)?;
+    }
     Ok(report)
 }
 

@@ -12,23 +12,30 @@ use std::alloc::{AllocError, Global};
 /// [`AllocError`] if memory cannot be allocated.
 pub fn message(
     alloc: Global,
-    rule: Rule,
+    rule: &Rule,
     count: usize,
     shard_bytes: usize,
 ) -> Result<Vec<Shard>, AllocError> {
-    match rule {
-        Rule::Counted => counted(alloc, count, shard_bytes),
-        Rule::Drawn(seed) => drawn(alloc, count, shard_bytes, seed),
-        Rule::Points(from) => points(alloc, count, from),
-    }
-}
-
-// Makes the originals of `Rule::Counted`.
-fn counted(alloc: Global, count: usize, shard_bytes: usize) -> Result<Vec<Shard>, AllocError> {
+    let seed = match rule {
+        Rule::Drawn(seed) => *seed,
+        _ => 0,
+    };
+    let mut rng = ChaCha8Rng::from_seed([seed; 32]);
     let mut shards = Vec::new(alloc);
     for index in 0..count {
-        let bytes = counted_bytes(alloc, index, shard_bytes)?;
-        shards.push(Shard { index, bytes })?;
+        let bytes = match rule {
+            Rule::Counted => counted_bytes(alloc, index, shard_bytes)?,
+            Rule::Drawn(_) => {
+                let mut bytes = vec![in alloc; 0u8; shard_bytes]?;
+                rng.fill_bytes(bytes.as_mut_slice());
+                bytes
+            }
+            Rule::Points(from) => {
+                let point = from.wrapping_add(index);
+                vec![in alloc; (point % 256) as u8, (point / 256 % 256) as u8]?
+            }
+        };
+        shards.push((index, bytes))?;
     }
     Ok(shards)
 }
@@ -43,34 +50,6 @@ fn counted_bytes(alloc: Global, index: usize, shard_bytes: usize) -> Result<Vec<
     Ok(bytes)
 }
 
-// Makes the originals of `Rule::Drawn`.
-fn drawn(
-    alloc: Global,
-    count: usize,
-    shard_bytes: usize,
-    seed: u8,
-) -> Result<Vec<Shard>, AllocError> {
-    let mut rng = ChaCha8Rng::from_seed([seed; 32]);
-    let mut shards = Vec::new(alloc);
-    for index in 0..count {
-        let mut bytes: Vec<u8> = Vec::from_elem(alloc, 0, shard_bytes)?;
-        rng.fill_bytes(bytes.as_mut_slice());
-        shards.push(Shard { index, bytes })?;
-    }
-    Ok(shards)
-}
-
-// Makes the originals of `Rule::Points`: the words from `from` on, each with its low byte first.
-fn points(alloc: Global, count: usize, from: usize) -> Result<Vec<Shard>, AllocError> {
-    let mut shards = Vec::new(alloc);
-    for index in 0..count {
-        let point = from.wrapping_add(index);
-        let word = [(point % 256) as u8, (point / 256 % 256) as u8];
-        shards.push(Shard::copied(alloc, index, &word)?)?;
-    }
-    Ok(shards)
-}
-
 /// Returns the SHA-256 digest of all shards, one after another, in hexadecimal digits.
 ///
 /// # Errors
@@ -78,8 +57,8 @@ fn points(alloc: Global, count: usize, from: usize) -> Result<Vec<Shard>, AllocE
 /// [`AllocError`] if memory cannot be allocated.
 pub fn digest_of(alloc: Global, shards: &[Shard]) -> Result<String, AllocError> {
     let mut hasher = Sha256::new();
-    for shard in shards {
-        hasher.update(shard.bytes.as_slice());
+    for (_, bytes) in shards {
+        hasher.update(bytes.as_slice());
     }
     hex::encode(alloc, hasher.finalize().as_slice())
 }

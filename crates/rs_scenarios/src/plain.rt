@@ -33,55 +33,54 @@ impl<'t> Plain<'t> {
 }
 
 impl Level for Plain<'_> {
-    fn start(
+    fn obtain(
         &mut self,
         object: Object,
-        configuration: Configuration,
-        _works: &mut Works,
+        (k, r, size): Configuration,
+        works: Option<&mut Works>,
     ) -> Answer {
         let (alloc, engine) = (self.alloc, self.engine);
-        let (k, r, size) = configuration.numbers();
         let _watch = Watch::new(alloc);
-        match object {
-            Object::Encoder => self.encoder = ReedSolomonEncoder::new(alloc, k, r, size, engine)?,
-            Object::Decoder => self.decoder = ReedSolomonDecoder::new(alloc, k, r, size, engine)?,
+        match (object, works.is_some()) {
+            (Object::Encoder, false) => self.encoder.reset(k, r, size)?,
+            (Object::Decoder, false) => self.decoder.reset(k, r, size)?,
+            (Object::Encoder, true) => {
+                self.encoder = ReedSolomonEncoder::new(alloc, k, r, size, engine)?;
+            }
+            (Object::Decoder, true) => {
+                self.decoder = ReedSolomonDecoder::new(alloc, k, r, size, engine)?;
+            }
         }
         Ok(())
     }
 
-    fn reset(&mut self, object: Object, configuration: Configuration) -> Answer {
-        let (k, r, size) = configuration.numbers();
-        let _watch = Watch::new(self.alloc);
-        match object {
-            Object::Encoder => self.encoder.reset(k, r, size),
-            Object::Decoder => self.decoder.reset(k, r, size),
-        }
-    }
-
-    fn give(&mut self, role: Role, shard: &Shard) -> Answer {
-        let bytes = shard.bytes.as_slice();
+    fn give(&mut self, role: &Role, shard: Option<&Shard>) -> Answer {
+        let Some((index, bytes)) = shard else {
+            return Ok(());
+        };
         let _watch = Watch::new(self.alloc);
         match role {
             Role::Next => self.encoder.add_original_shard(bytes),
-            Role::Original => self.decoder.add_original_shard(shard.index, bytes),
-            Role::Recovery => self.decoder.add_recovery_shard(shard.index, bytes),
+            Role::Original => self.decoder.add_original_shard(*index, bytes),
+            Role::Recovery => self.decoder.add_recovery_shard(*index, bytes),
         }
     }
 
-    fn encode(&mut self, kept: &mut Kept) -> Answer {
+    fn run(&mut self, object: Object, kept: &mut Kept) -> anyhow::Result<()> {
         let watch = Watch::new(self.alloc);
-        let lent = self.encoder.encode()?;
-        kept.keep_recovery(lent, watch)
+        match object {
+            Object::Encoder => {
+                let lent = self.encoder.encode()?;
+                kept.keep_recovery(lent, watch)
+            }
+            Object::Decoder => {
+                let lent = self.decoder.decode()?;
+                kept.keep_restored(lent, watch)
+            }
+        }
     }
 
-    fn decode(&mut self, kept: &mut Kept) -> Answer {
-        let watch = Watch::new(self.alloc);
-        let lent = self.decoder.decode()?;
-        kept.keep_restored(lent, watch)
-    }
-
-    fn tells(&self, configuration: Configuration, answer: Answer) -> bool {
-        let (k, r, _) = configuration.numbers();
+    fn tells(&self, (k, r, _): Configuration, answer: Answer) -> bool {
         let supported = !matches!(answer, Err(Error::UnsupportedShardCount { .. }));
         ReedSolomonEncoder::supports(k, r) == supported
             && ReedSolomonDecoder::supports(k, r) == supported
