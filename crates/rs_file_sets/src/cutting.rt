@@ -87,11 +87,6 @@ fn cut_small(data_bytes: u64, wanted: u64, recovery: Recovery) -> Option<Cut> {
     Some(cut)
 }
 
-// Data without bytes may have a block of 4096 bytes.
-fn largest_block(data_bytes: u64) -> u64 {
-    data_bytes.div_ceil(PAGE).max(1).saturating_mul(PAGE)
-}
-
 /// Chooses the block size and the numbers of blocks of data with `data_bytes` bytes. If `block` is `None`, the block
 /// size is the smallest multiple of 4096 bytes for which the data has at most 2000 blocks, and the code supports the
 /// numbers of blocks. If `block` is larger than the data, the block size is that of the data, rounded up to a multiple
@@ -118,7 +113,9 @@ pub fn cut_data(data_bytes: u64, block: Option<u64>, recovery: Recovery) -> Resu
     if !allows_block(block) {
         return Err(Failure::of("a block must have an even number of bytes, from 2 to 2^40"));
     }
-    let block = block.min(largest_block(data_bytes));
+    // Data without bytes may have a block of 4096 bytes.
+    let largest = data_bytes.div_ceil(PAGE).max(1).saturating_mul(PAGE);
+    let block = block.min(largest);
     if let Some(cut) = cut_into(data_bytes, block, MOST_BLOCKS, recovery) {
         return Ok(cut);
     }

@@ -58,33 +58,28 @@ pub fn look<R: Files>(rt: &R, alloc: Global, entry: &Entry, path: &str) -> io::R
         Kind::File => fs::metadata(rt, path)?,
         Kind::Link | Kind::Folder => fs::symlink_metadata(rt, path)?,
     };
-    match entry.kind {
-        Kind::Folder => Ok(state_if(found.is_dir())),
-        Kind::File if found.is_dir() => Err(in_its_place("a folder has the name of this file")),
-        Kind::File if !found.is_file() => Err(in_its_place("this is no regular file")),
-        Kind::File => Ok(state_if(found.len() == entry.size)),
-        Kind::Link if found.is_dir() => {
-            Err(in_its_place("a folder has the name of this symbolic link"))
+    let reason = match entry.kind {
+        Kind::File if found.is_dir() => "a folder has the name of this file",
+        Kind::File if !found.is_file() => "this is no regular file",
+        Kind::Link if found.is_dir() => "a folder has the name of this symbolic link",
+        _ => {
+            let is_whole = match entry.kind {
+                Kind::Folder => found.is_dir(),
+                Kind::File => found.len() == entry.size,
+                Kind::Link if found.is_symlink() => {
+                    let target = rt.read_link(alloc, path)?.into_string();
+                    target.as_bytes() == entry.target.as_slice()
+                }
+                Kind::Link => false,
+            };
+            return Ok(if is_whole {
+                State::Whole
+            } else {
+                State::Damaged
+            });
         }
-        Kind::Link if found.is_symlink() => {
-            let target = rt.read_link(alloc, path)?.into_string();
-            Ok(state_if(target.as_bytes() == entry.target.as_slice()))
-        }
-        Kind::Link => Ok(State::Damaged),
-    }
-}
-
-// Returns the error for something that has the name of an entry.
-fn in_its_place(reason: &'static str) -> io::Error {
-    io::Error::new(ErrorKind::InvalidInput, reason)
-}
-
-fn state_if(is_whole: bool) -> State {
-    if is_whole {
-        State::Whole
-    } else {
-        State::Damaged
-    }
+    };
+    Err(io::Error::new(ErrorKind::InvalidInput, reason))
 }
 
 // A scan of the entries of a set.
@@ -109,19 +104,21 @@ impl<'a, R: Files + Clock + Eprint> EntryScan<'a, R> {
     fn look_at_all(&mut self, alloc: Global) -> Result<()> {
         let entries = self.description.entries.as_slice();
         for (index, entry) in entries.iter().enumerate() {
-            let state = self.look_at(alloc, index, entry);
+            let name = entry.name.as_slice();
+            let state = if text_of(name).is_some() {
+                let path = self.path(index);
+                self.known(path, look(self.rt, alloc, entry, path))
+            } else {
+                let name = Name(name);
+                self.scanner.progress.end(self.rt);
+                let _ = eprintln!(self.rt;
+                    "rs_files: {name}: this name is not UTF-8: this program cannot restore it"
+                );
+                State::Missing
+            };
             self.states.push(state)?;
         }
         Ok(())
-    }
-
-    fn look_at(&mut self, alloc: Global, index: usize, entry: &Entry) -> State {
-        if text_of(entry.name.as_slice()).is_none() {
-            return self.unnamed(entry);
-        }
-        let path = self.path(index);
-        let outcome = look(self.rt, alloc, entry, path);
-        self.known(path, outcome)
     }
 
     // After an error the entry is missing, and the function prints why, unless nothing has its name.
@@ -135,15 +132,6 @@ impl<'a, R: Files + Clock + Eprint> EntryScan<'a, R> {
                 State::Missing
             }
         }
-    }
-
-    fn unnamed(&mut self, entry: &Entry) -> State {
-        let name = Name(entry.name.as_slice());
-        self.scanner.progress.end(self.rt);
-        let _ = eprintln!(self.rt;
-            "rs_files: {name}: this name is not UTF-8: this program cannot restore it"
-        );
-        State::Missing
     }
 
     fn path(&self, index: usize) -> &'a str {
@@ -165,12 +153,11 @@ impl<'a, R: Files + Clock + Eprint> EntryScan<'a, R> {
 
     fn scan_block(&mut self, block: usize, places: &[Place]) {
         let size = self.description.block_bytes;
-        if places
-            .iter()
-            .any(|place| self.state(place.file) == State::Missing)
-        {
-            self.scanner.progress.skip(size);
-            return self.doubt(places);
+        for place in places {
+            if self.state(place.file) == State::Missing {
+                self.scanner.progress.skip(size);
+                return self.doubt(places);
+            }
         }
         let own = self.hash_block(places, size);
         self.scanner.progress.advance(self.rt, size);
@@ -216,8 +203,24 @@ impl<'a, R: Files + Clock + Eprint> EntryScan<'a, R> {
         Some(hasher.finish())
     }
 
+    // If the file is not the one that was read last, it is opened. A file that cannot be opened is missing, and the
+    // function prints why.
     fn add_place(&mut self, hasher: &mut ByteHasher, place: &Place) -> io::Result<()> {
-        self.open(place.file)?;
+        let is_open = match &self.opened {
+            Some(opened) => opened.holder == place.file,
+            None => false,
+        };
+        if !is_open {
+            self.close();
+            let (holder, path) = (place.file, self.path(place.file));
+            match open_regular(self.rt, path, true) {
+                Ok(file) => self.opened = Some(Opened { holder, file }),
+                Err(error) => {
+                    let state = self.known(path, Err(error));
+                    self.set_state(holder, state);
+                }
+            }
+        }
         match &mut self.opened {
             Some(opened) => {
                 opened.file.seek(SeekFrom::Start(place.offset))?;
@@ -228,25 +231,6 @@ impl<'a, R: Files + Clock + Eprint> EntryScan<'a, R> {
         }
     }
 
-    // A file that cannot be opened is missing, and the function prints why.
-    fn open(&mut self, holder: usize) -> io::Result<()> {
-        if let Some(opened) = &self.opened {
-            if opened.holder == holder {
-                return Ok(());
-            }
-        }
-        self.close();
-        let path = self.path(holder);
-        match open_regular(self.rt, path, true) {
-            Ok(file) => self.opened = Some(Opened { holder, file }),
-            Err(error) => {
-                let state = self.known(path, Err(error));
-                self.set_state(holder, state);
-            }
-        }
-        Ok(())
-    }
-
     // Prints how many blocks of the file cannot be read.
     fn close(&mut self) {
         if let Some(opened) = self.opened.take() {
@@ -255,24 +239,20 @@ impl<'a, R: Files + Clock + Eprint> EntryScan<'a, R> {
         }
     }
 
-    // A file may be whole although a block with its bytes is wrong, so it is read again.
+    // A file may be whole although a block with its bytes is wrong, so it is read again. A file that cannot be read
+    // counts as damaged.
     fn check_suspects(&mut self) {
         let entries = self.description.entries.as_slice();
         for (index, entry) in entries.iter().enumerate() {
             let is_suspect = self.suspects.get(index).copied().unwrap_or(false);
-            if is_suspect && self.state(index) == State::Whole {
-                let state = self.compare(index, entry);
-                self.set_state(index, state);
+            if !is_suspect || self.state(index) != State::Whole {
+                continue;
             }
-        }
-    }
-
-    // A file that cannot be read counts as damaged.
-    fn compare(&mut self, index: usize, entry: &Entry) -> State {
-        let path = self.path(index);
-        match hash_path(self.rt, path, true, entry.size, &mut self.buffer) {
-            Ok(own) => state_if(own == entry.digest),
-            Err(_) => State::Damaged,
+            let path = self.path(index);
+            match hash_path(self.rt, path, true, entry.size, &mut self.buffer) {
+                Ok(own) if own == entry.digest => {}
+                _ => self.set_state(index, State::Damaged),
+            }
         }
     }
 }

@@ -36,7 +36,10 @@ pub fn state_by_time<R: Files>(
     path: &str,
     version: Version,
 ) -> State {
-    let has_its_time = fs::metadata(rt, path).is_ok_and(|found| has_time(entry, &found, version));
+    let has_its_time = match fs::metadata(rt, path) {
+        Ok(found) => has_time(entry, &found, version),
+        Err(_) => false,
+    };
     match look(rt, alloc, entry, path) {
         Ok(State::Whole) if entry.kind == Kind::File && !has_its_time => State::Damaged,
         Ok(state) => state,
@@ -59,7 +62,10 @@ pub fn is_whole<R: Files>(
     if entry.kind != Kind::File || entry.size == 0 {
         return true;
     }
-    hash_path(rt, path, true, entry.size, buffer).is_ok_and(|own| own == entry.digest)
+    match hash_path(rt, path, true, entry.size, buffer) {
+        Ok(own) => own == entry.digest,
+        Err(_) => false,
+    }
 }
 
 /// Returns whether an entry of a set of version 2 is below a folder, under its name and with the right bytes, so that
@@ -83,7 +89,10 @@ pub fn is_there<R: Files>(
         return Ok(false);
     }
     let path = path_in(alloc, folder, name)?;
-    let is_link = fs::symlink_metadata(rt, path.as_str()).is_ok_and(|found| found.is_symlink());
+    let is_link = match fs::symlink_metadata(rt, path.as_str()) {
+        Ok(found) => found.is_symlink(),
+        Err(_) => false,
+    };
     let may_be = is_link == (entry.kind == Kind::Link);
     Ok(may_be && is_whole(rt, alloc, entry, path.as_str(), buffer))
 }

@@ -10,7 +10,7 @@ use rs_folders::failure::{Failure, Result};
 use rs_folders::hashing::{CHUNK, add_bytes, add_zeros, hash_at};
 use rs_folders::output::Part;
 use rs_folders::progress::Progress;
-use rs_folders::runs::{Run, is_padded, places_in, places_of_piece, run_of};
+use rs_folders::runs::{is_padded, places_in, places_of_piece, run_of};
 use rs_folders::source::{FileBlocks, failure_of};
 use rs_volumes::coding_error::CodingError;
 use rs_volumes::description::Version;
@@ -38,19 +38,9 @@ struct FileSink<'a, 'b, 'c, R: Files + Eprint> {
 }
 
 impl<'a, 'b, 'c, R: Files + Eprint> FileSink<'a, 'b, 'c, R> {
-    fn write(&mut self, run: &Run, piece: &[u8]) {
-        let bytes = piece.get(run.from..run.to).unwrap_or(&[]);
-        if let Err(error) = self.targets.write(run.file, run.offset, bytes) {
-            self.targets.give_up(run.file, error);
-        }
-    }
-
     fn give_up_unpadded(&mut self) {
-        for block in 0..self.unpadded.len() {
-            if !self.unpadded.get(block).copied().unwrap_or(false) {
-                continue;
-            }
-            for place in places_in(self.places, block) {
+        for place in self.places {
+            if self.unpadded.get(place.block).copied().unwrap_or(false) {
                 let reason = "bytes of its blocks that belong to no file are not zero";
                 let error = io::Error::new(ErrorKind::InvalidData, reason);
                 self.targets.give_up(place.file, error);
@@ -71,21 +61,34 @@ impl<'a, 'b, 'c, R: Files + Eprint> BlockSink for FileSink<'a, 'b, 'c, R> {
             }
         }
         for place in places_of_piece(places, start, piece.len()) {
-            if let Some(run) = run_of(place, start, piece.len()) {
-                self.write(&run, piece);
+            let Some(run) = run_of(place, start, piece.len()) else {
+                continue;
+            };
+            let bytes = piece.get(run.from..run.to).unwrap_or(&[]);
+            if let Err(error) = self.targets.write(run.file, run.offset, bytes) {
+                self.targets.give_up(run.file, error);
             }
         }
         Ok(())
     }
 }
 
-// If a wanted block is lost, all original blocks that were found are read, and as many recovery blocks as original
-// blocks are lost.
+// If a wanted block is lost, all original blocks that were found are read, and the first recovery blocks that were
+// found, as many as original blocks are lost. Otherwise only the wanted blocks are read.
 fn plan_for(alloc: Global, scan: &Scan, wanted: Vec<bool>) -> Result<Plan, AllocError> {
-    let loses_wanted = loses_wanted(scan, wanted.as_slice());
-    let originals = original_blocks(alloc, scan, wanted.as_slice(), loses_wanted)?;
+    let loses_wanted = loses(scan, &wanted);
     let count = if loses_wanted { scan.counts().lost } else { 0 };
-    let recovery = recovery_blocks(alloc, scan, wanted.len(), count)?;
+    let (mut originals, mut recovery) = (Vec::new(alloc), Vec::new(alloc));
+    for (index, origin) in scan.found.places.iter().enumerate() {
+        if origin.is_none() {
+            continue;
+        }
+        match wanted.get(index) {
+            Some(is_wanted) if loses_wanted || *is_wanted => originals.push(index)?,
+            None if recovery.len() < count => recovery.push(index.saturating_sub(wanted.len()))?,
+            _ => {}
+        }
+    }
     Ok(Plan {
         originals,
         recovery,
@@ -93,29 +96,13 @@ fn plan_for(alloc: Global, scan: &Scan, wanted: Vec<bool>) -> Result<Plan, Alloc
     })
 }
 
-fn is_found(scan: &Scan, index: usize) -> bool {
-    scan.found.has(index)
-}
-
-fn loses_wanted(scan: &Scan, wanted: &[bool]) -> bool {
-    let mut numbered = wanted.iter().enumerate();
-    numbered.any(|(index, is_wanted)| *is_wanted && !is_found(scan, index))
-}
-
-// If `all` is set, these are all original blocks that were found, and otherwise only the wanted ones.
-fn original_blocks(
-    alloc: Global,
-    scan: &Scan,
-    wanted: &[bool],
-    all: bool,
-) -> Result<Vec<usize>, AllocError> {
-    let mut originals = Vec::new(alloc);
+fn loses(scan: &Scan, wanted: &[bool]) -> bool {
     for (index, is_wanted) in wanted.iter().enumerate() {
-        if is_found(scan, index) && (all || *is_wanted) {
-            originals.push(index)?;
+        if *is_wanted && !scan.found.has(index) {
+            return true;
         }
     }
-    Ok(originals)
+    false
 }
 
 // A block must be written if one of its files has a part.
@@ -133,22 +120,6 @@ fn wanted_blocks<R: Files>(
         }
     }
     Ok(wanted)
-}
-
-// These are the first recovery blocks that were found, at most `count` of them.
-fn recovery_blocks(
-    alloc: Global,
-    scan: &Scan,
-    k: usize,
-    count: usize,
-) -> Result<Vec<usize>, AllocError> {
-    let mut recovery = Vec::new(alloc);
-    for (index, origin) in scan.found.places.iter().enumerate() {
-        if index >= k && origin.is_some() && recovery.len() < count {
-            recovery.push(index - k)?;
-        }
-    }
-    Ok(recovery)
 }
 
 /// Writes the blocks of the files that have a part, and compares each block with its digest. If a block cannot be
@@ -309,15 +280,10 @@ fn has_digests<F: Read + Seek>(
         let mut hasher = ByteHasher::new();
         handle.seek(SeekFrom::Start(place.offset))?;
         add_bytes(&mut hasher, handle, place.bytes, buffer)?;
-        add_zeros(
-            &mut hasher,
-            description.block_bytes.saturating_sub(place.bytes),
-        );
-        if !is_digest(
-            description.digests.as_slice(),
-            place.block,
-            &hasher.finish().bytes,
-        ) {
+        let left = description.block_bytes.saturating_sub(place.bytes);
+        add_zeros(&mut hasher, left);
+        let own = hasher.finish().bytes;
+        if !is_digest(description.digests.as_slice(), place.block, &own) {
             return Ok(false);
         }
     }

@@ -12,7 +12,7 @@ const FILTER_BYTES: usize = 1 << 17;
 
 /// The sum of a window of bytes: the sum of the bytes, and the sum of the products of each byte and the number of bytes
 /// from it to the end of the window. Both are modulo 2^32.
-#[derive(Clone, Copy, PartialEq, Eq)]
+#[derive(Clone, Copy)]
 pub struct RollingSum {
     plain: u32,
     weighted: u32,
@@ -132,7 +132,8 @@ impl Sums {
         let mut filter = vec![in alloc; 0u8; FILTER_BYTES]?;
         for block in blocks {
             let start = block.saturating_mul(8);
-            if let Some(sum) = bytes.get(start..).and_then(|rest| rest.first_chunk::<8>()) {
+            let rest = bytes.get(start..).unwrap_or(&[]);
+            if let Some(sum) = rest.first_chunk::<8>() {
                 let sum = u64::from_le_bytes(*sum);
                 let bit = bit_of(sum);
                 if let Some(bits) = filter.get_mut((bit >> 3) as usize) {
@@ -148,11 +149,8 @@ impl Sums {
     /// Returns whether a sum is one of the sums.
     pub fn has(&self, sum: &RollingSum) -> bool {
         let bit = bit_of(sum.value());
-        let may_have = self
-            .filter
-            .get((bit >> 3) as usize)
-            .is_some_and(|bits| (*bits >> (bit & 7)) & 1 == 1);
-        may_have && !self.blocks_of(sum).is_empty()
+        let bits = self.filter.get((bit >> 3) as usize).copied().unwrap_or(0);
+        (bits >> (bit & 7)) & 1 == 1 && !self.blocks_of(sum).is_empty()
     }
 
     /// Returns the blocks with a sum.

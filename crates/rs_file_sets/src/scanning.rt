@@ -6,7 +6,7 @@ use rs_folders::progress::Progress;
 use rs_folders::source::{Holders, Origin};
 use rs_volume_files::assembly::Set;
 use rs_volume_files::scanner::{Scanner, State};
-use rs_volume_files::volume::{Volume, Volumes, open_sized, open_volumes};
+use rs_volume_files::volume::{Volume, Volumes, open_sized};
 use rs_volume_files::volume_scan::{Damage, VolumeScan};
 use rs_volumes::description::{Description, Version};
 use rs_volumes::found::FoundBlocks;
@@ -43,31 +43,11 @@ pub struct ScannedVolume {
     pub damage: Damage,
 }
 
-/// Opens the volumes at `paths`, and looks for all blocks of their set in the volumes and, if `folder` is given, in the
-/// files of the set below that folder. `shown` says whether to show progress, and `memory` how many bytes of memory
-/// descriptions may take, approximately.
+/// Looks for all blocks of the set of `volumes`, in these and, if `folder` is given, in the files of the set below that
+/// folder. `shown` says whether to show progress.
 ///
-/// For each volume that cannot be read, the function prints a message. A block that cannot be read is not an error: it
-/// is not found. For each file and each volume with such blocks, the function prints a message. It also prints a
-/// message for each entry whose name something else has.
-///
-/// # Errors
-///
-/// Fails for a reason of [`open_volumes`], if the block size is 0, if a volume cannot be opened again, or if memory
-/// cannot be allocated.
-pub fn scan_paths<R: Files + Clock + Eprint>(
-    rt: &R,
-    alloc: Global,
-    paths: &[String],
-    memory: u64,
-    shown: bool,
-    folder: Option<&str>,
-) -> Result<Scan> {
-    let volumes = open_volumes(rt, alloc, paths, memory)?;
-    scan_opened(rt, alloc, volumes, shown, folder)
-}
-
-/// Does what [`scan_paths`] does, for volumes that are open.
+/// A block that cannot be read is not an error: it is not found. For each file and each volume with such blocks, the
+/// function prints a message. It also prints a message for each entry whose name something else has.
 ///
 /// # Errors
 ///
@@ -84,18 +64,19 @@ pub fn scan_opened<R: Files + Clock + Eprint>(
         return Err(Failure::of("the blocks are empty"));
     }
     let total = bytes_to_read(rt, alloc, &volumes, folder.is_some())?;
-    let progress = Progress::new(rt, shown, total);
-    let mut scanner = Scanner::new(alloc, description, progress)?;
+    let mut scanner = Scanner::new(alloc, description, Progress::new(rt, shown, total))?;
     let entries = description.entries.as_slice();
-    let mut paths = match folder {
-        Some(folder) => paths_of(alloc, folder, entries)?,
-        None => no_paths(alloc, entries.len())?,
-    };
     let places = places_of(alloc, description)?;
-    let states = match folder {
-        Some(_) => scan_entries(rt, alloc, description, &paths, &places, &mut scanner)?,
-        None => vec![in alloc; State::Missing; paths.len()]?,
-    };
+    let (mut paths, mut states) = (Vec::new(alloc), Vec::new(alloc));
+    if let Some(folder) = folder {
+        paths = paths_of(alloc, folder, entries)?;
+        states = scan_entries(rt, alloc, description, &paths, &places, &mut scanner)?;
+    } else {
+        for _ in entries {
+            paths.push(String::new(alloc))?;
+            states.push(State::Missing)?;
+        }
+    }
     let Volumes {
         set,
         read,
@@ -120,15 +101,6 @@ pub fn scan_opened<R: Files + Clock + Eprint>(
         volumes,
         unreadable,
     })
-}
-
-// The files of the set are nowhere.
-fn no_paths(alloc: Global, count: usize) -> Result<Vec<String>, AllocError> {
-    let mut paths = Vec::new(alloc);
-    for _ in 0..count {
-        paths.push(String::new(alloc))?;
-    }
-    Ok(paths)
 }
 
 // A scan reads at most this many bytes. It reads original blocks only if the files are searched.
@@ -194,11 +166,6 @@ impl Scan {
         }
     }
 
-    /// Returns the number of blocks of the set.
-    pub fn block_count(&self) -> usize {
-        self.found.places.len()
-    }
-
     /// Returns the original blocks that were not found.
     ///
     /// # Errors
@@ -225,11 +192,22 @@ impl Scan {
     /// Counts the blocks that were found.
     pub fn counts(&self) -> Counts {
         let (originals, recovery) = self.origins();
-        Counts {
-            lost: originals.iter().filter(|origin| origin.is_none()).count(),
-            recovery: recovery.iter().filter(|origin| origin.is_some()).count(),
+        let mut counts = Counts {
+            lost: originals.len(),
+            recovery: 0,
             recovery_count: recovery.len(),
+        };
+        for (index, origin) in self.found.places.iter().enumerate() {
+            if origin.is_none() {
+                continue;
+            }
+            if index < originals.len() {
+                counts.lost = counts.lost.saturating_sub(1);
+            } else {
+                counts.recovery = counts.recovery.saturating_add(1);
+            }
         }
+        counts
     }
 
     /// Returns for each entry whether it can be restored. A file can be restored if all its blocks were found, or if at
@@ -256,35 +234,35 @@ impl Scan {
 
     /// Returns whether each volume can be read and is whole.
     pub fn has_whole_volumes(&self) -> bool {
-        self.unreadable.is_empty() && self.volumes.iter().all(|volume| volume.damage.is_none())
+        for volume in &self.volumes {
+            if !volume.damage.is_none() {
+                return false;
+            }
+        }
+        self.unreadable.is_empty()
     }
 
     /// Returns whether nothing of the set was found in the folder, and the volumes are those of `split`. A volume of
     /// version 1 does not say this: then volumes with original blocks are those of `split`.
     pub fn is_spread(&self) -> bool {
         let description = self.description();
-        let are_many = match description.version {
-            Version::First => self.holds_originals(),
-            Version::Second => description.volumes > 1,
-        };
-        are_many && !self.has_files()
-    }
-
-    // Returns whether an original block was found in a volume.
-    fn holds_originals(&self) -> bool {
+        if self.has_files() {
+            return false;
+        }
+        if description.version == Version::Second {
+            return description.volumes > 1;
+        }
         let (originals, _) = self.origins();
-        originals
-            .iter()
-            .any(|origin| matches!(origin, Some(Origin::Volume { .. })))
+        for origin in originals {
+            if matches!(origin, Some(Origin::Volume { .. })) {
+                return true;
+            }
+        }
+        false
     }
 
     /// Returns whether one of the entries was found, whole or damaged.
     pub fn has_files(&self) -> bool {
-        self.states.iter().any(|state| *state != State::Missing)
-    }
-
-    /// Returns whether all entries are whole.
-    pub fn has_whole_files(&self) -> bool {
-        self.states.iter().all(|state| *state == State::Whole)
+        self.states.contains(&State::Whole) || self.states.contains(&State::Damaged)
     }
 }

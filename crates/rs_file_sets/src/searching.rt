@@ -113,26 +113,17 @@ pub fn find_elsewhere<R: Runtime>(
     Ok(found)
 }
 
-impl<'a, R: Runtime> Search<'a, R> {
-    fn state(&self, index: usize) -> State {
-        self.scan
-            .states
-            .get(index)
-            .copied()
-            .unwrap_or(State::Missing)
-    }
+// A file of the set that is not whole: its size, index and digest.
+type Sought = (u64, usize, [u8; 32]);
 
-    // Volumes and whole files are known. Links and empty folders of the set do not count: a file can have been moved
-    // into such a folder, or to the place to which such a link leads.
-    fn is_known(&self, index: usize) -> bool {
-        match self.scan.description().entries.get(index) {
-            Some(entry) => matches!(entry.kind, Kind::File) && self.state(index) == State::Whole,
-            None => true,
-        }
+impl<'a, R: Runtime> Search<'a, R> {
+    fn is_whole(&self, index: usize) -> bool {
+        matches!(self.scan.states.get(index), Some(State::Whole))
     }
 
     // No lost block is looked for in the whole files of the set, in the volumes, and in the folder into which files are
-    // restored. The result is sorted.
+    // restored. Links and empty folders of the set do not count: a file can have been moved into such a folder, or to
+    // the place to which such a link leads. The result is sorted.
     fn known(&self, to: &Option<String>) -> Result<Vec<Identity>, AllocError> {
         let mut known = Vec::new(self.alloc);
         if let Some(to) = to {
@@ -141,7 +132,11 @@ impl<'a, R: Runtime> Search<'a, R> {
             }
         }
         for (index, path) in self.scan.paths.iter().enumerate() {
-            if self.is_known(index) {
+            let is_known = match self.scan.description().entries.get(index) {
+                Some(entry) => entry.kind == Kind::File && self.is_whole(index),
+                None => true,
+            };
+            if is_known {
                 if let Ok(metadata) = fs::metadata(self.rt, path.as_str()) {
                     known.push(Identity::of(&metadata))?;
                 }
@@ -220,15 +215,14 @@ impl<'a, R: Runtime> Search<'a, R> {
     // Looks among the whole files of the set, and among the candidates with the same length. A file that is found
     // becomes the source of the blocks. Returns whether one was found.
     fn find_files(&mut self) -> Result<bool> {
-        let whole = self.whole_files()?;
-        let sought = self.sought()?;
+        let (whole, sought) = self.sorted_files()?;
         let mut has_found = false;
-        for (index, size, digest) in &sought {
+        for (number, (size, index, digest)) in sought.iter().enumerate() {
             let (index, size) = (*index, *size);
             let copy = whole.binary_search_by(|(own, _)| own.cmp(digest));
             let path = match copy {
                 Ok(at) => self.path_of_copy(whole.get(at).copied())?,
-                Err(_) => self.file_with(index, size, digest, is_alone(sought.as_slice(), size))?,
+                Err(_) => self.file_with(index, size, digest, is_alone(&sought, number))?,
             };
             if let (Some(path), Some(own)) = (path, self.scan.paths.get_mut(index)) {
                 *own = path;
@@ -238,29 +232,23 @@ impl<'a, R: Runtime> Search<'a, R> {
         Ok(has_found)
     }
 
-    // Returns the files of the set that are not whole: for each, its index, size and digest, in order of the sizes.
-    fn sought(&self) -> Result<Vec<(usize, u64, [u8; 32])>, AllocError> {
-        let mut sought = Vec::new(self.alloc);
+    // Returns the files of the set that are whole: for each, its digest and index, in order of the digests. And those
+    // that are not, in order of the sizes.
+    fn sorted_files(&self) -> Result<(Vec<([u8; 32], usize)>, Vec<Sought>), AllocError> {
+        let (mut whole, mut sought) = (Vec::new(self.alloc), Vec::new(self.alloc));
         for (index, entry) in self.scan.description().entries.iter().enumerate() {
-            let has_digest = entry.kind == Kind::File && entry.size > 0 && entry.digest != [0; 32];
-            if has_digest && self.state(index) != State::Whole {
-                sought.push((index, entry.size, entry.digest))?;
+            if entry.kind != Kind::File {
+                continue;
             }
-        }
-        sought.sort_by(|one, other| one.1.cmp(&other.1))?;
-        Ok(sought)
-    }
-
-    // Returns digests and indexes, in order of the digests.
-    fn whole_files(&self) -> Result<Vec<([u8; 32], usize)>, AllocError> {
-        let mut whole = Vec::new(self.alloc);
-        for (index, entry) in self.scan.description().entries.iter().enumerate() {
-            if entry.kind == Kind::File && self.state(index) == State::Whole {
+            if self.is_whole(index) {
                 whole.push((entry.digest, index))?;
+            } else if entry.size > 0 && entry.digest != [0; 32] {
+                sought.push((entry.size, index, entry.digest))?;
             }
         }
         whole.sort()?;
-        Ok(whole)
+        sought.sort()?;
+        Ok((whole, sought))
     }
 
     fn path_of_copy(&self, copy: Option<([u8; 32], usize)>) -> Result<Option<String>, AllocError> {
@@ -395,8 +383,10 @@ impl<'a, R: Runtime> Search<'a, R> {
         if lost.is_empty() {
             return Ok(());
         }
+        let scan = &*self.scan;
+        let count = scan.found.places.len();
         let mut found = Vec::new(self.alloc);
-        for block in 0..self.scan.block_count() {
+        for block in 0..count {
             if let Some(origin) = self.single_place(block) {
                 found.push((block, origin))?;
             }
@@ -429,11 +419,7 @@ impl<'a, R: Runtime> Search<'a, R> {
         if bytes.is_empty() {
             return Ok(());
         }
-        let total = self
-            .candidates
-            .iter()
-            .fold(0u64, |sum, own| sum.saturating_add(own.size));
-        if total >= MANY_BYTES {
+        if self.candidate_bytes() >= MANY_BYTES {
             self.tell_long(
                 folders,
                 "looking for lost blocks at every byte of the files",
@@ -443,6 +429,14 @@ impl<'a, R: Runtime> Search<'a, R> {
             self.find_in(index, &mut sums)?;
         }
         Ok(())
+    }
+
+    fn candidate_bytes(&self) -> u64 {
+        let mut total = 0u64;
+        for candidate in &self.candidates {
+            total = total.saturating_add(candidate.size);
+        }
+        total
     }
 
     // The search goes on one byte after a block: in data with many zeros, or if files are equal, other blocks can
@@ -506,11 +500,16 @@ impl<'a, R: Runtime> Search<'a, R> {
     }
 }
 
-// `sought` is in order of the sizes.
-fn is_alone(sought: &[(usize, u64, [u8; 32])], size: u64) -> bool {
-    let from = sought.partition_point(|(_, own, _)| *own < size);
-    let to = sought.partition_point(|(_, own, _)| *own <= size);
-    to.saturating_sub(from) == 1
+// `sought` is in order of the sizes. Returns whether no other file has the size of the one at `at`.
+fn is_alone(sought: &[Sought], at: usize) -> bool {
+    let size = sought.get(at).copied().unwrap_or((0, 0, [0; 32])).0;
+    for other in [at.wrapping_sub(1), at.saturating_add(1)] {
+        match sought.get(other) {
+            Some((own, _, _)) if *own == size => return false,
+            _ => {}
+        }
+    }
+    true
 }
 
 // The windows of a file that have as many bytes as a block, one at each byte.

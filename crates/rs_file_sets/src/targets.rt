@@ -81,9 +81,22 @@ impl<'a, R: Files + Eprint> Targets<'a, R> {
         for (index, entry) in self.entries.iter().enumerate() {
             self.parts.push(None)?;
             self.outcomes.push(Outcome::Left)?;
-            if entry.kind == Kind::File && self.is_wanted(index) {
-                let begun = self.placing.begin_file(entry);
-                self.keep(index, begun);
+            if entry.kind != Kind::File || !self.is_wanted(index) {
+                continue;
+            }
+            match self.placing.begin_file(entry) {
+                Ok(mut part) => {
+                    if self.open < MOST_OPEN {
+                        self.open += 1;
+                    } else {
+                        // A part that cannot be closed stays open.
+                        let _ = part.close();
+                    }
+                    if let Some(slot) = self.parts.get_mut(index) {
+                        *slot = Some(part);
+                    }
+                }
+                Err(failure) => self.set_outcome(index, Outcome::Failed(failure)),
             }
         }
         Ok(())
@@ -93,30 +106,9 @@ impl<'a, R: Files + Eprint> Targets<'a, R> {
         self.wanted.get(index).copied().unwrap_or(false)
     }
 
-    fn keep(&mut self, index: usize, begun: Result<Part<R>>) {
-        match begun {
-            Ok(mut part) => {
-                self.limit_open(&mut part);
-                if let Some(slot) = self.parts.get_mut(index) {
-                    *slot = Some(part);
-                }
-            }
-            Err(failure) => self.set_outcome(index, Outcome::Failed(failure)),
-        }
-    }
-
     fn set_outcome(&mut self, index: usize, outcome: Outcome) {
         if let Some(own) = self.outcomes.get_mut(index) {
             *own = outcome;
-        }
-    }
-
-    fn limit_open(&mut self, part: &mut Part<R>) {
-        if self.open < MOST_OPEN {
-            self.open += 1;
-        } else {
-            // A part that cannot be closed stays open.
-            let _ = part.close();
         }
     }
 
@@ -128,18 +120,14 @@ impl<'a, R: Files + Eprint> Targets<'a, R> {
     /// Fails for a reason of [`Part::write_at`].
     pub fn write(&mut self, file: usize, offset: u64, bytes: &[u8]) -> io::Result<()> {
         if file != self.last {
-            self.close_last();
+            if let Some(Some(part)) = self.parts.get_mut(self.last) {
+                part.close_again();
+            }
             self.last = file;
         }
         match self.parts.get_mut(file) {
             Some(Some(part)) => part.write_at(self.rt, offset, bytes),
             _ => Ok(()),
-        }
-    }
-
-    fn close_last(&mut self) {
-        if let Some(Some(part)) = self.parts.get_mut(self.last) {
-            part.close_again();
         }
     }
 
@@ -169,28 +157,25 @@ impl<'a, R: Files + Eprint> Targets<'a, R> {
 
     fn finish_kind(&mut self, kind: Kind) {
         for (index, entry) in self.entries.iter().enumerate() {
-            if entry.kind == kind && self.is_wanted(index) {
-                self.finish_one(index, entry);
+            if entry.kind != kind || !self.is_wanted(index) {
+                continue;
             }
+            let part = match self.parts.get_mut(index) {
+                Some(slot) => slot.take(),
+                None => None,
+            };
+            let finished = match (kind, part) {
+                (Kind::File, Some(part)) => self.placing.finish_file(part, entry),
+                // This file could not be written. The outcome says why.
+                (Kind::File, None) => continue,
+                _ => self.placing.make_other(entry),
+            };
+            let outcome = match finished {
+                Ok(kept) => Outcome::Restored(kept),
+                Err(failure) => Outcome::Failed(failure),
+            };
+            self.set_outcome(index, outcome);
         }
-    }
-
-    fn finish_one(&mut self, index: usize, entry: &Entry) {
-        let part = match self.parts.get_mut(index) {
-            Some(slot) => slot.take(),
-            None => None,
-        };
-        let finished = match (entry.kind, part) {
-            (Kind::File, Some(part)) => self.placing.finish_file(part, entry),
-            // This file could not be written. The outcome says why.
-            (Kind::File, None) => return,
-            _ => self.placing.make_other(entry),
-        };
-        let outcome = match finished {
-            Ok(kept) => Outcome::Restored(kept),
-            Err(failure) => Outcome::Failed(failure),
-        };
-        self.set_outcome(index, outcome);
     }
 
     /// Removes all parts that are left, and the new folders in which nothing is.

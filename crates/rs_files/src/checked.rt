@@ -1,10 +1,10 @@
 //! The states of the entries of a set, as they are printed.
-use crate::json::{add_text, entry_json};
-use crate::log::Lines;
+use crate::json::entry_json;
+use crate::log::{is_shown, tell_more};
 use rs_folders::names::{Name, Shown};
 use rs_volume_files::scanner::State;
 use rs_volumes::description::Entry;
-use serde_json::Value;
+use serde_json::{Value, put};
 use std::alloc::{AllocError, Global};
 use std::io;
 
@@ -31,30 +31,26 @@ impl<'a> Checked<'a> {
         }
     }
 
-    /// Returns whether one of the entries was found, whole or not.
-    pub fn has_some(&self) -> bool {
-        self.states.iter().any(|state| *state != State::Missing)
-    }
-
     /// Prints which entries are not whole. If none was found in `folder`, the function prints this instead.
     ///
     /// # Errors
     ///
     /// Fails if the result cannot be printed.
     pub fn tell<R: Print>(&self, rt: &R, folder: &str) -> io::Result<()> {
-        if !self.entries.is_empty() && !self.has_some() {
+        let has_some = self.states.contains(&State::Whole) || self.states.contains(&State::Damaged);
+        if !self.entries.is_empty() && !has_some {
             return tell_nowhere(rt, folder);
         }
-        let mut lines = Lines::new();
+        let mut count = 0;
         let states = self.states.iter().zip(self.chosen);
         for (entry, (state, is_chosen)) in self.entries.iter().zip(states) {
-            if *is_chosen && *state != State::Whole && lines.next() {
+            if *is_chosen && *state != State::Whole && is_shown(&mut count) {
                 let word = self.word_of(*state);
                 let name = Name(entry.name.as_slice());
                 println!(rt; "{word}: {name}")?;
             }
         }
-        lines.end(rt)
+        tell_more(rt, count, "")
     }
 
     /// Returns the entries with their states as JSON.
@@ -68,7 +64,8 @@ impl<'a> Checked<'a> {
         for (entry, (state, is_chosen)) in self.entries.iter().zip(states) {
             if *is_chosen {
                 let mut object = entry_json(alloc, entry)?;
-                add_text(alloc, &mut object, "state", self.word_of(*state))?;
+                let word = Value::try_from_str(alloc, self.word_of(*state))?;
+                put(&mut object, alloc, "state", word)?;
                 list.push(Value::Object(object))?;
             }
         }

@@ -2,8 +2,8 @@
 //! by themselves.
 use crate::log::Log;
 use crate::settings::Request;
-use rs_file_sets::one_entry::{has_own_time, has_time};
-use rs_file_sets::scanning::{Scan, scan_paths};
+use rs_file_sets::one_entry::has_own_time;
+use rs_file_sets::scanning::{Scan, scan_opened};
 use rs_folders::failure::{Failure, Result, warn};
 use rs_folders::hashing::{CHUNK, hash_path};
 use rs_folders::identity::exists;
@@ -12,19 +12,22 @@ use rs_folders::runs::places_in;
 use rs_folders::source::Origin;
 use rs_folders::walking::Found;
 use rs_volume_files::scanner::State;
+use rs_volume_files::volume::open_volumes;
 use rs_volumes::description::{Description, Entry, Kind, Version};
 use rs_volumes::placement::Place;
 use std::alloc::{AllocError, Global};
 use std::fs;
-use std::fs::Metadata;
+use std::ops::Range;
 use std::rt::{Files, Runtime};
 
 /// How an entry of an old set has changed.
-#[derive(Clone, Copy, PartialEq, Eq)]
+#[derive(Clone, Copy)]
 enum Change {
     /// It has not changed.
     None,
-    /// Its bytes have changed, but the time of its last change has not: see `is_rotten`.
+    /// Its bytes have changed, but its length and the time of its last change have not. A file that was cut or got
+    /// longer is rotten, too, if its time has not changed and is not a whole second, which archives and builds give to
+    /// many files.
     Rotten,
     /// Its bytes, its target or its kind have changed.
     Edited,
@@ -44,14 +47,6 @@ pub struct Known {
 }
 
 impl Known {
-    /// Returns that nothing is known.
-    pub fn nothing(alloc: Global) -> Known {
-        Known {
-            files: Vec::new(alloc),
-            old: None,
-        }
-    }
-
     /// Returns the original blocks of a new set whose digests are known: a block of the old set has the same bytes of
     /// the same files, and has its digest. `places` are the places of the new blocks. For a file with a mark in
     /// `linked`, nothing is known.
@@ -122,10 +117,7 @@ fn old_digest(
     let block = old_places.get(from)?.block;
     let was = places_in(old_places, block);
     let is_whole = matches!(old.found.places.get(block), Some(Some(Origin::Files)));
-    let mut pairs = was.iter().zip(places);
-    let is_same = was.len() == places.len()
-        && pairs.all(|(was, is)| is_same_place(set, was, new, is, linked));
-    if is_whole && is_same {
+    if is_whole && are_same_places(set, was, new, places, linked) {
         set.digests
             .as_slice()
             .as_chunks::<32>()
@@ -137,64 +129,60 @@ fn old_digest(
     }
 }
 
-fn is_same_place(
+fn are_same_places(
     old: &Description,
-    was: &Place,
+    were: &[Place],
     new: &Description,
-    is: &Place,
+    are: &[Place],
     linked: &[bool],
 ) -> bool {
-    let (Some(old), Some(own)) = (old.entries.get(was.file), new.entries.get(is.file)) else {
-        return false;
-    };
-    let is_linked = linked.get(is.file).copied().unwrap_or(true);
-    old.name.as_slice() == own.name.as_slice()
-        && !is_linked
-        && (was.offset, was.at, was.bytes) == (is.offset, is.at, is.bytes)
-}
-
-// A file whose bytes have changed is rotten if its length and the time of its last change have not. A file that was cut
-// or got longer is rotten, too, if its time has not changed and is not a whole second, which archives and builds give
-// to many files.
-fn is_rotten(entry: &Entry, metadata: &Metadata, version: Version) -> bool {
-    has_time(entry, metadata, version)
-        || (entry.nanoseconds > 0 && has_own_time(entry, metadata, version))
-}
-
-fn change_of<R: Files>(
-    rt: &R,
-    entry: &Entry,
-    path: &str,
-    state: State,
-    version: Version,
-) -> Change {
-    match state {
-        State::Whole => Change::None,
-        State::Damaged if entry.kind == Kind::File => match fs::metadata(rt, path) {
-            Ok(metadata) if is_rotten(entry, &metadata, version) => Change::Rotten,
-            _ => Change::Edited,
-        },
-        State::Damaged => Change::Edited,
-        State::Missing if exists(rt, path) => Change::Edited,
-        State::Missing => Change::Removed,
+    for (was, is) in were.iter().zip(are) {
+        let (old, own) = (old.entries.get(was.file), new.entries.get(is.file));
+        let (Some(old), Some(own)) = (old, own) else {
+            return false;
+        };
+        let is_linked = linked.get(is.file).copied().unwrap_or(true);
+        if old.name.as_slice() != own.name.as_slice()
+            || is_linked
+            || (was.offset, was.at, was.bytes) != (is.offset, is.at, is.bytes)
+        {
+            return false;
+        }
     }
+    were.len() == are.len()
 }
 
 fn changes_of<R: Files>(rt: &R, alloc: Global, old: &Scan) -> Result<Vec<Change>, AllocError> {
-    let description = old.description();
-    let mut changes = Vec::new(alloc);
+    let (set, mut changes) = (old.description(), Vec::new(alloc));
     let paths = old.paths.iter().zip(old.states.as_slice());
-    for (entry, (path, state)) in description.entries.iter().zip(paths) {
-        changes.push(change_of(rt, entry, path.as_str(), *state, description.version))?;
+    for (entry, (path, state)) in set.entries.iter().zip(paths) {
+        let path = path.as_str();
+        let change = match state {
+            State::Whole => Change::None,
+            State::Damaged if entry.kind == Kind::File => match fs::metadata(rt, path) {
+                Ok(found)
+                    if has_own_time(entry, &found, set.version)
+                        && (found.len() == entry.size || entry.nanoseconds > 0) => {
+                    Change::Rotten
+                }
+                _ => Change::Edited,
+            },
+            State::Damaged => Change::Edited,
+            State::Missing if exists(rt, path) => Change::Edited,
+            State::Missing => Change::Removed,
+        };
+        changes.push(change)?;
     }
     Ok(changes)
 }
 
 fn is_accepted(request: &Request, name: &[u8]) -> bool {
-    request
-        .accept
-        .iter()
-        .any(|accepted| accepted.as_str().as_bytes() == name)
+    for accepted in &request.accept {
+        if accepted.as_str().as_bytes() == name {
+            return true;
+        }
+    }
+    false
 }
 
 // Returns the number of rotten files that were not accepted.
@@ -207,19 +195,17 @@ fn tell_changes<R: Print + Eprint>(
 ) -> Result<u64> {
     let mut rotten = 0u64;
     for (entry, change) in old.entries.iter().zip(changes) {
-        let list = match change {
-            Change::None | Change::Replaced => continue,
-            Change::Rotten if !is_accepted(request, entry.name.as_slice()) => "rotten",
-            Change::Rotten | Change::Edited => "edited",
-            Change::Removed => "removed",
-        };
-        if list == "rotten" {
-            let name = Name(entry.name.as_slice());
-            eprintln!(rt; "rs_files: rotten: {name}")?;
-            rotten = rotten.saturating_add(1);
-            log.add_entry(list, entry.name.as_slice(), None)?;
-        } else {
-            log.note(rt, list, entry.name.as_slice())?;
+        let name = entry.name.as_slice();
+        match change {
+            Change::None | Change::Replaced => {}
+            Change::Rotten if !is_accepted(request, name) => {
+                let shown = Name(name);
+                eprintln!(rt; "rs_files: rotten: {shown}")?;
+                rotten = rotten.saturating_add(1);
+                log.add("rotten", ("name", name), None)?;
+            }
+            Change::Rotten | Change::Edited => log.note(rt, "edited", name)?,
+            Change::Removed => log.note(rt, "removed", name)?,
         }
     }
     Ok(rotten)
@@ -245,7 +231,7 @@ fn tell_new<R: Print + Eprint>(
         if let Some(was) = was {
             let (shown, old) = (Name(name), Name(was.name.as_slice()));
             eprintln!(rt; "rs_files: rotten: {shown} (was {old})")?;
-            log.add_moved("rotten", name, was.name.as_slice())?;
+            log.add("rotten", ("name", name), Some(("was", was.name.as_slice())))?;
             rotten = rotten.saturating_add(1);
         } else if index_in(old, name).is_none() {
             log.note(rt, "new", name)?;
@@ -265,36 +251,8 @@ fn index_in(set: &Description, name: &[u8]) -> Option<usize> {
     found.ok()
 }
 
-fn existing<R: Files>(rt: &R, alloc: Global, paths: &[String]) -> Result<Vec<String>, AllocError> {
-    let mut found = Vec::new(alloc);
-    for path in paths {
-        if exists(rt, path.as_str()) {
-            found.push(path.clone()?)?;
-        }
-    }
-    Ok(found)
-}
-
-// The digest of a file is known if the file was compared with an old set, and all its blocks are as they were. A file
-// that was found by a symbolic link is not known.
-fn known_digests(
-    alloc: Global,
-    old: &Scan,
-    found: &Found,
-) -> Result<Vec<Option<[u8; 32]>>, AllocError> {
-    let mut known = Vec::new(alloc);
-    for (entry, is_linked) in found.entries.iter().zip(found.linked.as_slice()) {
-        let own = if *is_linked {
-            None
-        } else {
-            digest_in(old, entry)
-        };
-        known.push(own)?;
-    }
-    Ok(known)
-}
-
-// Version 1 has no digests of files.
+// The digest of a file is known if all blocks of the file that has its name in the old set are as they were. Version 1
+// has no digests of files.
 fn digest_in(old: &Scan, entry: &Entry) -> Option<[u8; 32]> {
     let set = old.description();
     if set.version != Version::Second || entry.kind != Kind::File {
@@ -346,7 +304,7 @@ fn old_files(
         return Ok(files);
     }
     for (index, (entry, change)) in old.entries.iter().zip(changes).enumerate() {
-        let is_gone = *change == Change::Removed;
+        let is_gone = matches!(change, Change::Removed);
         if let (true, Some(stamp)) = (is_gone || entry.nanoseconds != 0, stamp_of(entry)) {
             files.push(OldFile {
                 stamp,
@@ -412,28 +370,22 @@ fn moved_rotten<R: Files>(
 }
 
 // Takes an old file with the same stamp that was not found. If all of these were found and the time is no whole second,
-// takes the first one of them, unless the file is one that `repair` kept.
+// takes the first one of them, unless the file is one that `repair` kept: it has the name of one of them with
+// `.damaged`.
 fn origin_of(old: &Description, files: &[OldFile], entry: &Entry) -> Option<usize> {
-    let same = with_stamp(files, entry);
-    let lost = same.iter().find(|file| !file.is_found);
-    let is_kept = same
-        .iter()
-        .any(|file| is_kept_for(old, file.index, entry.name.as_slice()));
-    let any = if entry.nanoseconds != 0 && !is_kept {
-        same.first()
-    } else {
-        None
-    };
-    lost.or(any).map(|file| file.index)
-}
-
-// `repair` keeps a damaged file under its name with `.damaged`.
-fn is_kept_for(old: &Description, index: usize, name: &[u8]) -> bool {
-    let Some(entry) = old.entries.get(index) else {
-        return false;
-    };
-    name.strip_prefix(entry.name.as_slice())
-        .is_some_and(|rest| rest.starts_with(b".damaged"))
+    let mut first = None;
+    let mut is_left_out = entry.nanoseconds == 0;
+    for file in with_stamp(files, entry) {
+        if !file.is_found {
+            return Some(file.index);
+        }
+        first = first.or(Some(file.index));
+        let was = old.entries.get(file.index)?.name.as_slice();
+        if let Some(rest) = entry.name.as_slice().strip_prefix(was) {
+            is_left_out = is_left_out || rest.starts_with(b".damaged");
+        }
+    }
+    if is_left_out { None } else { first }
 }
 
 // An entry is replaced if a rotten file was moved to its name. `origins` has for each entry that was found the old
@@ -447,40 +399,54 @@ fn mark_replaced(
 ) {
     for (entry, origin) in found.entries.iter().zip(origins) {
         let name = entry.name.as_slice();
-        if origin.is_some() && !is_accepted(request, name) {
-            if let Some(change) = index_in(old, name).and_then(|index| changes.get_mut(index)) {
+        if origin.is_none() || is_accepted(request, name) {
+            continue;
+        }
+        if let Some(index) = index_in(old, name) {
+            if let Some(change) = changes.get_mut(index) {
                 *change = Change::Replaced;
             }
         }
     }
 }
 
-// `files` is in order of the stamps.
+// `files` is in order of stamps and digests. Returns where those from one pair to another one are.
+fn range_of(files: &[OldFile], from: (Stamp, [u8; 32]), to: (Stamp, [u8; 32])) -> Range<usize> {
+    let start = files.partition_point(|file| (file.stamp, file.digest) < from);
+    let end = files.partition_point(|file| (file.stamp, file.digest) <= to);
+    start..end
+}
+
 fn with_stamp<'a>(files: &'a [OldFile], entry: &Entry) -> &'a [OldFile] {
     let Some(stamp) = stamp_of(entry) else {
         return &[];
     };
-    let from = files.partition_point(|file| file.stamp < stamp);
-    let to = files.partition_point(|file| file.stamp <= stamp);
-    files.get(from..to).unwrap_or(&[])
+    let range = range_of(files, (stamp, [0; 32]), (stamp, [0xFF; 32]));
+    files.get(range).unwrap_or(&[])
 }
 
 fn is_moved(old: &Description, entry: &Entry, files: &[OldFile]) -> bool {
     if with_stamp(files, entry).is_empty() {
         return false;
     }
-    let same = index_in(old, entry.name.as_slice()).and_then(|index| old.entries.get(index));
-    same.is_none_or(|same| stamp_of(same) != stamp_of(entry))
+    let Some(index) = index_in(old, entry.name.as_slice()) else {
+        return true;
+    };
+    match old.entries.get(index) {
+        Some(same) => stamp_of(same) != stamp_of(entry),
+        None => true,
+    }
 }
 
 fn mark_found(files: &mut [OldFile], entry: &Entry, digest: &[u8; 32]) {
     let Some(stamp) = stamp_of(entry) else {
         return;
     };
-    let from = files.partition_point(|file| (file.stamp, file.digest) < (stamp, *digest));
-    let to = files.partition_point(|file| (file.stamp, file.digest) <= (stamp, *digest));
-    for file in files.iter_mut().take(to).skip(from) {
-        file.is_found = true;
+    let range = range_of(files, (stamp, *digest), (stamp, *digest));
+    if let Some(same) = files.get_mut(range) {
+        for file in same {
+            file.is_found = true;
+        }
     }
 }
 
@@ -510,13 +476,21 @@ fn old_set<R: Runtime>(
     outputs: &[String],
     found: &Found,
 ) -> Result<Option<Scan>> {
-    let old = existing(rt, alloc, outputs)?;
+    let mut old = Vec::new(alloc);
+    for path in outputs {
+        if exists(rt, path.as_str()) {
+            old.push(path.clone()?)?;
+        }
+    }
     let Some(first) = old.first() else {
         return Ok(None);
     };
-    let folder = Some(found.folder.as_str());
-    let shown = request.progress;
-    match scan_paths(rt, alloc, old.as_slice(), request.memory, shown, folder) {
+    let (folder, shown) = (Some(found.folder.as_str()), request.progress);
+    let scanned = match open_volumes(rt, alloc, old.as_slice(), request.memory) {
+        Ok(volumes) => scan_opened(rt, alloc, volumes, shown, folder),
+        Err(failure) => Err(failure),
+    };
+    match scanned {
         Ok(scan) => Ok(Some(scan)),
         Err(failure) => {
             let reason = format_args!("the files were not compared with this volume: {failure}");
@@ -544,28 +518,23 @@ pub fn may_replace<R: Runtime>(
     found: &Found,
     log: &mut Log,
 ) -> Result<Option<Known>> {
+    let mut files = Vec::new(alloc);
     let Some(old) = old_set(rt, alloc, request, outputs, found)? else {
-        return Ok(Some(Known::nothing(alloc)));
+        return Ok(Some(Known { files, old: None }));
     };
+    // A file that was found by a symbolic link has no digest that is known.
+    for (entry, is_linked) in found.entries.iter().zip(found.linked.as_slice()) {
+        files.push(if *is_linked {
+            None
+        } else {
+            digest_in(&old, entry)
+        })?;
+    }
     let (set, mut changes) = (old.description(), changes_of(rt, alloc, &old)?);
-    let mut files = known_digests(alloc, &old, found)?;
-    let moves = moved_rotten(
-        rt,
-        alloc,
-        set,
-        changes.as_slice(),
-        found,
-        files.as_mut_slice(),
-    )?;
-    mark_replaced(
-        request,
-        set,
-        found,
-        moves.as_slice(),
-        changes.as_mut_slice(),
-    );
-    let rotten = tell_changes(rt, request, set, changes.as_slice(), log)?;
-    let moved = tell_new(rt, request, set, found, moves.as_slice(), log)?;
+    let moves = moved_rotten(rt, alloc, set, &changes, found, &mut files)?;
+    mark_replaced(request, set, found, &moves, &mut changes);
+    let rotten = tell_changes(rt, request, set, &changes, log)?;
+    let moved = tell_new(rt, request, set, found, &moves, log)?;
     log.end_lists(rt)?;
     if rotten > 0 || moved > 0 {
         tell_rotten(rt, moved > 0)?;

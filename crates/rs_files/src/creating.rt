@@ -1,6 +1,6 @@
 //! `create`: makes a volume with the recovery blocks of files.
 use crate::comparing::{Known, check_accepted, may_replace};
-use crate::log::{Lines, Log};
+use crate::log::{Log, is_shown, tell_more};
 use crate::settings::{NO_OUTPUT, Request, STATUS_FAILED, STATUS_LOST, STATUS_WHOLE, VERSION};
 use reed_solomon_simd::engine::tables::Tables;
 use reed_solomon_simd::engine::{DefaultEngine, EngineKind};
@@ -26,29 +26,11 @@ use rs_volumes::digest::digest_of;
 use rs_volumes::hasher::ByteHasher;
 use rs_volumes::placement::places_of;
 use rs_volumes::write_description;
+use serde_json::Value;
 use std::alloc::{AllocError, Global};
 use std::io::ErrorKind;
 use std::rt::{Clock, Files, Runtime};
 use std::{fs, io};
-
-// The path is the one after `-o`, or the only FILE with `.rsv` at its end.
-fn output_of(alloc: Global, request: &Request) -> Result<String> {
-    if let Some(path) = &request.output {
-        return Ok(path.clone()?);
-    }
-    match front_of_volume(request.paths.as_slice()) {
-        Some(front) => Ok(format!(in alloc; "{front}.rsv")?),
-        None => Err(Failure::of(NO_OUTPUT)),
-    }
-}
-
-fn creator(alloc: Global) -> Result<Field, AllocError> {
-    let text = format!(in alloc; "rs_files {VERSION}")?;
-    Ok(Field {
-        kind: CREATOR,
-        bytes: Vec::from_slice(alloc, text.as_bytes())?,
-    })
-}
 
 // The blocks have no digests and no sums yet.
 fn description_of(
@@ -57,8 +39,12 @@ fn description_of(
     cut: Cut,
     volumes: u32,
 ) -> Result<Description, AllocError> {
+    let creator = format!(in alloc; "rs_files {VERSION}")?;
     let mut fields = Vec::new(alloc);
-    fields.push(creator(alloc)?)?;
+    fields.push(Field {
+        kind: CREATOR,
+        bytes: Vec::from_slice(alloc, creator.as_bytes())?,
+    })?;
     Ok(Description {
         version: Version::Second,
         block_bytes: cut.block_bytes,
@@ -100,38 +86,6 @@ struct Making<'a, R: Files + Clock + Eprint> {
 }
 
 impl<'a, R: Files + Clock + Eprint> Making<'a, R> {
-    // No digest is known yet.
-    fn new(
-        rt: &'a R,
-        alloc: Global,
-        request: &'a Request,
-        found: Found,
-        cut: Cut,
-        volumes: usize,
-    ) -> Result<Making<'a, R>> {
-        let Found {
-            folder,
-            entries,
-            linked,
-            ..
-        } = found;
-        Ok(Making {
-            rt,
-            alloc,
-            request,
-            paths: paths_of(alloc, folder.as_str(), entries.as_slice())?,
-            description: description_of(alloc, entries, cut, volumes.min(1000) as u32)?,
-            linked,
-            known: Known::nothing(alloc),
-        })
-    }
-
-    // The file was compared with the digest after its length and its time were read, and `check_unchanged` compares
-    // these once more.
-    fn known_digest(&self, index: usize) -> Option<[u8; 32]> {
-        self.known.files.get(index).copied().flatten()
-    }
-
     // Also counts the digests and sums that are not there yet. No reader reads a description of more than 1 GiB.
     fn description_bytes(&self) -> Result<u64> {
         let originals = u64::from(self.description.original_count);
@@ -154,7 +108,7 @@ impl<'a, R: Files + Clock + Eprint> Making<'a, R> {
         let blocks = u64::from(self.description.original_count);
         let mut total = blocks.saturating_mul(self.description.block_bytes);
         for (index, entry) in self.description.entries.iter().enumerate() {
-            if self.known_digest(index).is_none() {
+            if self.known.files.get(index).copied().flatten().is_none() {
                 total = total.saturating_add(entry.size);
             }
         }
@@ -164,22 +118,12 @@ impl<'a, R: Files + Clock + Eprint> Making<'a, R> {
     fn hash_files(&mut self, progress: &mut Progress) -> Result<()> {
         let mut buffer = vec![in self.alloc; 0u8; CHUNK]?;
         for index in 0..self.paths.len() {
-            let own = match self.hash_file(index, progress, &mut buffer) {
-                Ok(own) => own,
-                Err(error) => return Err(self.failure_at(index, error)),
-            };
+            let own = self.hash_file(index, progress, &mut buffer)?;
             if let Some(entry) = self.description.entries.get_mut(index) {
                 entry.digest = own;
             }
         }
         Ok(())
-    }
-
-    fn failure_at(&self, index: usize, error: io::Error) -> Failure {
-        match self.paths.get(index) {
-            Some(path) => Failure::at(self.alloc, path.as_str(), error),
-            None => Failure::of(error),
-        }
     }
 
     // An entry that is no file has 32 zeros. A file without bytes is not opened.
@@ -188,7 +132,7 @@ impl<'a, R: Files + Clock + Eprint> Making<'a, R> {
         index: usize,
         progress: &mut Progress,
         buffer: &mut [u8],
-    ) -> io::Result<[u8; 32]> {
+    ) -> Result<[u8; 32]> {
         let (Some(entry), Some(path)) = (self.description.entries.get(index), self.paths.get(index))
         else {
             return Ok([0; 32]);
@@ -199,11 +143,14 @@ impl<'a, R: Files + Clock + Eprint> Making<'a, R> {
         if entry.size == 0 {
             return Ok(digest_of(&[]));
         }
-        if let Some(known) = self.known_digest(index) {
+        // The file was compared with this digest after its length and its time were read, and `check_unchanged`
+        // compares these once more.
+        if let Some(known) = self.known.files.get(index).copied().flatten() {
             return Ok(known);
         }
         let follows = self.linked.get(index).copied().unwrap_or(false);
-        let mut file = open_regular(self.rt, path.as_str(), follows)?;
+        let (alloc, path) = (self.alloc, path.as_str());
+        let mut file = at_path(alloc, path, open_regular(self.rt, path, follows))?;
         let mut hasher = ByteHasher::new();
         let mut left = entry.size;
         for _ in 0..u64::MAX {
@@ -211,7 +158,7 @@ impl<'a, R: Files + Clock + Eprint> Making<'a, R> {
             if part == 0 {
                 break;
             }
-            add_bytes(&mut hasher, &mut file, part, buffer)?;
+            at_path(alloc, path, add_bytes(&mut hasher, &mut file, part, buffer))?;
             progress.advance(self.rt, part);
             left = left.saturating_sub(part);
         }
@@ -263,19 +210,17 @@ impl<'a, R: Files + Clock + Eprint> Making<'a, R> {
 
     fn check_unchanged(&self) -> Result<()> {
         for (path, entry) in self.paths.iter().zip(self.description.entries.as_slice()) {
-            if entry.kind == Kind::File {
-                check_file(self.rt, self.alloc, path.as_str(), entry)?;
+            if entry.kind != Kind::File {
+                continue;
+            }
+            let path = path.as_str();
+            let found = at_path(self.alloc, path, fs::metadata(self.rt, path))?;
+            if !has_time(entry, &found, Version::Second) {
+                let reason = "this file changed while it was read: try again";
+                return Err(Failure::at(self.alloc, path, reason));
             }
         }
         Ok(())
-    }
-
-    // Fails if `read_description` does not accept the description, so that no volume with an unsound description is
-    // written.
-    fn describe(&self, sink: &mut Volumes<'_, R>) -> Result<()> {
-        let bytes = written(self.alloc, &self.description)?;
-        rs_volumes::read_description(self.alloc, bytes.as_slice())?;
-        sink.describe(bytes.as_slice())
     }
 
     fn write(&mut self, outputs: &[String], volumes: &mut Volumes<'_, R>) -> Result<()> {
@@ -288,35 +233,24 @@ impl<'a, R: Files + Clock + Eprint> Making<'a, R> {
         self.hash_files(&mut progress)?;
         self.code(progress, volumes)?;
         self.check_unchanged()?;
-        self.describe(volumes)?;
+        let bytes = written(self.alloc, &self.description)?;
+        // No volume with an unsound description is written.
+        rs_volumes::read_description(self.alloc, bytes.as_slice())?;
+        volumes.describe(bytes.as_slice())?;
         volumes.finish(self.request.force)
     }
 }
 
 fn tell_full<R: Files + Eprint>(rt: &R, sink: &Volumes<'_, R>, error: &CodingError) {
-    if is_full(error) {
-        let missing = Counted(sink.missing(), "byte");
-        let _ = eprintln!(rt; "rs_files: the disk has no room for {missing} of the new volumes");
-    }
-}
-
-fn is_full(error: &CodingError) -> bool {
     match error {
-        CodingError::Write(_, error) => error.kind() == ErrorKind::StorageFull,
-        _ => false,
+        CodingError::Write(_, error) if error.kind() == ErrorKind::StorageFull => {
+            let missing = Counted(sink.missing(), "byte");
+            let _ = eprintln!(rt;
+                "rs_files: the disk has no room for {missing} of the new volumes"
+            );
+        }
+        _ => {}
     }
-}
-
-fn check_file<R: Files>(rt: &R, alloc: Global, path: &str, entry: &Entry) -> Result<()> {
-    let metadata = at_path(alloc, path, fs::metadata(rt, path))?;
-    if has_time(entry, &metadata, Version::Second) {
-        return Ok(());
-    }
-    Err(Failure::at(
-        alloc,
-        path,
-        "this file changed while it was read: try again",
-    ))
 }
 
 /// Which volumes are made of which files.
@@ -349,7 +283,13 @@ struct Made {
     status: u8,
 }
 
-fn made_of(alloc: Global, request: &Request, found: &Found, cut: Cut) -> Result<Made, AllocError> {
+fn made_of(alloc: Global, task: Task<'_>, found: &Found) -> Result<Made> {
+    let block = task.request.block_bytes;
+    let data_bytes = data_end(UNIT, found.entries.as_slice()).unwrap_or(u64::MAX);
+    let cut = match cut_data(data_bytes, task.old_block, task.recovery) {
+        Ok(cut) if block.is_none() => cut,
+        _ => cut_data(data_bytes, block, task.recovery)?,
+    };
     let mut entries = Kinds::none();
     let mut largest: (u64, &[u8]) = (0, b"");
     for entry in &found.entries {
@@ -362,7 +302,7 @@ fn made_of(alloc: Global, request: &Request, found: &Found, cut: Cut) -> Result<
         entries,
         cut,
         largest: (largest.0, format!(in alloc; "{}", Name(largest.1))?),
-        status: if found.unreadable.is_empty() || request.skip_names {
+        status: if found.unreadable.is_empty() || task.request.skip_names {
             STATUS_WHOLE
         } else {
             STATUS_FAILED
@@ -404,17 +344,15 @@ pub fn make<R: Runtime>(rt: &R, alloc: Global, task: Task<'_>) -> Result<u8> {
         return log.end(rt, STATUS_LOST);
     };
     for output in task.outputs {
-        log.add("volumes", ("path", output.as_str()), None)?;
+        log.add("volumes", ("path", output.as_bytes()), None)?;
     }
-    log.set_numbers(&[
-        ("files", made.entries.files),
-        ("links", made.entries.links),
-        ("folders", made.entries.folders),
-        ("block_bytes", made.cut.block_bytes),
-        ("original_blocks", u64::from(made.cut.original_count)),
-        ("recovery_blocks", u64::from(made.cut.recovery_count)),
-    ])?;
-    if log.is_told() {
+    log.set("files", Value::from(made.entries.files))?;
+    log.set("links", Value::from(made.entries.links))?;
+    log.set("folders", Value::from(made.entries.folders))?;
+    log.set("block_bytes", Value::from(made.cut.block_bytes))?;
+    log.set("original_blocks", Value::from(made.cut.original_count))?;
+    log.set("recovery_blocks", Value::from(made.cut.recovery_count))?;
+    if log.is_told {
         tell(rt, task, &made)?;
     }
     if made.status == STATUS_FAILED {
@@ -444,14 +382,27 @@ fn make_volumes<R: Runtime>(
     let Some(known) = may_replace(rt, alloc, request, task.outputs, &found, log)? else {
         return Ok(None);
     };
-    let data_bytes = data_end(UNIT, found.entries.as_slice()).unwrap_or(u64::MAX);
-    let cut = match cut_data(data_bytes, task.old_block, task.recovery) {
-        Ok(cut) if request.block_bytes.is_none() => cut,
-        _ => cut_data(data_bytes, request.block_bytes, task.recovery)?,
+    let made = made_of(alloc, task, &found)?;
+    let Found {
+        folder,
+        entries,
+        linked,
+        ..
+    } = found;
+    let mut making = Making {
+        rt,
+        alloc,
+        request,
+        paths: paths_of(alloc, folder.as_str(), entries.as_slice())?,
+        description: description_of(
+            alloc,
+            entries,
+            made.cut,
+            task.outputs.len().min(1000) as u32,
+        )?,
+        linked,
+        known,
     };
-    let made = made_of(alloc, request, &found, cut)?;
-    let mut making = Making::new(rt, alloc, request, found, cut, task.outputs.len())?;
-    making.known = known;
     let mut volumes = Volumes::new(rt, alloc, &making.description, making.description_bytes()?);
     if let Err(failure) = making.write(task.outputs, &mut volumes) {
         volumes.remove();
@@ -463,17 +414,17 @@ fn make_volumes<R: Runtime>(
 // What is not UTF-8 was printed before.
 fn tell_left_out<R: Print>(rt: &R, found: &Found, log: &mut Log) -> Result<()> {
     for left in found.unreadable.iter().chain(found.left_out.iter()) {
-        let reason = Some(("reason", left.reason.as_str()));
-        log.add("left_out", ("path", left.path.as_str()), reason)?;
+        let reason = Some(("reason", left.reason.as_bytes()));
+        log.add("left_out", ("path", left.path.as_bytes()), reason)?;
     }
-    let mut lines = Lines::new();
+    let mut count = 0;
     for left in &found.left_out {
-        if log.is_told() && lines.next() {
+        if log.is_told && is_shown(&mut count) {
             let (path, reason) = (Shown(left.path.as_str()), left.reason.as_str());
             println!(rt; "left out: {path}: {reason}")?;
         }
     }
-    Ok(lines.end(rt)?)
+    Ok(tell_more(rt, count, "")?)
 }
 
 /// Runs `create`: makes the recovery blocks of files, and writes them into one volume. Returns the exit status.
@@ -482,7 +433,12 @@ fn tell_left_out<R: Print>(rt: &R, found: &Found, log: &mut Log) -> Result<()> {
 ///
 /// Fails if the name of the volume is not known. Then fails for a reason of [`make`].
 pub fn create<R: Runtime>(rt: &R, alloc: Global, request: &Request) -> Result<u8> {
-    let outputs = [output_of(alloc, request)?];
+    let output = match (&request.output, front_of_volume(request.paths.as_slice())) {
+        (Some(path), _) => path.clone()?,
+        (None, Some(front)) => format!(in alloc; "{front}.rsv")?,
+        (None, None) => return Err(Failure::of(NO_OUTPUT)),
+    };
+    let outputs = [output];
     let task = Task {
         request,
         old_block: None,

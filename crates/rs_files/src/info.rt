@@ -1,5 +1,5 @@
 //! `info`: shows what a volume describes.
-use crate::json::{add_text, entry_json, object_of, text_in, word_of};
+use crate::json::{entry_json, text_in, word_of};
 use crate::settings::{Request, STATUS_WHOLE};
 use rs_folders::counted::Counted;
 use rs_folders::failure::{Failure, Result};
@@ -7,10 +7,10 @@ use rs_folders::names::{Name, Shown};
 use rs_volume_files::assembly::Set;
 use rs_volume_files::records::Walk;
 use rs_volume_files::volume::{Form, open_sized, open_volume};
-use rs_volumes::description::{CREATOR, Description, Entry, Kind, Version};
+use rs_volumes::description::{CREATOR, Description, Kind, Version};
 use rs_volumes::record::BLOCK;
-use serde_json::Value;
-use std::alloc::{AllocError, Global};
+use serde_json::{Value, json, put};
+use std::alloc::Global;
 use std::io;
 use std::io::ErrorKind;
 use std::rt::Files;
@@ -31,7 +31,26 @@ fn tell_json<R: Print>(
     description: &Description,
     here: u64,
 ) -> io::Result<()> {
-    let object = numbers_json(alloc, description, here)?;
+    let mut object = json!(in alloc; {
+        "format": match description.version {
+            Version::First => 1u64,
+            Version::Second => 2u64,
+        },
+        "block_bytes": description.block_bytes,
+        "original_blocks": description.original_count,
+        "recovery_blocks": description.recovery_count,
+        "volumes": description.volumes,
+        "blocks_here": here
+    })?;
+    if let (Some(creator), Some(members)) = (creator_of(description), object.as_object_mut()) {
+        put(
+            members,
+            alloc,
+            "creator",
+            Value::String(text_in(alloc, creator)?),
+        )?;
+    }
+    let object = object.to_string(alloc)?;
     let front = object.as_str().strip_suffix('}').unwrap_or("");
     print!(rt; "{front},\"files\":[")?;
     let mut separator = "";
@@ -41,27 +60,6 @@ fn tell_json<R: Print>(
         separator = ",";
     }
     println!(rt; "]}}")
-}
-
-fn numbers_json(alloc: Global, description: &Description, here: u64) -> Result<String, AllocError> {
-    let version = match description.version {
-        Version::First => 1,
-        Version::Second => 2,
-    };
-    let numbers = [
-        ("format", version),
-        ("block_bytes", description.block_bytes),
-        ("original_blocks", u64::from(description.original_count)),
-        ("recovery_blocks", u64::from(description.recovery_count)),
-        ("volumes", u64::from(description.volumes)),
-        ("blocks_here", here),
-    ];
-    let mut object = object_of(alloc, &numbers)?;
-    if let Some(creator) = creator_of(description) {
-        let creator = text_in(alloc, creator)?;
-        add_text(alloc, &mut object, "creator", creator.as_str())?;
-    }
-    Value::Object(object).to_string(alloc)
 }
 
 fn tell<R: Print>(rt: &R, path: &str, description: &Description, here: u64) -> io::Result<()> {
@@ -76,23 +74,15 @@ fn tell<R: Print>(rt: &R, path: &str, description: &Description, here: u64) -> i
         println!(rt; "{path}: made by {creator}, in {volumes}")?;
     }
     for entry in &description.entries {
-        tell_entry(rt, entry)?;
+        let (name, target) = (Name(entry.name.as_slice()), Name(entry.target.as_slice()));
+        let (size, word) = (entry.size, word_of(entry.kind));
+        match entry.kind {
+            Kind::File => println!(rt; "{size:>14}  {name}")?,
+            Kind::Link => println!(rt; "{word:>14}  {name} -> {target}")?,
+            Kind::Folder => println!(rt; "{word:>14}  {name}")?,
+        }
     }
     Ok(())
-}
-
-fn tell_entry<R: Print>(rt: &R, entry: &Entry) -> io::Result<()> {
-    let name = Name(entry.name.as_slice());
-    let size = entry.size;
-    let word = word_of(entry.kind);
-    match entry.kind {
-        Kind::File => println!(rt; "{size:>14}  {name}"),
-        Kind::Link => {
-            let target = Name(entry.target.as_slice());
-            println!(rt; "{word:>14}  {name} -> {target}")
-        }
-        Kind::Folder => println!(rt; "{word:>14}  {name}"),
-    }
 }
 
 // The volume may be damaged, so its records are counted.
@@ -114,29 +104,6 @@ fn blocks_in<R: Files>(rt: &R, alloc: Global, set: &Set, path: &str, form: Form)
     Ok(count)
 }
 
-// Returns whether somebody still reads what is printed.
-fn tell_volume<R: Files + Print>(
-    rt: &R,
-    alloc: Global,
-    path: &str,
-    request: &Request,
-) -> Result<bool> {
-    let (set, form) = open_volume(rt, alloc, path, request.memory)?;
-    let here = blocks_in(rt, alloc, &set, path, form)?;
-    let told = if request.json {
-        tell_json(rt, alloc, &set.description, here)
-    } else {
-        tell(rt, path, &set.description, here)
-    };
-    match told {
-        Err(error) if error.kind() == ErrorKind::BrokenPipe => Ok(false),
-        told => {
-            told?;
-            Ok(true)
-        }
-    }
-}
-
 /// Runs `info`: prints what each volume describes. Returns the exit status. If the program that reads this ends before,
 /// as `head` does, the function prints nothing more, and this is no error.
 ///
@@ -149,8 +116,17 @@ pub fn info<R: Files + Print>(rt: &R, alloc: Global, request: &Request) -> Resul
         return Err(Failure::of("no volume is given"));
     }
     for path in &request.paths {
-        if !tell_volume(rt, alloc, path.as_str(), request)? {
-            break;
+        let path = path.as_str();
+        let (set, form) = open_volume(rt, alloc, path, request.memory)?;
+        let here = blocks_in(rt, alloc, &set, path, form)?;
+        let told = if request.json {
+            tell_json(rt, alloc, &set.description, here)
+        } else {
+            tell(rt, path, &set.description, here)
+        };
+        match told {
+            Err(error) if error.kind() == ErrorKind::BrokenPipe => break,
+            told => told?,
         }
     }
     Ok(STATUS_WHOLE)

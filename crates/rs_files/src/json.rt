@@ -2,52 +2,8 @@
 use rs_folders::failure::Result;
 use rs_folders::names::{Name, text_of};
 use rs_volumes::description::{Entry, Kind};
-use serde_json::{Map, Value};
+use serde_json::{Map, Value, put};
 use std::alloc::{AllocError, Global};
-
-/// Returns an object with numbers.
-///
-/// # Errors
-///
-/// [`AllocError`] if memory cannot be allocated.
-pub fn object_of(alloc: Global, numbers: &[(&str, u64)]) -> Result<Map<String, Value>, AllocError> {
-    let mut object = Map::new(alloc);
-    for (name, number) in numbers {
-        add(alloc, &mut object, name, Value::from(*number))?;
-    }
-    Ok(object)
-}
-
-/// Adds a member to an object.
-///
-/// # Errors
-///
-/// [`AllocError`] if memory cannot be allocated.
-pub fn add(
-    alloc: Global,
-    object: &mut Map<String, Value>,
-    name: &str,
-    value: Value,
-) -> Result<(), AllocError> {
-    let name = String::from_str(alloc, name)?;
-    object.insert(name, value)?;
-    Ok(())
-}
-
-/// Adds a member with a text to an object.
-///
-/// # Errors
-///
-/// [`AllocError`] if memory cannot be allocated.
-pub fn add_text(
-    alloc: Global,
-    object: &mut Map<String, Value>,
-    name: &str,
-    text: &str,
-) -> Result<(), AllocError> {
-    let value = Value::String(String::from_str(alloc, text)?);
-    add(alloc, object, name, value)
-}
 
 /// Returns bytes as text. Bytes that are not UTF-8 are escaped, as `\xff`.
 ///
@@ -76,13 +32,15 @@ pub fn word_of(kind: Kind) -> &'static str {
 ///
 /// [`AllocError`] if memory cannot be allocated.
 pub fn entry_json(alloc: Global, entry: &Entry) -> Result<Map<String, Value>, AllocError> {
-    let mut object = object_of(alloc, &[("size", entry.size)])?;
-    let name = text_in(alloc, entry.name.as_slice())?;
-    add_text(alloc, &mut object, "name", name.as_str())?;
-    add_text(alloc, &mut object, "kind", word_of(entry.kind))?;
+    let mut object = Map::new(alloc);
+    let name = Value::String(text_in(alloc, entry.name.as_slice())?);
+    put(&mut object, alloc, "name", name)?;
+    let kind = Value::try_from_str(alloc, word_of(entry.kind))?;
+    put(&mut object, alloc, "kind", kind)?;
+    put(&mut object, alloc, "size", Value::from(entry.size))?;
     if entry.kind == Kind::Link {
-        let target = text_in(alloc, entry.target.as_slice())?;
-        add_text(alloc, &mut object, "target", target.as_str())?;
+        let target = Value::String(text_in(alloc, entry.target.as_slice())?);
+        put(&mut object, alloc, "target", target)?;
     }
     Ok(object)
 }

@@ -1,9 +1,9 @@
 //! What a command did and found: lines for people, or one JSON object for programs.
-use crate::json::{add, add_text, object_of, text_in};
+use crate::json::text_in;
 use crate::settings::Request;
 use rs_folders::failure::Result;
 use rs_folders::names::Name;
-use serde_json::{Map, Value};
+use serde_json::{Map, Value, put};
 use std::alloc::{AllocError, Global};
 use std::io;
 
@@ -14,14 +14,16 @@ const MOST_LINES: usize = 20;
 /// standard output.
 #[derive(Drop)]
 pub struct Log {
+    /// Whether lines are printed: neither `--quiet` nor `--json` is given.
+    pub is_told: bool,
+    /// Whether the log is kept for a JSON object.
+    pub is_kept: bool,
     alloc: Global,
-    // Whether lines are printed.
-    is_told: bool,
-    // The members of the object, and its lists. Without `--json`, there are none.
-    object: Option<Map<String, Value>>,
+    // The members of the object, and its lists.
+    object: Map<String, Value>,
     lists: Vec<(&'static str, Vec<Value>)>,
-    // The lines of each list that is printed.
-    lines: Vec<(&'static str, Lines)>,
+    // The number of lines of each list that is printed.
+    lines: Vec<(&'static str, usize)>,
 }
 
 impl Log {
@@ -36,29 +38,17 @@ impl Log {
         lists: &[&'static str],
     ) -> Result<Log, AllocError> {
         let mut log = Log {
-            alloc,
             is_told: !request.quiet && !request.json,
-            object: None,
+            is_kept: request.json,
+            alloc,
+            object: Map::new(alloc),
             lists: Vec::new(alloc),
             lines: Vec::new(alloc),
         };
-        if request.json {
-            log.object = Some(Map::new(alloc));
-            for name in lists {
-                log.lists.push((*name, Vec::new(alloc)))?;
-            }
+        for name in lists {
+            log.lists.push((*name, Vec::new(alloc)))?;
         }
         Ok(log)
-    }
-
-    /// Returns whether lines are printed: neither `--quiet` nor `--json` is given.
-    pub fn is_told(&self) -> bool {
-        self.is_told
-    }
-
-    /// Returns whether the log is kept for a JSON object.
-    pub fn is_kept(&self) -> bool {
-        self.object.is_some()
     }
 
     /// Appends an object to a list, with a text and perhaps another one. Each text has the name of its member.
@@ -69,48 +59,35 @@ impl Log {
     pub fn add(
         &mut self,
         list: &str,
-        first: (&str, &str),
-        more: Option<(&str, &str)>,
+        first: (&str, &[u8]),
+        more: Option<(&str, &[u8])>,
     ) -> Result<(), AllocError> {
+        if !self.is_kept {
+            return Ok(());
+        }
         let alloc = self.alloc;
-        let Some((_, values)) = self.lists.iter_mut().find(|(name, _)| *name == list) else {
-            return Ok(());
-        };
         let mut object = Map::new(alloc);
-        add_text(alloc, &mut object, first.0, first.1)?;
+        put(
+            &mut object,
+            alloc,
+            first.0,
+            Value::String(text_in(alloc, first.1)?),
+        )?;
         if let Some((name, text)) = more {
-            add_text(alloc, &mut object, name, text)?;
+            put(
+                &mut object,
+                alloc,
+                name,
+                Value::String(text_in(alloc, text)?),
+            )?;
         }
-        values.push(Value::Object(object))?;
+        for (name, values) in &mut self.lists {
+            if *name == list {
+                values.push(Value::Object(object))?;
+                break;
+            }
+        }
         Ok(())
-    }
-
-    /// Appends an object to a list, with the name of an entry and perhaps another text.
-    ///
-    /// # Errors
-    ///
-    /// [`AllocError`] if memory cannot be allocated.
-    pub fn add_entry(
-        &mut self,
-        list: &str,
-        name: &[u8],
-        more: Option<(&str, &str)>,
-    ) -> Result<(), AllocError> {
-        if !self.is_kept() {
-            return Ok(());
-        }
-        let name = text_in(self.alloc, name)?;
-        self.add(list, ("name", name.as_str()), more)
-    }
-
-    /// Appends an object to a list, with the name of an entry and the name that it had before.
-    ///
-    /// # Errors
-    ///
-    /// [`AllocError`] if memory cannot be allocated.
-    pub fn add_moved(&mut self, list: &str, name: &[u8], was: &[u8]) -> Result<(), AllocError> {
-        let was = text_in(self.alloc, was)?;
-        self.add_entry(list, name, Some(("was", was.as_str())))
     }
 
     /// Counts a line of a list. Returns whether it is printed: lines are printed, and it is one of the first ones.
@@ -122,13 +99,13 @@ impl Log {
         if !self.is_told {
             return Ok(false);
         }
-        if let Some((_, lines)) = self.lines.iter_mut().find(|(name, _)| *name == list) {
-            return Ok(lines.next());
+        for (name, count) in &mut self.lines {
+            if *name == list {
+                return Ok(is_shown(count));
+            }
         }
-        let mut lines = Lines::new();
-        let is_shown = lines.next();
-        self.lines.push((list, lines))?;
-        Ok(is_shown)
+        self.lines.push((list, 1))?;
+        Ok(true)
     }
 
     /// Prints of each list how many lines were not printed, if there are some.
@@ -137,11 +114,8 @@ impl Log {
     ///
     /// Fails if a line cannot be printed.
     pub fn end_lists<R: Print>(&self, rt: &R) -> io::Result<()> {
-        for (list, lines) in &self.lines {
-            let more = lines.more();
-            if more > 0 {
-                println!(rt; "and {more} more {list}: --json lists all")?;
-            }
+        for (list, count) in &self.lines {
+            tell_more(rt, *count, *list)?;
         }
         Ok(())
     }
@@ -153,7 +127,7 @@ impl Log {
     ///
     /// Fails if the line cannot be printed, or if memory cannot be allocated.
     pub fn note<R: Print>(&mut self, rt: &R, list: &'static str, name: &[u8]) -> Result<()> {
-        self.add_entry(list, name, None)?;
+        self.add(list, ("name", name), None)?;
         if self.shows(list)? {
             let name = Name(name);
             println!(rt; "{list}: {name}")?;
@@ -167,22 +141,7 @@ impl Log {
     ///
     /// [`AllocError`] if memory cannot be allocated.
     pub fn set(&mut self, name: &str, value: Value) -> Result<(), AllocError> {
-        match &mut self.object {
-            Some(object) => add(self.alloc, object, name, value),
-            None => Ok(()),
-        }
-    }
-
-    /// Sets members of the object to numbers.
-    ///
-    /// # Errors
-    ///
-    /// [`AllocError`] if memory cannot be allocated.
-    pub fn set_numbers(&mut self, numbers: &[(&str, u64)]) -> Result<(), AllocError> {
-        for (name, number) in numbers {
-            self.set(name, Value::from(*number))?;
-        }
-        Ok(())
+        put(&mut self.object, self.alloc, name, value)
     }
 
     /// Prints the object with the exit status, if `--json` is given. Returns the status.
@@ -190,19 +149,19 @@ impl Log {
     /// # Errors
     ///
     /// Fails if the object cannot be printed, or if memory cannot be allocated.
-    pub fn end<R: Print>(self, rt: &R, status: u8) -> Result<u8> {
+    pub fn end<R: Print>(mut self, rt: &R, status: u8) -> Result<u8> {
+        if !self.is_kept {
+            return Ok(status);
+        }
+        self.set("status", Value::from(status))?;
         let Log {
             alloc,
-            object,
+            mut object,
             lists,
             ..
         } = self;
-        let Some(mut object) = object else {
-            return Ok(status);
-        };
-        add(alloc, &mut object, "status", Value::from(u64::from(status)))?;
         for (name, values) in lists {
-            add(alloc, &mut object, name, Value::Array(values))?;
+            put(&mut object, alloc, name, Value::Array(values))?;
         }
         let text = Value::Object(object).to_string(alloc)?;
         println!(rt; "{text}")?;
@@ -210,51 +169,22 @@ impl Log {
     }
 }
 
-/// Prints the object of a command that failed, or of a wrong command line. `error` is the message.
+/// Counts a line of one kind. Returns whether it is printed, because it is one of the first ones.
+pub fn is_shown(count: &mut usize) -> bool {
+    *count = count.saturating_add(1);
+    *count <= MOST_LINES
+}
+
+/// Prints how many of these lines were not printed, if there are some. `kind` is a word for them, or empty.
 ///
 /// # Errors
 ///
-/// Fails if the object cannot be printed, or if memory cannot be allocated.
-pub fn tell_error<R: Print>(rt: &R, alloc: Global, status: u8, error: &str) -> Result<()> {
-    let mut object = object_of(alloc, &[("status", u64::from(status))])?;
-    add_text(alloc, &mut object, "error", error)?;
-    let text = Value::Object(object).to_string(alloc)?;
-    Ok(println!(rt; "{text}")?)
-}
-
-/// Lines of one kind, of which only the first ones are printed.
-#[derive(Drop)]
-pub struct Lines {
-    count: usize,
-}
-
-impl Lines {
-    /// Begins with no line.
-    pub fn new() -> Lines {
-        Lines { count: 0 }
+/// Fails if the line cannot be printed.
+pub fn tell_more<R: Print>(rt: &R, count: usize, kind: &str) -> io::Result<()> {
+    let more = count.saturating_sub(MOST_LINES);
+    if more == 0 {
+        return Ok(());
     }
-
-    /// Counts a line. Returns whether it is printed.
-    pub fn next(&mut self) -> bool {
-        self.count = self.count.saturating_add(1);
-        self.count <= MOST_LINES
-    }
-
-    /// Returns how many lines were not printed.
-    pub fn more(&self) -> usize {
-        self.count.saturating_sub(MOST_LINES)
-    }
-
-    /// Prints how many lines were not printed, if there are some.
-    ///
-    /// # Errors
-    ///
-    /// Fails if the line cannot be printed.
-    pub fn end<R: Print>(&self, rt: &R) -> io::Result<()> {
-        let more = self.more();
-        if more == 0 {
-            return Ok(());
-        }
-        println!(rt; "and {more} more: --json lists all")
-    }
+    let gap = if kind.is_empty() { "" } else { " " };
+    println!(rt; "and {more} more{gap}{kind}: --json lists all")
 }

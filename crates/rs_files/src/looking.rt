@@ -1,5 +1,5 @@
 //! Looks for the blocks of a set as a request says.
-use crate::log::{Lines, Log};
+use crate::log::{Log, is_shown, tell_more};
 use crate::renamed::{Renamed, renaming_of, tops_of};
 use crate::settings::Request;
 use rs_file_sets::scanning::{Scan, scan_opened};
@@ -24,16 +24,24 @@ use std::{fs, io};
 pub struct Look {
     /// The entries and blocks that were found.
     pub scan: Scan,
+    /// The folder in which the files were looked for. It is empty if they were not.
+    pub folder: String,
     /// For each entry, whether the request is about it.
     pub chosen: Vec<bool>,
+    /// For each entry, whether the request is about it and it is not whole.
+    pub broken: Vec<bool>,
+    /// Whether the request is about all entries.
+    pub has_all: bool,
+    /// Whether all entries that the request is about are whole.
+    pub has_whole_files: bool,
+    /// What the places of the files say about the folder of the set.
+    pub renamed: Renamed,
     // What was found in other files.
     elsewhere: Elsewhere,
-    // Whether the folder of the set was renamed.
-    renamed: Renamed,
 }
 
 /// Returns the folder of the files of a set: the folder after `--folder`, or else the folder of the first volume. If
-/// this is a folder of the set itself, returns the folder above it.
+/// this is a folder of the set itself, and no entry of the set is found from it on, returns the folder above it.
 ///
 /// # Errors
 ///
@@ -49,7 +57,25 @@ pub fn folder_of<R: Files>(
         (None, Some(path)) => folder_to_open(parent_of(path.as_str())),
         (None, None) => return Err(Failure::of("no volume is given")),
     };
-    Ok(folder_around(rt, alloc, folder, set)?)
+    let paths = paths_of(alloc, folder, set.entries.as_slice())?;
+    let mut paths = paths.iter();
+    if paths.any(|path| !path.is_empty() && exists(rt, path.as_str())) {
+        return Ok(String::from_str(alloc, folder)?);
+    }
+    let own = identity_of(rt, folder);
+    let path = trimmed(folder);
+    for top in tops_of(alloc, set)? {
+        let above = if last_of(path) == top {
+            String::from_str(alloc, folder_to_open(parent_of(path)))?
+        } else {
+            path_in(alloc, folder, "..")?
+        };
+        let here = path_in(alloc, above.as_str(), top)?;
+        if own.is_some() && identity_of(rt, here.as_str()) == own {
+            return Ok(above);
+        }
+    }
+    Ok(String::from_str(alloc, folder)?)
 }
 
 /// Returns the folder in which `verify`, `repair` and `restore` look for the files of a set, as [`folder_of`] does.
@@ -70,45 +96,6 @@ pub fn folder_for<R: Files>(
     Ok(Some(folder_of(rt, alloc, request, set)?))
 }
 
-// Returns `folder` itself unless it is a folder of the set, and no entry of the set is found from `folder` on.
-fn folder_around<R: Files>(
-    rt: &R,
-    alloc: Global,
-    folder: &str,
-    set: &Description,
-) -> Result<String, AllocError> {
-    for path in paths_of(alloc, folder, set.entries.as_slice())? {
-        if !path.is_empty() && exists(rt, path.as_str()) {
-            return String::from_str(alloc, folder);
-        }
-    }
-    let own = identity_of(rt, folder);
-    let path = trimmed(folder);
-    for top in tops_of(alloc, set)? {
-        let above = if last_of(path) == top {
-            String::from_str(alloc, folder_to_open(parent_of(path)))?
-        } else {
-            path_in(alloc, folder, "..")?
-        };
-        let here = path_in(alloc, above.as_str(), top)?;
-        if own.is_some() && identity_of(rt, here.as_str()) == own {
-            return Ok(above);
-        }
-    }
-    String::from_str(alloc, folder)
-}
-
-fn check_folder<R: Files>(rt: &R, alloc: Global, folder: &str) -> Result<()> {
-    match fs::metadata(rt, folder) {
-        Ok(found) if found.is_dir() => Ok(()),
-        Ok(_) => Err(Failure::at(alloc, folder, "this is no folder")),
-        Err(error) if error.kind() == ErrorKind::NotFound => {
-            Err(Failure::at(alloc, folder, "there is no such folder"))
-        }
-        Err(error) => Err(Failure::at(alloc, folder, error)),
-    }
-}
-
 /// Opens the volumes of a request, and finds their set.
 ///
 /// # Errors
@@ -119,11 +106,16 @@ pub fn open_request<R: Files + Eprint>(
     alloc: Global,
     request: &Request,
 ) -> Result<Volumes> {
-    if let Some(folder) = &request.folder {
-        check_folder(rt, alloc, folder.as_str())?;
-    }
-    for folder in &request.search {
-        check_folder(rt, alloc, folder.as_str())?;
+    for folder in request.folder.iter().chain(request.search.iter()) {
+        let folder = folder.as_str();
+        match fs::metadata(rt, folder) {
+            Ok(found) if found.is_dir() => {}
+            Ok(_) => return Err(Failure::at(alloc, folder, "this is no folder")),
+            Err(error) if error.kind() == ErrorKind::NotFound => {
+                return Err(Failure::at(alloc, folder, "there is no such folder"));
+            }
+            Err(error) => return Err(Failure::at(alloc, folder, error)),
+        }
     }
     open_volumes(rt, alloc, request.paths.as_slice(), request.memory)
 }
@@ -138,14 +130,7 @@ pub fn chosen_of(alloc: Global, request: &Request, set: &Description) -> Result<
     let mut chosen = vec![in alloc; request.only.is_empty(); set.entries.len()]?;
     for name in &request.only {
         let name = name.as_str().trim_end_matches('/');
-        let mut is_in_set = false;
-        for (entry, is_chosen) in set.entries.iter().zip(chosen.as_mut_slice()) {
-            if is_at_or_below(entry, name.as_bytes()) {
-                *is_chosen = true;
-                is_in_set = true;
-            }
-        }
-        if !is_in_set {
+        if !choose(&set.entries, name.as_bytes(), &mut chosen) {
             let reason = "this name is not in the set: info prints the names";
             return Err(Failure::at(alloc, name, reason));
         }
@@ -153,9 +138,19 @@ pub fn chosen_of(alloc: Global, request: &Request, set: &Description) -> Result<
     Ok(chosen)
 }
 
-fn is_at_or_below(entry: &Entry, name: &[u8]) -> bool {
-    let rest = entry.name.as_slice().strip_prefix(name);
-    rest.is_some_and(|rest| rest.is_empty() || rest.starts_with(b"/"))
+// Marks the entry with this name, and those in the folder with this name. Returns whether there are some.
+fn choose(entries: &[Entry], name: &[u8], chosen: &mut [bool]) -> bool {
+    let mut is_in_set = false;
+    for (entry, is_chosen) in entries.iter().zip(chosen) {
+        match entry.name.as_slice().strip_prefix(name) {
+            Some(rest) if rest.is_empty() || rest.starts_with(b"/") => {
+                *is_chosen = true;
+                is_in_set = true;
+            }
+            _ => {}
+        }
+    }
+    is_in_set
 }
 
 /// Looks for all blocks of a set in its volumes, in its files below `folder`, if there is one, and if blocks are lost
@@ -182,53 +177,41 @@ pub fn look_for<R: Runtime>(
     for folder in &request.search {
         folders.push(folder.as_str())?;
     }
-    let (folders, is_told) = (folders.as_slice(), !request.quiet);
-    let elsewhere = find_elsewhere(rt, alloc, folders, &request.to, &mut scan, is_told)?;
+    let (to, is_told) = (&request.to, !request.quiet);
+    let elsewhere = find_elsewhere(rt, alloc, folders.as_slice(), to, &mut scan, is_told)?;
     let moved = elsewhere.files.as_slice();
     let renamed = renaming_of(rt, alloc, request, folder, &scan, moved)?;
+    let broken = broken_of(alloc, &scan, &chosen)?;
     Ok(Look {
+        folder: String::from_str(alloc, folder.unwrap_or(""))?,
+        has_all: !chosen.contains(&false),
+        has_whole_files: !broken.contains(&true),
         scan,
         chosen,
-        elsewhere,
+        broken,
         renamed,
+        elsewhere,
     })
 }
 
+fn broken_of(alloc: Global, scan: &Scan, chosen: &[bool]) -> Result<Vec<bool>, AllocError> {
+    let mut broken = Vec::new(alloc);
+    for (state, is_chosen) in scan.states.iter().zip(chosen) {
+        broken.push(*is_chosen && *state != State::Whole)?;
+    }
+    Ok(broken)
+}
+
 impl Look {
-    /// Returns whether the request is about an entry.
-    pub fn is_chosen(&self, index: usize) -> bool {
-        self.chosen.get(index).copied().unwrap_or(false)
-    }
-
-    /// Returns whether the request is about an entry that is not whole.
-    pub fn is_broken(&self, index: usize) -> bool {
-        let is_whole = matches!(self.scan.states.get(index), Some(State::Whole));
-        self.is_chosen(index) && !is_whole
-    }
-
-    /// Returns whether all entries that the request is about are whole.
-    pub fn has_whole_files(&self) -> bool {
-        (0..self.chosen.len()).all(|index| !self.is_broken(index))
-    }
-
-    /// Returns whether the request is about all entries.
-    pub fn has_all(&self) -> bool {
-        self.chosen.iter().all(|is_chosen| *is_chosen)
-    }
-
-    /// Returns whether the folder in which the files were looked for is that of the set, and was renamed.
-    pub fn is_renamed(&self) -> bool {
-        self.renamed == Renamed::Here
-    }
-
-    // The path is the one at which the file is now. Returns `None` if the request is not about the file.
-    fn moved(&self, number: usize) -> Option<(&Entry, &str)> {
+    // Returns the name of a file that was renamed or moved, and the path at which it is now. `number` is its index
+    // among these files. Returns `None` if the request is not about the file.
+    fn moved(&self, number: usize) -> Option<(&[u8], &str)> {
         let index = self.elsewhere.files.get(number).copied()?;
-        if !self.is_chosen(index) {
+        if !self.chosen.get(index).copied()? {
             return None;
         }
         let entry = self.scan.description().entries.get(index)?;
-        Some((entry, self.scan.paths.get(index)?.as_str()))
+        Some((entry.name.as_slice(), self.scan.paths.get(index)?.as_str()))
     }
 
     /// Adds the files of the request that were renamed or moved to a log.
@@ -238,8 +221,8 @@ impl Look {
     /// [`AllocError`] if memory cannot be allocated.
     pub fn note_moved(&self, log: &mut Log) -> Result<(), AllocError> {
         for number in 0..self.elsewhere.files.len() {
-            if let Some((entry, path)) = self.moved(number) {
-                log.add_entry("moved", entry.name.as_slice(), Some(("path", path)))?;
+            if let Some((name, path)) = self.moved(number) {
+                log.add("moved", ("name", name), Some(("path", path.as_bytes())))?;
             }
         }
         Ok(())
@@ -251,17 +234,17 @@ impl Look {
     ///
     /// Fails if a line cannot be printed.
     pub fn tell_moved<R: Print>(&self, rt: &R) -> io::Result<()> {
-        let mut lines = Lines::new();
+        let mut count = 0;
         for number in 0..self.elsewhere.files.len() {
-            if let Some((entry, path)) = self.moved(number) {
-                if lines.next() {
-                    let (name, path) = (Name(entry.name.as_slice()), Shown(path));
+            if let Some((name, path)) = self.moved(number) {
+                if is_shown(&mut count) {
+                    let (name, path) = (Name(name), Shown(path));
                     println!(rt; "moved: {name} is at {path}")?;
                 }
             }
         }
-        lines.end(rt)?;
-        if self.renamed != Renamed::No {
+        tell_more(rt, count, "")?;
+        if !matches!(self.renamed, Renamed::No) {
             println!(rt;
                 "if the folder of the set was renamed, give it its old name again. Or make the volume again with \
                  create NEW -o VOLUME --force, which compares the files under their new names with the old volume"

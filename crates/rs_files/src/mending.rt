@@ -3,20 +3,21 @@ use crate::checked::tell_nowhere;
 use crate::log::Log;
 use crate::looking::{Look, folder_for, look_for, open_request};
 use crate::rebuilding::rebuild;
-use crate::settings::{Request, STATUS_DAMAGED, STATUS_FAILED, STATUS_LOST, STATUS_WHOLE};
+use crate::renamed::Renamed;
+use crate::settings::{Request, STATUS_FAILED, STATUS_LOST, STATUS_WHOLE};
 use crate::verifying::{add_counts, report, tell_lost, tell_volumes};
 use rs_file_sets::one_entry::is_there;
 use rs_file_sets::restoring::write_blocks;
-use rs_file_sets::scanning::{Scan, scan_paths};
+use rs_file_sets::scanning::scan_opened;
 use rs_file_sets::targets::{Outcome, Targets};
 use rs_folders::counted::{Counted, Kinds};
 use rs_folders::failure::{Failure, Result};
 use rs_folders::hashing::CHUNK;
 use rs_folders::names::{Name, Shown};
 use rs_folders::placing::Goal;
+use rs_volume_files::volume::open_volumes;
 use rs_volumes::description::Entry;
 use std::alloc::{AllocError, Global};
-use std::io;
 use std::rt::Runtime;
 
 /// The lists of the object that `repair` and `restore` print with `--json`.
@@ -28,10 +29,35 @@ struct Job<'a, R: Runtime> {
     rt: &'a R,
     alloc: Global,
     request: &'a Request,
-    // What was found of the set, and the folder in which its files were looked for.
+    // What was found of the set.
     found: &'a Look,
-    folder: &'a str,
     goal: Goal<'a>,
+}
+
+// Files are restored into the folder after `--to`, or into their own one.
+fn job_of<'a, R: Runtime>(
+    rt: &'a R,
+    alloc: Global,
+    request: &'a Request,
+    found: &'a Look,
+) -> Job<'a, R> {
+    let (folder, in_place) = match &request.to {
+        Some(to) => (to.as_str(), false),
+        None => (found.folder.as_str(), true),
+    };
+    let goal = Goal {
+        folder,
+        in_place,
+        force: request.force,
+        set: found.scan.description(),
+    };
+    Job {
+        rt,
+        alloc,
+        request,
+        found,
+        goal,
+    }
 }
 
 /// Runs `repair`: restores the damaged and missing files of a set in their folder, and writes damaged volumes again.
@@ -62,53 +88,20 @@ pub fn repair<R: Runtime>(rt: &R, alloc: Global, request: &Request) -> Result<u8
         let status = mend_spread(rt, alloc, request, found, &mut log)?;
         return log.end(rt, status);
     }
-    let folder = searched.as_deref().unwrap_or("");
-    let mut status = mend_in_place(rt, alloc, request, &found, folder, &mut log)?;
-    if status == STATUS_WHOLE && found.has_all() && !found.scan.has_whole_volumes() {
-        let scan = scanned_again(rt, alloc, request, found, folder)?;
-        status = mend_volumes(rt, alloc, request, scan, &mut log)?;
+    let job = job_of(rt, alloc, request, &found);
+    let mut status = mend(&job, &mut log)?;
+    if status == STATUS_WHOLE && found.has_all && !found.scan.has_whole_volumes() {
+        let (paths, folder) = (request.paths.as_slice(), Some(found.folder.as_str()));
+        // If the files were whole before, nothing is read.
+        let mut scan = if found.has_whole_files {
+            found.scan
+        } else {
+            let volumes = open_volumes(rt, alloc, paths, request.memory)?;
+            scan_opened(rt, alloc, volumes, request.progress, folder)?
+        };
+        status = rebuild(rt, alloc, request, &mut scan, &mut log)?;
     }
     log.end(rt, status)
-}
-
-fn mend_in_place<'a, R: Runtime>(
-    rt: &'a R,
-    alloc: Global,
-    request: &'a Request,
-    found: &'a Look,
-    folder: &'a str,
-    log: &mut Log,
-) -> Result<u8> {
-    let goal = Goal {
-        folder,
-        in_place: true,
-        force: false,
-        set: found.scan.description(),
-    };
-    let job = Job {
-        rt,
-        alloc,
-        request,
-        found,
-        folder,
-        goal,
-    };
-    mend(&job, log)
-}
-
-// If the files were whole before, nothing is read.
-fn scanned_again<R: Runtime>(
-    rt: &R,
-    alloc: Global,
-    request: &Request,
-    found: Look,
-    folder: &str,
-) -> Result<Scan> {
-    if found.has_whole_files() {
-        return Ok(found.scan);
-    }
-    let (paths, shown) = (request.paths.as_slice(), request.progress);
-    scan_paths(rt, alloc, paths, request.memory, shown, Some(folder))
 }
 
 // The blocks are in the volumes, so no file of the set is read or written.
@@ -130,26 +123,12 @@ fn mend_spread<R: Runtime>(
     } else {
         STATUS_WHOLE
     };
-    report(rt, &found, "", log, status)?;
+    report(rt, &found, log, status)?;
     if status == STATUS_LOST || found.scan.has_whole_volumes() {
         return Ok(status);
     }
-    mend_volumes(rt, alloc, request, found.scan, log)
-}
-
-fn mend_volumes<R: Runtime>(
-    rt: &R,
-    alloc: Global,
-    request: &Request,
-    mut scan: Scan,
-    log: &mut Log,
-) -> Result<u8> {
-    let is_whole = rebuild(rt, alloc, request, &mut scan, log)?;
-    Ok(if is_whole {
-        STATUS_WHOLE
-    } else {
-        STATUS_DAMAGED
-    })
+    let mut scan = found.scan;
+    rebuild(rt, alloc, request, &mut scan, log)
 }
 
 /// Runs `restore`: restores the files of a set into another folder. Volumes of `split` hold the files, so none are
@@ -160,30 +139,16 @@ fn mend_volumes<R: Runtime>(
 ///
 /// Fails if `--to` is not given. Then fails for a reason of [`repair`], apart from the last one.
 pub fn restore<R: Runtime>(rt: &R, alloc: Global, request: &Request) -> Result<u8> {
-    let Some(to) = &request.to else {
+    if request.to.is_none() {
         return Err(Failure::of("say where the files go, as --to FOLDER"));
-    };
+    }
     let volumes = open_request(rt, alloc, request)?;
     let searched = folder_for(rt, alloc, request, &volumes.set.description)?;
     let found = look_for(rt, alloc, request, volumes, searched.as_deref())?;
     let mut log = Log::new(alloc, request, &LISTS)?;
     add_counts(&mut log, &found.scan)?;
-    let status = mend(
-        &Job {
-            rt,
-            alloc,
-            request,
-            found: &found,
-            folder: searched.as_deref().unwrap_or(""),
-            goal: Goal {
-                folder: to.as_str(),
-                in_place: false,
-                force: request.force,
-                set: found.scan.description(),
-            },
-        },
-        &mut log,
-    )?;
+    let job = job_of(rt, alloc, request, &found);
+    let status = mend(&job, &mut log)?;
     log.end(rt, status)
 }
 
@@ -196,22 +161,22 @@ fn mend<R: Runtime>(job: &Job<'_, R>, log: &mut Log) -> Result<u8> {
     // If nothing of the set is in its folder, the folder is probably another one.
     let is_nowhere = loses && !found.scan.has_files() && !found.scan.is_spread();
     let is_left = !wanted.contains(&true) || is_nowhere && job.goal.in_place;
-    if job.goal.in_place && found.has_all() && found.is_renamed() {
-        if log.is_told() {
+    if job.goal.in_place && found.has_all && matches!(found.renamed, Renamed::Here) {
+        if log.is_told {
             found.tell_moved(rt)?;
         }
         let reason =
             "this is the folder of the set, and it was renamed: nothing was restored, because that would \
              copy all files into it";
-        return Err(Failure::at(job.alloc, job.folder, reason));
+        return Err(Failure::at(job.alloc, job.found.folder.as_str(), reason));
     }
     if is_left && !loses {
         tell_nothing(job, existing, log)?;
         return Ok(STATUS_WHOLE);
     }
-    if log.is_told() {
+    if log.is_told {
         if is_nowhere {
-            tell_nowhere(rt, job.folder)?;
+            tell_nowhere(rt, job.found.folder.as_str())?;
         }
         found.tell_moved(rt)?;
     }
@@ -228,9 +193,9 @@ fn divided(alloc: Global, found: &Look) -> Result<(Vec<bool>, Vec<bool>), AllocE
     let restorable = found.scan.restorable(alloc)?;
     let mut wanted = Vec::new(alloc);
     let mut lost = Vec::new(alloc);
-    for (index, can) in restorable.iter().enumerate() {
-        wanted.push(*can && found.is_broken(index))?;
-        lost.push(!*can && found.is_broken(index))?;
+    for (can, is_broken) in restorable.iter().zip(found.broken.as_slice()) {
+        wanted.push(*can && *is_broken)?;
+        lost.push(!*can && *is_broken)?;
     }
     Ok((wanted, lost))
 }
@@ -264,11 +229,11 @@ fn tell_nothing<R: Runtime>(job: &Job<'_, R>, existing: bool, log: &Log) -> Resu
     if existing {
         log.end_lists(rt)?;
     } else {
-        report(rt, job.found, job.folder, log, STATUS_WHOLE)?;
+        report(rt, job.found, log, STATUS_WHOLE)?;
     }
-    if log.is_told() && existing {
+    if log.is_told && existing {
         println!(rt; "nothing was written into {to}, because all files are there already")?;
-    } else if log.is_told() && !job.goal.in_place {
+    } else if log.is_told && !job.goal.in_place {
         println!(rt; "nothing was written into {to}, because nothing is damaged or missing")?;
     }
     Ok(())
@@ -284,17 +249,17 @@ fn tell_beyond<R: Print + Eprint>(
 ) -> Result<()> {
     for (entry, is_lost) in found.scan.description().entries.iter().zip(lost) {
         if *is_lost {
-            log.add_entry("lost", entry.name.as_slice(), None)?;
-            if !log.is_kept() && !is_short {
+            log.add("lost", ("name", entry.name.as_slice()), None)?;
+            if !log.is_kept && !is_short {
                 let name = Name(entry.name.as_slice());
                 eprintln!(rt; "rs_files: cannot be restored: {name}")?;
             }
         }
     }
-    if log.is_told() {
+    if log.is_told {
         tell_volumes(rt, &found.scan)?;
     }
-    if !log.is_kept() {
+    if !log.is_kept {
         tell_lost(rt, found.scan.counts())?;
     }
     Ok(())
@@ -302,9 +267,16 @@ fn tell_beyond<R: Print + Eprint>(
 
 // Returns whether all entries were restored. All files that do not have their final names are removed.
 fn restore_entries<R: Runtime>(job: &Job<'_, R>, wanted: Vec<bool>, log: &mut Log) -> Result<bool> {
-    let (rt, read) = (job.rt, job.found.scan.paths.as_slice());
-    let mut targets = Targets::new(rt, job.alloc, job.goal, wanted, read)?;
-    let restored = restore_into(job, &mut targets);
+    let (rt, scan) = (job.rt, &job.found.scan);
+    let (memory, shown) = (job.request.memory, job.request.progress);
+    let mut targets = Targets::new(rt, job.alloc, job.goal, wanted, scan.paths.as_slice())?;
+    let mut restored = targets.begin();
+    if restored.is_ok() {
+        restored = write_blocks(rt, job.alloc, scan, &mut targets, memory, shown);
+    }
+    if restored.is_ok() {
+        targets.finish();
+    }
     targets.remove();
     let outcomes = targets.outcomes.as_slice();
     for outcome in outcomes {
@@ -318,14 +290,6 @@ fn restore_entries<R: Runtime>(job: &Job<'_, R>, wanted: Vec<bool>, log: &mut Lo
         eprintln!(rt; "rs_files: the disk has no room for {bytes} of these files")?;
     }
     tell_outcomes(job, outcomes, log)
-}
-
-fn restore_into<R: Runtime>(job: &Job<'_, R>, targets: &mut Targets<'_, R>) -> Result<()> {
-    let (scan, memory, shown) = (&job.found.scan, job.request.memory, job.request.progress);
-    targets.begin()?;
-    write_blocks(job.rt, job.alloc, scan, targets, memory, shown)?;
-    targets.finish();
-    Ok(())
 }
 
 // Returns whether all entries were restored.
@@ -348,14 +312,17 @@ fn tell_outcomes<R: Runtime>(
             Outcome::Failed(failure) => {
                 failed = failed.saturating_add(1);
                 let reason = format!(in job.alloc; "{failure}")?;
-                let reason = Some(("reason", reason.as_str()));
-                log.add_entry("failed", entry.name.as_slice(), reason)?;
+                let reason = Some(("reason", reason.as_bytes()));
+                log.add("failed", ("name", entry.name.as_slice()), reason)?;
             }
         }
     }
     log.end_lists(rt)?;
-    if log.is_told() {
-        tell_restored(rt, restored, kept)?;
+    if log.is_told && kept == 0 {
+        println!(rt; "restored {restored}")?;
+    } else if log.is_told {
+        let damaged = Counted(kept, "damaged file");
+        println!(rt; "restored {restored}, and kept {damaged} as NAME.damaged")?;
     }
     if failed > 0 {
         let failed = Counted(failed, "file");
@@ -371,10 +338,11 @@ fn note_restored<R: Print>(
     log: &mut Log,
 ) -> Result<()> {
     let name = entry.name.as_slice();
-    match kept {
-        Some(path) => log.add_entry("restored", name, Some(("kept", path.as_str())))?,
-        None => log.add_entry("restored", name, None)?,
-    }
+    let more = match kept {
+        Some(path) => Some(("kept", path.as_bytes())),
+        None => None,
+    };
+    log.add("restored", ("name", name), more)?;
     if log.shows("restored")? {
         let name = Name(name);
         println!(rt; "restored: {name}")?;
@@ -384,12 +352,4 @@ fn note_restored<R: Print>(
         }
     }
     Ok(())
-}
-
-fn tell_restored<R: Print>(rt: &R, restored: Kinds, kept: u64) -> io::Result<()> {
-    if kept == 0 {
-        return println!(rt; "restored {restored}");
-    }
-    let damaged = Counted(kept, "damaged file");
-    println!(rt; "restored {restored}, and kept {damaged} as NAME.damaged")
 }

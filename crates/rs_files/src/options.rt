@@ -26,36 +26,23 @@ pub enum Parsed {
     Wrong(u8, String),
 }
 
-fn arg_of<'a>(alloc: Global, choice: Choice) -> Arg<'a> {
-    let Choice(name, letter, takes, help) = choice;
-    let arg = Arg::new(alloc, name).long(name).help(help);
-    let arg = match letter {
-        Some(letter) => arg.short(letter),
-        None => arg,
-    };
-    match takes {
-        Takes::Nothing => arg.action(ArgAction::SetTrue),
-        Takes::One(shown) => arg.value_name(shown).action(ArgAction::Set),
-        Takes::Needed(shown) => arg.value_name(shown).required(true).action(ArgAction::Set),
-        Takes::Many(shown) => arg.value_name(shown).action(ArgAction::Append),
-    }
-}
-
-fn paths_arg<'a>(alloc: Global, form: &Form) -> Arg<'a> {
-    let (shown, help) = form.paths;
-    Arg::new(alloc, "paths")
-        .value_name(shown)
-        .help(help)
-        .required(true)
-        .action(ArgAction::Append)
-        .num_args(1..)
-}
-
 fn command_of<'a>(alloc: Global, form: &Form) -> Result<Command<'a>, AllocError> {
+    let (shown, help) = form.paths;
+    let paths = Arg::new(alloc, "paths").value_name(shown).help(help);
     let mut args = Vec::new(alloc);
-    args.push(paths_arg(alloc, form))?;
+    args.push(paths.required(true).action(ArgAction::Append).num_args(1..))?;
     for choice in form.options {
-        args.push(arg_of(alloc, *choice))?;
+        let Choice(name, letter, takes, help) = *choice;
+        let mut arg = Arg::new(alloc, name).long(name).help(help);
+        if let Some(letter) = letter {
+            arg = arg.short(letter);
+        }
+        args.push(match takes {
+            Takes::Nothing => arg.action(ArgAction::SetTrue),
+            Takes::One(shown) => arg.value_name(shown).action(ArgAction::Set),
+            Takes::Needed(shown) => arg.value_name(shown).required(true).action(ArgAction::Set),
+            Takes::Many(shown) => arg.value_name(shown).action(ArgAction::Append),
+        })?;
     }
     Command::new(alloc, form.name)
         .about(form.about)
@@ -76,15 +63,6 @@ fn program<'a>(alloc: Global) -> Result<Command<'a>, AllocError> {
     top.subcommands(commands)
 }
 
-// The help text and the version are no error, and a lack of memory is no wrong command line.
-fn status_of(error: &clap::Error) -> u8 {
-    match error.kind() {
-        ErrorKind::OutOfMemory => STATUS_FAILED,
-        _ if error.use_stderr() => STATUS_USAGE,
-        _ => STATUS_WHOLE,
-    }
-}
-
 /// Reads the words of the command line. `terminal` says whether standard error is a terminal.
 ///
 /// # Errors
@@ -97,10 +75,12 @@ pub fn read_words<R: Env + Print + Eprint + AllocGlobal>(rt: &R, terminal: bool)
         Ok(matches) => read_matches(rt, alloc, &matches, terminal),
         Err(error) => {
             error.print(rt)?;
-            let status = status_of(&error);
-            if status == STATUS_WHOLE {
-                return Ok(Parsed::Stop(status));
-            }
+            // The help text and the version are no error, and a lack of memory is no wrong command line.
+            let status = match error.kind() {
+                ErrorKind::OutOfMemory => STATUS_FAILED,
+                _ if error.use_stderr() => STATUS_USAGE,
+                _ => return Ok(Parsed::Stop(STATUS_WHOLE)),
+            };
             let text = format!(in alloc; "{error}")?;
             Ok(Parsed::Wrong(status, String::from_str(alloc, text.as_str().trim_end())?))
         }
@@ -127,40 +107,18 @@ fn read_matches<R: Eprint>(
     matches: &ArgMatches<'_>,
     terminal: bool,
 ) -> Result<Parsed> {
-    let outcome = match matches.subcommand() {
-        Some((name, inner)) => request_of(alloc, name, inner, terminal)?,
-        None => Err("no command is given"),
-    };
-    match outcome {
-        Ok(request) => Ok(Parsed::Run(request)),
-        Err(fault) => {
-            eprintln!(rt; "rs_files: {fault}")?;
-            Ok(Parsed::Wrong(STATUS_USAGE, String::from_str(alloc, fault)?))
+    let fault = match matches.subcommand() {
+        Some((name, inner)) => {
+            let mut request = plain_request(alloc, name, inner, terminal)?;
+            match set_values(&mut request, inner) {
+                Ok(()) => return Ok(Parsed::Run(request)),
+                Err(fault) => fault,
+            }
         }
-    }
-}
-
-fn action_of(name: &str) -> Action {
-    match name {
-        "create" => Action::Create,
-        "split" => Action::Split,
-        "update" => Action::Update,
-        "verify" => Action::Verify,
-        "repair" => Action::Repair,
-        "restore" => Action::Restore,
-        _ => Action::Info,
-    }
-}
-
-fn text_of(
-    alloc: Global,
-    matches: &ArgMatches<'_>,
-    name: &str,
-) -> Result<Option<String>, AllocError> {
-    match matches.get_str(name) {
-        Some(text) => Ok(Some(String::from_str(alloc, text)?)),
-        None => Ok(None),
-    }
+        None => "no command is given",
+    };
+    eprintln!(rt; "rs_files: {fault}")?;
+    Ok(Parsed::Wrong(STATUS_USAGE, String::from_str(alloc, fault)?))
 }
 
 fn texts_of(
@@ -185,13 +143,21 @@ fn plain_request(
     terminal: bool,
 ) -> Result<Request, AllocError> {
     let quiet = matches.get_flag("quiet");
-    let action = action_of(name);
+    let action = match name {
+        "create" => Action::Create,
+        "split" => Action::Split,
+        "update" => Action::Update,
+        "verify" => Action::Verify,
+        "repair" => Action::Repair,
+        "restore" => Action::Restore,
+        _ => Action::Info,
+    };
     Ok(Request {
         action,
         paths: texts_of(alloc, matches, "paths")?,
-        output: text_of(alloc, matches, "output")?,
-        to: text_of(alloc, matches, "to")?,
-        folder: text_of(alloc, matches, "folder")?,
+        output: texts_of(alloc, matches, "output")?.pop(),
+        to: texts_of(alloc, matches, "to")?.pop(),
+        folder: texts_of(alloc, matches, "folder")?.pop(),
         search: texts_of(alloc, matches, "search")?,
         only: texts_of(alloc, matches, "only")?,
         accept: texts_of(alloc, matches, "accept")?,
@@ -204,46 +170,58 @@ fn plain_request(
         skip_names: matches.get_flag("skip-names"),
         json: matches.get_flag("json"),
         quiet,
-        force: matches.get_flag("force") || action == Action::Update,
+        force: matches.get_flag("force") || name == "update",
         progress: terminal && !quiet,
     })
 }
 
-// The inner error is a message about an option with a wrong value.
-fn request_of(
-    alloc: Global,
-    name: &str,
-    matches: &ArgMatches<'_>,
-    terminal: bool,
-) -> Result<Result<Request, &'static str>, AllocError> {
-    let mut request = plain_request(alloc, name, matches, terminal)?;
-    match set_options(&mut request, matches) {
-        Ok(()) => Ok(Ok(request)),
-        Err(fault) => Ok(Err(fault)),
+fn set_values(request: &mut Request, matches: &ArgMatches<'_>) -> Result<(), &'static str> {
+    if let Some(text) = matches.get_str("recovery") {
+        let fault =
+            "--recovery: write a percentage up to 10000%, as 10%, or a number of blocks above 0";
+        request.recovery = Some(recovery_of(text).ok_or(fault)?);
     }
-}
-
-fn set_options(request: &mut Request, matches: &ArgMatches<'_>) -> Result<(), &'static str> {
-    set_numbers(request, matches)?;
-    set_progress(request, matches)?;
-    set_volumes(request, matches)?;
-    check_filled(request)?;
-    check_needed(request)
-}
-
-fn is_empty(option: &Option<String>) -> bool {
-    option.as_ref().is_some_and(|text| text.as_str().is_empty())
+    if let Some(text) = matches.get_str("block") {
+        match bytes_of(text) {
+            Some(bytes) if allows_block(bytes) => request.block_bytes = Some(bytes),
+            _ => {
+                return Err("--block: write an even number of bytes from 2 to 2^40, as 4096 or 64K");
+            }
+        }
+    }
+    if let Some(text) = matches.get_str("memory") {
+        let fault = "--memory: write a number of bytes, as 64M or 2G";
+        request.memory = bytes_of(text).ok_or(fault)?;
+    }
+    match matches.get_str("progress") {
+        None | Some("auto") => {}
+        Some("always") => request.progress = true,
+        Some("never") => request.progress = false,
+        Some(_) => return Err("--progress: write auto, always or never"),
+    }
+    if let Some(text) = matches.get_str("volumes") {
+        let count = text.parse::<u32>().unwrap_or(0);
+        if count < 2 || count > 1000 {
+            return Err("--volumes: write a number from 2 to 1000");
+        }
+        request.volumes = count;
+    }
+    if let Some(text) = matches.get_str("lose") {
+        let count = text.parse::<u32>().ok();
+        request.lose = count.ok_or("--lose: write how many volumes may be lost")?;
+    }
+    check(request)
 }
 
 // A variable of a shell that is not set gives an empty path.
-fn check_filled(request: &Request) -> Result<(), &'static str> {
-    if is_empty(&request.output) {
+fn check(request: &Request) -> Result<(), &'static str> {
+    if request.output.as_deref() == Some("") {
         return Err("--output: the path is empty");
     }
-    if is_empty(&request.to) {
+    if request.to.as_deref() == Some("") {
         return Err("--to: the path is empty");
     }
-    if is_empty(&request.folder) {
+    if request.folder.as_deref() == Some("") {
         return Err("--folder: the path is empty");
     }
     for path in request.search.iter().chain(request.only.iter()) {
@@ -251,53 +229,6 @@ fn check_filled(request: &Request) -> Result<(), &'static str> {
             return Err("--search and --only: an empty text names nothing");
         }
     }
-    Ok(())
-}
-
-fn set_numbers(request: &mut Request, matches: &ArgMatches<'_>) -> Result<(), &'static str> {
-    if let Some(text) = matches.get_str("recovery") {
-        let fault =
-            "--recovery: write a percentage up to 10000%, as 10%, or a number of blocks above 0";
-        request.recovery = Some(recovery_of(text).ok_or(fault)?);
-    }
-    if let Some(text) = matches.get_str("block") {
-        let bytes = bytes_of(text).filter(|bytes| allows_block(*bytes));
-        let fault = "--block: write an even number of bytes from 2 to 2^40, as 4096 or 64K";
-        request.block_bytes = Some(bytes.ok_or(fault)?);
-    }
-    if let Some(text) = matches.get_str("memory") {
-        let fault = "--memory: write a number of bytes, as 64M or 2G";
-        request.memory = bytes_of(text).ok_or(fault)?;
-    }
-    Ok(())
-}
-
-fn set_progress(request: &mut Request, matches: &ArgMatches<'_>) -> Result<(), &'static str> {
-    match matches.get_str("progress") {
-        None | Some("auto") => {}
-        Some("always") => request.progress = true,
-        Some("never") => request.progress = false,
-        Some(_) => return Err("--progress: write auto, always or never"),
-    }
-    Ok(())
-}
-
-fn set_volumes(request: &mut Request, matches: &ArgMatches<'_>) -> Result<(), &'static str> {
-    if let Some(text) = matches.get_str("volumes") {
-        let count = text
-            .parse::<u32>()
-            .ok()
-            .filter(|count| *count >= 2 && *count <= 1000);
-        request.volumes = count.ok_or("--volumes: write a number from 2 to 1000")?;
-    }
-    if let Some(text) = matches.get_str("lose") {
-        let count = text.parse::<u32>().ok();
-        request.lose = count.ok_or("--lose: write how many volumes may be lost")?;
-    }
-    Ok(())
-}
-
-fn check_needed(request: &Request) -> Result<(), &'static str> {
     match request.action {
         Action::Create
             if request.output.is_none() && front_of_volume(request.paths.as_slice()).is_none() => {

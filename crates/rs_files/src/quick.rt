@@ -53,11 +53,11 @@ pub fn verify_quick<R: Files + Print + Eprint>(
         STATUS_DAMAGED
     };
     let mut log = Log::new(alloc, request, &[])?;
-    if log.is_kept() {
+    if log.is_kept {
         log.set("quick", Value::Bool(true))?;
         log.set("files", checked.json(alloc)?)?;
     }
-    if log.is_told() {
+    if log.is_told {
         checked.tell(rt, folder)?;
         tell_quick(rt, same, other)?;
     }
@@ -124,10 +124,10 @@ pub fn verify_named<R: Files + Print>(
         words: ["whole", "damaged", "missing"],
     };
     let mut log = Log::new(alloc, request, &["moved", "volumes"])?;
-    if log.is_kept() {
+    if log.is_kept {
         log.set("files", checked.json(alloc)?)?;
     }
-    if log.is_told() {
+    if log.is_told {
         let (whole, _) = counted(&checked);
         println!(rt; "whole: {whole}. The other files and the volumes were not compared")?;
     }

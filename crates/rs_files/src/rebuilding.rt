@@ -3,12 +3,12 @@ ghost use Rattle.rs_field.specs.code.Given.{nothing};
 
 use crate::creating::written;
 use crate::log::Log;
-use crate::settings::Request;
+use crate::settings::{Request, STATUS_DAMAGED, STATUS_WHOLE};
 use reed_solomon_simd::engine::tables::Tables;
 use reed_solomon_simd::engine::{DefaultEngine, EngineKind};
 use rs_file_sets::cutting::{piece_bytes, shape_of};
 use rs_file_sets::restoring::restore_lost;
-use rs_file_sets::scanning::{Scan, ScannedVolume};
+use rs_file_sets::scanning::Scan;
 use rs_folders::failure::{Failure, Result};
 use rs_folders::names::Shown;
 use rs_folders::output::Part;
@@ -42,19 +42,14 @@ fn damaged_paths(alloc: Global, found: &Scan) -> Result<Vec<Option<&str>>, Alloc
     Ok(paths)
 }
 
-fn first_damaged(alloc: Global, found: &Scan) -> Result<Option<String>, AllocError> {
-    let paths = damaged_paths(alloc, found)?;
-    match paths.iter().flatten().next() {
-        Some(path) => Ok(Some(String::from_str(alloc, *path)?)),
-        None => Ok(None),
-    }
-}
-
 /// Returns whether [`rebuild`] writes a damaged volume of a scan again, if all files are whole.
 pub fn can_rebuild(found: &Scan) -> bool {
-    let is_second = found.description().version == Version::Second;
-    let mut damages = found.volumes.iter().map(|volume| volume.damage);
-    is_second && damages.any(|damage| damage.number.is_some() && !damage.is_none())
+    for volume in &found.volumes {
+        if volume.damage.number.is_some() && !volume.damage.is_none() {
+            return found.description().version == Version::Second;
+        }
+    }
+    false
 }
 
 // The permission bits of a file with restored blocks: nobody else may read it.
@@ -86,7 +81,8 @@ impl<'a, R: Files> BlockSink for LostBlocks<'a, R> {
 
 /// Writes the damaged volumes of a scan again, and keeps each damaged one as `NAME.damaged`. Original blocks that were
 /// not found are first restored into a file beside the first damaged volume, which is removed in the end. Nothing is
-/// written if too many blocks are lost, or if the volumes have version 1. Returns whether all volumes are whole now.
+/// written if too many blocks are lost, or if the volumes have version 1. Returns the exit status: `STATUS_WHOLE` if
+/// all volumes are whole now, and otherwise `STATUS_DAMAGED`.
 ///
 /// # Errors
 ///
@@ -99,62 +95,47 @@ pub fn rebuild<R: Runtime>(
     request: &Request,
     found: &mut Scan,
     log: &mut Log,
-) -> Result<bool> {
+) -> Result<u8> {
     let counts = found.counts();
     let is_second = found.description().version == Version::Second;
-    let first = match first_damaged(alloc, found)? {
-        Some(first) if is_second && counts.lost <= counts.recovery => first,
-        _ => return Ok(found.has_whole_volumes()),
+    let path = match damaged_paths(alloc, found)?.iter().flatten().next() {
+        Some(first) if is_second && counts.lost <= counts.recovery => {
+            numbered_part_of(alloc, *first, 3)?
+        }
+        _ if found.has_whole_volumes() => return Ok(STATUS_WHOLE),
+        _ => return Ok(STATUS_DAMAGED),
     };
     if counts.lost == 0 {
         let origins = Vec::from_slice(alloc, found.found.places.as_slice())?;
         return rebuild_from(rt, alloc, request, found, origins.as_slice(), log);
     }
-    let lost = found.lost(alloc)?;
-    let size = (lost.len() as u64).saturating_mul(found.description().block_bytes);
-    let path = numbered_part_of(alloc, first.as_str(), 3)?;
+    let size = (counts.lost as u64).saturating_mul(found.description().block_bytes);
     let mut part = Part::begin(rt, alloc, path.as_str(), path.clone()?, size, LOST_MODE)?;
-    let outcome = restore_into(rt, alloc, request, found, lost.as_slice(), &mut part);
-    let outcome = match outcome.and_then(|_| with_restored(alloc, found, lost.as_slice(), path)) {
-        Ok(origins) => rebuild_from(rt, alloc, request, found, origins.as_slice(), log),
-        Err(failure) => Err(failure),
-    };
+    let outcome = rebuild_lost(rt, alloc, request, found, &mut part, log);
     part.remove(rt);
     outcome
 }
 
-fn restore_into<R: Runtime>(
+// Restores the lost blocks into a file, one after another, and writes the volumes. The path of the file is added to
+// those of the scan.
+fn rebuild_lost<R: Runtime>(
     rt: &R,
     alloc: Global,
     request: &Request,
-    found: &Scan,
-    lost: &[usize],
+    found: &mut Scan,
     part: &mut Part<R>,
-) -> Result<()> {
+    log: &mut Log,
+) -> Result<u8> {
+    let (lost, block_bytes) = (found.lost(alloc)?, found.description().block_bytes);
+    let (holder, path) = (found.paths.len(), part.path.clone()?);
     let mut sink = LostBlocks {
         rt,
         part,
-        lost,
-        block_bytes: found.description().block_bytes,
+        lost: lost.as_slice(),
+        block_bytes,
     };
-    restore_lost(
-        rt,
-        alloc,
-        found,
-        &mut sink,
-        request.memory,
-        request.progress,
-    )
-}
-
-// The lost blocks are in the file at `path`, one after another. Adds the path to those of the scan.
-fn with_restored(
-    alloc: Global,
-    found: &mut Scan,
-    lost: &[usize],
-    path: String,
-) -> Result<Vec<Option<Origin>>> {
-    let (holder, block_bytes) = (found.paths.len(), found.description().block_bytes);
+    let (memory, shown) = (request.memory, request.progress);
+    restore_lost(rt, alloc, found, &mut sink, memory, shown)?;
     let mut origins = Vec::from_slice(alloc, found.found.places.as_slice())?;
     for (number, block) in lost.iter().enumerate() {
         if let Some(origin) = origins.get_mut(*block) {
@@ -163,10 +144,10 @@ fn with_restored(
         }
     }
     found.paths.push(path)?;
-    Ok(origins)
+    rebuild_from(rt, alloc, request, found, origins.as_slice(), log)
 }
 
-// `origins` says where each original block is. Returns whether all volumes are whole now.
+// `origins` says where each original block is. Returns the exit status.
 fn rebuild_from<R: Runtime>(
     rt: &R,
     alloc: Global,
@@ -174,7 +155,7 @@ fn rebuild_from<R: Runtime>(
     found: &Scan,
     origins: &[Option<Origin>],
     log: &mut Log,
-) -> Result<bool> {
+) -> Result<u8> {
     let paths = damaged_paths(alloc, found)?;
     let description = written(alloc, found.description())?;
     if digest_of(description.as_slice()) != found.set.digest {
@@ -195,10 +176,15 @@ fn rebuild_from<R: Runtime>(
     volumes.remove();
     tell_written(rt, &paths, kept.as_slice(), log)?;
     outcome?;
-    let count = paths.iter().flatten().count();
-    let is_damaged = |volume: &&ScannedVolume| !volume.damage.is_none();
-    let damaged = found.volumes.iter().filter(is_damaged).count();
-    Ok(count == damaged && found.unreadable.is_empty())
+    let mut damaged = 0usize;
+    for volume in &found.volumes {
+        damaged = damaged.saturating_add(usize::from(!volume.damage.is_none()));
+    }
+    if paths.iter().flatten().count() == damaged && found.unreadable.is_empty() {
+        Ok(STATUS_WHOLE)
+    } else {
+        Ok(STATUS_DAMAGED)
+    }
 }
 
 // `kept` has one path for each volume that was written, in the order of `paths`.
@@ -209,8 +195,12 @@ fn tell_written<R: Print>(
     log: &mut Log,
 ) -> Result<()> {
     for (path, kept) in paths.iter().flatten().zip(kept) {
-        log.add("written", ("path", *path), Some(("kept", kept.as_str())))?;
-        if log.is_told() {
+        log.add(
+            "written",
+            ("path", path.as_bytes()),
+            Some(("kept", kept.as_bytes())),
+        )?;
+        if log.is_told {
             let (path, kept) = (Shown(*path), Shown(kept.as_str()));
             println!(rt; "written again: {path}")?;
             println!(rt; "kept: {kept}")?;

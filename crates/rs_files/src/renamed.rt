@@ -9,6 +9,12 @@ use std::alloc::{AllocError, Global};
 use std::fs;
 use std::rt::Files;
 
+// Returns the first part of a name, and the rest, which is empty if the entry is in no folder.
+fn parts_of(entry: &Entry) -> (&str, &str) {
+    let name = text_of(entry.name.as_slice()).unwrap_or("");
+    name.split_once('/').unwrap_or((name, ""))
+}
+
 /// Returns the first parts of all names of a set, each once.
 ///
 /// # Errors
@@ -17,8 +23,7 @@ use std::rt::Files;
 pub fn tops_of(alloc: Global, set: &Description) -> Result<Vec<&str>, AllocError> {
     let mut tops: Vec<&str> = Vec::new(alloc);
     for entry in &set.entries {
-        let name = text_of(entry.name.as_slice()).unwrap_or("");
-        let top = name.split_once('/').map_or(name, |(top, _)| top);
+        let (top, _) = parts_of(entry);
         if !top.is_empty() && tops.last().copied() != Some(top) {
             tops.push(top)?;
         }
@@ -27,7 +32,7 @@ pub fn tops_of(alloc: Global, set: &Description) -> Result<Vec<&str>, AllocError
 }
 
 /// What the places of files that were found say about the folder of their set.
-#[derive(Clone, Copy, PartialEq, Eq)]
+#[derive(Clone, Copy)]
 pub enum Renamed {
     /// Nothing says that the folder was renamed.
     No,
@@ -55,7 +60,7 @@ pub fn renaming_of<R: Files>(
     let Some(folder) = folder else {
         return Ok(Renamed::No);
     };
-    if scan.has_files() || scan.is_spread() || !moved.iter().any(|index| keeps_rest(scan, *index)) {
+    if scan.has_files() || scan.is_spread() || !keeps_rest(scan, moved) {
         return Ok(Renamed::No);
     }
     let tops = tops_of(alloc, scan.description())?;
@@ -71,22 +76,23 @@ pub fn renaming_of<R: Files>(
     Ok(Renamed::Perhaps)
 }
 
-// The first folder is left out. The result is empty if the entry is in no folder.
-fn rest_of(entry: &Entry) -> &str {
-    let name = text_of(entry.name.as_slice()).unwrap_or("");
-    name.split_once('/').map_or("", |(_, rest)| rest)
-}
-
-// Returns whether an entry was found in another folder, with the same path below this folder.
-fn keeps_rest(scan: &Scan, index: usize) -> bool {
-    let entry = scan.description().entries.get(index);
-    match (entry.map(rest_of), scan.paths.get(index)) {
-        (Some(rest), Some(path)) if !rest.is_empty() => {
-            let front = path.as_str().strip_suffix(rest);
-            front.is_some_and(|front| front.ends_with('/'))
+// Returns whether one of these entries was found in another folder, with the same path below this folder.
+fn keeps_rest(scan: &Scan, moved: &[usize]) -> bool {
+    for index in moved {
+        let (entry, path) = (
+            scan.description().entries.get(*index),
+            scan.paths.get(*index),
+        );
+        let (Some(entry), Some(path)) = (entry, path) else {
+            continue;
+        };
+        let (_, rest) = parts_of(entry);
+        match path.as_str().strip_suffix(rest) {
+            Some(front) if !rest.is_empty() && front.ends_with('/') => return true,
+            _ => {}
         }
-        _ => false,
     }
+    false
 }
 
 // Returns whether all files of a set that have bytes were found, at least two, and are in `folder` as they were in the
@@ -105,23 +111,19 @@ fn has_all<R: Files>(
         }
     }
     let mut count = 0u64;
-    for ((entry, path), is_found) in scan
-        .description()
-        .entries
-        .iter()
-        .zip(&scan.paths)
-        .zip(&is_found)
-    {
+    let entries = scan.description().entries.iter().zip(&scan.paths);
+    for ((entry, path), is_found) in entries.zip(&is_found) {
         if entry.kind != Kind::File || entry.size == 0 {
             continue;
         }
-        let here = path_in(alloc, folder, rest_of(entry))?;
-        let is_here = here.as_str() == path.as_str()
-            || fs::metadata(rt, here.as_str()).is_ok_and(|found| has_time(
-                entry,
-                &found,
-                Version::Second,
-            ));
+        let (_, rest) = parts_of(entry);
+        let here = path_in(alloc, folder, rest)?;
+        let mut is_here = here.as_str() == path.as_str();
+        if !is_here {
+            if let Ok(found) = fs::metadata(rt, here.as_str()) {
+                is_here = has_time(entry, &found, Version::Second);
+            }
+        }
         if !*is_found || !is_here {
             return Ok(false);
         }

@@ -23,7 +23,7 @@ pub const STATUS_FAILED: u8 = 4;
 pub const NO_OUTPUT: &str = "create: say which volume to write, as -o SET.rsv";
 
 /// A command of the program.
-#[derive(Clone, Copy, PartialEq, Eq)]
+#[derive(Clone, Copy)]
 pub enum Action {
     /// Makes a volume with the recovery blocks of files.
     Create,

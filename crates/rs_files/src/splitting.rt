@@ -7,7 +7,7 @@ use rs_folders::identity::exists;
 use rs_folders::names::path_in;
 use rs_volume_files::volume_sink::check_parts;
 use std::alloc::{AllocError, Global};
-use std::rt::{Files, Runtime};
+use std::rt::Runtime;
 
 /// The largest number of volumes.
 const MOST_VOLUMES: u32 = 1000;
@@ -46,19 +46,16 @@ pub fn split<R: Runtime>(rt: &R, alloc: Global, request: &Request) -> Result<u8>
         outputs: outputs.as_slice(),
     };
     let status = make(rt, alloc, task)?;
-    if status != STATUS_LOST {
-        tell_older(rt, all.get(volumes as usize..).unwrap_or(&[]));
+    if status == STATUS_LOST {
+        return Ok(status);
     }
-    Ok(status)
-}
-
-// The new volumes do not have the numbers of the volumes at `paths`.
-fn tell_older<R: Files + Eprint>(rt: &R, paths: &[String]) {
-    for path in paths {
+    // The new volumes do not have the numbers of these.
+    for path in all.get(volumes as usize..).unwrap_or(&[]) {
         if exists(rt, path.as_str()) {
             let reason =
                 "warning: an older split made this volume, and the new ones do not belong to it: delete it";
             warn(rt, path.as_str(), reason);
         }
     }
+    Ok(status)
 }

@@ -29,14 +29,6 @@ fn paths_in<R: Files>(
     Ok(paths)
 }
 
-fn share_of(set: &Description) -> Recovery {
-    let k = u64::from(set.original_count).max(1);
-    let percent = u64::from(set.recovery_count)
-        .saturating_mul(100)
-        .div_ceil(k);
-    Recovery::Percent(percent.clamp(1, 10_000) as u32)
-}
-
 // Returns `None` if the block size was chosen by default. Version 1 has other defaults, so there it counts as chosen.
 fn block_of(set: &Description) -> Option<u64> {
     if set.version == Version::First || set.original_count == 0 {
@@ -74,7 +66,9 @@ pub fn update<R: Runtime>(rt: &R, alloc: Global, request: &Request) -> Result<u8
         let reason = "this is one of several volumes: make them again with split --force";
         return Err(Failure::at(alloc, volume.as_str(), reason));
     }
-    let recovery = request.recovery.unwrap_or(share_of(set));
+    let recovery = u64::from(set.recovery_count).saturating_mul(100);
+    let share = recovery.div_ceil(u64::from(set.original_count).max(1));
+    let share = Recovery::Percent(share.clamp(1, 10_000) as u32);
     let folder = folder_of(rt, alloc, request, set)?;
     let tops = paths_in(rt, alloc, folder.as_str(), set)?;
     if tops.is_empty() {
@@ -89,7 +83,7 @@ pub fn update<R: Runtime>(rt: &R, alloc: Global, request: &Request) -> Result<u8
         request,
         old_block: block_of(set),
         files: tops.as_slice(),
-        recovery,
+        recovery: request.recovery.unwrap_or(share),
         outputs: &outputs,
     };
     make(rt, alloc, task)

@@ -1,17 +1,16 @@
 //! `verify`: looks for damage.
 use crate::checked::Checked;
-use crate::json::{add_text, object_of};
 use crate::log::Log;
 use crate::looking::{Look, folder_for, folder_of, look_for, open_request};
 use crate::quick::{verify_named, verify_quick};
 use crate::rebuilding::can_rebuild;
 use crate::settings::{Request, STATUS_DAMAGED, STATUS_LOST, STATUS_WHOLE};
-use rs_file_sets::scanning::{Counts, Scan, ScannedVolume};
+use rs_file_sets::scanning::{Counts, Scan};
 use rs_folders::counted::Counted;
 use rs_folders::failure::Result;
 use rs_folders::names::Shown;
 use rs_volumes::description::Version;
-use serde_json::Value;
+use serde_json::{Value, json};
 use std::alloc::{AllocError, Global};
 use std::io;
 use std::rt::Runtime;
@@ -21,18 +20,18 @@ use std::rt::Runtime;
 fn status_of(alloc: Global, found: &Look) -> Result<u8, AllocError> {
     let (scan, counts) = (&found.scan, found.scan.counts());
     let are_held = counts.lost == 0 && scan.is_spread();
-    let are_files_whole = found.has_whole_files() || are_held;
+    let are_files_whole = found.has_whole_files || are_held;
     let is_more_whole = counts.recovery == counts.recovery_count && scan.has_whole_volumes();
-    let is_lost = if found.has_all() {
-        counts.lost > counts.recovery
-    } else {
+    let mut is_lost = found.has_all && counts.lost > counts.recovery;
+    if !found.has_all {
         let restorable = scan.restorable(alloc)?;
-        let mut numbered = restorable.iter().enumerate();
-        numbered.any(|(index, can)| !can && found.is_broken(index))
-    };
+        for (can, is_broken) in restorable.iter().zip(found.broken.as_slice()) {
+            is_lost = is_lost || (!*can && *is_broken);
+        }
+    }
     Ok(if is_lost {
         STATUS_LOST
-    } else if are_files_whole && (is_more_whole || !found.has_all()) {
+    } else if are_files_whole && (is_more_whole || !found.has_all) {
         STATUS_WHOLE
     } else {
         STATUS_DAMAGED
@@ -55,25 +54,19 @@ fn checked(found: &Look) -> Checked<'_> {
 /// Fails if the result cannot be printed.
 pub fn tell_volumes<R: Print>(rt: &R, scan: &Scan) -> io::Result<()> {
     for volume in &scan.volumes {
-        tell_volume(rt, volume)?;
-    }
-    Ok(())
-}
-
-// Prints nothing for a whole volume.
-fn tell_volume<R: Print>(rt: &R, volume: &ScannedVolume) -> io::Result<()> {
-    let path = Shown(volume.path.as_str());
-    let damage = volume.damage;
-    if damage.parts > 0 {
-        let parts = Counted(damage.parts, "damaged or missing part");
-        println!(rt; "{path}: the volume has {parts} of its description")?;
-    }
-    if damage.blocks > 0 {
-        let blocks = Counted(damage.blocks, "damaged or missing block");
-        println!(rt; "{path}: the volume has {blocks}")?;
-    }
-    if damage.has_more {
-        println!(rt; "{path}: the volume is damaged outside of its blocks")?;
+        let path = Shown(volume.path.as_str());
+        let damage = volume.damage;
+        if damage.parts > 0 {
+            let parts = Counted(damage.parts, "damaged or missing part");
+            println!(rt; "{path}: the volume has {parts} of its description")?;
+        }
+        if damage.blocks > 0 {
+            let blocks = Counted(damage.blocks, "damaged or missing block");
+            println!(rt; "{path}: the volume has {blocks}")?;
+        }
+        if damage.has_more {
+            println!(rt; "{path}: the volume is damaged outside of its blocks")?;
+        }
     }
     Ok(())
 }
@@ -91,10 +84,10 @@ fn tell_blocks<R: Print>(rt: &R, found: &Look, counts: Counts) -> io::Result<()>
         }
         Version::Second => "make it again with update, or with create --force",
     };
-    if !found.has_whole_files() {
+    if !found.has_whole_files {
         let lost = Counted(counts.lost as u64, "lost block");
         println!(rt; "{lost}, and {whole} of {recovery} left: the files can be repaired")
-    } else if !found.has_all() {
+    } else if !found.has_all {
         println!(rt; "the files after --only are whole")
     } else if damaged > 0 {
         println!(rt; "all files are whole, but {damaged} of {recovery} cannot be used: {advice}")
@@ -156,36 +149,29 @@ pub fn tell_lost<R: Eprint>(rt: &R, counts: Counts) -> io::Result<()> {
 }
 
 /// Prints which files and volumes are damaged or missing, and what can be done, if lines are printed. If the files
-/// cannot be restored, this is an error, which is printed without `--json`. `folder` is the folder in which the files
-/// were looked for.
+/// cannot be restored, this is an error, which is printed without `--json`.
 ///
 /// # Errors
 ///
 /// Fails if the result cannot be printed.
-pub fn report<R: Print + Eprint>(
-    rt: &R,
-    found: &Look,
-    folder: &str,
-    log: &Log,
-    status: u8,
-) -> io::Result<()> {
+pub fn report<R: Print + Eprint>(rt: &R, found: &Look, log: &Log, status: u8) -> io::Result<()> {
     let (scan, counts) = (&found.scan, found.scan.counts());
-    if log.is_kept() {
+    if log.is_kept {
         return Ok(());
     }
-    if log.is_told() {
+    if log.is_told {
         // Nobody expects the files of volumes of `split` to be there.
         if !scan.is_spread() {
-            checked(found).tell(rt, folder)?;
+            checked(found).tell(rt, found.folder.as_str())?;
         }
         found.tell_moved(rt)?;
-        if found.has_all() {
+        if found.has_all {
             tell_volumes(rt, scan)?;
         }
     }
     if status == STATUS_LOST {
         tell_lost(rt, counts)
-    } else if !log.is_told() {
+    } else if !log.is_told {
         Ok(())
     } else if scan.is_spread() {
         tell_spread(rt, scan, counts)
@@ -201,44 +187,25 @@ pub fn report<R: Print + Eprint>(
 /// [`AllocError`] if memory cannot be allocated.
 pub fn add_counts(log: &mut Log, scan: &Scan) -> Result<(), AllocError> {
     let counts = scan.counts();
-    log.set_numbers(&[
-        ("lost_blocks", counts.lost as u64),
-        ("recovery_blocks", counts.recovery_count as u64),
-        ("whole_recovery_blocks", counts.recovery as u64),
-    ])
+    log.set("lost_blocks", Value::from(counts.lost))?;
+    log.set("recovery_blocks", Value::from(counts.recovery_count))?;
+    log.set("whole_recovery_blocks", Value::from(counts.recovery))
 }
 
-fn volume_json(
-    alloc: Global,
-    name: &str,
-    word: &str,
-    numbers: &[(&str, u64)],
-) -> Result<Value, AllocError> {
-    let mut object = object_of(alloc, numbers)?;
-    add_text(alloc, &mut object, "name", name)?;
-    add_text(alloc, &mut object, "state", word)?;
-    Ok(Value::Object(object))
-}
-
+// The volumes that can be read.
 fn volumes_json(alloc: Global, scan: &Scan) -> Result<Vec<Value>, AllocError> {
     let mut volumes = Vec::new(alloc);
     for volume in &scan.volumes {
         let damage = volume.damage;
-        let word = if damage.is_none() { "whole" } else { "damaged" };
-        let numbers = [
-            ("damaged_blocks", damage.blocks),
-            ("damaged_parts", damage.parts),
-        ];
-        volumes.push(volume_json(alloc, volume.path.as_str(), word, &numbers)?)?;
+        let object = json!(in alloc; {
+            "name": &volume.path,
+            "state": if damage.is_none() { "whole" } else { "damaged" },
+            "damaged_blocks": damage.blocks,
+            "damaged_parts": damage.parts
+        })?;
+        volumes.push(object)?;
     }
     Ok(volumes)
-}
-
-fn add_unreadable(alloc: Global, scan: &Scan, volumes: &mut Vec<Value>) -> Result<(), AllocError> {
-    for path in &scan.unreadable {
-        volumes.push(volume_json(alloc, path.as_str(), "unreadable", &[])?)?;
-    }
-    Ok(())
 }
 
 /// Runs `verify`: looks for damage in the files of a set and in its volumes. Volumes of `split` hold the files, so none
@@ -271,12 +238,14 @@ pub fn verify<R: Runtime>(rt: &R, alloc: Global, request: &Request) -> Result<u8
     let mut log = Log::new(alloc, request, &["moved"])?;
     found.note_moved(&mut log)?;
     let status = status_of(alloc, &found)?;
-    report(rt, &found, searched.as_deref().unwrap_or(""), &log, status)?;
-    if log.is_kept() {
+    report(rt, &found, &log, status)?;
+    if log.is_kept {
         add_counts(&mut log, &found.scan)?;
         log.set("files", checked(&found).json(alloc)?)?;
         let mut volumes = volumes_json(alloc, &found.scan)?;
-        add_unreadable(alloc, &found.scan, &mut volumes)?;
+        for path in &found.scan.unreadable {
+            volumes.push(json!(in alloc; {"name": path, "state": "unreadable"})?)?;
+        }
         log.set("volumes", Value::Array(volumes))?;
     }
     log.end(rt, status)
