@@ -6,10 +6,9 @@ use rs_examples::levels;
 fn what_was_lost_comes_back(rt: HostRuntime) {
     let alloc = rt.alloc();
     let came_back = [
-        levels::in_one_call(alloc),
         levels::over_slices(alloc),
         levels::with_objects(alloc),
         levels::with_a_rate_and_an_engine(alloc),
     ];
-    assert_eq!(rt; came_back, [Ok(true); 4]);
+    assert_eq!(rt; came_back, [Ok(true); 3]);
 }

@@ -1,16 +1,11 @@
 //! Tests of locators that are known by hand, for every engine. The contract fixes only the residue of an entry, and
-//! these tests show numbers. How many locators a decode computes is in no contract.
+//! these tests show numbers.
 ghost use Rattle.std.specs.Prelude.{◌≡◌, ◌≤◌, length};
 
-use super::shards::{drawn, left};
-use super::updating::{AddCalls, Additions, lent};
 use reed_solomon_simd::engine::tables::{Tables, get_exp_log};
 use reed_solomon_simd::engine::{
     Avx2, DefaultEngine, Engine, EngineKind, GF_ORDER, GfElement, Naive, NoSimd, Ssse3, Steps,
 };
-use reed_solomon_simd::{decode_into, encode_slice};
-use std::alloc::Global;
-use std::cell::Cell;
 use std::process::Abort;
 
 // Returns the locator of the points from `first` up to, but not including, `end`, as the engine computes it.
@@ -78,65 +73,4 @@ fn locators_of_each_engine(rt: HostRuntime) {
     check_engine(&rt, &Ssse3::new(&tables), log);
     check_engine(&rt, &Avx2::new(&tables), log);
     check_engine(&rt, &DefaultEngine::new(&tables, EngineKind::Naive), log);
-}
-
-// Loses originals of a message, and returns how often a decode calls its engine. The shards have three strips. `unused`
-// has the indexes of the recovery shards that are lost as well.
-fn calls_of_decode(
-    rt: &impl Abort,
-    alloc: Global,
-    tables: &Tables,
-    (original_count, recovery_count): (usize, usize),
-    lost: &[usize],
-    unused: &[usize],
-) -> AddCalls {
-    let coding = DefaultEngine::new(tables, EngineKind::NoSimd);
-    let message = drawn(alloc, original_count, 4226).expect(rt, "a message");
-    let recovery = encode_slice(alloc, original_count, recovery_count, &message, coding);
-    let recovery = recovery.expect(rt, "shards");
-    let original = left(alloc, &message, lost).expect(rt, "originals");
-    let received = left(alloc, &recovery, unused).expect(rt, "recovery shards");
-    let room = vec![in alloc; 0; 4226].expect(rt, "a room");
-    let mut restored = vec![in alloc; room; lost.len()].expect(rt, "a list");
-    let mut rooms = lent(alloc, &mut restored).expect(rt, "rooms");
-    let calls = Cell::new(AddCalls::default());
-    let engine = Additions::new(tables, &calls);
-    decode_into(
-        alloc,
-        original_count,
-        recovery_count,
-        &original,
-        &received,
-        &mut rooms,
-        engine,
-    )
-    .expect(rt, "originals");
-    drop(rooms);
-    for (index, shard) in lost.iter().zip(restored.iter()) {
-        assert_eq!(rt; message.get(*index), Some(shard));
-    }
-    calls.get()
-}
-
-// A decode of all originals transforms the rows of each strip, and a decode of one adds rows. From syndromes, each of
-// four pairs of sums adds eight rows in each strip, and the tails of the last strip to one sum after the other.
-#[test]
-fn a_decode_computes_one_locator(rt: HostRuntime) {
-    let alloc = rt.alloc();
-    let tables = Tables::new(alloc).expect(&rt, "tables");
-    let eight = [0, 1, 2, 3, 4, 5, 6, 7];
-    let by_transforms = calls_of_decode(&rt, alloc, &tables, (8, 8), &eight, &[]);
-    assert_eq!(rt; (by_transforms.two, by_transforms.locators), (0, 1));
-    let by_sums = calls_of_decode(&rt, alloc, &tables, (8, 8), &[3], &eight[..7]);
-    assert_eq!(rt; by_sums.locators, 1);
-    assert!(rt; by_sums.two > 0);
-    let by_syndromes = calls_of_decode(&rt, alloc, &tables, (60, 8), &eight, &[]);
-    let wanted = AddCalls {
-        one: 8 * 8,
-        two: 0,
-        to_two: 4 * 8 * 3,
-        in_place: 0,
-        locators: 1,
-    };
-    assert_eq!(rt; by_syndromes, wanted);
 }

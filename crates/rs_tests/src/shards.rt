@@ -1,8 +1,5 @@
-//! Messages, and shards of which some are lost.
+//! Messages, and the shards of a message that a decode is given.
 use std::alloc::{AllocError, Global};
-
-/// Shards with their indexes.
-pub type Items<'a> = Vec<(usize, &'a [u8])>;
 
 /// Returns `count` originals of `shard_bytes` bytes, whose bytes differ from shard to shard.
 ///
@@ -25,21 +22,19 @@ pub fn drawn(alloc: Global, count: usize, shard_bytes: usize) -> Result<Vec<Vec<
     Ok(shards)
 }
 
-/// Returns the shards whose index is not in `lost`.
+/// Returns the shards from index `first` on, with their indexes.
 ///
 /// # Errors
 ///
 /// [`AllocError`] if the list cannot be allocated.
-pub fn left<'a>(
+pub fn from_index(
     alloc: Global,
-    shards: &'a [Vec<u8>],
-    lost: &[usize],
-) -> Result<Items<'a>, AllocError> {
-    let mut items: Items<'a> = Vec::new(alloc);
-    for (index, shard) in shards.iter().enumerate() {
-        if !lost.contains(&index) {
-            items.push((index, shard.as_slice()))?;
-        }
+    shards: &[Vec<u8>],
+    first: usize,
+) -> Result<Vec<(usize, &[u8])>, AllocError> {
+    let mut items = Vec::new(alloc);
+    for (index, shard) in shards.iter().enumerate().skip(first) {
+        items.push((index, shard.as_slice()))?;
     }
     Ok(items)
 }

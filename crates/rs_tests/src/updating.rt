@@ -1,17 +1,18 @@
-//! How `update_into` calls its engine. Its contract states the bytes for each lawful engine. How often it calls its
-//! engine is in no contract.
+//! How `update_into` and `encode_into` call their engine. Their contracts state the bytes for each lawful engine. How
+//! often they call it is in no contract.
 use super::shards::drawn;
 use reed_solomon_simd::engine::tables::Tables;
-use reed_solomon_simd::engine::{Engine, GfElement, Naive, ShardsRefMut, Steps, TwoLogarithms};
-use reed_solomon_simd::{Error, update_into};
+use reed_solomon_simd::engine::{Engine, GfElement, ShardsRefMut, Ssse3, Steps, TwoLogarithms};
+use reed_solomon_simd::{Error, encode_into, update_into};
+use rs_field::engine::kernel::FourRows;
 use std::alloc::Global;
 use std::cell::Cell;
 use std::process::Abort;
 
-/// The plain engine, which counts the calls that add rows or compute a locator.
+/// The engine with vectors of 16 bytes, which counts the calls that add rows or compute a locator.
 #[derive(Drop)]
 pub struct Additions<'t> {
-    naive: Naive<'t>,
+    inner: Ssse3<'t>,
     calls: &'t Cell<AddCalls>,
 }
 
@@ -26,6 +27,8 @@ pub struct AddCalls {
     pub to_two: u32,
     /// The number of calls that add a row to a shard in place.
     pub in_place: u32,
+    /// The number of calls that add the backward transform of rows that are only read.
+    pub read: u32,
     /// The number of calls that compute a locator.
     pub locators: u32,
 }
@@ -33,8 +36,15 @@ pub struct AddCalls {
 impl<'t> Additions<'t> {
     /// Makes the engine over these tables. It counts its calls in `calls`.
     pub fn new(tables: &'t Tables, calls: &'t Cell<AddCalls>) -> Additions<'t> {
-        let naive = Naive::new(tables);
-        Additions { naive, calls }
+        let inner = Ssse3::new(tables);
+        Additions { inner, calls }
+    }
+
+    // Counts a call that reads rows where they are.
+    fn count_read(&self) {
+        let calls = self.calls.get();
+        let read = calls.read.saturating_add(1);
+        self.calls.set(AddCalls { read, ..calls });
     }
 }
 
@@ -48,7 +58,7 @@ impl Engine for Additions<'_> {
         truncated_size: usize,
         skew_delta: usize,
     ) {
-        self.naive
+        self.inner
             .fft(steps, rows, pos, size, truncated_size, skew_delta);
     }
 
@@ -61,26 +71,49 @@ impl Engine for Additions<'_> {
         truncated_size: usize,
         skew_delta: usize,
     ) {
-        self.naive
+        self.inner
             .ifft(steps, rows, pos, size, truncated_size, skew_delta);
     }
 
+    fn add_ifft_of_two(
+        &self,
+        steps: &mut Steps,
+        x: &mut [[u8; 64]],
+        y0: &[[u8; 64]],
+        y1: &[[u8; 64]],
+        skew_delta: usize,
+    ) -> bool {
+        self.count_read();
+        self.inner.add_ifft_of_two(steps, x, y0, y1, skew_delta)
+    }
+
+    fn add_ifft_of_four(
+        &self,
+        steps: &mut Steps,
+        x: &mut [[u8; 64]],
+        y: FourRows<'_>,
+        skew_delta: usize,
+    ) -> bool {
+        self.count_read();
+        self.inner.add_ifft_of_four(steps, x, y, skew_delta)
+    }
+
     fn mul(&self, steps: &mut Steps, x: &mut [[u8; 64]], log_m: GfElement) {
-        self.naive.mul(steps, x, log_m);
+        self.inner.mul(steps, x, log_m);
     }
 
     fn eval_poly(&self, steps: &mut Steps, entries: &mut [GfElement], truncated_size: usize) {
         let calls = self.calls.get();
         let locators = calls.locators.saturating_add(1);
         self.calls.set(AddCalls { locators, ..calls });
-        self.naive.eval_poly(steps, entries, truncated_size);
+        self.inner.eval_poly(steps, entries, truncated_size);
     }
 
     fn mul_add(&self, steps: &mut Steps, x: &mut [[u8; 64]], y: &[[u8; 64]], log_m: GfElement) {
         let calls = self.calls.get();
         let one = calls.one.saturating_add(1);
         self.calls.set(AddCalls { one, ..calls });
-        self.naive.mul_add(steps, x, y, log_m);
+        self.inner.mul_add(steps, x, y, log_m);
     }
 
     fn mul_add_two(
@@ -94,7 +127,7 @@ impl Engine for Additions<'_> {
         let calls = self.calls.get();
         let two = calls.two.saturating_add(1);
         self.calls.set(AddCalls { two, ..calls });
-        Engine::mul_add_two(&self.naive, steps, x, y0, y1, logs);
+        Engine::mul_add_two(&self.inner, steps, x, y0, y1, logs);
     }
 
     fn mul_add_to_two(
@@ -108,18 +141,18 @@ impl Engine for Additions<'_> {
         let calls = self.calls.get();
         let to_two = calls.to_two.saturating_add(1);
         self.calls.set(AddCalls { to_two, ..calls });
-        Engine::mul_add_to_two(&self.naive, steps, x0, x1, y, logs);
+        Engine::mul_add_to_two(&self.inner, steps, x0, x1, y, logs);
     }
 
     fn mul_add_bytes(&self, steps: &mut Steps, x: &mut [u8], y: &[[u8; 64]], log_m: GfElement) {
         let calls = self.calls.get();
         let in_place = calls.in_place.saturating_add(1);
         self.calls.set(AddCalls { in_place, ..calls });
-        Engine::mul_add_bytes(&self.naive, steps, x, y, log_m);
+        Engine::mul_add_bytes(&self.inner, steps, x, y, log_m);
     }
 
     fn logarithms(&self, logs: &mut [GfElement]) -> bool {
-        self.naive.logarithms(logs)
+        self.inner.logarithms(logs)
     }
 }
 
@@ -165,5 +198,54 @@ fn an_update_calls_its_engine_so_often(rt: HostRuntime) {
     ] {
         let calls = calls_of_update(&rt, rt.alloc(), &tables, size);
         assert_eq!(rt; (size, calls.in_place), (size, 3 * strips));
+    }
+}
+
+// Returns the shards as slices. Fails with `OutOfMemory`.
+fn views(alloc: Global, shards: &[Vec<u8>]) -> Result<Vec<&[u8]>, Error> {
+    let mut views: Vec<&[u8]> = Vec::new(alloc);
+    for shard in shards {
+        views.push(shard.as_slice())?;
+    }
+    Ok(views)
+}
+
+// At the high rate, each block of two or four originals is read where it is, if there are as many originals as rows in
+// a block. This is so in each strip without a tail.
+#[test]
+fn an_encode_reads_originals_where_they_are(rt: HostRuntime) {
+    let tables = Tables::new(rt.alloc()).expect(&rt, "tables");
+    for (count, recovery_count, size, read) in [
+        (2, 2, 64, 1),
+        (4, 2, 64, 2),
+        (5, 2, 64, 3),
+        (4, 4, 64, 1),
+        (10, 4, 4096, 3),
+        (10, 4, 8192, 6),
+        (10, 3, 4160, 6),
+        (10, 4, 4098, 3),
+        (10, 4, 62, 0),
+        (3, 4, 64, 0),
+        (4, 3, 64, 0),
+        (20, 8, 64, 0),
+        (2, 10, 64, 0),
+    ] {
+        let calls = Cell::new(AddCalls::default());
+        let engine = Additions::new(&tables, &calls);
+        let originals = drawn(rt.alloc(), count, size).expect(&rt, "originals");
+        let mut recovery = drawn(rt.alloc(), recovery_count, size).expect(&rt, "recovery shards");
+        let mut rooms = lent(rt.alloc(), &mut recovery).expect(&rt, "rooms");
+        let original = views(rt.alloc(), &originals).expect(&rt, "views of originals");
+        encode_into(
+            rt.alloc(),
+            count,
+            recovery_count,
+            &original,
+            &mut rooms,
+            engine,
+        )
+        .expect(&rt, "an encode");
+        let asked = (count, recovery_count, size);
+        assert_eq!(rt; (asked, calls.get().read), (asked, read));
     }
 }
