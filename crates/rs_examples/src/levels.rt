@@ -13,29 +13,6 @@ use std::collections::BTreeMap;
 
 const ORIGINAL: [&[u8]; 3] = [b"Three shards", b" of one size", b" are coded. "];
 
-/// Encodes three originals, loses two of them and restores them, with the one-call functions. Returns whether exactly
-/// the lost originals came back.
-///
-/// # Errors
-///
-/// [`Error::OutOfMemory`] if memory cannot be allocated.
-pub fn in_one_call(alloc: Global) -> Result<bool, Error> {
-    let tables = Tables::new(alloc)?;
-    restores_in_one_call(alloc, DefaultEngine::new(&tables, EngineKind::Ssse3))
-}
-
-// Encodes and restores with an engine, with the one-call functions.
-fn restores_in_one_call(alloc: Global, engine: DefaultEngine<'_>) -> Result<bool, Error> {
-    let recovery = reed_solomon_simd::encode(alloc, 3, 2, ORIGINAL.into_iter(), engine)?;
-
-    // Originals 0 and 2 are lost. Any three shards are enough.
-    let received = recovery.iter().map(|shard| shard.as_slice()).enumerate();
-    let original = [(1, ORIGINAL[1])].into_iter();
-    let restored = reed_solomon_simd::decode(alloc, 3, 2, original, received, engine)?;
-
-    Ok(are_in(&restored))
-}
-
 /// Encodes three originals, loses two of them and restores them, with the one-call functions over slices. Returns
 /// whether exactly the lost originals came back.
 ///
