@@ -2,10 +2,10 @@
 use Rattle.std.proofs.Common.{◌≡◌, ℕ, zero, suc, ◌+◌, ◌-◌, ◌*◌, ◌%◌, ◌<◌, ◌≤◌, List, get_or, bit_xor, refl, sym, ap}
 use Rattle.std.proofs.Common.{subst, arith}
 use Rattle.rs_field.specs.declared.rows.kernel.FourRows.{FourRows}
-use Rattle.rs_field.specs.rows.Added.{row_of_two, row_of_four, word_of_rows, AreAdded}
+use Rattle.rs_field.specs.rows.Added.{row_of_two, row_of_four, AreAdded}
 use Rattle.rs_field.specs.rows.Layers.{ArePartsOf}
 use Rattle.rs_field.specs.rows.Pairs.{IsForwardTwo, IsBackwardTwo, at_two_added}
-use Rattle.rs_field.specs.rows.Rows.{Chunks, chunk, symbol}
+use Rattle.rs_field.specs.rows.Rows.{Chunks, chunk, symbol, word_in}
 use Rattle.rs_field.specs.rows.TwoLayers.{IsForwardFour, IsBackwardFour, at_four_added}
 use Rattle.rs_field.specs.words.Tables.{IsSkew, times_factor}
 use Rattle.rs_field.proofs.rows_lemmas.Layers.{IsBlock, IsLayer, factor, backward_undone, forward_parts, one_layer}
@@ -19,7 +19,7 @@ only P q few holds = subst P (let none : 0 ≡ q = omega (arith, few) in none) h
 module _ (skew : List ℕ) (table : IsSkew skew) (shift n k s : ℕ) (old new : Chunks) where
   -- The word that was added in row q.
   abbrev added : ℕ → ℕ
-  added q = bit_xor (word_of_rows old n k s q) (word_of_rows new n k s q)
+  added q = bit_xor (word_in old n k s q) (word_in new n k s q)
 
   -- The word that was added in a chunk.
   abbrev added_in : ℕ → ℕ

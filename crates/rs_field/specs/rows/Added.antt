@@ -1,7 +1,7 @@
--- Rows to which other rows are added: those whose forward transform is known.
-use Rattle.std.specs.Prelude.{ℕ, zero, suc, ◌+◌, ◌*◌, bit_xor}
+-- What is added to rows: the backward transform of rows that are only read.
+use Rattle.std.specs.Prelude.{ℕ, zero, suc, bit_xor}
 use Rattle.rs_field.specs.declared.rows.kernel.FourRows.{FourRows}
-use Rattle.rs_field.specs.rows.Rows.{Chunks, chunk, symbol}
+use Rattle.rs_field.specs.rows.Rows.{Chunks, chunk, symbol, word_in}
 use Rattle.rs_field.specs.words.Transform.{IsBackward}
 
 -- row i of two rows
@@ -16,13 +16,9 @@ row_of_four rows (suc zero) = rows.row_1.now
 row_of_four rows (suc (suc zero)) = rows.row_2.now
 row_of_four rows (suc (suc (suc i))) = rows.row_3.now
 
--- symbol s of chunk k of row i of rows of n chunks that lie end to end
-abbrev pub word_of_rows : Chunks → ℕ → ℕ → ℕ → ℕ → ℕ
-word_of_rows chunks n k s i = symbol (chunk chunks (i * n + k)) s
-
 -- the forward transform of what was added to symbol s of chunk k of `size` rows of n chunks gives the symbols of the
 -- given rows
 abbrev pub AreAdded : ℕ → ℕ → ℕ → ℕ → ℕ → (ℕ → Chunks) → Chunks → Chunks → Type 0
 AreAdded size shift n k s rows old new =
     IsBackward size shift (λ i. symbol (chunk (rows i) k) s)
-    (λ q. bit_xor (word_of_rows old n k s q) (word_of_rows new n k s q))
+    (λ q. bit_xor (word_in old n k s q) (word_in new n k s q))

@@ -13,6 +13,10 @@ chunk chunks k = slice_index_or chunks k []
 abbrev pub symbol : List ℕ → ℕ → ℕ
 symbol c s = slice_index c s + 256 * slice_index c (s + 32)
 
+-- symbol s of chunk k of row i, in rows of n chunks that lie end to end
+abbrev pub word_in : Chunks → ℕ → ℕ → ℕ → ℕ → ℕ
+word_in chunks n k s i = symbol (chunk chunks (i * n + k)) s
+
 -- symbol s of chunk k of bytes, whose chunks lie end to end
 abbrev pub byte_symbol : List ℕ → ℕ → ℕ → ℕ
 byte_symbol bytes k s = slice_index bytes (k * 64 + s) + 256 * slice_index bytes (k * 64 + (s + 32))

@@ -143,7 +143,7 @@ pub trait Engine: Drop {
     }
 
     /// Adds to two rows, which lie end to end in `x`, the rows of which `y0` and `y1` are the forward transform at
-    /// `skew_delta`, and returns true. Or returns false, and does nothing.
+    /// `skew_delta`, and returns true; or changes nothing and returns false.
     ///
     /// An encoder reads originals with this call where they are. If the call returns false, the encoder copies them and
     /// calls `ifft`. The default body returns false.
@@ -169,7 +169,7 @@ pub trait Engine: Drop {
     }
 
     /// Adds to four rows, which lie end to end in `x`, the rows of which the rows `y` are the forward transform at
-    /// `skew_delta`, and returns true. Or returns false, and does nothing, as the default body does.
+    /// `skew_delta`, and returns true; or changes nothing and returns false, as the default body does.
     fn add_ifft_of_four(
         &self,
         steps: &mut Steps,

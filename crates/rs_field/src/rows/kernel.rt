@@ -123,7 +123,7 @@ pub trait Kernel: Drop {
     }
 
     /// Adds to two rows what an `ifft_butterfly` would make of the rows `y0` and `y1`, which are only read, and returns
-    /// true. Or returns false, and does nothing. All four rows have the same number of chunks.
+    /// true; or changes nothing and returns false. All four rows have the same number of chunks.
     ///
     /// The default body returns false. An engine can have a body of its own, which spares a copy of `y0` and `y1`.
     fn add_ifft_butterfly(
@@ -146,8 +146,8 @@ pub trait Kernel: Drop {
         false
     }
 
-    /// Adds to four rows what `ifft_two_layers` would make of the rows `y`, which are only read, and returns true. Or
-    /// returns false, and does nothing. All eight rows have the same number of chunks.
+    /// Adds to four rows what `ifft_two_layers` would make of the rows `y`, which are only read, and returns true; or
+    /// changes nothing and returns false. All eight rows have the same number of chunks.
     ///
     /// The default body returns false. An engine can have a body of its own, which spares a copy of the rows `y`.
     fn add_ifft_two_layers(

@@ -72,8 +72,8 @@ fn butterflies_of_quarters<K: Kernel>(
     }
 }
 
-/// Adds to two rows, which lie end to end in `x`, what a backward butterfly makes of two rows that are only read. Or
-/// returns false, and does nothing.
+/// Adds to two rows, which lie end to end in `x`, what a backward butterfly makes of two rows that are only read, and
+/// returns true; or changes nothing and returns false.
 #[inline(always)]
 pub(crate) fn add_butterflies<K: Kernel>(
     kernel: &K,
@@ -95,7 +95,7 @@ pub(crate) fn add_butterflies<K: Kernel>(
 }
 
 /// Adds to four rows, which lie end to end in `x`, what two layers of backward butterflies make of four rows that are
-/// only read. Or returns false, and does nothing.
+/// only read, and returns true; or changes nothing and returns false.
 #[inline(always)]
 pub(crate) fn add_two_layers<K: Kernel>(
     kernel: &K,

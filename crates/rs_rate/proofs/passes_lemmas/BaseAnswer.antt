@@ -16,10 +16,11 @@ use Rattle.rs_field.proofs.words_lemmas.DirectSum.{direct_sum-same}
 use Rattle.rs_field.proofs.code_lemmas.BaseShards.{consistent_by_sums, agrees_with_part}
 use Rattle.rs_field.proofs.code_lemmas.DirectColumn.{direct_original}
 use Rattle.rs_field.proofs.code_lemmas.GivenRows.{words_in, given-below, word-given}
+use Rattle.rs_field.specs.rows.Rows.{word_in}
 use Rattle.rs_rate.specs.values.Configured.{with_frame}
 use Rattle.rs_rate.specs.passes.Decoding.{IsBaseOf, IsLocatorOf, AreEqualToSums}
 use Rattle.rs_rate.specs.rows.Marks.{shards_by_row, part, originals_in, recovery_in}
-use Rattle.rs_rate.specs.rows.ShardRows.{word_in, shard_laid_out}
+use Rattle.rs_rate.specs.rows.ShardRows.{shard_laid_out}
 use Rattle.rs_rate.proofs.values_lemmas.ConfiguredLemmas.{places-known}
 use Rattle.rs_rate.proofs.passes_lemmas.DecodedColumns.{FilledRows, IsMissing, shards_in, state_before, words_before}
 use Rattle.rs_rate.proofs.passes_lemmas.DecodedColumns.{are_given, row-given, row_words, rows_located}

@@ -6,12 +6,11 @@ use Rattle.rs_field.specs.code.Code.{AreRecovery, AreRecoveryWords}
 use Rattle.rs_field.specs.code.Configuration.{Configuration}
 use Rattle.rs_field.specs.code.Counts.{Rate}
 use Rattle.rs_field.specs.words.UpTo.{up_to}
-use Rattle.rs_field.specs.rows.Rows.{Chunks}
+use Rattle.rs_field.specs.rows.Rows.{Chunks, word_in}
 use Rattle.rs_field.specs.rows.View.{cell, word}
 use Rattle.rs_field.specs.declared.rows.shards.ShardsRefMut.{ShardsRefMut}
 use Rattle.rs_field.proofs.words_lemmas.UpTo.{length-up_to, up_to-same, all-up_to}
 use Rattle.rs_rate.specs.passes.Coding.{CodesWords}
-use Rattle.rs_rate.specs.rows.ShardRows.{word_in}
 
 -- Words that are equal to coded words at the same indexes are coded.
 pub words-read : (rate : Rate) (k r : ℕ) (old new old_read new_read : ℕ → ℕ) → ((i : ℕ) → i < k → old_read i ≡ old i)

@@ -27,12 +27,13 @@ use Rattle.rs_field.proofs.code_lemmas.Given.{count_below-suc}
 use Rattle.rs_field.proofs.code_lemmas.GivenRows.{erased_in, row_count_of, erasures}
 use Rattle.rs_field.proofs.code_lemmas.MadeShards.{has_recovery}
 use Rattle.rs_field.proofs.code_lemmas.MissingShards.{missing-past}
+use Rattle.rs_field.specs.rows.Rows.{word_in}
 use Rattle.rs_rate.specs.declared.values.configuration.Configuration.{Configuration}
 use Rattle.rs_rate.specs.values.Configured.{configuration_at, with_frame}
 use Rattle.rs_rate.specs.values.SetUp.{IsSetUp}
 use Rattle.rs_rate.specs.passes.Decoding.{IsBaseOf, IsLocatorOf, RestoresWords, SumsWords, located_word}
 use Rattle.rs_rate.specs.rows.Marks.{restored_by_row, originals_in, recovery_in}
-use Rattle.rs_rate.specs.rows.ShardRows.{word_in, shard_laid_out, shard_in_order}
+use Rattle.rs_rate.specs.rows.ShardRows.{shard_laid_out, shard_in_order}
 use Rattle.rs_rate.proofs.rows_lemmas.RowMaps.{marked-at, marked-some, part-in, part-out, part-some, part-marked}
 use Rattle.rs_rate.proofs.passes_lemmas.BaseAnswer.{consistent_by_rows, summed_original}
 use Rattle.rs_rate.proofs.passes_lemmas.DecodedColumns.{FilledRows, DecodedRows, IsDecoded, IsMissing, shards_in}

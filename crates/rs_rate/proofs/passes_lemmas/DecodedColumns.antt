@@ -9,7 +9,7 @@ use Rattle.rs_field.specs.code.DirectLaws.{shard_in_row}
 use Rattle.rs_field.specs.code.Frame.{frame_at, original_row}
 use Rattle.rs_field.specs.code.Given.{Shards}
 use Rattle.rs_field.specs.rows.Layout.{row_len}
-use Rattle.rs_field.specs.rows.Rows.{Chunks}
+use Rattle.rs_field.specs.rows.Rows.{Chunks, word_in}
 use Rattle.rs_field.specs.rows.MarkedRows.{is_marked}
 use Rattle.rs_field.proofs.words_lemmas.LocatorProduct.{same_residue}
 use Rattle.rs_field.proofs.code_lemmas.Agreement.{AreColumns}
@@ -22,7 +22,7 @@ use Rattle.rs_rate.specs.passes.Decoding.{IsLocatorOf, RestoresWords, RestoresSh
 use Rattle.rs_rate.specs.passes.Sums.{AreMarksOf}
 use Rattle.rs_rate.specs.rows.DecoderView.{state_over}
 use Rattle.rs_rate.specs.rows.Marks.{shards_by_row, HoldGiven, AreMissing}
-use Rattle.rs_rate.specs.rows.ShardRows.{word_in, shard_laid_out, shard_in_order}
+use Rattle.rs_rate.specs.rows.ShardRows.{shard_laid_out, shard_in_order}
 use Rattle.rs_rate.proofs.rows_lemmas.ShardRowsLemmas.{column-put}
 use Rattle.rs_rate.proofs.rows_lemmas.RowMaps.{some-marked, part-in, part-some}
 use Rattle.rs_rate.proofs.passes_lemmas.Erased.{is_located}

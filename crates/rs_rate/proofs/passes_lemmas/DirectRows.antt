@@ -12,7 +12,7 @@ use Rattle.rs_field.specs.code.Frame.{original_row}
 use Rattle.rs_field.specs.declared.code.frame.Frame.{Frame}
 use Rattle.rs_field.specs.rows.Layout.{row_len}
 use Rattle.rs_field.specs.rows.MarkedRows.{is_marked}
-use Rattle.rs_field.specs.rows.Rows.{Chunks, chunk, symbol, SameOutside}
+use Rattle.rs_field.specs.rows.Rows.{Chunks, chunk, symbol, SameOutside, word_in}
 use Rattle.rs_field.specs.declared.words.steps.Steps.{Steps}
 use Rattle.rs_field.specs.words.StepBounds.{CountsUpTo}
 use Rattle.rs_field.proofs.rows_lemmas.LayoutLemmas.{in_order-is}
@@ -23,7 +23,7 @@ use Rattle.rs_rate.specs.declared.passes.sums.SumBase.{SumBase}
 use Rattle.rs_rate.specs.passes.BaseSum.{base_sum, AreFirstOf, word_beside}
 use Rattle.rs_rate.specs.passes.Sums.{sum_word}
 use Rattle.rs_rate.specs.rows.Marks.{how_many}
-use Rattle.rs_rate.specs.rows.ShardRows.{row_chunk, shard_in_order, word_in}
+use Rattle.rs_rate.specs.rows.ShardRows.{row_chunk, shard_in_order}
 use Rattle.rs_rate.specs.values.ChunkCounts.{chunk_count}
 use Rattle.rs_rate.proofs.rows_lemmas.HowMany.{how_many-zero, how_many-next, how_many-passed}
 use Rattle.rs_rate.proofs.rows_lemmas.ShardRowsLemmas.{row_end, column-put, part-inside, part-outside}

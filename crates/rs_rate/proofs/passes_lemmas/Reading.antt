@@ -7,12 +7,11 @@ use Rattle.std.specs.Simd.{first_chunks}
 use Rattle.rs_field.specs.code.Column.{Shard, column, shard_at}
 use Rattle.rs_field.specs.declared.rows.kernel.FourRows.{FourRows}
 use Rattle.rs_field.specs.rows.Added.{AreAdded, row_of_two, row_of_four}
-use Rattle.rs_field.specs.rows.Rows.{Chunks, chunk, symbol}
+use Rattle.rs_field.specs.rows.Rows.{Chunks, chunk, symbol, word_in}
 use Rattle.rs_field.specs.words.Transform.{IsBackward}
 use Rattle.rs_field.proofs.rows_lemmas.LayoutLemmas.{symbol_of_chunk}
 use Rattle.rs_rate.specs.passes.Reading.{message_word}
 use Rattle.rs_rate.specs.passes.Sums.{sum_word}
-use Rattle.rs_rate.specs.rows.ShardRows.{word_in}
 
 -- The symbols of the chunks of an original are its words.
 pub read_word : (n k s i : ℕ) (piece : Shard) (shards : List Shard) → piece ≡ shard_at shards i → i < length shards

@@ -2,13 +2,12 @@
 use Rattle.std.proofs.Common.{◌≡◌, ℕ, ◌%◌, ◌<◌, List, Bool, ap, ap₂, ◌∙◌, subst, ◌+◌, ◌*◌}
 use mathlib.Core.Path.{fun_ext}
 use Rattle.rs_field.specs.words.Locator.{IsLocatorBelow}
-use Rattle.rs_field.specs.rows.Rows.{Chunks, chunk, symbol}
+use Rattle.rs_field.specs.rows.Rows.{Chunks, chunk, symbol, word_in}
 use Rattle.rs_field.specs.rows.View.{cell, word}
 use Rattle.rs_field.specs.declared.rows.shards.ShardsRefMut.{ShardsRefMut}
 use Rattle.rs_field.proofs.words_lemmas.LocatorLemmas.{log_sum-same}
 use Rattle.rs_rate.specs.declared.values.configuration.Configuration.{Configuration}
 use Rattle.rs_rate.specs.passes.Decoding.{FindsWords}
-use Rattle.rs_rate.specs.rows.ShardRows.{word_in}
 
 -- Words that are equal to the found words at the same rows are found.
 finds_alike : (c : Configuration) (marks : List Bool) (surplus : ℕ)

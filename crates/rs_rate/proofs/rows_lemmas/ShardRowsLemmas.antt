@@ -6,13 +6,13 @@ use Rattle.std.proofs.Math.Nat.{mul-le-mul_right}
 use Rattle.std.specs.Prelude.{slice_index, flat_map}
 use Rattle.std.proofs.lemmas.List.{places, length-take, length-drop}
 use borrow.Rule.Slice.PartMut.{put_mid}
-use Rattle.rs_field.specs.rows.Rows.{Chunks, chunk}
+use Rattle.rs_field.specs.rows.Rows.{Chunks, chunk, word_in}
 use Rattle.rs_field.specs.rows.Layout.{row_len, laid_out, in_order}
 use Rattle.rs_field.specs.words.UpTo.{up_to}
 use Rattle.rs_field.specs.code.Column.{Shard, IsShard, column}
 pub use Rattle.rs_rate.specs.values.RowCounts.{chunk_count-size}
 use Rattle.rs_rate.specs.values.ChunkCounts.{chunk_count}
-use Rattle.rs_rate.specs.rows.ShardRows.{row_chunk, shard_laid_out, shard_in_order, word_in}
+use Rattle.rs_rate.specs.rows.ShardRows.{row_chunk, shard_laid_out, shard_in_order}
 use Rattle.rs_field.proofs.rows_lemmas.Symbols.{byte_fits}
 use Rattle.rs_field.proofs.rows_lemmas.LayoutLemmas.{laid_out-same, in_order-same, column-laid_out}
 use Rattle.rs_field.proofs.words_lemmas.UpTo.{up_to-same}

@@ -2,11 +2,10 @@
 use Rattle.std.specs.Prelude.{◌≡◌, ◌≢◌, ℕ, ◌+◌, ◌-◌, ◌*◌, ◌<◌, ◌≤◌, Bool, List, length, nat_lt, slice_index}
 use Rattle.std.specs.Prelude.{if◌then◌else◌}
 use Rattle.rs_field.specs.rows.MarkedRows.{is_marked}
-use Rattle.rs_field.specs.rows.Rows.{Chunks}
+use Rattle.rs_field.specs.rows.Rows.{Chunks, word_in}
 use Rattle.rs_field.specs.words.DirectSum.{direct_sum}
 use Rattle.rs_rate.specs.declared.passes.sums.SumBase.{SumBase}
 use Rattle.rs_rate.specs.rows.Marks.{how_many}
-use Rattle.rs_rate.specs.rows.ShardRows.{word_in}
 
 -- the direct sum over the rows of a base at row y, where row x has the word `words x`
 abbrev pub base_sum : SumBase → (ℕ → ℕ) → ℕ → ℕ

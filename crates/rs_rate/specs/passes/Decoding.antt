@@ -8,7 +8,7 @@ use Rattle.rs_field.specs.words.Field.{product, power}
 use Rattle.rs_field.specs.code.Column.{column}
 use Rattle.rs_field.specs.rows.Layout.{row_len}
 use Rattle.rs_field.specs.words.Locator.{IsLocatorBelow}
-use Rattle.rs_field.specs.rows.Rows.{Chunks}
+use Rattle.rs_field.specs.rows.Rows.{Chunks, word_in}
 use Rattle.rs_field.specs.words.Transform.{forward, IsBackward}
 use Rattle.rs_field.specs.rows.MarkedRows.{is_marked}
 use Rattle.rs_field.specs.rows.View.{Fits}
@@ -18,7 +18,7 @@ use Rattle.rs_field.specs.declared.code.frame.Frame.{Frame}
 use Rattle.rs_rate.specs.declared.values.configuration.Configuration.{Configuration}
 use Rattle.rs_rate.specs.rows.Marks.{how_many, erasure}
 use Rattle.rs_rate.specs.values.Configured.{rows_to_decode}
-use Rattle.rs_rate.specs.rows.ShardRows.{word_in, shard_in_order}
+use Rattle.rs_rate.specs.rows.ShardRows.{shard_in_order}
 
 -- there is an entry for each row; the entries are words, and modulo 65535 they are the locator of the rows that are
 -- erased by a frame and marks

@@ -1,7 +1,7 @@
 -- Rows of chunks, and the shards in them.
 use Rattle.std.specs.Prelude.{◌≡◌, ℕ, ◌+◌, ◌*◌, ◌<◌, List, length, slice_index, bit_xor}
 use Rattle.rs_field.specs.code.Column.{Shard}
-use Rattle.rs_field.specs.rows.Rows.{Chunks, chunk, symbol}
+use Rattle.rs_field.specs.rows.Rows.{Chunks, chunk}
 use Rattle.rs_field.specs.rows.Layout.{row_len, laid_out, in_order}
 
 -- chunk k of row i, in rows for shards of this size
@@ -15,10 +15,6 @@ shard_laid_out chunks size i = laid_out size (row_chunk chunks size i)
 -- the shard in row i after its tail was moved
 abbrev pub shard_in_order : Chunks → ℕ → ℕ → Shard
 shard_in_order chunks size i = in_order size (row_chunk chunks size i)
-
--- symbol s of chunk k of row i, in rows of n chunks
-abbrev pub word_in : Chunks → ℕ → ℕ → ℕ → ℕ → ℕ
-word_in chunks n k s i = symbol (chunk chunks (i * n + k)) s
 
 -- a shard is the sum of two shards of its size, byte by byte
 pub record IsByteSum (one other sum : Shard) : Type 0 where

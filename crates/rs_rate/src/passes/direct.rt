@@ -7,14 +7,13 @@ ghost use Rattle.std.specs.Prelude.{bit_xor, IsTrue};
 ghost use Rattle.rs_field.specs.code.Frame.{original_row, row_count};
 ghost use Rattle.rs_field.specs.rows.MarkedRows.{is_marked};
 ghost use Rattle.rs_field.specs.rows.Layout.{row_len};
-ghost use Rattle.rs_field.specs.rows.Rows.{SameOutside};
+ghost use Rattle.rs_field.specs.rows.Rows.{SameOutside, word_in};
 ghost use Rattle.rs_field.specs.words.StepBounds.{CountsUpTo};
 ghost use Rattle.rs_rate.specs.passes.BaseSum.{base_sum, AreFirstOf, word_beside};
 ghost use Rattle.rs_rate.specs.values.Configured.{IsConfigured, rows_to_decode};
 ghost use Rattle.rs_rate.specs.passes.Decoding.{SumsWords, sum_steps, find_steps};
 ghost use Rattle.rs_rate.specs.passes.Sums.{sum_word};
 ghost use Rattle.rs_rate.specs.rows.Marks.{how_many};
-ghost use Rattle.rs_rate.specs.rows.ShardRows.{word_in};
 ghost use Rattle.rs_rate.specs.values.SumCosts.{AreSumsCheaper};
 
 use crate::passes::base_sums::{BasePieces, add_base_sum};

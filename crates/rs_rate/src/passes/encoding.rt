@@ -4,11 +4,11 @@ ghost use Rattle.std.specs.Vec.{vec_capacity};
 ghost use Rattle.rs_field.specs.code.Bounds.{EncodeCountsAt};
 ghost use Rattle.rs_field.specs.code.Code.{AreRecovery};
 ghost use Rattle.rs_field.specs.rows.Layout.{row_len};
+ghost use Rattle.rs_field.specs.rows.Rows.{word_in};
 ghost use Rattle.rs_rate.specs.passes.Coding.{CodesWords, CodingCounts};
 ghost use Rattle.rs_rate.specs.values.Configured.{block_of, configuration_at, IsConfigured, rate_of, rows_to_encode};
 ghost use Rattle.rs_rate.specs.rows.EncoderView.{given_originals, lent_shards};
 ghost use Rattle.rs_rate.specs.values.ChunkCounts.{chunk_count};
-ghost use Rattle.rs_rate.specs.rows.ShardRows.{word_in};
 
 use crate::passes::high_encoding::code_high;
 use crate::passes::low_encoding::code_low;

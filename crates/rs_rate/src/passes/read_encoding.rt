@@ -3,11 +3,10 @@
 ghost use Rattle.std.specs.Prelude.{◌≡◌, ℕ, ◌+◌, ◌*◌, ◌/◌, ◌%◌, ◌<◌, ◌≤◌, ◌⊎◌, true, false, All, length, bit_xor};
 ghost use Rattle.rs_field.specs.code.Counts.{high_rate};
 ghost use Rattle.rs_field.specs.rows.Layout.{row_len};
-ghost use Rattle.rs_field.specs.rows.Rows.{chunk, symbol};
+ghost use Rattle.rs_field.specs.rows.Rows.{chunk, symbol, word_in};
 ghost use Rattle.rs_field.specs.words.Transform.{IsBackward};
 ghost use Rattle.rs_rate.specs.passes.Coding.{CodesWords, SumsBlocks, zero_padded};
 ghost use Rattle.rs_rate.specs.passes.Reading.{IsBlank, message_word};
-ghost use Rattle.rs_rate.specs.rows.ShardRows.{word_in};
 ghost use Rattle.rs_rate.specs.values.ChunkCounts.{chunk_count};
 ghost use Rattle.rs_rate.specs.values.Configured.{IsConfigured, block_of, rows_to_encode};
 

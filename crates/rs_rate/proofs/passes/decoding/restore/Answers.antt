@@ -4,9 +4,9 @@ use Rattle.rs_field.specs.code.Column.{column}
 use Rattle.rs_field.specs.rows.Layout.{row_len}
 use Rattle.rs_field.proofs.code_lemmas.DecodeSteps.{counts_decode}
 use Rattle.rs_field.proofs.words_lemmas.Counting.{counts_none}
+use Rattle.rs_field.specs.rows.Rows.{word_in}
 use Rattle.rs_rate.specs.values.Configured.{rows_to_decode}
 use Rattle.rs_rate.specs.passes.Decoding.{find_steps}
-use Rattle.rs_rate.specs.rows.ShardRows.{word_in}
 use Rattle.rs_rate.proofs.rows_lemmas.ShardRowsLemmas.{column-put}
 use Rattle.rs_rate.proofs.passes.decoding.restore.Goals as goal
 

@@ -7,10 +7,10 @@ use Rattle.rs_field.specs.rows.Layout.{row_len}
 use Rattle.rs_field.specs.words.StepBounds.{CountsUpTo}
 use Rattle.rs_field.proofs.words_lemmas.Counting.{counts_then, counts_within}
 use Rattle.rs_field.proofs.words_lemmas.DirectSum.{direct_sum-same}
+use Rattle.rs_field.specs.rows.Rows.{word_in}
 use Rattle.rs_rate.specs.values.Configured.{rows_to_decode}
 use Rattle.rs_rate.specs.passes.Decoding.{AreEqualToSums}
 use Rattle.rs_rate.specs.rows.Marks.{how_many}
-use Rattle.rs_rate.specs.rows.ShardRows.{word_in}
 use Rattle.rs_rate.proofs.passes.direct.sum_rows.Given.{Over}
 use Rattle.rs_rate.proofs.passes.direct.sum_rows.Goals.{After-are_equal_to_sums-agrees}
 use Rattle.rs_rate.proofs.passes.direct.sum_rows.Goals as goal

@@ -1,9 +1,9 @@
 use Rattle.std.proofs.Common.{◌≡◌, ℕ, rules, Bool, sym, ◌∙◌, subst, arith}
 use Rattle.rs_field.specs.code.Counts.{low_rate, high_rate}
 use Rattle.rs_field.specs.rows.Layout.{row_len}
+use Rattle.rs_field.specs.rows.Rows.{word_in}
 use Rattle.rs_rate.specs.passes.Coding.{CodesWords}
 use Rattle.rs_rate.specs.values.Configured.{low_or_high}
-use Rattle.rs_rate.specs.rows.ShardRows.{word_in}
 use Rattle.rs_rate.proofs.passes_lemmas.Coded.{rows-read}
 use Rattle.rs_rate.proofs.values_lemmas.ConfiguredLemmas.{configuration-by}
 use Rattle.rs_rate.proofs.passes.encoding.code_chunks.Goals as goal

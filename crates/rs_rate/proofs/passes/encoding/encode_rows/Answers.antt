@@ -2,13 +2,13 @@ use Rattle.std.proofs.Common.{rules, ℕ, ◌/◌, ◌%◌, ap, sym, subst, ◌�
 use Rattle.std.proofs.lemmas.List.{with_items_is}
 use Rattle.rs_field.specs.code.Code.{AreRecovery}
 use Rattle.rs_field.specs.code.Column.{IsShard, column}
-use Rattle.rs_field.specs.rows.Rows.{Chunks}
+use Rattle.rs_field.specs.rows.Rows.{Chunks, word_in}
 use Rattle.rs_field.specs.rows.Layout.{row_len}
 use Rattle.rs_field.specs.words.UpTo.{up_to}
 use Rattle.rs_field.proofs.words_lemmas.Counting.{counts_rows}
 use Rattle.rs_rate.specs.values.Configured.{configuration_at, rate_of, rows_to_encode}
 use Rattle.rs_rate.specs.rows.EncoderView.{given_originals}
-use Rattle.rs_rate.specs.rows.ShardRows.{word_in, shard_laid_out, shard_in_order}
+use Rattle.rs_rate.specs.rows.ShardRows.{shard_laid_out, shard_in_order}
 use Rattle.rs_rate.proofs.rows_lemmas.ShardRowsLemmas.{chunk_count-more, column-put}
 use Rattle.rs_rate.proofs.passes_lemmas.Coded.{are_recovery, words-read}
 use Rattle.rs_rate.proofs.passes_lemmas.EncodeCounting.{counts_both, tails_within}

@@ -2,14 +2,14 @@ use Rattle.std.proofs.Common.{◌≡◌, ℕ, ◌+◌, ◌*◌, ◌/◌, ◌%◌
 use Rattle.std.proofs.lemmas.List.{with_items_is}
 use Rattle.rs_field.specs.code.Code.{AreRecovery}
 use Rattle.rs_field.specs.code.Column.{IsShard, column, shard_at}
-use Rattle.rs_field.specs.rows.Rows.{Chunks}
+use Rattle.rs_field.specs.rows.Rows.{Chunks, word_in}
 use Rattle.rs_field.specs.rows.Layout.{row_len}
 use Rattle.rs_field.specs.words.UpTo.{up_to}
 use Rattle.rs_field.proofs.words_lemmas.UpTo.{up_to-is}
 use Rattle.rs_rate.specs.passes.Coding.{CodesWords}
 use Rattle.rs_rate.specs.passes.Reading.{message_word}
 use Rattle.rs_rate.specs.values.Configured.{configuration_at, low_or_high, rate_of, rows_to_encode}
-use Rattle.rs_rate.specs.rows.ShardRows.{word_in, shard_in_order}
+use Rattle.rs_rate.specs.rows.ShardRows.{shard_in_order}
 use Rattle.rs_rate.proofs.rows_lemmas.ShardRowsLemmas.{chunk_count-more, column-put}
 use Rattle.rs_rate.proofs.passes_lemmas.Coded.{are_recovery, words-read}
 use Rattle.rs_rate.proofs.passes.encoding.read_rows.Goals as goal

@@ -5,13 +5,12 @@ use Rattle.rs_field.specs.code.Counts.{next_power}
 use Rattle.rs_field.specs.code.Frame.{encoder_rows}
 use Rattle.rs_field.specs.declared.rows.shards.ShardsRefMut.{ShardsRefMut}
 use Rattle.rs_field.specs.rows.Layout.{row_len}
-use Rattle.rs_field.specs.rows.Rows.{Chunks}
+use Rattle.rs_field.specs.rows.Rows.{Chunks, word_in}
 use Rattle.rs_field.specs.rows.View.{cell, word}
 use Rattle.rs_field.specs.words.Transform.{forward}
 use Rattle.rs_field.proofs.words_lemmas.Combination.{forward-same}
 use Rattle.rs_rate.specs.passes.Coding.{SumsBlocks}
 use Rattle.rs_rate.specs.passes.Reading.{message_word}
-use Rattle.rs_rate.specs.rows.ShardRows.{word_in}
 use Rattle.rs_rate.specs.values.ChunkCounts.{chunk_count}
 use Rattle.rs_rate.specs.values.Configured.{low_or_high, rows_to_encode}
 use Rattle.rs_rate.proofs.passes_lemmas.HighCoding.{high_coded}

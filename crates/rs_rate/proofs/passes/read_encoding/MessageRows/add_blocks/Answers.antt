@@ -1,8 +1,8 @@
 use Rattle.std.proofs.Common.{◌≡◌, ◌+◌, ◌*◌, ◌/◌, ◌%◌, refl, ◌∙◌, arith}
 use Rattle.std.proofs.Math.Nat.{zero-mod, add-mod_right}
 use Rattle.std.proofs.lemmas.Nat.{div-add-mod'}
+use Rattle.rs_field.specs.rows.Rows.{word_in}
 use Rattle.rs_rate.specs.passes.Reading.{message_word}
-use Rattle.rs_rate.specs.rows.ShardRows.{word_in}
 use Rattle.rs_rate.proofs.passes_lemmas.HighCoding.{sums-none, sums-added}
 use Rattle.rs_rate.proofs.passes.read_encoding.MessageRows.add_blocks.Goals as goal
 

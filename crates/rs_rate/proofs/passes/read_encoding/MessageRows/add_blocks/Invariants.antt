@@ -1,7 +1,7 @@
 use Rattle.std.proofs.Common.{◌≡◌, ℕ, ◌+◌, ◌-◌, ◌/◌, ◌%◌, ◌<◌, ◌≤◌, length}
+use Rattle.rs_field.specs.rows.Rows.{word_in}
 use Rattle.rs_rate.specs.passes.Coding.{SumsBlocks}
 use Rattle.rs_rate.specs.passes.Reading.{message_word}
-use Rattle.rs_rate.specs.rows.ShardRows.{word_in}
 use Rattle.rs_rate.proofs.passes.read_encoding.MessageRows.add_blocks.Given as goal
 
 abbrev pub invariant-loop-start : goal.invariant-loop-start
