@@ -1,9 +1,10 @@
 //! The engine that is chosen by name when the program runs.
 use crate::engine_nosimd::NoSimd;
 use crate::engine_shuffle::{Avx2, Ssse3};
-use rs_field::engine::kernel::FourRows;
 use rs_field::engine::tables::Tables;
-use rs_field::engine::{Engine, GfElement, Naive, ShardsRefMut, Steps, TwoLogarithms};
+use rs_field::engine::{
+    Engine, GfElement, Naive, ReadRows, ShardsRefMut, Steps, TwoLogarithms, Writing,
+};
 use std::fmt;
 use std::str::FromStr;
 
@@ -283,34 +284,28 @@ impl Engine for DefaultEngine<'_> {
         }
     }
 
-    fn add_ifft_of_two(
-        &self,
-        steps: &mut Steps,
-        x: &mut [[u8; 64]],
-        y0: &[[u8; 64]],
-        y1: &[[u8; 64]],
-        skew_delta: usize,
-    ) -> bool {
+    fn reads_rows(&self) -> bool {
         match self {
-            Self::Naive(engine) => engine.add_ifft_of_two(steps, x, y0, y1, skew_delta),
-            Self::NoSimd(engine) => engine.add_ifft_of_two(steps, x, y0, y1, skew_delta),
-            Self::Avx2(engine) => engine.add_ifft_of_two(steps, x, y0, y1, skew_delta),
-            Self::Ssse3(engine) => engine.add_ifft_of_two(steps, x, y0, y1, skew_delta),
+            Self::Naive(engine) => Engine::reads_rows(engine),
+            Self::NoSimd(engine) => Engine::reads_rows(engine),
+            Self::Avx2(engine) => Engine::reads_rows(engine),
+            Self::Ssse3(engine) => Engine::reads_rows(engine),
         }
     }
 
-    fn add_ifft_of_four(
+    fn ifft_of<R: ReadRows>(
         &self,
         steps: &mut Steps,
         x: &mut [[u8; 64]],
-        y: FourRows<'_>,
+        rows: &R,
         skew_delta: usize,
+        writing: Writing,
     ) -> bool {
         match self {
-            Self::Naive(engine) => engine.add_ifft_of_four(steps, x, y, skew_delta),
-            Self::NoSimd(engine) => engine.add_ifft_of_four(steps, x, y, skew_delta),
-            Self::Avx2(engine) => engine.add_ifft_of_four(steps, x, y, skew_delta),
-            Self::Ssse3(engine) => engine.add_ifft_of_four(steps, x, y, skew_delta),
+            Self::Naive(engine) => engine.ifft_of(steps, x, rows, skew_delta, writing),
+            Self::NoSimd(engine) => engine.ifft_of(steps, x, rows, skew_delta, writing),
+            Self::Avx2(engine) => engine.ifft_of(steps, x, rows, skew_delta, writing),
+            Self::Ssse3(engine) => engine.ifft_of(steps, x, rows, skew_delta, writing),
         }
     }
 

@@ -11,13 +11,14 @@ use crate::byte_vector::ByteVector;
 use crate::factors::ThreeFactors;
 use crate::shuffle_rows::{
     add_row, add_row_to_bytes, add_row_to_two, add_two_rows, mul_chunks, one_layer,
-    one_layer_added, two_layers, two_layers_added,
+    one_layer_written, two_layers, two_layers_written,
 };
 use crate::shuffle_tables::ShuffleTables;
+use crate::word_lanes::{Adding, Replacing};
 use rs_field::engine::kernel::{FourRows, Kernel, ThreeLogarithms};
 use rs_field::engine::lent_tables::LentTables;
 use rs_field::engine::tables::{Multiply128lutT, Tables};
-use rs_field::engine::{GfElement, TwoLogarithms};
+use rs_field::engine::{GfElement, TwoLogarithms, Writing};
 use std::marker::PhantomData;
 use std::simd::prelude::*;
 
@@ -158,33 +159,42 @@ impl<V: ByteVector, T: ShuffleTables> Kernel for ByShuffles<V, T> {
         two_layers::<V, Backward>(x0, x1, x2, x3, factors);
     }
 
-    fn add_ifft_butterfly(
-        &self,
-        x0: &mut [[u8; 64]],
-        x1: &mut [[u8; 64]],
-        y0: &[[u8; 64]],
-        y1: &[[u8; 64]],
-        log_m: GfElement,
-    ) -> bool {
-        let products = self.tables.products(log_m);
-        one_layer_added::<V, Backward>(x0, x1, y0, y1, factor_of(products.lend(), log_m));
+    fn reads_rows(&self) -> bool {
         true
     }
 
-    fn add_ifft_two_layers(
+    fn ifft_of_two(
         &self,
-        x0: &mut [[u8; 64]],
-        x1: &mut [[u8; 64]],
-        x2: &mut [[u8; 64]],
-        x3: &mut [[u8; 64]],
+        x: &mut [[u8; 64]],
+        y0: &[[u8; 64]],
+        y1: &[[u8; 64]],
+        log_m: GfElement,
+        writing: Writing,
+    ) -> bool {
+        let products = self.tables.products(log_m);
+        let factor = factor_of(products.lend(), log_m);
+        match writing {
+            Writing::Replacing => one_layer_written::<V, Backward, Replacing>(x, y0, y1, factor),
+            Writing::Adding => one_layer_written::<V, Backward, Adding>(x, y0, y1, factor),
+        }
+        true
+    }
+
+    fn ifft_of_four(
+        &self,
+        x: &mut [[u8; 64]],
         y: FourRows<'_>,
         logs: ThreeLogarithms,
+        writing: Writing,
     ) -> bool {
         let p02 = self.tables.products(logs.log_m02);
         let p01 = self.tables.products(logs.log_m01);
         let p23 = self.tables.products(logs.log_m23);
         let factors = three_factors(p02.lend(), p01.lend(), p23.lend(), logs);
-        two_layers_added::<V, Backward>(x0, x1, x2, x3, y, factors);
+        match writing {
+            Writing::Replacing => two_layers_written::<V, Backward, Replacing>(x, y, factors),
+            Writing::Adding => two_layers_written::<V, Backward, Adding>(x, y, factors),
+        }
         true
     }
 

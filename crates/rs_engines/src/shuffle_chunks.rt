@@ -7,11 +7,12 @@ ghost use Rattle.rs_field.specs.rows.Rows.{symbol};
 ghost use Rattle.rs_field.specs.words.Products.{IsNibbleBytes};
 ghost use Rattle.rs_field.specs.rows.Pairs.{at_two_added, at_two_symbols};
 ghost use Rattle.rs_field.specs.rows.TwoLayers.{at_four_added, at_four_symbols};
+ghost use Rattle.rs_field.specs.rows.Written.{held};
 
 use crate::butterflies::Butterflies;
 use crate::byte_vector::ByteVector;
 use crate::factors::{Factor, ThreeFactors};
-use crate::word_lanes::{add_words, put_words, times, words_at};
+use crate::word_lanes::{WriteWords, put_words, times, words_at};
 use rs_field::engine::tables::Multiply128lutT;
 
 // Multiplies as many symbols of a chunk as a vector has lanes, from symbol `at` on.
@@ -251,10 +252,10 @@ pub fn four_chunks<V: ByteVector, D: Butterflies, F02: Factor, F01: Factor, F23:
     }
 }
 
-// Adds to as many symbols of two chunks as a vector has lanes, from symbol `at` on, what a butterfly makes of two other
+// Writes to as many symbols of two chunks as a vector has lanes, from symbol `at` on, what a butterfly makes of two other
 // chunks.
 #[inline(always)]
-fn lanes_of_two_added<V: ByteVector, D: Butterflies, F: Factor>(
+fn lanes_of_two_written<V: ByteVector, D: Butterflies, W: WriteWords, F: Factor>(
     c0: &mut [u8; 64],
     c1: &mut [u8; 64],
     y0: &[u8; 64],
@@ -263,8 +264,8 @@ fn lanes_of_two_added<V: ByteVector, D: Butterflies, F: Factor>(
     factor: F,
 )
     requires { at + V.LANES ≤ 32 }
-    ensures added { (i s : ℕ) → i < V.LANES → s ≡ at + i
-        → at_two_added s (D.two (F.log factor)) y0.now y1.now c0.old c1.old c0.new c1.new }
+    ensures written { (i s : ℕ) → i < V.LANES → s ≡ at + i
+        → at_two_added s (D.two (F.log factor)) (held W.writing) y0.now y1.now c0.old c1.old c0.new c1.new }
     ensures kept_0 { (s : ℕ) → s < 32 → (s < at) ⊎ (at + V.LANES ≤ s)
         → symbol c0.new s ≡ symbol c0.old s }
     ensures kept_1 { (s : ℕ) → s < 32 → (s < at) ⊎ (at + V.LANES ≤ s)
@@ -273,13 +274,13 @@ fn lanes_of_two_added<V: ByteVector, D: Butterflies, F: Factor>(
     let x0 = words_at::<V>(y0, at);
     let x1 = words_at::<V>(y1, at);
     let (z0, z1) = D::of_two(x0, x1, factor);
-    add_words(z0, c0, at);
-    add_words(z1, c1, at);
+    W::write_words(z0, c0, at);
+    W::write_words(z1, c1, at);
 }
 
-/// Adds to two chunks what a butterfly makes of two other chunks.
+/// Writes to two chunks what a butterfly makes of two other chunks.
 #[inline(always)]
-pub fn two_chunks_added<V: ByteVector, D: Butterflies, F: Factor>(
+pub fn two_chunks_written<V: ByteVector, D: Butterflies, W: WriteWords, F: Factor>(
     c0: &mut [u8; 64],
     c1: &mut [u8; 64],
     y0: &[u8; 64],
@@ -287,11 +288,11 @@ pub fn two_chunks_added<V: ByteVector, D: Butterflies, F: Factor>(
     factor: F,
 )
     ensures { (s : ℕ) → s < 32
-        → at_two_added s (D.two (F.log factor)) y0.now y1.now c0.old c1.old c0.new c1.new }
+        → at_two_added s (D.two (F.log factor)) (held W.writing) y0.now y1.now c0.old c1.old c0.new c1.new }
 {
-    lanes_of_two_added::<V, D, F>(c0, c1, y0, y1, 0, factor);
+    lanes_of_two_written::<V, D, W, F>(c0, c1, y0, y1, 0, factor);
     if V::LANES < 32 {
-        lanes_of_two_added::<V, D, F>(c0, c1, y0, y1, 16, factor);
+        lanes_of_two_written::<V, D, W, F>(c0, c1, y0, y1, 16, factor);
     }
 }
 
@@ -308,10 +309,10 @@ pub struct FourChunks<'a> {
     pub chunk_3: &'a [u8; 64],
 }
 
-// Adds to as many symbols of four chunks as a vector has lanes, from symbol `at` on, what two layers of butterflies
+// Writes to as many symbols of four chunks as a vector has lanes, from symbol `at` on, what two layers of butterflies
 // make of four other chunks.
 #[inline(always)]
-fn lanes_of_four_added<V: ByteVector, D: Butterflies, F02: Factor, F01: Factor, F23: Factor>(
+fn lanes_of_four_written<V: ByteVector, D: Butterflies, W: WriteWords, F02: Factor, F01: Factor, F23: Factor>(
     c0: &mut [u8; 64],
     c1: &mut [u8; 64],
     c2: &mut [u8; 64],
@@ -321,9 +322,9 @@ fn lanes_of_four_added<V: ByteVector, D: Butterflies, F02: Factor, F01: Factor, 
     factors: ThreeFactors<F02, F01, F23>,
 )
     requires { at + V.LANES ≤ 32 }
-    ensures added { (i s : ℕ) → i < V.LANES → s ≡ at + i
+    ensures written { (i s : ℕ) → i < V.LANES → s ≡ at + i
         → at_four_added s
-        (D.four (F02.log factors.f02) (F01.log factors.f01) (F23.log factors.f23))
+        (D.four (F02.log factors.f02) (F01.log factors.f01) (F23.log factors.f23)) (held W.writing)
         y.entry.chunk_0.now y.entry.chunk_1.now y.entry.chunk_2.now y.entry.chunk_3.now
         c0.old c1.old c2.old c3.old c0.new c1.new c2.new c3.new }
     ensures kept_0 { (s : ℕ) → s < 32 → (s < at) ⊎ (at + V.LANES ≤ s)
@@ -340,15 +341,15 @@ fn lanes_of_four_added<V: ByteVector, D: Butterflies, F02: Factor, F01: Factor, 
     let x2 = words_at::<V>(y.chunk_2, at);
     let x3 = words_at::<V>(y.chunk_3, at);
     let (z0, z1, z2, z3) = D::of_four(x0, x1, x2, x3, factors);
-    add_words(z0, c0, at);
-    add_words(z1, c1, at);
-    add_words(z2, c2, at);
-    add_words(z3, c3, at);
+    W::write_words(z0, c0, at);
+    W::write_words(z1, c1, at);
+    W::write_words(z2, c2, at);
+    W::write_words(z3, c3, at);
 }
 
-/// Adds to four chunks what two layers of butterflies make of four other chunks.
+/// Writes to four chunks what two layers of butterflies make of four other chunks.
 #[inline(always)]
-pub fn four_chunks_added<V: ByteVector, D: Butterflies, F02: Factor, F01: Factor, F23: Factor>(
+pub fn four_chunks_written<V: ByteVector, D: Butterflies, W: WriteWords, F02: Factor, F01: Factor, F23: Factor>(
     c0: &mut [u8; 64],
     c1: &mut [u8; 64],
     c2: &mut [u8; 64],
@@ -358,12 +359,12 @@ pub fn four_chunks_added<V: ByteVector, D: Butterflies, F02: Factor, F01: Factor
 )
     ensures { (s : ℕ) → s < 32
         → at_four_added s
-        (D.four (F02.log factors.f02) (F01.log factors.f01) (F23.log factors.f23))
+        (D.four (F02.log factors.f02) (F01.log factors.f01) (F23.log factors.f23)) (held W.writing)
         y.entry.chunk_0.now y.entry.chunk_1.now y.entry.chunk_2.now y.entry.chunk_3.now
         c0.old c1.old c2.old c3.old c0.new c1.new c2.new c3.new }
 {
-    lanes_of_four_added::<V, D, F02, F01, F23>(c0, c1, c2, c3, y, 0, factors);
+    lanes_of_four_written::<V, D, W, F02, F01, F23>(c0, c1, c2, c3, y, 0, factors);
     if V::LANES < 32 {
-        lanes_of_four_added::<V, D, F02, F01, F23>(c0, c1, c2, c3, y, 16, factors);
+        lanes_of_four_written::<V, D, W, F02, F01, F23>(c0, c1, c2, c3, y, 16, factors);
     }
 }

@@ -1,11 +1,12 @@
 //! Products, butterflies and two layers of butterflies of rows by shuffles, chunk by chunk.
-ghost use Rattle.std.specs.Prelude.{◌≡◌, ℕ, ◌*◌, ◌<◌, length, bit_xor, IfSome};
+ghost use Rattle.std.specs.Prelude.{◌≡◌, ℕ, ◌+◌, ◌*◌, ◌<◌, length, bit_xor, IfSome};
 ghost use Rattle.rs_field.specs.words.Tables.{times_factor};
 ghost use Rattle.rs_field.specs.words.Field.{product};
 ghost use Rattle.rs_field.specs.rows.Rows.{byte_symbol, chunk, symbol};
 ghost use Rattle.rs_field.specs.words.Products.{IsNibbleBytes};
 ghost use Rattle.rs_field.specs.rows.Pairs.{at_two_added, at_two_symbols};
 ghost use Rattle.rs_field.specs.rows.TwoLayers.{at_four_added, at_four_symbols};
+ghost use Rattle.rs_field.specs.rows.Written.{held};
 ghost use Rattle.rs_engines.specs.Factors.{log_of};
 
 use crate::any_factor::{AnyFactor, bytewise};
@@ -13,9 +14,10 @@ use crate::butterflies::Butterflies;
 use crate::byte_vector::ByteVector;
 use crate::factors::{Bytewise, Factor, General, Small, ThreeFactors};
 use crate::shuffle_chunks::{
-    FourChunks, add_chunk, add_chunk_to_two, add_two_chunks, four_chunks, four_chunks_added,
-    mul_chunk, two_chunks, two_chunks_added,
+    FourChunks, add_chunk, add_chunk_to_two, add_two_chunks, four_chunks, four_chunks_written,
+    mul_chunk, two_chunks, two_chunks_written,
 };
+use crate::word_lanes::WriteWords;
 use rs_field::engine::kernel::FourRows;
 use rs_field::engine::tables::Multiply128lutT;
 
@@ -161,9 +163,9 @@ fn four_rows<V: ByteVector, D: Butterflies, F02: Factor, F01: Factor, F23: Facto
     }
 }
 
-// Adds to two rows what a butterfly, with a factor of class F, makes of two other rows.
+// Writes to two rows what a butterfly, with a factor of class F, makes of two other rows.
 #[inline(always)]
-fn two_rows_added<V: ByteVector, D: Butterflies, F: Factor>(
+fn two_rows_written<V: ByteVector, D: Butterflies, W: WriteWords, F: Factor>(
     x0: &mut [[u8; 64]],
     x1: &mut [[u8; 64]],
     y0: &[[u8; 64]],
@@ -174,17 +176,17 @@ fn two_rows_added<V: ByteVector, D: Butterflies, F: Factor>(
     requires two { length x0.old ≡ length y0.now }
     requires three { length x0.old ≡ length y1.now }
     ensures { (k s : ℕ) → k < length x0.old → s < 32
-        → at_two_added s (D.two (F.log factor)) (chunk y0.now k) (chunk y1.now k)
-        (chunk x0.old k) (chunk x1.old k) (chunk x0.new k) (chunk x1.new k) }
+        → at_two_added s (D.two (F.log factor)) (held W.writing)
+        (chunk y0.now k) (chunk y1.now k) (chunk x0.old k) (chunk x1.old k) (chunk x0.new k) (chunk x1.new k) }
 {
     for k in 0..x0.len() {
-        two_chunks_added::<V, D, F>(&mut x0[k], &mut x1[k], &y0[k], &y1[k], factor);
+        two_chunks_written::<V, D, W, F>(&mut x0[k], &mut x1[k], &y0[k], &y1[k], factor);
     }
 }
 
-// Adds to four rows what two layers of butterflies, with factors of the classes F02, F01 and F23, make of four other
+// Writes to four rows what two layers of butterflies, with factors of the classes F02, F01 and F23, make of four other
 // rows.
-fn four_rows_added<V: ByteVector, D: Butterflies, F02: Factor, F01: Factor, F23: Factor>(
+fn four_rows_written<V: ByteVector, D: Butterflies, W: WriteWords, F02: Factor, F01: Factor, F23: Factor>(
     x0: &mut [[u8; 64]],
     x1: &mut [[u8; 64]],
     x2: &mut [[u8; 64]],
@@ -201,7 +203,7 @@ fn four_rows_added<V: ByteVector, D: Butterflies, F02: Factor, F01: Factor, F23:
     requires fourth { length x0.old ≡ length y.row_3.now }
     ensures { (k s : ℕ) → k < length x0.old → s < 32
         → at_four_added s
-        (D.four (F02.log factors.f02) (F01.log factors.f01) (F23.log factors.f23))
+        (D.four (F02.log factors.f02) (F01.log factors.f01) (F23.log factors.f23)) (held W.writing)
         (chunk y.entry.row_0.now k) (chunk y.entry.row_1.now k) (chunk y.entry.row_2.now k)
         (chunk y.entry.row_3.now k)
         (chunk x0.old k) (chunk x1.old k) (chunk x2.old k) (chunk x3.old k)
@@ -214,7 +216,7 @@ fn four_rows_added<V: ByteVector, D: Butterflies, F02: Factor, F01: Factor, F23:
             chunk_2: &y.row_2[k],
             chunk_3: &y.row_3[k],
         };
-        four_chunks_added::<V, D, F02, F01, F23>(
+        four_chunks_written::<V, D, W, F02, F01, F23>(
             &mut x0[k], &mut x1[k], &mut x2[k], &mut x3[k], y, factors,
         );
     }
@@ -483,66 +485,68 @@ pub fn two_layers<V: ByteVector, D: Butterflies>(
     }
 }
 
-/// Adds to two rows what a butterfly makes of two other rows. There is a loop over chunks for each class of factors.
+/// Writes what a butterfly makes of two rows to the two rows that lie end to end in `x`. There is a loop over chunks for
+/// each class of factors.
 #[inline(always)]
-pub fn one_layer_added<V: ByteVector, D: Butterflies>(
-    x0: &mut [[u8; 64]],
-    x1: &mut [[u8; 64]],
+pub fn one_layer_written<V: ByteVector, D: Butterflies, W: WriteWords>(
+    x: &mut [[u8; 64]],
     y0: &[[u8; 64]],
     y1: &[[u8; 64]],
     factor: AnyFactor<'_>,
 )
-    requires one { length x0.old ≡ length x1.old }
-    requires two { length x0.old ≡ length y0.now }
-    requires three { length x0.old ≡ length y1.now }
-    ensures { (k s : ℕ) → k < length x0.old → s < 32
-        → at_two_added s (D.two (log_of factor.entry)) (chunk y0.now k) (chunk y1.now k)
-        (chunk x0.old k) (chunk x1.old k) (chunk x0.new k) (chunk x1.new k) }
+    requires room { length x.old ≡ 2 * length y0.now }
+    requires same { length y1.now ≡ length y0.now }
+    ensures length { length x.new ≡ length x.old }
+    ensures written { let n = length y0.now in (k s : ℕ) → k < n → s < 32
+        → at_two_added s (D.two (log_of factor.entry)) (held W.writing)
+        (chunk y0.now k) (chunk y1.now k)
+        (chunk x.old k) (chunk x.old (n + k)) (chunk x.new k) (chunk x.new (n + k)) }
 {
+    let (x0, x1) = x.split_at_mut(y0.len());
     match factor {
-        AnyFactor::Zero(factor) => two_rows_added::<V, D, _>(x0, x1, y0, y1, factor),
+        AnyFactor::Zero(factor) => two_rows_written::<V, D, W, _>(x0, x1, y0, y1, factor),
         AnyFactor::Small(Small { log_m, products }) => {
             let products = &copied(products);
-            two_rows_added::<V, D, _>(x0, x1, y0, y1, Small { log_m, products })
+            two_rows_written::<V, D, W, _>(x0, x1, y0, y1, Small { log_m, products })
         }
         AnyFactor::General(General { log_m, products }) => {
             let products = &copied(products);
-            two_rows_added::<V, D, _>(x0, x1, y0, y1, General { log_m, products })
+            two_rows_written::<V, D, W, _>(x0, x1, y0, y1, General { log_m, products })
         }
     }
 }
 
-/// Adds to four rows what two layers of butterflies make of four other rows. There is a loop over chunks for three
-/// small factors. For all other combinations, the code finds the class of a factor again for each product.
+/// Writes what two layers of butterflies make of four rows to the four rows that lie end to end in `x`. There is a loop
+/// over chunks for three small factors. For all other combinations, the code finds the class of a factor again for each
+/// product.
 #[inline(always)]
-pub fn two_layers_added<V: ByteVector, D: Butterflies>(
-    x0: &mut [[u8; 64]],
-    x1: &mut [[u8; 64]],
-    x2: &mut [[u8; 64]],
-    x3: &mut [[u8; 64]],
+pub fn two_layers_written<V: ByteVector, D: Butterflies, W: WriteWords>(
+    x: &mut [[u8; 64]],
     y: FourRows<'_>,
     factors: ThreeFactors<AnyFactor<'_>, AnyFactor<'_>, AnyFactor<'_>>,
 )
-    requires one { length x0.old ≡ length x1.old }
-    requires two { length x0.old ≡ length x2.old }
-    requires three { length x0.old ≡ length x3.old }
-    requires first { length x0.old ≡ length y.row_0.now }
-    requires second { length x0.old ≡ length y.row_1.now }
-    requires third { length x0.old ≡ length y.row_2.now }
-    requires fourth { length x0.old ≡ length y.row_3.now }
-    ensures { (k s : ℕ) → k < length x0.old → s < 32
+    requires room { length x.old ≡ 4 * length y.row_0.now }
+    requires one { length y.row_1.now ≡ length y.row_0.now }
+    requires two { length y.row_2.now ≡ length y.row_0.now }
+    requires three { length y.row_3.now ≡ length y.row_0.now }
+    ensures length { length x.new ≡ length x.old }
+    ensures written { let n = length y.entry.row_0.now in (k s : ℕ) → k < n → s < 32
         → at_four_added s
         (D.four (log_of factors.entry.f02) (log_of factors.entry.f01) (log_of factors.entry.f23))
-        (chunk y.entry.row_0.now k) (chunk y.entry.row_1.now k) (chunk y.entry.row_2.now k)
-        (chunk y.entry.row_3.now k)
-        (chunk x0.old k) (chunk x1.old k) (chunk x2.old k) (chunk x3.old k)
-        (chunk x0.new k) (chunk x1.new k) (chunk x2.new k) (chunk x3.new k) }
+        (held W.writing) (chunk y.entry.row_0.now k) (chunk y.entry.row_1.now k)
+        (chunk y.entry.row_2.now k) (chunk y.entry.row_3.now k)
+        (chunk x.old k) (chunk x.old (n + k)) (chunk x.old (2 * n + k)) (chunk x.old (3 * n + k))
+        (chunk x.new k) (chunk x.new (n + k)) (chunk x.new (2 * n + k)) (chunk x.new (3 * n + k)) }
 {
+    let n = y.row_0.len();
+    let (front, back) = x.split_at_mut(2 * n);
+    let (x0, x1) = front.split_at_mut(n);
+    let (x2, x3) = back.split_at_mut(n);
     match (factors.f02, factors.f01, factors.f23) {
         (AnyFactor::Small(f02), AnyFactor::Small(f01), AnyFactor::Small(f23)) => {
             let factors = ThreeFactors { f02, f01, f23 };
-            four_rows_added::<V, D, _, _, _>(x0, x1, x2, x3, y, factors)
+            four_rows_written::<V, D, W, _, _, _>(x0, x1, x2, x3, y, factors)
         }
-        _ => four_rows_added::<V, D, _, _, _>(x0, x1, x2, x3, y, factors),
+        _ => four_rows_written::<V, D, W, _, _, _>(x0, x1, x2, x3, y, factors),
     }
 }

@@ -5,7 +5,9 @@
 ghost use Rattle.std.specs.Prelude.{◌≡◌, ℕ, ◌+◌, ◌/◌, ◌%◌, ◌<◌, ◌≤◌, ◌⊎◌, slice_index, bit_xor};
 ghost use Rattle.rs_field.specs.declared.words.table_types.Multiply128lutT.{Multiply128lutT};
 ghost use Rattle.rs_field.specs.words.Field.{product};
+ghost use Rattle.rs_field.specs.declared.rows.reading.Writing.{Writing};
 ghost use Rattle.rs_field.specs.rows.Rows.{symbol};
+ghost use Rattle.rs_field.specs.rows.Written.{held};
 ghost use Rattle.rs_field.specs.words.Products.{AreLowNibbles, AreHighNibbles, IsNibbleBytes};
 ghost use Rattle.rs_engines.specs.Factors.{HasSmallNumbers};
 ghost use Rattle.rs_engines.specs.Lanes.{lane};
@@ -117,16 +119,42 @@ pub fn add<V: ByteVector>(x: Words<V>, y: Words<V>) -> Words<V>
     }
 }
 
-/// Adds words to the symbols of a chunk, from symbol `at` on.
-#[inline(always)]
-pub fn add_words<V: ByteVector>(words: Words<V>, c: &mut [u8; 64], at: usize)
-    requires { at + V.LANES ≤ 32 }
-    ensures added { (i s : ℕ) → i < V.LANES → s ≡ at + i
-        → bit_xor (symbol c.old s) (symbol c.new s)
-        ≡ lane (V.bytes words.low) (V.bytes words.high) i }
-    ensures kept { (s : ℕ) → s < 32 → (s < at) ⊎ (at + V.LANES ≤ s)
-        → symbol c.new s ≡ symbol c.old s }
-{
-    let sum = add(words_at(c, at), words);
-    put_words(sum, c, at);
+/// How words are written to a chunk.
+pub trait WriteWords {
+    // How the words are written.
+    ghost writing: { Writing };
+
+    /// Writes words to the symbols of a chunk, from symbol `at` on.
+    fn write_words<V: ByteVector>(words: Words<V>, c: &mut [u8; 64], at: usize)
+        requires { at + V.LANES ≤ 32 }
+        ensures written { (i s : ℕ) → i < V.LANES → s ≡ at + i
+            → bit_xor (held writing (symbol c.old s)) (symbol c.new s)
+            ≡ lane (V.bytes words.low) (V.bytes words.high) i }
+        ensures kept { (s : ℕ) → s < 32 → (s < at) ⊎ (at + V.LANES ≤ s)
+            → symbol c.new s ≡ symbol c.old s };
+}
+
+/// The words replace the symbols.
+pub struct Replacing;
+
+impl WriteWords for Replacing {
+    ghost writing = { Writing.Replacing };
+
+    #[inline(always)]
+    fn write_words<V: ByteVector>(words: Words<V>, c: &mut [u8; 64], at: usize) {
+        put_words(words, c, at);
+    }
+}
+
+/// The words are added to the symbols.
+pub struct Adding;
+
+impl WriteWords for Adding {
+    ghost writing = { Writing.Adding };
+
+    #[inline(always)]
+    fn write_words<V: ByteVector>(words: Words<V>, c: &mut [u8; 64], at: usize) {
+        let sum = add(words_at(c, at), words);
+        put_words(sum, c, at);
+    }
 }

@@ -16,4 +16,4 @@ pub mod Directions
 pub mod BlockChunks
 pub mod DerivativeStep
 pub mod ByteChunks
-pub mod Added
+pub mod Written

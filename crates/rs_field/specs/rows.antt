@@ -5,7 +5,7 @@ pub mod View
 pub mod MarkedRows
 pub mod Pairs
 pub mod TwoLayers
-pub mod Added
+pub mod Written
 pub mod Layers
 pub mod Directions
 pub mod Lending

@@ -11,6 +11,8 @@ mod kernel_engine;
 mod layers;
 pub mod layout;
 pub mod marked_rows;
+pub mod read_transform;
+pub mod reading;
 pub mod rows;
 pub mod shards;
 pub mod sums;

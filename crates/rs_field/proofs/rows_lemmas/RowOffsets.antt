@@ -1,8 +1,8 @@
 -- The place of row i of rows of n chunks among the chunks, and the chunks outside some rows, which are unchanged.
 use Rattle.std.proofs.Common.{rules, ◌≡◌, ℕ, ◌+◌, ◌*◌, ◌<◌, ◌≤◌, ◌⊎◌, ◌≢◌, inl, inr, arith, ap, ◌∙◌, subst}
 use Rattle.std.proofs.Math.Nat.{mul-le-mul_right}
-use Rattle.rs_field.specs.rows.Rows.{chunk, SameOutside}
-use Rattle.rs_field.specs.rows.View.{cell, SameExtent, SameRowsOutside}
+use Rattle.rs_field.specs.rows.Rows.{Chunks, chunk, word_in, SameOutside}
+use Rattle.rs_field.specs.rows.View.{cell, word, SameExtent, SameRowsOutside}
 use Rattle.rs_field.specs.declared.rows.shards.ShardsRefMut.{ShardsRefMut}
 
 pub row_ends : (i m n : ℕ) → i < m → i * n + n ≤ m * n
@@ -49,3 +49,9 @@ outside_both a b c d e f old mid new extent first second ea bf ec df k h =
 
 pub extent_then : {old mid new : ShardsRefMut} → SameExtent old mid → SameExtent mid new → SameExtent old new
 extent_then p q = search rules
+
+-- A word of rows is a word of their chunks.
+pub word_of : (rows : ShardsRefMut) (chunks : Chunks) (n k s i : ℕ) → rows.shard_len_64 ≡ n → chunks ≡ rows.chunks.now
+    → word_in chunks n k s i ≡ word rows k s i
+unfolding cell
+word_of rows chunks n k s i len is = search rules

@@ -31,7 +31,7 @@ IsForwardButterfly log_m x y x' y' = (s : ℕ) → s < 32 → at_two_symbols s (
 abbrev pub IsBackwardButterfly : ℕ → OnTwoChunks
 IsBackwardButterfly log_m x y x' y' = (s : ℕ) → s < 32 → at_two_symbols s (IsBackwardTwo log_m) x y x' y'
 
--- a relation of symbol s of two chunks x and y and of what was added to two other chunks
-abbrev pub at_two_added : ℕ → OnTwoWords → List ℕ → List ℕ → OnTwoChunks
-at_two_added s R x y a b a' b' =
-    R (symbol x s) (symbol y s) (bit_xor (symbol a s) (symbol a' s)) (bit_xor (symbol b s) (symbol b' s))
+-- a relation of symbol s of two chunks x and y and of what was added to the words that two other chunks held
+abbrev pub at_two_added : ℕ → OnTwoWords → (ℕ → ℕ) → List ℕ → List ℕ → OnTwoChunks
+at_two_added s R held x y a b a' b' =
+    R (symbol x s) (symbol y s) (bit_xor (held (symbol a s)) (symbol a' s)) (bit_xor (held (symbol b s)) (symbol b' s))

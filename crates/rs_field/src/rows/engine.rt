@@ -5,9 +5,9 @@ ghost use Rattle.rs_field.specs.words.Field.{product, power, log};
 ghost use Rattle.rs_field.specs.words.Tables.{times_factor};
 ghost use Rattle.rs_field.specs.rows.MarkedRows.{is_marked, OthersAreZero};
 ghost use Rattle.rs_field.specs.words.Transform.{forward};
-ghost use Rattle.rs_field.specs.rows.Added.{AreAdded, row_of_two, row_of_four};
 ghost use Rattle.rs_field.specs.rows.Rows.{byte_symbol, chunk, symbol};
 ghost use Rattle.rs_field.specs.rows.View.{word, Fits, SameExtent, SameRowsOutside, AreZero};
+ghost use Rattle.rs_field.specs.rows.Written.{AreWritten, written_steps};
 ghost use Rattle.rs_field.specs.words.Locator.{IsLocator, IsLocatorBelow};
 ghost use Rattle.rs_field.specs.words.StepBounds.{LocatorCounts, TransformCounts, RowProductCounts, RowSumCounts};
 ghost use Rattle.rs_field.specs.words.StepBounds.{ByteSumCounts, CountsUpTo, TwoSumCounts};
@@ -15,8 +15,8 @@ ghost use Rattle.rs_field.specs.words.StepBounds.{ByteSumCounts, CountsUpTo, Two
 use super::ShardsRefMut;
 use super::byte_chunks::{chunk_at, put_chunk};
 use super::bytes::symbols_are_words;
-use super::kernel::FourRows;
 use super::marked_rows::marked_end;
+use super::reading::{ReadRows, Writing};
 use super::sums::{TwoLogarithms, xor};
 use crate::words::{GF_MODULUS, GF_ORDER, GfElement, Steps};
 
@@ -142,53 +142,35 @@ pub trait Engine: Drop {
         self.ifft(steps, data, pos, given.len(), end, skew_delta);
     }
 
-    /// Adds to two rows, which lie end to end in `x`, the rows of which `y0` and `y1` are the forward transform at
-    /// `skew_delta`, and returns true; or changes nothing and returns false.
-    ///
-    /// An encoder reads originals with this call where they are. If the call returns false, the encoder copies them and
-    /// calls `ifft`. The default body returns false.
-    fn add_ifft_of_two(
-        &self,
-        steps: &mut Steps,
-        x: &mut [[u8; 64]],
-        y0: &[[u8; 64]],
-        y1: &[[u8; 64]],
-        skew_delta: usize,
-    ) -> bool
-        requires room { length x.old ≡ 2 * length y0.now }
-        requires same { length y1.now ≡ length y0.now }
-        requires shift { skew_delta % 2 ≡ 0 }
-        requires points { skew_delta + 2 ≤ 65536 }
-        ensures length { length x.new ≡ length x.old }
-        ensures added { result ≡ true → (k s : ℕ) → k < length y0.now → s < 32
-            → AreAdded 2 skew_delta (length y0.now) k s (row_of_two y0.now y1.now) x.old x.new }
-        ensures kept { result ≡ false → x.new ≡ x.old }
-        ensures counts { CountsUpTo 3 0 0 steps.old steps.new }
-    {
+    /// Returns whether the engine has an [`ifft_of`](Engine::ifft_of) that is faster than a copy of the rows and
+    /// [`ifft`](Engine::ifft). An encoder then reads originals where they are. The default body returns false.
+    fn reads_rows(&self) -> bool {
         false
     }
 
-    /// Adds to four rows, which lie end to end in `x`, the rows of which the rows `y` are the forward transform at
-    /// `skew_delta`, and returns true; or changes nothing and returns false, as the default body does.
-    fn add_ifft_of_four(
+    /// Writes the rows of which some rows, which are only read, are the forward transform at `skew_delta`, to the rows
+    /// that lie end to end in `x`, and returns true; or changes nothing and returns false, as the default body does.
+    /// The number of rows is a power of two, and `skew_delta` a multiple of it.
+    fn ifft_of<R: ReadRows>(
         &self,
         steps: &mut Steps,
         x: &mut [[u8; 64]],
-        y: FourRows<'_>,
+        rows: &R,
         skew_delta: usize,
+        writing: Writing,
     ) -> bool
-        requires room { length x.old ≡ 4 * length y.row_0.now }
-        requires one { length y.row_1.now ≡ length y.row_0.now }
-        requires two { length y.row_2.now ≡ length y.row_0.now }
-        requires three { length y.row_3.now ≡ length y.row_0.now }
-        requires shift { skew_delta % 4 ≡ 0 }
-        requires points { skew_delta + 4 ≤ 65536 }
+        requires room { length x.old ≡ R.row_count rows.now * R.row_len rows.now }
+        requires power { (d : ℕ) × (R.row_count rows.now ≡ 2 ^ d) }
+        requires shift { skew_delta % R.row_count rows.now ≡ 0 }
+        requires points { skew_delta + R.row_count rows.now ≤ 65536 }
         ensures length { length x.new ≡ length x.old }
-        ensures added { result ≡ true → (k s : ℕ) → k < length y.entry.row_0.now → s < 32
-            → AreAdded 4 skew_delta (length y.entry.row_0.now) k s (row_of_four y.entry)
-            x.old x.new }
+        ensures written { result ≡ true → (k s : ℕ) → k < R.row_len rows.now → s < 32
+            → AreWritten writing (R.row_count rows.now) skew_delta (R.row_len rows.now) k s
+            (R.word rows.now k s) x.old x.new }
         ensures kept { result ≡ false → x.new ≡ x.old }
-        ensures counts { CountsUpTo 8 0 0 steps.old steps.new }
+        ensures counts { result ≡ true
+            → CountsUpTo (written_steps writing (R.row_count rows.now)) 0 0 steps.old steps.new }
+        ensures uncounted { result ≡ false → CountsUpTo 0 0 0 steps.old steps.new }
     {
         false
     }

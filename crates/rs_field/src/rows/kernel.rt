@@ -1,13 +1,15 @@
 //! The parts of an engine that differ from engine to engine.
-ghost use Rattle.std.specs.Prelude.{◌≡◌, ℕ, ◌*◌, ◌<◌, true, false, length, bit_xor};
+ghost use Rattle.std.specs.Prelude.{◌≡◌, ℕ, ◌+◌, ◌*◌, ◌<◌, true, false, length, bit_xor};
 ghost use Rattle.rs_field.specs.words.Field.{product, power};
 ghost use Rattle.rs_field.specs.words.Tables.{times_factor};
 ghost use Rattle.rs_field.specs.rows.Rows.{byte_symbol, chunk, symbol};
 ghost use Rattle.rs_field.specs.rows.Pairs.{IsBackwardTwo, at_two_added};
 ghost use Rattle.rs_field.specs.rows.TwoLayers.{IsForwardTwoLayers, IsBackwardTwoLayers};
 ghost use Rattle.rs_field.specs.rows.TwoLayers.{IsBackwardFour, at_four_added};
+ghost use Rattle.rs_field.specs.rows.Written.{held};
 
 use super::byte_chunks::{chunk_at, put_chunk};
+use super::reading::Writing;
 use super::sums::TwoLogarithms;
 use crate::words::GfElement;
 use crate::words::lent_tables::LentTables;
@@ -122,59 +124,60 @@ pub trait Kernel: Drop {
         self.ifft_butterfly(x1, x3, logs.log_m02);
     }
 
-    /// Adds to two rows what an `ifft_butterfly` would make of the rows `y0` and `y1`, which are only read, and returns
-    /// true; or changes nothing and returns false. All four rows have the same number of chunks.
-    ///
-    /// The default body returns false. An engine can have a body of its own, which spares a copy of `y0` and `y1`.
-    fn add_ifft_butterfly(
+    /// Returns whether the kernel has [`ifft_of_two`](Kernel::ifft_of_two) and [`ifft_of_four`](Kernel::ifft_of_four) of
+    /// its own, which spare a copy of rows that are only read. The default body returns false.
+    fn reads_rows(&self) -> bool {
+        false
+    }
+
+    /// Writes what an `ifft_butterfly` would make of the rows `y0` and `y1`, which are only read, to the two rows that
+    /// lie end to end in `x`, and returns true; or changes nothing and returns false, as the default body does. All
+    /// four rows have the same number of chunks.
+    fn ifft_of_two(
         &self,
-        x0: &mut [[u8; 64]],
-        x1: &mut [[u8; 64]],
+        x: &mut [[u8; 64]],
         y0: &[[u8; 64]],
         y1: &[[u8; 64]],
         log_m: GfElement,
+        writing: Writing,
     ) -> bool
-        requires one { length x0.old ≡ length x1.old }
-        requires two { length x0.old ≡ length y0.now }
-        requires three { length x0.old ≡ length y1.now }
-        ensures added { result ≡ true → (k s : ℕ) → k < length x0.old → s < 32
-            → at_two_added s (IsBackwardTwo log_m) (chunk y0.now k) (chunk y1.now k)
-            (chunk x0.old k) (chunk x1.old k) (chunk x0.new k) (chunk x1.new k) }
-        ensures kept_0 { result ≡ false → x0.new ≡ x0.old }
-        ensures kept_1 { result ≡ false → x1.new ≡ x1.old }
+        requires room { length x.old ≡ 2 * length y0.now }
+        requires same { length y1.now ≡ length y0.now }
+        ensures length { length x.new ≡ length x.old }
+        ensures written { let n = length y0.now in
+            result ≡ true → (k s : ℕ) → k < n → s < 32
+            → at_two_added s (IsBackwardTwo log_m) (held writing)
+            (chunk y0.now k) (chunk y1.now k) (chunk x.old k) (chunk x.old (n + k))
+            (chunk x.new k) (chunk x.new (n + k)) }
+        ensures kept { result ≡ false → x.new ≡ x.old }
     {
         false
     }
 
-    /// Adds to four rows what `ifft_two_layers` would make of the rows `y`, which are only read, and returns true; or
-    /// changes nothing and returns false. All eight rows have the same number of chunks.
-    ///
-    /// The default body returns false. An engine can have a body of its own, which spares a copy of the rows `y`.
-    fn add_ifft_two_layers(
+    /// Writes what `ifft_two_layers` would make of the rows `y`, which are only read, to the four rows that lie end to
+    /// end in `x`, and returns true; or changes nothing and returns false, as the default body does. All eight rows have
+    /// the same number of chunks.
+    fn ifft_of_four(
         &self,
-        x0: &mut [[u8; 64]],
-        x1: &mut [[u8; 64]],
-        x2: &mut [[u8; 64]],
-        x3: &mut [[u8; 64]],
+        x: &mut [[u8; 64]],
         y: FourRows<'_>,
         logs: ThreeLogarithms,
+        writing: Writing,
     ) -> bool
-        requires one { length x0.old ≡ length x1.old }
-        requires two { length x0.old ≡ length x2.old }
-        requires three { length x0.old ≡ length x3.old }
-        requires first { length x0.old ≡ length y.row_0.now }
-        requires second { length x0.old ≡ length y.row_1.now }
-        requires third { length x0.old ≡ length y.row_2.now }
-        requires fourth { length x0.old ≡ length y.row_3.now }
-        ensures added { result ≡ true → (k s : ℕ) → k < length x0.old → s < 32
+        requires room { length x.old ≡ 4 * length y.row_0.now }
+        requires one { length y.row_1.now ≡ length y.row_0.now }
+        requires two { length y.row_2.now ≡ length y.row_0.now }
+        requires three { length y.row_3.now ≡ length y.row_0.now }
+        ensures length { length x.new ≡ length x.old }
+        ensures written { let n = length y.entry.row_0.now in
+            result ≡ true → (k s : ℕ) → k < n → s < 32
             → at_four_added s (IsBackwardFour logs.log_m02 logs.log_m01 logs.log_m23)
-            (chunk y.entry.row_0.now k) (chunk y.entry.row_1.now k) (chunk y.entry.row_2.now k) (chunk y.entry.row_3.now k)
-            (chunk x0.old k) (chunk x1.old k) (chunk x2.old k) (chunk x3.old k)
-            (chunk x0.new k) (chunk x1.new k) (chunk x2.new k) (chunk x3.new k) }
-        ensures kept_0 { result ≡ false → x0.new ≡ x0.old }
-        ensures kept_1 { result ≡ false → x1.new ≡ x1.old }
-        ensures kept_2 { result ≡ false → x2.new ≡ x2.old }
-        ensures kept_3 { result ≡ false → x3.new ≡ x3.old }
+            (held writing) (chunk y.entry.row_0.now k) (chunk y.entry.row_1.now k)
+            (chunk y.entry.row_2.now k) (chunk y.entry.row_3.now k)
+            (chunk x.old k) (chunk x.old (n + k))
+            (chunk x.old (2 * n + k)) (chunk x.old (3 * n + k)) (chunk x.new k) (chunk x.new (n + k))
+            (chunk x.new (2 * n + k)) (chunk x.new (3 * n + k)) }
+        ensures kept { result ≡ false → x.new ≡ x.old }
     {
         false
     }

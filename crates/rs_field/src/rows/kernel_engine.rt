@@ -1,6 +1,7 @@
 //! The engine that a kernel makes.
-ghost use Rattle.std.specs.Prelude.{◌≡◌, ℕ, true, ◌^◌, ◌<◌, ◌≤◌, length, slice_index};
-ghost use Rattle.rs_field.specs.words.StepBounds.{LocatorCounts, LocatorCountsBelow};
+ghost use Rattle.std.specs.Prelude.{◌≡◌, ℕ, true, false, ◌+◌, ◌*◌, ◌%◌, ◌^◌, ◌<◌, ◌≤◌, length, slice_index};
+ghost use Rattle.rs_field.specs.rows.Written.{AreWritten};
+ghost use Rattle.rs_field.specs.words.StepBounds.{CountsUpTo, LocatorCounts, LocatorCountsBelow};
 ghost use Rattle.rs_field.specs.words.Field.{power, log};
 ghost use Rattle.rs_field.specs.words.Locator.{IsLocatorBelow};
 
@@ -10,8 +11,8 @@ use super::bytes::symbols_are_words;
 use super::engine::Engine;
 use super::kernel::{FourRows, Kernel, ThreeLogarithms};
 use super::layers::Direction::{Backward, Forward};
-use super::layers::{add_butterflies, add_two_layers};
 use super::marked_rows::UsedRows;
+use super::reading::{ReadRows, Writing};
 use super::sums::TwoLogarithms;
 use super::transform::transform;
 use crate::words::logarithms::put_logarithms;
@@ -72,46 +73,23 @@ impl<K: Kernel> Engine for K {
         transform(Backward, self, steps, data, block, given);
     }
 
-    fn add_ifft_of_two(
-        &self,
-        steps: &mut Steps,
-        x: &mut [[u8; 64]],
-        y0: &[[u8; 64]],
-        y1: &[[u8; 64]],
-        skew_delta: usize,
-    ) -> bool {
-        let log_m = self.tables().skew[skew_delta];
-        symbols_are_words(y0);
-        symbols_are_words(y1);
-        let is_added = add_butterflies(self, x, y0, y1, log_m);
-        if is_added {
-            steps.row_steps(3);
-        }
-        is_added
+    fn reads_rows(&self) -> bool {
+        Kernel::reads_rows(self)
     }
 
-    fn add_ifft_of_four(
+    fn ifft_of<R: ReadRows>(
         &self,
         steps: &mut Steps,
         x: &mut [[u8; 64]],
-        y: FourRows<'_>,
+        rows: &R,
         skew_delta: usize,
+        writing: Writing,
     ) -> bool {
-        let skew = self.tables().skew;
-        let logs = ThreeLogarithms {
-            log_m02: skew[skew_delta + 1],
-            log_m01: skew[skew_delta],
-            log_m23: skew[skew_delta + 2],
-        };
-        symbols_are_words(y.row_0);
-        symbols_are_words(y.row_1);
-        symbols_are_words(y.row_2);
-        symbols_are_words(y.row_3);
-        let is_added = add_two_layers(self, x, y, logs);
-        if is_added {
-            steps.row_steps(8);
+        match rows.count() {
+            2 => ifft_of_two(self, steps, x, rows, skew_delta, writing),
+            4 => ifft_of_four(self, steps, x, rows, skew_delta, writing),
+            _ => false,
         }
-        is_added
     }
 
     fn mul(&self, steps: &mut Steps, x: &mut [[u8; 64]], log_m: GfElement) {
@@ -179,4 +157,80 @@ impl<K: Kernel> Engine for K {
         put_logarithms(logs, self.tables().skew);
         true
     }
+}
+
+// Does `ifft_of` for two rows, with the butterfly of the kernel.
+fn ifft_of_two<K: Kernel, R: ReadRows>(
+    kernel: &K,
+    steps: &mut Steps,
+    x: &mut [[u8; 64]],
+    rows: &R,
+    skew_delta: usize,
+    writing: Writing,
+) -> bool
+    requires room { length x.old ≡ 2 * R.row_len rows.now }
+    requires count { R.row_count rows.now ≡ 2 }
+    requires shift { skew_delta % 2 ≡ 0 }
+    requires points { skew_delta + 2 ≤ 65536 }
+    ensures length { length x.new ≡ length x.old }
+    ensures written { result ≡ true → (k s : ℕ) → k < R.row_len rows.now → s < 32
+        → AreWritten writing 2 skew_delta (R.row_len rows.now) k s (R.word rows.now k s)
+        x.old x.new }
+    ensures kept { result ≡ false → x.new ≡ x.old }
+    ensures counts { result ≡ true → CountsUpTo 3 0 0 steps.old steps.new }
+    ensures uncounted { result ≡ false → CountsUpTo 0 0 0 steps.old steps.new }
+{
+    let (y0, y1) = (rows.row(0), rows.row(1));
+    symbols_are_words(y0);
+    symbols_are_words(y1);
+    let log_m = kernel.tables().skew[skew_delta];
+    let is_written = kernel.ifft_of_two(x, y0, y1, log_m, writing);
+    if is_written {
+        steps.row_steps(3);
+    }
+    is_written
+}
+
+// Does `ifft_of` for four rows, with the two layers of the kernel.
+fn ifft_of_four<K: Kernel, R: ReadRows>(
+    kernel: &K,
+    steps: &mut Steps,
+    x: &mut [[u8; 64]],
+    rows: &R,
+    skew_delta: usize,
+    writing: Writing,
+) -> bool
+    requires room { length x.old ≡ 4 * R.row_len rows.now }
+    requires count { R.row_count rows.now ≡ 4 }
+    requires shift { skew_delta % 4 ≡ 0 }
+    requires points { skew_delta + 4 ≤ 65536 }
+    ensures length { length x.new ≡ length x.old }
+    ensures written { result ≡ true → (k s : ℕ) → k < R.row_len rows.now → s < 32
+        → AreWritten writing 4 skew_delta (R.row_len rows.now) k s (R.word rows.now k s)
+        x.old x.new }
+    ensures kept { result ≡ false → x.new ≡ x.old }
+    ensures counts { result ≡ true → CountsUpTo 8 0 0 steps.old steps.new }
+    ensures uncounted { result ≡ false → CountsUpTo 0 0 0 steps.old steps.new }
+{
+    let skew = kernel.tables().skew;
+    let logs = ThreeLogarithms {
+        log_m02: skew[skew_delta + 1],
+        log_m01: skew[skew_delta],
+        log_m23: skew[skew_delta + 2],
+    };
+    let y = FourRows {
+        row_0: rows.row(0),
+        row_1: rows.row(1),
+        row_2: rows.row(2),
+        row_3: rows.row(3),
+    };
+    symbols_are_words(y.row_0);
+    symbols_are_words(y.row_1);
+    symbols_are_words(y.row_2);
+    symbols_are_words(y.row_3);
+    let is_written = kernel.ifft_of_four(x, y, logs, writing);
+    if is_written {
+        steps.row_steps(8);
+    }
+    is_written
 }

@@ -2,18 +2,16 @@
 //! quarters.
 //!
 //! The forward layers go before the transforms of the parts that they leave, and the backward ones after them.
-ghost use Rattle.std.specs.Prelude.{◌≡◌, ℕ, ◌+◌, ◌*◌, ◌<◌, ◌≤◌, true, false, length};
+ghost use Rattle.std.specs.Prelude.{◌≡◌, ℕ, ◌+◌, ◌*◌, ◌<◌, ◌≤◌, length};
 ghost use Rattle.rs_field.specs.rows.Rows.{chunk};
 ghost use Rattle.rs_field.specs.rows.Layers.{rows_of_part, layer_steps};
 ghost use Rattle.rs_field.specs.rows.Directions.{IsButterfly, AreTwoLayers, AreLayers, ChangesBlock};
-ghost use Rattle.rs_field.specs.rows.Pairs.{IsBackwardTwo, at_two_added};
-ghost use Rattle.rs_field.specs.rows.TwoLayers.{IsBackwardFour, at_four_added};
 ghost use Rattle.rs_field.specs.rows.View.{word, Fits};
 ghost use Rattle.rs_field.specs.words.StepBounds.{CountsRows};
 
 use super::ShardsRefMut;
 use super::block::Block;
-use super::kernel::{FourRows, Kernel, ThreeLogarithms};
+use super::kernel::{Kernel, ThreeLogarithms};
 use crate::words::{GfElement, Steps};
 
 /// The direction of a transform.
@@ -70,58 +68,6 @@ fn butterflies_of_quarters<K: Kernel>(
         Direction::Forward => kernel.fft_two_layers(x0, x1, x2, x3, logs),
         Direction::Backward => kernel.ifft_two_layers(x0, x1, x2, x3, logs),
     }
-}
-
-/// Adds to two rows, which lie end to end in `x`, what a backward butterfly makes of two rows that are only read, and
-/// returns true; or changes nothing and returns false.
-#[inline(always)]
-pub(crate) fn add_butterflies<K: Kernel>(
-    kernel: &K,
-    x: &mut [[u8; 64]],
-    y0: &[[u8; 64]],
-    y1: &[[u8; 64]],
-    log_m: GfElement,
-) -> bool
-    requires room { length x.old ≡ 2 * length y0.now }
-    requires same { length y1.now ≡ length y0.now }
-    ensures length { length x.new ≡ length x.old }
-    ensures kept { result ≡ false → x.new ≡ x.old }
-    ensures pairs { let n = length y0.now in result ≡ true → (k s : ℕ) → k < n → s < 32
-        → at_two_added s (IsBackwardTwo log_m) (chunk y0.now k) (chunk y1.now k)
-        (chunk x.old k) (chunk x.old (n + k)) (chunk x.new k) (chunk x.new (n + k)) }
-{
-    let (x0, x1) = x.split_at_mut(y0.len());
-    kernel.add_ifft_butterfly(x0, x1, y0, y1, log_m)
-}
-
-/// Adds to four rows, which lie end to end in `x`, what two layers of backward butterflies make of four rows that are
-/// only read, and returns true; or changes nothing and returns false.
-#[inline(always)]
-pub(crate) fn add_two_layers<K: Kernel>(
-    kernel: &K,
-    x: &mut [[u8; 64]],
-    y: FourRows<'_>,
-    logs: ThreeLogarithms,
-) -> bool
-    requires room { length x.old ≡ 4 * length y.row_0.now }
-    requires one { length y.row_1.now ≡ length y.row_0.now }
-    requires two { length y.row_2.now ≡ length y.row_0.now }
-    requires three { length y.row_3.now ≡ length y.row_0.now }
-    ensures length { length x.new ≡ length x.old }
-    ensures kept { result ≡ false → x.new ≡ x.old }
-    ensures fours { let n = length y.entry.row_0.now in
-        result ≡ true → (k s : ℕ) → k < n → s < 32
-        → at_four_added s (IsBackwardFour logs.log_m02 logs.log_m01 logs.log_m23)
-        (chunk y.entry.row_0.now k) (chunk y.entry.row_1.now k) (chunk y.entry.row_2.now k)
-        (chunk y.entry.row_3.now k) (chunk x.old k) (chunk x.old (n + k))
-        (chunk x.old (2 * n + k)) (chunk x.old (3 * n + k)) (chunk x.new k) (chunk x.new (n + k))
-        (chunk x.new (2 * n + k)) (chunk x.new (3 * n + k)) }
-{
-    let n = y.row_0.len();
-    let (front, back) = x.split_at_mut(2 * n);
-    let (x0, x1) = front.split_at_mut(n);
-    let (x2, x3) = back.split_at_mut(n);
-    kernel.add_ifft_two_layers(x0, x1, x2, x3, y, logs)
 }
 
 /// Does the layers of butterflies that lie between the parts of a block of more than one row. A forward transform of
