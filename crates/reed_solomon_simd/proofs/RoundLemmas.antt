@@ -1,12 +1,11 @@
 -- Rounds over strips: encoders and decoders that are ready for a strip, and the result of a strip.
 use Rattle.std.proofs.Common.{◌≡◌, ℕ, ◌≤◌, List, Result, Ok, Err, true, arith}
 use Rattle.std.specs.Prelude.{Option, Some, None, OnOk, IfErr, IfSome, MatchResult, is_some}
-use Rattle.std.specs.Option.{option_map}
 use Rattle.rs_field.specs.declared.code.error.Error.{Error}
 use Rattle.rs_field.specs.code.Column.{Shard}
 use Rattle.rs_field.specs.code.Decoder.{DecoderState}
-use Rattle.rs_rate.specs.declared.rows.encoder_work.EncoderRows.{EncoderRows}
-use Rattle.rs_rate.specs.rows.EncoderView.{lent_shards}
+use Rattle.rs_rate.specs.declared.objects.strip_encoder.StripEncoder.{StripEncoder}
+use Rattle.rs_rate.specs.objects.StripView.{coded_shards}
 use Rattle.reed_solomon_simd.specs.declared.strip_rounds.Rounds.{Rounds}
 use Rattle.reed_solomon_simd.specs.Rounds.{IsReadyToDecode, IsReadyToEncode, lent_by}
 
@@ -20,12 +19,13 @@ decode-shorter most ready = record {
   located = ready.located;
 }
 
-pub encode-shorter : {rows : EncoderRows} {s : DecoderState} {m n : ℕ} → m ≤ n → IsReadyToEncode rows s n
+pub encode-shorter : {encoder : StripEncoder} {s : DecoderState} {m n : ℕ} → m ≤ n → IsReadyToEncode rows s n
     → IsReadyToEncode rows s m
 encode-shorter most ready = record {
   size = ready.size;
   room = let room = ready.room in omega (arith, room, most);
-  fresh = ready.fresh;
+  code = ready.code;
+  whole = ready.whole;
 }
 
 -- A weaker fact about a value that may be there.
@@ -33,11 +33,11 @@ pub some-weaker : {A : Type 0} {P Q : A → Type 0} (o : Option A) → ((x : A) 
 some-weaker (Some x) weaker h = weaker x h
 some-weaker None weaker h = h
 
--- If there is an encoder, the recovery shards in its rows are lent.
-pub lent-some : {A : Type 0} (rows : A → EncoderRows) (P : List Shard → Type 0) (o : Option A) → is_some o ≡ true
-    → IfSome o (λ e. P (lent_shards (rows e))) → P (lent_by (option_map rows o))
-lent-some rows P (Some e) is h = h
-lent-some rows P None is h = absurd (let no : ⊥ = cc in no)
+-- If there is an encoder, the recovery shards in it are lent.
+pub lent-some : (P : List Shard → Type 0) (o : Option StripEncoder) → is_some o ≡ true
+    → IfSome o (λ e. P (coded_shards e)) → P (lent_by o)
+lent-some P (Some e) is h = h
+lent-some P None is h = absurd (let no : ⊥ = cc in no)
 
 -- The two cases of a result.
 pub matched : (P : Type 0) (Q R : Error → Type 0) (result : Result (Unit {0}) Error) → OnOk result P

@@ -6,36 +6,34 @@ use Rattle.std.proofs.lemmas.Bool.{cases_eq}
 use Rattle.std.proofs.lemmas.List.{ext_get_or, length-replicate, get_or-replicate, get_or-take, length-take-le}
 use Rattle.rs_field.specs.code.Column.{Shard, shard_at}
 use Rattle.rs_field.specs.code.Configuration.{Configuration}
-use Rattle.rs_field.specs.code.Counts.{default_rate}
-use Rattle.rs_field.specs.code.Encoder.{fresh_encoder}
 use Rattle.rs_field.specs.code.Given.{Shards}
 use Rattle.rs_field.proofs.rows_lemmas.LayoutLemmas.{length-in_order}
 use Rattle.rs_field.proofs.words_lemmas.UpTo.{length-up_to, get-up_to}
-use Rattle.rs_rate.specs.declared.rows.encoder_work.EncoderRows.{EncoderRows}
-use Rattle.rs_rate.specs.rows.EncoderView.{encoder_state, lent_shards}
+use Rattle.rs_rate.specs.declared.objects.strip_encoder.StripEncoder.{StripEncoder}
+use Rattle.rs_rate.specs.objects.StripView.{code_of, coded_shards}
 use Rattle.rs_rate.specs.rows.ShardRows.{row_chunk, shard_in_order, IsByteSum}
 
 -- The number of the shards that an encoder lends, and their size.
-pub lent-count : (rows : EncoderRows) (c : Configuration) → encoder_state default_rate rows ≡ fresh_encoder c
-    → length (lent_shards rows) ≡ c.recovery_count
-lent-count rows c fresh =
-    length-up_to rows.configuration.recovery_count
-    (shard_in_order rows.chunks.items rows.configuration.shard_bytes)
-    ∙ ap (λ e. e.configuration.recovery_count) fresh
+pub lent-count : (encoder : StripEncoder) (c : Configuration) → code_of encoder ≡ c
+    → length (coded_shards encoder) ≡ c.recovery_count
+lent-count encoder c code =
+    length-up_to encoder.configuration.recovery_count
+    (shard_in_order encoder.chunks.items encoder.configuration.shard_bytes)
+    ∙ ap (λ (d : Configuration). d.recovery_count) code
 
-pub lent-size : (rows : EncoderRows) (c : Configuration) → encoder_state default_rate rows ≡ fresh_encoder c
-    → rows.configuration.shard_bytes ≡ c.shard_bytes
-lent-size rows c fresh = ap (λ e. e.configuration.shard_bytes) fresh
+pub lent-size : (encoder : StripEncoder) (c : Configuration) → code_of encoder ≡ c
+    → encoder.configuration.shard_bytes ≡ c.shard_bytes
+lent-size encoder c code = ap (λ (d : Configuration). d.shard_bytes) code
 
-pub lent-length : (rows : EncoderRows) (i : ℕ) → i < length (lent_shards rows)
-    → length (shard_at (lent_shards rows) i) ≡ rows.configuration.shard_bytes
-lent-length rows i inside =
-    let n : ℕ = rows.configuration.recovery_count in
-    let size : ℕ = rows.configuration.shard_bytes in
-    let shards = shard_in_order rows.chunks.items size in
-    let below : i < rows.configuration.recovery_count = omega (arith, inside, length-up_to n shards) in
+pub lent-length : (encoder : StripEncoder) (i : ℕ) → i < length (coded_shards encoder)
+    → length (shard_at (coded_shards encoder) i) ≡ encoder.configuration.shard_bytes
+lent-length encoder i inside =
+    let n : ℕ = encoder.configuration.recovery_count in
+    let size : ℕ = encoder.configuration.shard_bytes in
+    let shards = shard_in_order encoder.chunks.items size in
+    let below : i < encoder.configuration.recovery_count = omega (arith, inside, length-up_to n shards) in
     ap (λ (shard : Shard). length shard) (get-up_to n shards i [] below)
-    ∙ length-in_order size (row_chunk rows.chunks.items size i)
+    ∙ length-in_order size (row_chunk encoder.chunks.items size i)
 
 -- The first zeros of more zeros.
 pub fewer-zeros : (n m : ℕ) → n ≤ m → take n (replicate {A = ℕ} m 0) ≡ replicate n 0

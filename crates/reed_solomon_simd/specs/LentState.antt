@@ -1,10 +1,9 @@
 -- The encoder state that gathered originals represent, and the encoder of their strips.
-use Rattle.std.specs.Prelude.{◌≡◌, min}
-use Rattle.rs_field.specs.code.Counts.{default_rate}
-use Rattle.rs_field.specs.code.Encoder.{EncoderState, fresh_encoder}
+use Rattle.std.specs.Prelude.{◌≡◌, ◌%◌, true, min}
+use Rattle.rs_field.specs.code.Encoder.{EncoderState}
 use Rattle.rs_field.specs.code.OneCall.{default_of}
-use Rattle.rs_rate.specs.declared.rows.encoder_work.EncoderRows.{EncoderRows}
-use Rattle.rs_rate.specs.rows.EncoderView.{encoder_state}
+use Rattle.rs_rate.specs.declared.objects.strip_encoder.StripEncoder.{StripEncoder}
+use Rattle.rs_rate.specs.objects.StripView.{code_of}
 use Rattle.reed_solomon_simd.specs.Rooms.{shards_of}
 use Rattle.reed_solomon_simd.specs.declared.lent_originals.LentOriginals.{LentOriginals}
 
@@ -16,9 +15,9 @@ lent_state x = record {
       shards_of x.shards.items;
 }
 
--- the rows of an encoder without originals, for the counts of gathered originals and the size of their first strip, at
--- most 4096 bytes
-abbrev pub IsStripEncoder : LentOriginals → EncoderRows → Type 0
-IsStripEncoder x rows =
-    encoder_state default_rate rows
-    ≡ fresh_encoder (default_of x.counts.original_count x.counts.recovery_count (min 4096 x.shard_bytes))
+-- an encoder is made for the strips of gathered originals, which have at most 4096 bytes; if it reads originals where
+-- they are, no strip has a tail
+pub record IsStripEncoder (x : LentOriginals) (encoder : StripEncoder) : Type 0 where
+  pub code : code_of encoder
+      ≡ default_of x.counts.original_count x.counts.recovery_count (min 4096 x.shard_bytes)
+  pub whole : encoder.reads ≡ true → x.shard_bytes % 64 ≡ 0

@@ -1,17 +1,16 @@
 -- Encoders and decoders that are ready for strips of received shards, and the messages that encoders take.
-use Rattle.std.specs.Prelude.{◌≡◌, ℕ, ◌<◌, ◌≤◌, Bool, true, List, [], Option, Some, None, unwrap_or}
+use Rattle.std.specs.Prelude.{◌≡◌, ℕ, ◌%◌, ◌<◌, ◌≤◌, Bool, true, List, [], Option, Some, None, unwrap_or}
 use Rattle.rs_field.specs.code.Column.{Shard}
 use Rattle.rs_field.specs.code.Counts.{default_rate}
 use Rattle.rs_field.specs.code.Decoder.{DecoderState, fresh_decoder, originals_given, recovery_given}
-use Rattle.rs_field.specs.code.Encoder.{fresh_encoder}
 use Rattle.rs_field.specs.code.Frame.{frame_at}
 use Rattle.rs_field.specs.code.Given.{Shards}
 use Rattle.rs_field.specs.words.UpTo.{up_to}
 use Rattle.rs_rate.specs.declared.rows.decoder_work.DecoderRows.{DecoderRows}
-use Rattle.rs_rate.specs.declared.rows.encoder_work.EncoderRows.{EncoderRows}
+use Rattle.rs_rate.specs.declared.objects.strip_encoder.StripEncoder.{StripEncoder}
 use Rattle.rs_rate.specs.passes.Decoding.{IsLocatorOf}
 use Rattle.rs_rate.specs.rows.DecoderView.{decoder_state}
-use Rattle.rs_rate.specs.rows.EncoderView.{encoder_state, lent_shards}
+use Rattle.rs_rate.specs.objects.StripView.{code_of, coded_shards}
 use Rattle.reed_solomon_simd.specs.declared.strip_rounds.Rounds.{Rounds}
 use Rattle.reed_solomon_simd.specs.Base.{MarksReceived}
 use Rattle.reed_solomon_simd.specs.Making.{strip_configuration}
@@ -28,20 +27,22 @@ pub record IsReadyToDecode (rounds : Rounds) (s : DecoderState) (n : ℕ) : Type
   pub fresh : decoder_state default_rate rounds.decoder.rows ≡ fresh_decoder (strip_configuration s size)
   pub located : rounds.is_located ≡ true → HasLocator rounds.decoder.rows s
 
--- an encoder without originals has room for strips of n bytes of received shards
-pub record IsReadyToEncode (rows : EncoderRows) (s : DecoderState) (n : ℕ) : Type 0 where
+-- an encoder has room for strips of n bytes of received shards; if it reads originals where they are, no strip has a
+-- tail
+pub record IsReadyToEncode (encoder : StripEncoder) (s : DecoderState) (n : ℕ) : Type 0 where
   pub size : ℕ
   pub room : n ≤ size
-  pub fresh : encoder_state default_rate rows ≡ fresh_encoder (strip_configuration s size)
+  pub code : code_of encoder ≡ strip_configuration s size
+  pub whole : encoder.reads ≡ true → s.configuration.shard_bytes % 64 ≡ 0
 
--- the recovery shards in the rows of an encoder after a round, or none if there is no encoder
-abbrev pub lent_by : Option EncoderRows → List Shard
-lent_by (Some rows) = lent_shards rows
+-- the recovery shards of the last strip of an encoder, or none if there is no encoder
+abbrev pub lent_by : Option StripEncoder → List Shard
+lent_by (Some encoder) = coded_shards encoder
 lent_by None = []
 
 -- an encoder is ready for strips of n bytes, and all originals and some recovery shards were received
-pub record IsReadyToCompare (rows : EncoderRows) (s : DecoderState) (n : ℕ) : Type 0 where
-  pub encoder : IsReadyToEncode rows s n
+pub record IsReadyToCompare (encoder : StripEncoder) (s : DecoderState) (n : ℕ) : Type 0 where
+  pub encoder : IsReadyToEncode encoder s n
   pub all : originals_given s ≡ s.configuration.original_count
   pub some : 0 < recovery_given s
 

@@ -7,17 +7,16 @@ use Rattle.rs_field.specs.code.Code.{AreRecovery}
 use Rattle.rs_field.specs.code.Column.{Shard, shard_at, column}
 use Rattle.rs_field.specs.code.Counts.{default_rate}
 use Rattle.rs_field.specs.code.Decoder.{DecoderState, IsDecoder, originals_given, recovery_given}
-use Rattle.rs_field.specs.code.Encoder.{fresh_encoder}
 use Rattle.rs_field.specs.code.Frame.{frame_at, original_row, recovery_row, row_count}
 use Rattle.rs_field.specs.code.Pieces.{IsStrip}
 use Rattle.rs_field.specs.code.PieceStates.{state_of_pieces}
 use Rattle.rs_field.specs.rows.MarkedRows.{is_marked}
 use Rattle.rs_field.specs.words.UpTo.{up_to}
 use Rattle.rs_rate.specs.declared.passes.sums.SumBase.{SumBase}
-use Rattle.rs_rate.specs.declared.rows.encoder_work.EncoderRows.{EncoderRows}
+use Rattle.rs_rate.specs.declared.objects.strip_encoder.StripEncoder.{StripEncoder}
 use Rattle.rs_rate.specs.passes.BaseSum.{base_sum as sum_of}
 use Rattle.rs_rate.specs.passes.Decoding.{IsLocatorOf}
-use Rattle.rs_rate.specs.rows.EncoderView.{encoder_state, lent_shards}
+use Rattle.rs_rate.specs.objects.StripView.{code_of, coded_shards}
 use Rattle.rs_rate.specs.rows.ShardRows.{IsByteSum}
 use Rattle.reed_solomon_simd.specs.Base.{MarkBase}
 use Rattle.reed_solomon_simd.specs.Making.{strip_configuration}
@@ -70,20 +69,20 @@ pub record IsSyndromeBase (s : DecoderState) (base : SumBase) : Type 0 where
       → recovery_row (frame_at s.configuration) i < length base.marks.now
       → is_marked base.marks.now (recovery_row (frame_at s.configuration) i) ≡ is_some (s.recovery i)
 
--- the syndromes of a strip are in the rows of an encoder, with a base for their sums
-pub record CanSumSyndromes (s : DecoderState) (base : SumBase) (rows : EncoderRows) (start end : ℕ) : Type 0 where
+-- the syndromes of a strip are in an encoder, with a base for their sums
+pub record CanSumSyndromes (s : DecoderState) (base : SumBase) (encoder : StripEncoder) (start end : ℕ) : Type 0 where
   pub set_up : IsDecoder default_rate s
   pub based : IsSyndromeBase s base
   pub strip : IsStrip start end s.configuration.shard_bytes
-  pub fresh : encoder_state default_rate rows ≡ fresh_encoder (strip_configuration s (end - start))
-  pub made : AreSyndromes (state_of_pieces start end s) (lent_shards rows)
+  pub code : code_of encoder ≡ strip_configuration s (end - start)
+  pub made : AreSyndromes (state_of_pieces start end s) (coded_shards encoder)
 
 -- an encoder and a base for the syndromes of strips of n bytes, with the names of the missing originals and the number
 -- of surplus shards
-pub record AreSyndromesReady (rows : EncoderRows) (base : SumBase) (wanted : List ShardIndex) (surplus : ℕ)
+pub record AreSyndromesReady (encoder : StripEncoder) (base : SumBase) (wanted : List ShardIndex) (surplus : ℕ)
     (s : DecoderState) (n : ℕ) : Type 0
   where
-    pub encoder : IsReadyToEncode rows s n
+    pub encoder : IsReadyToEncode encoder s n
     pub based : IsSyndromeBase s base
     pub names : NamesMissing s.configuration.original_count s wanted
     pub surplus_is : originals_given s + recovery_given s ≡ s.configuration.original_count + surplus

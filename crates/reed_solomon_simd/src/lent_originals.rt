@@ -11,10 +11,11 @@ ghost use Rattle.reed_solomon_simd.specs.Rooms.{shards_of};
 use crate::checked_originals::check_original;
 use crate::originals::LentShards;
 use crate::rooms::Rooms;
-use crate::strip_encoder::{encode_strips_with, strip_encoder};
+use crate::strip_bytes::ENCODE_STRIP_BYTES;
+use crate::strip_encoder::encode_strips_with;
 use rs_field::engine::Engine;
 use rs_field::error::Error;
-use rs_rate::rate::strips::StripEncoder;
+use rs_rate::rate::strip_encoder::StripEncoder;
 use rs_rate::rate::{DefaultRateCounts, check_encoder_rows};
 use std::alloc::Global;
 
@@ -73,8 +74,8 @@ impl<'a> LentOriginals<'a> {
         })
     }
 
-    /// Gathers all `original` shards for these counts, and makes an encoder for their strips. The shard size is that of
-    /// the first original.
+    /// Gathers all `original` shards for these counts, and makes an encoder for their strips, with this engine. The shard
+    /// size is that of the first original.
     ///
     /// # Errors
     ///
@@ -84,9 +85,10 @@ impl<'a> LentOriginals<'a> {
     ///   list of references or the work area of the encoder cannot be allocated.
     /// - For each original in order: [`Error::TooManyOriginalShards`], then [`Error::DifferentShardSize`]. The iterator
     ///   is then not called again.
-    pub fn gather<I: Iterator<Item = &'a [u8]> + Drop>(
+    pub fn gather<E: Engine, I: Iterator<Item = &'a [u8]> + Drop>(
         alloc: Global,
         counts: DefaultRateCounts,
+        engine: &E,
         mut original: I,
     ) -> Result<(LentOriginals<'a>, StripEncoder), Error>
         requires can { I.can_next original }
@@ -96,7 +98,7 @@ impl<'a> LentOriginals<'a> {
             → IsEncoding counts.original_count counts.recovery_count items
             (result_map_both (λ x. lent_state x.0) (λ e. e) result)) }
         ensures counts { IfOk result (λ x. x.0.counts ≡ counts) }
-        ensures encoder { IfOk result (λ x. IsStripEncoder x.0 x.1.rows) }
+        ensures encoder { IfOk result (λ x. IsStripEncoder x.0 x.1) }
     {
         let Some(first) = original.next() else {
             return Err(Error::TooFewOriginalShards {
@@ -105,7 +107,8 @@ impl<'a> LentOriginals<'a> {
             });
         };
         let mut originals: LentOriginals<'a> = LentOriginals::new(alloc, counts, first.len())?;
-        let encoder = strip_encoder(alloc, counts, first.len())?;
+        let encoder =
+            StripEncoder::new(alloc, counts, first.len(), ENCODE_STRIP_BYTES, engine)?;
         originals.add(first)?;
         originals.add_all(original)?;
         Ok((originals, encoder))
@@ -171,7 +174,7 @@ impl<'a> LentOriginals<'a> {
         encoder: &mut StripEncoder,
         rooms: &mut R,
     ) -> Result<(), Error>
-        requires encoder { IsStripEncoder self.now encoder.old.rows }
+        requires encoder { IsStripEncoder self.now encoder.old }
         requires all { answer_of (message_of (lent_state self.now)) ≡ Ok tt }
         requires number { length (R.held rooms.old) ≡ self.now.counts.recovery_count }
         requires fit { All (λ room. length room ≡ room_length R.grows 0 self.now.shard_bytes)
@@ -200,7 +203,7 @@ impl<'a> LentOriginals<'a> {
         engine: &E,
         encoder: &mut StripEncoder,
     ) -> Result<Vec<Vec<u8>>, Error>
-        requires encoder { IsStripEncoder self.now encoder.old.rows }
+        requires encoder { IsStripEncoder self.now encoder.old }
         requires all { answer_of (message_of (lent_state self.now)) ≡ Ok tt }
         ensures { MatchResult (collected_shards result)
             (λ recovery. AreRecovery (lent_state self.now).configuration (lent_state self.now).given

@@ -35,7 +35,6 @@ mod strip_bytes;
 mod strip_comparer;
 mod strip_decoder;
 mod strip_encoder;
-mod strip_message;
 mod strip_rebuilder;
 mod strip_rounds;
 mod strip_summer;

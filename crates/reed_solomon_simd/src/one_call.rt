@@ -67,7 +67,7 @@ pub fn encode<'a, I: Iterator<Item = &'a [u8]> + Drop>(
         → IfOk (collected_shards result) (AreCoded original_count recovery_count items) }
 {
     let counts = DefaultRateCounts::new(original_count, recovery_count)?;
-    let (originals, mut encoder) = LentOriginals::gather(alloc, counts, original)?;
+    let (originals, mut encoder) = LentOriginals::gather(alloc, counts, &engine, original)?;
     originals.check_all_given()?;
     originals.encode_vectors(alloc, &engine, &mut encoder)
 }

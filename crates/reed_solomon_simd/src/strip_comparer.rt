@@ -8,7 +8,7 @@ ghost use Rattle.rs_field.specs.code.Decoder.{IsDecoder, originals_given, recove
 ghost use Rattle.rs_field.specs.code.Given.{AreAmong, nothing};
 ghost use Rattle.rs_field.specs.code.Pieces.{IsStrip};
 ghost use Rattle.rs_field.specs.code.PieceStates.{pieces_of, state_of_pieces};
-ghost use Rattle.rs_rate.specs.objects.ResultView.{recovery_shards};
+ghost use Rattle.rs_rate.specs.objects.StripView.{coded_shards};
 ghost use Rattle.reed_solomon_simd.specs.Making.{AreRooms, Makes};
 ghost use Rattle.reed_solomon_simd.specs.Rounds.{IsReadyToEncode, own_piece, own_message};
 
@@ -16,15 +16,11 @@ use crate::pieces::{Pieces, inconsistent};
 use crate::shard_index::ShardIndex;
 use crate::store::Store;
 use crate::strip_bytes::ENCODE_STRIP_BYTES;
-use crate::strip_encoder::strip_encoder;
-use crate::strip_message::encode_message;
 use crate::strips::{Way, make_strips};
-use rs_field::engine::Engine;
+use rs_field::engine::{Engine, Steps};
 use rs_field::error::Error;
-use rs_rate::EncoderResult;
-use rs_rate::rate::split_rounds::lent_recovery;
+use rs_rate::rate::strip_encoder::StripEncoder;
 use rs_rate::rate::strip_message::StripMessage;
-use rs_rate::rate::strips::StripEncoder;
 use std::alloc::Global;
 
 /// Checks that some message agrees with all received shards. All originals and some recovery shards were received. The
@@ -47,7 +43,8 @@ pub(crate) fn check_by_encoding<E: Engine, S: Store>(
         (S.held store.old) }
     ensures { Makes S.grows (S.received store.old) [] (S.held store.old) (S.held store.new) result }
 {
-    let encoder = strip_encoder(alloc, store.counts(), store.shard_bytes())?;
+    let (counts, shard_bytes) = (store.counts(), store.shard_bytes());
+    let encoder = StripEncoder::new(alloc, counts, shard_bytes, ENCODE_STRIP_BYTES, engine)?;
     let mut way = Compare { engine, encoder };
     make_strips(ENCODE_STRIP_BYTES, &mut way, store)
 }
@@ -65,7 +62,7 @@ impl<'a, E: Engine> Way for Compare<'a, E> {
 
     ghost wanted = { λ _ _. [] };
 
-    ghost ready = { λ x s n. IsReadyToCompare x.encoder.rows s n };
+    ghost ready = { λ x s n. IsReadyToCompare x.encoder s n };
 
     fn strip<S: Store>(&mut self, start: usize, end: usize, store: &mut S) -> Result<(), Error> {
         if !agree_in_strip(self.engine, &mut self.encoder, &*store, start, end) {
@@ -86,20 +83,20 @@ fn agree_in_strip<E: Engine, P: Pieces>(
     requires set_up { IsDecoder default_rate (P.received received.now) }
     requires all { originals_given (P.received received.now)
         ≡ (P.received received.now).configuration.original_count }
-    requires ready { IsReadyToEncode encoder.old.rows (P.received received.now) (end - start) }
+    requires ready { IsReadyToEncode encoder.old (P.received received.now) (end - start) }
     requires strip { IsStrip start end (P.received received.now).configuration.shard_bytes }
     requires some { start < end }
     ensures answer { IsTrue result
         ↔ IsConsistent (state_of_pieces start end (P.received received.now)) }
-    ensures ready { IsReadyToEncode encoder.new.rows (P.received received.now) (end - start) }
+    ensures ready { IsReadyToEncode encoder.new (P.received received.now) (end - start) }
 {
     let strip = ReceivedStrip {
         received,
         start,
         end,
     };
-    encode_message(engine, encoder, end - start, &strip);
-    are_encoded(&lent_recovery(encoder), received, start, end)
+    encoder.encode(engine, &mut Steps::new(), end - start, &strip);
+    are_encoded(encoder, received, start, end)
 }
 
 /// The pieces of the originals of a message in one strip, if all originals were received.
@@ -142,23 +139,23 @@ fn received_piece<P: Pieces>(received: &P, index: usize, start: usize, end: usiz
 }
 
 fn are_encoded<P: Pieces>(
-    encoded: &EncoderResult<'_>,
+    encoder: &StripEncoder,
     received: &P,
     start: usize,
     end: usize,
 ) -> bool
     requires set_up { IsDecoder default_rate (P.received received.now) }
-    requires number { length (recovery_shards encoded.now)
+    requires number { length (coded_shards encoder.now)
         ≡ (P.received received.now).configuration.recovery_count }
     requires order { start ≤ end }
     requires inside { end ≤ (P.received received.now).configuration.shard_bytes }
     ensures { IsTrue result
         ↔ AreAmong (pieces_of start end (P.received received.now).recovery)
-        (recovery_shards encoded.now) }
+        (coded_shards encoder.now) }
 {
     for index in 0..received.counts().recovery_count {
         if let Some(piece) = received.piece(ShardIndex::Recovery(index), start, end) {
-            if !is_encoded(encoded, index, piece) {
+            if !is_encoded(encoder, index, piece) {
                 return false;
             }
         }
@@ -166,11 +163,11 @@ fn are_encoded<P: Pieces>(
     true
 }
 
-fn is_encoded(encoded: &EncoderResult<'_>, index: usize, piece: &[u8]) -> bool
-    requires inside { index < length (recovery_shards encoded.now) }
-    ensures { IsTrue result ↔ (shard_at (recovery_shards encoded.now) index ≡ piece.now) }
+fn is_encoded(encoder: &StripEncoder, index: usize, piece: &[u8]) -> bool
+    requires inside { index < length (coded_shards encoder.now) }
+    ensures { IsTrue result ↔ (shard_at (coded_shards encoder.now) index ≡ piece.now) }
 {
-    match encoded.recovery(index) {
+    match encoder.recovery(index) {
         Some(shard) => shard == piece,
         None => false,
     }

@@ -1,28 +1,23 @@
 //! Encoding strip by strip. The work area has room for one strip, so it stays in the cache. For each strip, the pieces
-//! of the originals are copied into the work area, and the recovery pieces are copied from there into the rooms.
+//! of the originals are read where they are or copied into the work area, and the recovery pieces are copied from there
+//! into the rooms.
 ghost use Rattle.std.specs.Prelude.{◌≡◌, ℕ, List, ◌-◌, ◌%◌, ◌<◌, ◌≤◌, All, true, false, length, min, Ok, Err};
 ghost use Rattle.std.specs.Prelude.{OnOk, OnErr, IfOk, IfErr};
 ghost use Rattle.rs_field.specs.code.Code.{AreRecovery};
 ghost use Rattle.rs_field.specs.code.Column.{Shard};
 ghost use Rattle.rs_field.specs.code.Configuration.{validation_outcome};
-ghost use Rattle.rs_field.specs.code.Counts.{default_rate};
-ghost use Rattle.rs_field.specs.code.Encoder.{fresh_encoder};
 ghost use Rattle.rs_field.specs.code.OneCall.{default_of};
 ghost use Rattle.rs_field.specs.code.Pieces.{pieces, ArePut, room_length};
-ghost use Rattle.rs_rate.specs.rows.EncoderView.{encoder_state};
-ghost use Rattle.rs_rate.specs.objects.ResultView.{recovery_shards};
+ghost use Rattle.rs_rate.specs.objects.StripView.{code_of, coded_shards};
 
 use crate::originals::Originals;
 use crate::rooms::Rooms;
 use crate::strip_bytes::ENCODE_STRIP_BYTES;
-use crate::strip_message::encode_message;
-use rs_field::engine::Engine;
+use rs_field::engine::{Engine, Steps};
 use rs_field::error::Error;
-use rs_rate::EncoderResult;
 use rs_rate::rate::DefaultRateCounts;
-use rs_rate::rate::split_rounds::lent_recovery;
+use rs_rate::rate::strip_encoder::StripEncoder;
 use rs_rate::rate::strip_message::StripMessage;
-use rs_rate::rate::strips::StripEncoder;
 use std::alloc::Global;
 
 /// Writes the recovery shards of originals of one size into rooms.
@@ -54,32 +49,13 @@ pub fn encode_strips<E: Engine, O: Originals, R: Rooms>(
     ensures places { R.places rooms.new ≡ R.places rooms.old }
     ensures loan { R.loan rooms.new ≡ R.loan rooms.old }
 {
-    let mut encoder = strip_encoder(alloc, counts, shard_bytes)?;
+    let mut encoder =
+        StripEncoder::new(alloc, counts, shard_bytes, ENCODE_STRIP_BYTES, &engine)?;
     encode_strips_with(&engine, &mut encoder, shard_bytes, originals, rooms)
 }
 
-/// Makes an encoder for the strips of shards of this size. It has no original.
-///
-/// # Errors
-///
-/// [`Error::OutOfMemory`] if the work area cannot be allocated.
-pub(crate) fn strip_encoder(
-    alloc: Global,
-    counts: DefaultRateCounts,
-    shard_bytes: usize,
-) -> Result<StripEncoder, Error>
-    requires { validation_outcome
-        (default_of counts.original_count counts.recovery_count shard_bytes)
-        ≡ Ok tt }
-    ensures fresh { IfOk result (λ encoder. encoder_state default_rate encoder.rows
-        ≡ fresh_encoder (default_of counts.original_count counts.recovery_count
-        (min 4096 shard_bytes))) }
-    ensures refused { IfErr result (λ e. e ≡ Error.OutOfMemory) }
-{
-    StripEncoder::with_counts(alloc, counts, ENCODE_STRIP_BYTES.min(shard_bytes), (), None)
-}
-
-/// Writes the recovery shards of originals of one size into rooms, with an encoder from [`strip_encoder`].
+/// Writes the recovery shards of originals of one size into rooms, with an encoder for their
+/// strips.
 ///
 /// # Errors
 ///
@@ -91,9 +67,10 @@ pub(crate) fn encode_strips_with<E: Engine, O: Originals, R: Rooms>(
     originals: &O,
     rooms: &mut R,
 ) -> Result<(), Error>
-    requires fresh { encoder_state default_rate encoder.old.rows
-        ≡ fresh_encoder (default_of (length (O.shards originals.now)) (length (R.held rooms.old))
-        (min 4096 shard_bytes)) }
+    requires code { code_of encoder.old
+        ≡ default_of (length (O.shards originals.now)) (length (R.held rooms.old))
+        (min 4096 shard_bytes) }
+    requires whole { encoder.old.reads ≡ true → shard_bytes % 64 ≡ 0 }
     requires valid { validation_outcome
         (default_of (length (O.shards originals.now)) (length (R.held rooms.old)) shard_bytes)
         ≡ Ok tt }
@@ -127,19 +104,19 @@ fn encode_strip<E: Engine, O: Originals, R: Rooms>(
     end: usize,
     rooms: &mut R,
 ) -> Result<(), Error>
-    requires fresh { (n : ℕ) × (end - start ≤ n)
-        × (encoder_state default_rate encoder.old.rows
-        ≡ fresh_encoder (default_of (length (O.shards originals.now))
-        (length (R.held rooms.old)) n)) }
+    requires code { (n : ℕ) × (end - start ≤ n)
+        × (code_of encoder.old
+        ≡ default_of (length (O.shards originals.now)) (length (R.held rooms.old)) n) }
+    requires whole { encoder.old.reads ≡ true → (end - start) % 64 ≡ 0 }
     requires some { start < end }
     requires even { (end - start) % 2 ≡ 0 }
     requires originals { All (λ shard. end ≤ length shard) (O.shards originals.now) }
     requires fit { (size : ℕ) × (end ≤ size)
         × All (λ room. length room ≡ room_length R.grows start size) (R.held rooms.old) }
     ensures refused { OnErr result ((R.grows ≡ true) × (result ≡ Err Error.OutOfMemory)) }
-    ensures fresh { encoder_state default_rate encoder.new.rows
-        ≡ fresh_encoder (default_of (length (O.shards originals.now))
-        (length (R.held rooms.old)) (end - start)) }
+    ensures code { code_of encoder.new
+        ≡ default_of (length (O.shards originals.now)) (length (R.held rooms.old)) (end - start) }
+    ensures reads { encoder.new.reads ≡ encoder.old.reads }
     ensures coded { OnOk result ((made : List Shard)
         × AreRecovery (default_of (length (O.shards originals.now)) (length (R.held rooms.old))
         (end - start)) (pieces start end (O.shards originals.now)) made
@@ -152,8 +129,8 @@ fn encode_strip<E: Engine, O: Originals, R: Rooms>(
         start,
         end,
     };
-    encode_message(engine, encoder, end - start, &strip);
-    put_pieces(&lent_recovery(encoder), start, end, rooms)
+    encoder.encode(engine, &mut Steps::new(), end - start, &strip);
+    put_pieces(encoder, start, end, rooms)
 }
 
 /// The pieces of the originals in one strip.
@@ -178,26 +155,26 @@ impl<'a, O: Originals> StripMessage for OriginalsStrip<'a, O> {
     }
 }
 
-// Writes the recovery shards of a result into rooms, after the first `start` bytes.
+// Writes the recovery pieces of the last strip into rooms, after the first `start` bytes.
 fn put_pieces<R: Rooms>(
-    lent: &EncoderResult<'_>,
+    encoder: &StripEncoder,
     start: usize,
     end: usize,
     rooms: &mut R,
 ) -> Result<(), Error>
     requires order { start ≤ end }
-    requires number { length (recovery_shards lent.now) ≡ length (R.held rooms.old) }
-    requires sized { All (λ shard. length shard ≡ end - start) (recovery_shards lent.now) }
+    requires number { length (coded_shards encoder.now) ≡ length (R.held rooms.old) }
+    requires sized { All (λ shard. length shard ≡ end - start) (coded_shards encoder.now) }
     requires fit { (size : ℕ) × (end ≤ size)
         × All (λ room. length room ≡ room_length R.grows start size) (R.held rooms.old) }
     ensures put { OnOk result
-        (ArePut start end (recovery_shards lent.now) (R.held rooms.old) (R.held rooms.new)) }
+        (ArePut start end (coded_shards encoder.now) (R.held rooms.old) (R.held rooms.new)) }
     ensures refused { OnErr result ((R.grows ≡ true) × (result ≡ Err Error.OutOfMemory)) }
     ensures places { R.places rooms.new ≡ R.places rooms.old }
     ensures loan { R.loan rooms.new ≡ R.loan rooms.old }
 {
-    for index in 0..lent.recovery_iter().len() {
-        if let Some(piece) = lent.recovery(index) {
+    for index in 0..encoder.recovery_count() {
+        if let Some(piece) = encoder.recovery(index) {
             rooms.put(index, start, piece)?;
         }
     }

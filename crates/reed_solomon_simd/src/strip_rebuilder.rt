@@ -1,20 +1,18 @@
 //! Reconstructing wanted shards strip by strip. Few shards are rebuilt by direct sums. Otherwise the received shards of
 //! each strip are decoded. If a recovery shard is wanted, the originals are then encoded. The wanted pieces are copied
 //! into the rooms.
-ghost use Rattle.std.specs.Prelude.{◌≡◌, ℕ, ◌-◌, ◌<◌, ◌≤◌, All, true, List, length, map, Ok, Some};
+ghost use Rattle.std.specs.Prelude.{◌≡◌, ℕ, ◌-◌, ◌%◌, ◌<◌, ◌≤◌, All, true, List, length, map, min, Ok, Some};
 ghost use Rattle.std.specs.Prelude.{[], OnOk, IfOk, IfErr, IfSome, is_some, option_copied, unwrap_or};
-ghost use Rattle.std.specs.Option.{option_map};
 ghost use Rattle.std.specs.List.{list_any};
 ghost use Rattle.rs_field.specs.code.Code.{AreRecovery};
 ghost use Rattle.rs_field.specs.code.Column.{Shard};
 ghost use Rattle.rs_field.specs.code.Counts.{default_rate};
 ghost use Rattle.rs_field.specs.code.Decoder.{IsDecoder, IsAgreeing, Restored};
 ghost use Rattle.rs_field.specs.code.Configuration.{validation_outcome};
-ghost use Rattle.rs_field.specs.code.Encoder.{fresh_encoder};
 ghost use Rattle.rs_field.specs.code.OneCall.{default_of};
 ghost use Rattle.rs_field.specs.code.Pieces.{IsStrip, ArePut, room_length};
 ghost use Rattle.rs_field.specs.code.PieceStates.{state_of_pieces};
-ghost use Rattle.rs_rate.specs.rows.EncoderView.{encoder_state, lent_shards};
+ghost use Rattle.rs_rate.specs.objects.StripView.{code_of, coded_shards};
 ghost use Rattle.rs_rate.specs.objects.ResultView.{restored_originals};
 ghost use Rattle.reed_solomon_simd.specs.Making.{CanMake, AreRooms, Makes};
 ghost use Rattle.reed_solomon_simd.specs.Reconstructed.{lent_at};
@@ -26,15 +24,15 @@ use crate::rooms::Rooms;
 use crate::shard_index::ShardIndex;
 use crate::store::Store;
 use crate::strip_bytes::DECODE_STRIP_BYTES;
-use crate::strip_message::encode_message;
 use crate::strip_rounds::Rounds;
 use crate::strip_summer::sum_listed;
 use crate::strips::{Way, make_strips};
-use rs_field::engine::Engine;
+use rs_field::engine::{Engine, Steps};
 use rs_field::error::Error;
 use rs_rate::DecoderResult;
+use rs_rate::rate::strip_encoder::StripEncoder;
 use rs_rate::rate::strip_message::StripMessage;
-use rs_rate::rate::strips::{StripDecoder, StripEncoder};
+use rs_rate::rate::strips::StripDecoder;
 use rs_rate::rate::{DefaultRateCounts, are_sums_cheaper};
 use std::alloc::Global;
 
@@ -86,7 +84,7 @@ fn rebuild_by_rounds<E: Engine, S: Store>(
     let counts = store.counts();
     let width = DECODE_STRIP_BYTES.min(store.shard_bytes());
     let decoder = StripDecoder::with_counts(alloc, counts, width, (), None)?;
-    let encoder = encoder_if_wanted(alloc, counts, width, wanted)?;
+    let encoder = encoder_if_wanted(alloc, counts, store.shard_bytes(), engine, wanted)?;
     let mut way = Rebuild {
         engine,
         wanted,
@@ -96,24 +94,25 @@ fn rebuild_by_rounds<E: Engine, S: Store>(
     make_strips(DECODE_STRIP_BYTES, &mut way, store)
 }
 
-// Makes an encoder for strips of `width` bytes if a recovery shard is wanted. Fails with `OutOfMemory`.
-fn encoder_if_wanted(
+// Makes an encoder for strips of shards of this size if a recovery shard is wanted. Fails with `OutOfMemory`.
+fn encoder_if_wanted<E: Engine>(
     alloc: Global,
     counts: DefaultRateCounts,
-    width: usize,
+    shard_bytes: usize,
+    engine: &E,
     wanted: &[ShardIndex],
 ) -> Result<Option<StripEncoder>, Error>
-    requires valid { validation_outcome
-        (default_of counts.original_count counts.recovery_count width) ≡ Ok tt }
+    requires valid { validation_outcome (default_of counts.original_count counts.recovery_count
+        (min 2048 shard_bytes)) ≡ Ok tt }
     ensures made { IfOk result (λ o. (list_any is_recovery wanted.now ≡ is_some o)
-        × IfSome o (λ e. encoder_state default_rate e.rows
-        ≡ fresh_encoder (default_of counts.original_count counts.recovery_count width))) }
+        × IfSome o (λ e. (code_of e ≡ default_of counts.original_count counts.recovery_count
+        (min 2048 shard_bytes)) × (e.reads ≡ true → shard_bytes % 64 ≡ 0))) }
     ensures refused { IfErr result (λ e. e ≡ Error.OutOfMemory) }
 {
     if !wants_recovery(wanted) {
         return Ok(None);
     }
-    let encoder = StripEncoder::with_counts(alloc, counts, width, (), None)?;
+    let encoder = StripEncoder::new(alloc, counts, shard_bytes, DECODE_STRIP_BYTES, engine)?;
     Ok(Some(encoder))
 }
 
@@ -136,7 +135,7 @@ impl<'a, E: Engine> Way for Rebuild<'a, E> {
 
     ghost ready = { λ x s n. IsReadyToDecode x.rounds s n
         × (list_any is_recovery x.wanted.now ≡ is_some x.encoder)
-        × IfSome x.encoder (λ e. IsReadyToEncode e.rows s n) };
+        × IfSome x.encoder (λ e. IsReadyToEncode e s n) };
 
     fn strip<S: Store>(&mut self, start: usize, end: usize, store: &mut S) -> Result<(), Error> {
         let restored_count = self.rounds.decode(self.engine, &*store, start, end)?;
@@ -159,7 +158,7 @@ fn encode_if_made<'a, E: Engine, P: Pieces>(
 )
     requires set_up { IsDecoder default_rate (P.received received.now) }
     requires ready { IfSome encoder.old
-        (λ e. IsReadyToEncode e.rows (P.received received.now) (end - start)) }
+        (λ e. IsReadyToEncode e (P.received received.now) (end - start)) }
     requires strip { IsStrip start end (P.received received.now).configuration.shard_bytes }
     requires some { start < end }
     requires restored { Restored (state_of_pieces start end (P.received received.now))
@@ -167,10 +166,10 @@ fn encode_if_made<'a, E: Engine, P: Pieces>(
     ensures coded { IfSome encoder.new (λ e. (message : List Shard)
         → IsAgreeing (state_of_pieces start end (P.received received.now)) message
         → AreRecovery (state_of_pieces start end (P.received received.now)).configuration message
-        (lent_shards e.rows)) }
+        (coded_shards e)) }
     ensures same { is_some encoder.new ≡ is_some encoder.old }
     ensures ready { IfSome encoder.new
-        (λ e. IsReadyToEncode e.rows (P.received received.now) (end - start)) }
+        (λ e. IsReadyToEncode e (P.received received.now) (end - start)) }
 {
     if let Some(encoder) = encoder {
         encode_restored(engine, encoder, received, restored, start, end);
@@ -187,7 +186,7 @@ fn encode_restored<'a, E: Engine, P: Pieces>(
     end: usize,
 )
     requires set_up { IsDecoder default_rate (P.received received.now) }
-    requires ready { IsReadyToEncode encoder.old.rows (P.received received.now) (end - start) }
+    requires ready { IsReadyToEncode encoder.old (P.received received.now) (end - start) }
     requires strip { IsStrip start end (P.received received.now).configuration.shard_bytes }
     requires some { start < end }
     requires restored { Restored (state_of_pieces start end (P.received received.now))
@@ -195,8 +194,8 @@ fn encode_restored<'a, E: Engine, P: Pieces>(
     ensures coded { (message : List Shard)
         → IsAgreeing (state_of_pieces start end (P.received received.now)) message
         → AreRecovery (state_of_pieces start end (P.received received.now)).configuration message
-        (lent_shards encoder.new.rows) }
-    ensures ready { IsReadyToEncode encoder.new.rows (P.received received.now) (end - start) }
+        (coded_shards encoder.new) }
+    ensures ready { IsReadyToEncode encoder.new (P.received received.now) (end - start) }
 {
     let strip = RestoredStrip {
         received,
@@ -204,7 +203,7 @@ fn encode_restored<'a, E: Engine, P: Pieces>(
         start,
         end,
     };
-    encode_message(engine, encoder, end - start, &strip);
+    encoder.encode(engine, &mut Steps::new(), end - start, &strip);
 }
 
 /// The pieces of the originals of a message in one strip. Each of them was received or restored.
@@ -271,12 +270,12 @@ fn put_wanted<'a, R: Rooms>(
     requires order { start ≤ end }
     requires number { length (R.held rooms.old) ≡ length wanted.now }
     requires pieces { (made : List Shard)
-        × (map (lent_at (restored_originals restored.now) (lent_by (option_map (λ e. e.rows) encoder.now))) wanted.now
+        × (map (lent_at (restored_originals restored.now) (lent_by encoder.now)) wanted.now
         ≡ map (λ piece. Some piece) made) × All (λ piece. length piece ≡ end - start) made }
     requires fit { (size : ℕ) × (end ≤ size)
         × All (λ room. length room ≡ room_length R.grows start size) (R.held rooms.old) }
     ensures put { OnOk result ((made : List Shard)
-        × (map (lent_at (restored_originals restored.now) (lent_by (option_map (λ e. e.rows) encoder.now))) wanted.now
+        × (map (lent_at (restored_originals restored.now) (lent_by encoder.now)) wanted.now
         ≡ map (λ piece. Some piece) made)
         × ArePut start end made (R.held rooms.old) (R.held rooms.new)) }
     ensures refused { IfErr result (λ e. (R.grows ≡ true) × (e ≡ Error.OutOfMemory)) }
@@ -297,7 +296,7 @@ fn wanted_piece<'a>(
     wanted: ShardIndex,
 ) -> Option<&'a [u8]>
     ensures { option_copied result ≡ lent_at (restored_originals restored.now)
-        (lent_by (option_map (λ e. e.rows) encoder.now)) wanted }
+        (lent_by encoder.now) wanted }
 {
     match wanted {
         ShardIndex::Original(index) => restored.restored_original(index),

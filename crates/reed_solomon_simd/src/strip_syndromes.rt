@@ -8,13 +8,12 @@ ghost use Rattle.rs_field.specs.code.Code.{AreRecovery};
 ghost use Rattle.rs_field.specs.code.Column.{shard_at};
 ghost use Rattle.rs_field.specs.code.Counts.{default_rate};
 ghost use Rattle.rs_field.specs.code.Decoder.{IsDecoder, enough_given, IsConsistent};
-ghost use Rattle.rs_field.specs.code.Encoder.{fresh_encoder};
 ghost use Rattle.rs_field.specs.code.Frame.{frame_at, row_count};
 ghost use Rattle.rs_field.specs.code.Pieces.{IsStrip};
 ghost use Rattle.rs_field.specs.code.PieceStates.{state_of_pieces};
 ghost use Rattle.rs_field.specs.rows.Layout.{row_len};
 ghost use Rattle.rs_field.specs.rows.MarkedRows.{is_marked};
-ghost use Rattle.rs_rate.specs.rows.EncoderView.{encoder_state, lent_shards};
+ghost use Rattle.rs_rate.specs.objects.StripView.{code_of, coded_shards};
 ghost use Rattle.rs_rate.specs.rows.ShardRows.{shard_in_order};
 ghost use Rattle.reed_solomon_simd.specs.Making.{AreRooms, MakesMissing, missing_names};
 ghost use Rattle.reed_solomon_simd.specs.Rounds.{IsReadyToEncode};
@@ -25,7 +24,6 @@ use crate::pieces::{Pieces, inconsistent, is_received, surplus_count};
 use crate::shard_index::ShardIndex;
 use crate::store::Store;
 use crate::strip_bytes::DECODE_STRIP_BYTES;
-use crate::strip_message::encode_message;
 use crate::strip_summer::{missing_originals, row_of};
 use crate::strip_sums::{BaseSums, StripSums, put_sums};
 use crate::strips::{Way, make_strips};
@@ -34,8 +32,8 @@ use rs_field::engine::layout::row_len;
 use rs_field::engine::{Engine, Steps};
 use rs_field::error::Error;
 use rs_rate::rate::base_sums::BasePieces;
+use rs_rate::rate::strip_encoder::StripEncoder;
 use rs_rate::rate::strip_message::StripMessage;
-use rs_rate::rate::strips::StripEncoder;
 use rs_rate::rate::sums::{SumBase, list_base, locate_base, summed_piece};
 use std::alloc::Global;
 
@@ -64,8 +62,8 @@ pub(crate) fn restore_by_syndromes<E: Engine, S: Store>(
     let counts = store.counts();
     let wanted = missing_originals(alloc, &*store)?;
     let surplus = surplus_count(&*store);
-    let width = DECODE_STRIP_BYTES.min(store.shard_bytes());
-    let encoder = StripEncoder::with_counts(alloc, counts, width, (), None)?;
+    let shard_bytes = store.shard_bytes();
+    let encoder = StripEncoder::new(alloc, counts, shard_bytes, DECODE_STRIP_BYTES, engine)?;
     let recovery = recovery_marks(alloc, &*store)?;
     let mut rows = vec![in alloc; 0; wanted.len()]?;
     let end = list_base(&mut rows, &recovery);
@@ -159,7 +157,7 @@ impl<'a, 'b, E: Engine> Way for Syndromes<'a, 'b, E> {
 
     ghost wanted = { λ x _. x.wanted.now };
 
-    ghost ready = { λ x s n. AreSyndromesReady x.encoder.rows x.base x.wanted.now x.surplus s n };
+    ghost ready = { λ x s n. AreSyndromesReady x.encoder x.base x.wanted.now x.surplus s n };
 
     fn strip<S: Store>(&mut self, start: usize, end: usize, store: &mut S) -> Result<(), Error> {
         make_syndromes(self.engine, &mut self.encoder, &*store, start, end);
@@ -178,7 +176,7 @@ impl<'a, 'b, E: Engine> StripSums for Syndromes<'a, 'b, E> {
     ghost use Rattle.reed_solomon_simd.specs.Reconstructed.{IsMissing};
     ghost use Rattle.reed_solomon_simd.specs.Syndromes.{CanSumSyndromes};
 
-    ghost ready = { λ x s start end. CanSumSyndromes s x.base x.encoder.rows start end };
+    ghost ready = { λ x s start end. CanSumSyndromes s x.base x.encoder start end };
 
     ghost can = { λ _ s wanted. IsMissing s wanted };
 
@@ -219,14 +217,15 @@ fn make_syndromes<E: Engine, P: Pieces>(
     end: usize,
 )
     requires set_up { IsDecoder default_rate (P.received received.now) }
-    requires ready { IsReadyToEncode encoder.old.rows (P.received received.now) (end - start) }
+    requires ready { IsReadyToEncode encoder.old (P.received received.now) (end - start) }
     requires strip { IsStrip start end (P.received received.now).configuration.shard_bytes }
     requires some { start < end }
     requires few { end - start ≤ 2048 }
     ensures made { AreSyndromes (state_of_pieces start end (P.received received.now))
-        (lent_shards encoder.new.rows) }
-    ensures fresh { encoder_state default_rate encoder.new.rows
-        ≡ fresh_encoder (state_of_pieces start end (P.received received.now)).configuration }
+        (coded_shards encoder.new) }
+    ensures code { code_of encoder.new
+        ≡ (state_of_pieces start end (P.received received.now)).configuration }
+    ensures reads { encoder.new.reads ≡ encoder.old.reads }
 {
     let zeros = [0; DECODE_STRIP_BYTES];
     let strip = ZeroedStrip {
@@ -235,7 +234,7 @@ fn make_syndromes<E: Engine, P: Pieces>(
         start,
         end,
     };
-    encode_message(engine, encoder, end - start, &strip);
+    encoder.encode(engine, &mut Steps::new(), end - start, &strip);
     add_received(encoder, received, start, end);
 }
 
@@ -288,17 +287,17 @@ fn zeroed_piece<'a, P: Pieces>(
 // Adds a strip of each received recovery shard to the encoded recovery shard with its index.
 fn add_received<P: Pieces>(encoder: &mut StripEncoder, received: &P, start: usize, end: usize)
     requires set_up { IsDecoder default_rate (P.received received.now) }
-    requires fresh { encoder_state default_rate encoder.old.rows
-        ≡ fresh_encoder (state_of_pieces start end (P.received received.now)).configuration }
+    requires code { code_of encoder.old
+        ≡ (state_of_pieces start end (P.received received.now)).configuration }
     requires strip { IsStrip start end (P.received received.now).configuration.shard_bytes }
     requires coded { AreRecovery
         (state_of_pieces start end (P.received received.now)).configuration
         (zeroed (state_of_pieces start end (P.received received.now)))
-        (lent_shards encoder.old.rows) }
+        (coded_shards encoder.old) }
     ensures made { AreSyndromes (state_of_pieces start end (P.received received.now))
-        (lent_shards encoder.new.rows) }
-    ensures fresh { encoder_state default_rate encoder.new.rows
-        ≡ encoder_state default_rate encoder.old.rows }
+        (coded_shards encoder.new) }
+    ensures code { code_of encoder.new ≡ code_of encoder.old }
+    ensures reads { encoder.new.reads ≡ encoder.old.reads }
 {
     for index in 0..received.counts().recovery_count {
         if let Some(piece) = received.piece(ShardIndex::Recovery(index), start, end) {
@@ -318,7 +317,7 @@ impl<'a, 'b, E: Engine> Syndromes<'a, 'b, E> {
         sum: &mut [[u8; 64]],
     ) -> bool
         requires ready { CanSumSyndromes (P.received received.now) self.now.base
-            self.now.encoder.rows start end }
+            self.now.encoder start end }
         requires room { length sum.old ≡ row_len (end - start) }
         ensures { IsTrue result
             ↔ IsConsistent (state_of_pieces start end (P.received received.now)) }
@@ -341,11 +340,11 @@ impl<'a, 'b, E: Engine> Syndromes<'a, 'b, E> {
         sum: &mut [[u8; 64]],
     ) -> bool
         requires ready { CanSumSyndromes (P.received received.now) self.now.base
-            self.now.encoder.rows start end }
+            self.now.encoder start end }
         requires index { index < (P.received received.now).configuration.recovery_count }
         requires room { length sum.old ≡ row_len (end - start) }
         ensures { IsTrue result ↔ AgreesAt (state_of_pieces start end (P.received received.now))
-            self.now.base (lent_shards self.now.encoder.rows) index }
+            self.now.base (coded_shards self.now.encoder) index }
     {
         if received
             .piece(ShardIndex::Recovery(index), start, end)
@@ -371,12 +370,12 @@ impl<'a, 'b, E: Engine> Syndromes<'a, 'b, E> {
         sum: &mut [[u8; 64]],
     )
         requires ready { CanSumSyndromes (P.received received.now) self.now.base
-            self.now.encoder.rows start end }
+            self.now.encoder start end }
         requires row { row < row_count (frame_at (P.received received.now).configuration) }
         requires outside { is_marked self.now.base.marks.now row ≡ false }
         requires room { length sum.old ≡ row_len (end - start) }
         ensures { IsSyndromeSum (state_of_pieces start end (P.received received.now))
-            self.now.base (lent_shards self.now.encoder.rows) row
+            self.now.base (coded_shards self.now.encoder) row
             (shard_in_order sum.new (end - start) 0) }
     {
         let pieces = SyndromePieces {
@@ -403,7 +402,7 @@ impl<'a, 'b, E: Engine> Syndromes<'a, 'b, E> {
         second: &mut [[u8; 64]],
     )
         requires ready { CanSumSyndromes (P.received received.now) self.now.base
-            self.now.encoder.rows start end }
+            self.now.encoder start end }
         requires first { rows.0 < row_count (frame_at (P.received received.now).configuration) }
         requires second { rows.1 < row_count (frame_at (P.received received.now).configuration) }
         requires first_outside { is_marked self.now.base.marks.now rows.0 ≡ false }
@@ -411,10 +410,10 @@ impl<'a, 'b, E: Engine> Syndromes<'a, 'b, E> {
         requires first_room { length first.old ≡ row_len (end - start) }
         requires second_room { length second.old ≡ row_len (end - start) }
         ensures first { IsSyndromeSum (state_of_pieces start end (P.received received.now))
-            self.now.base (lent_shards self.now.encoder.rows) rows.0
+            self.now.base (coded_shards self.now.encoder) rows.0
             (shard_in_order first.new (end - start) 0) }
         ensures second { IsSyndromeSum (state_of_pieces start end (P.received received.now))
-            self.now.base (lent_shards self.now.encoder.rows) rows.1
+            self.now.base (coded_shards self.now.encoder) rows.1
             (shard_in_order second.new (end - start) 0) }
     {
         let pieces = SyndromePieces {
@@ -443,15 +442,15 @@ struct SyndromePieces<'a> {
 impl<'a> BasePieces for SyndromePieces<'a> {
     ghost use Rattle.std.specs.Prelude.{◌-◌, ◌≤◌, ◌<◌, length};
     ghost use Rattle.rs_field.specs.code.Column.{column, shard_at};
-    ghost use Rattle.rs_rate.specs.rows.EncoderView.{lent_shards};
+    ghost use Rattle.rs_rate.specs.objects.StripView.{coded_shards};
 
-    ghost size = { λ x. x.encoder.now.rows.configuration.shard_bytes };
+    ghost size = { λ x. x.encoder.now.configuration.shard_bytes };
 
     ghost word = { λ x j row.
-        column j (shard_at (lent_shards x.encoder.now.rows) (row - x.recovery_from)) };
+        column j (shard_at (coded_shards x.encoder.now) (row - x.recovery_from)) };
 
     ghost has = { λ x row. (x.recovery_from ≤ row)
-        × (row - x.recovery_from < length (lent_shards x.encoder.now.rows)) };
+        × (row - x.recovery_from < length (coded_shards x.encoder.now)) };
 
     fn piece(&self, row: usize) -> &[u8] {
         syndrome_at(self.encoder, row - self.recovery_from)
@@ -459,8 +458,8 @@ impl<'a> BasePieces for SyndromePieces<'a> {
 }
 
 fn syndrome_at(encoder: &StripEncoder, index: usize) -> &[u8]
-    requires { index < length (lent_shards encoder.now.rows) }
-    ensures { result.now ≡ shard_at (lent_shards encoder.now.rows) index }
+    requires { index < length (coded_shards encoder.now) }
+    ensures { result.now ≡ shard_at (coded_shards encoder.now) index }
 {
     let syndrome = encoder.recovery(index);
     syndrome.unwrap_or(&[])

@@ -4,3 +4,4 @@ pub mod Loan
 pub mod ObjectLaws
 pub mod Calls
 pub mod Giving
+pub mod StripView

@@ -9,5 +9,6 @@ pub mod originals_alone;
 pub mod rate_object;
 pub mod rates;
 pub mod split_rounds;
+pub mod strip_encoder;
 pub mod strips;
 pub mod traits;

@@ -8,6 +8,7 @@ pub mod encoding;
 pub mod high_encoding;
 pub mod locators;
 pub mod low_encoding;
+pub mod message_encoding;
 pub mod read_encoding;
 pub mod restoring_rows;
 pub mod strip_message;

@@ -3,7 +3,7 @@ pub use crate::objects::decoders::{DefaultRateDecoder, HighRateDecoder, LowRateD
 pub use crate::objects::encoders::{DefaultRateEncoder, HighRateEncoder, LowRateEncoder};
 pub use crate::objects::rates::{DefaultRate, HighRate, LowRate};
 pub use crate::objects::traits::{Rate, RateDecoder, RateEncoder};
-pub use crate::objects::{aliases, originals_alone, split_rounds, strips};
+pub use crate::objects::{aliases, originals_alone, split_rounds, strip_encoder, strips};
 pub use crate::passes::{base_sums, changes, strip_message, sums};
 pub use crate::rows::decoder_work::DecoderWork;
 pub use crate::rows::encoder_work::EncoderWork;

@@ -1,17 +1,23 @@
--- Originals that are read where they are: their words, and what a block of them adds.
-use Rattle.std.proofs.Common.{◌≡◌, ℕ, zero, suc, ◌+◌, ◌*◌, ◌/◌, ◌%◌, ◌<◌, ◌≤◌, List, [], length, bit_xor, All}
-use Rattle.std.proofs.Common.{sym, ap, ap₂, subst, ◌∙◌, arith}
-use Rattle.std.proofs.Math.Nat.{mul-le-mul_right}
+-- Originals that are read where they are: their words, and blocks of two or four of them.
+use Rattle.std.proofs.Common.{◌≡◌, ℕ, ◌+◌, ◌*◌, ◌/◌, ◌%◌, ◌^◌, ◌<◌, ◌≤◌, List, [], length, ◌++◌, All, inl, inr}
+use Rattle.std.proofs.Common.{Bool, true, false}
+use Rattle.std.proofs.Common.{refl, ap, ap₂, subst, ◌∙◌, arith}
+use Rattle.std.proofs.lemmas.Bool.{cases_lt}
+use Rattle.std.proofs.lemmas.Grind.{common_steps}
 use Rattle.std.proofs.lemmas.List.Elements.{All-get_or}
 use Rattle.std.specs.Simd.{first_chunks}
 use Rattle.rs_field.specs.code.Column.{Shard, column, shard_at}
-use Rattle.rs_field.specs.declared.rows.kernel.FourRows.{FourRows}
-use Rattle.rs_field.specs.rows.Added.{AreAdded, row_of_two, row_of_four}
 use Rattle.rs_field.specs.rows.Rows.{Chunks, chunk, symbol, word_in}
-use Rattle.rs_field.specs.words.Transform.{IsBackward}
+use Rattle.rs_field.specs.words.Search.{first_below}
+use Rattle.rs_field.specs.words.StepBounds.{log2, transform_steps}
 use Rattle.rs_field.proofs.rows_lemmas.LayoutLemmas.{symbol_of_chunk}
-use Rattle.rs_rate.specs.passes.Reading.{message_word}
-use Rattle.rs_rate.specs.passes.Sums.{sum_word}
+use Rattle.rs_field.proofs.rows_lemmas.RowOffsets.{row_within}
+use Rattle.rs_rate.specs.declared.values.configuration.Configuration.{Configuration}
+use Rattle.rs_rate.specs.passes.Coding.{SumsBlocks}
+use Rattle.rs_rate.specs.passes.Reading.{CanRead, message_word, strip_rows}
+use Rattle.rs_rate.specs.values.Configured.{IsConfigured}
+use Rattle.rs_rate.proofs.values_lemmas.ConfiguredLemmas.{configuration-by}
+use Rattle.rs_rate.proofs.values_lemmas.HighCounts.{rows-fit}
 
 -- The symbols of the chunks of an original are its words.
 pub read_word : (n k s i : ℕ) (piece : Shard) (shards : List Shard) → piece ≡ shard_at shards i → i < length shards
@@ -26,56 +32,61 @@ read_word n k s i piece shards is few sized inside symbols =
     ∙ symbol_of_chunk (length piece / 64) (k * 32 + s) piece (omega (arith, long, inside, symbols)) (omega arith)
     ∙ ap (column (k * 32 + s)) is
 
--- The symbols of chunks whose words are zero.
-pub blank_symbol : (chunks : Chunks) (k s : ℕ) → ((j : ℕ) → j < 32 * length chunks → sum_word chunks j ≡ 0)
-    → k < length chunks → s < 32 → symbol (chunk chunks k) s ≡ 0
-blank_symbol chunks k s zeros inside symbols =
-    let chunk_at : k ≡ (k * 32 + s) / 32 = omega (arith, symbols) in
-    let symbol_at : s ≡ (k * 32 + s) % 32 = omega (arith, symbols) in
-    ap₂ (λ (a b : ℕ). symbol (chunk chunks a) b) chunk_at symbol_at ∙ zeros (k * 32 + s) (omega (arith, inside, symbols))
+-- A block of two or four rows has a power of two of them, and its transform takes at most a step for each row.
+pub block_power : (block : ℕ) → 1 < block → block ≤ 4 → block % 2 ≡ 0 → (d : ℕ) × (block ≡ 2 ^ d)
+block_power block some few even = elim (cases_lt block 3) [
+      | inl less ↦ (1, omega (arith, some, less))
+      | inr more ↦ (2, omega (arith, more, few, even))
+    ]
 
--- The rows of a block are among those of all originals.
-pub block_room : (block count len total : ℕ) → block ≤ count → count * len ≤ total → block * len ≤ total
-block_room block count len total enough room =
-    let less : block * len ≤ count * len = mul-le-mul_right len enough in omega (arith, less, room)
+few_steps : (transform_steps 2 ≡ 1) × (transform_steps 4 ≡ 4)
+unfolding transform_steps log2 first_below
+few_steps = (refl, refl)
 
--- Chunk k of row q is among those of the block.
-pub in_block : (block len q k : ℕ) → q < block → k < len → q * len + k < block * len
-in_block block len q k few inside =
-    let next : q + 1 ≤ block = omega arith in
-    let less : (q + 1) * len ≤ block * len = mul-le-mul_right len next in omega (arith, less, inside)
+pub block_steps : (block : ℕ) → 1 < block → block ≤ 4 → block % 2 ≡ 0 → transform_steps block ≤ block
+block_steps block some few even = elim (cases_lt block 3) [
+      | inl less ↦
+          let two : 2 ≡ block = omega (arith, some, less) in
+          subst (λ (n : ℕ). transform_steps n ≤ n) two (omega (arith, few_steps.0))
+      | inr more ↦
+          let four : 4 ≡ block = omega (arith, more, few, even) in
+          subst (λ (n : ℕ). transform_steps n ≤ n) four (omega (arith, few_steps.1))
+    ]
 
--- The words of two rows, and of four.
-pub words_of_two : (y0 y1 : Chunks) (k s start : ℕ) (f : ℕ → ℕ) → symbol (chunk y0 k) s ≡ f start
-    → symbol (chunk y1 k) s ≡ f (start + 1)
-    → (i : ℕ) → i < 2 → symbol (chunk (row_of_two y0 y1 i) k) s ≡ f (start + i)
-words_of_two y0 y1 k s start f first second zero few = first ∙ ap f (omega arith)
-words_of_two y0 y1 k s start f first second (suc zero) few = second
-words_of_two y0 y1 k s start f first second (suc (suc i)) few = absurd (omega (arith, few))
+-- The words of the rows at the front of chunks are those of these rows alone.
+pub front_word : (front back : Chunks) (block len k s q : ℕ) → length front ≡ block * len → q < block → k < len
+    → word_in (front ++ back) len k s q ≡ word_in front len k s q
+front_word front back block len k s q long few inside =
+    let at : q * len + k < length front = omega (arith, row_within q block k len few inside, long) in
+    ap (λ c. symbol c s) (get_or_front front back (q * len + k) at)
+  where
+    get_or_front : (front back : Chunks) (i : ℕ) → i < length front → chunk (front ++ back) i ≡ chunk front i
+    get_or_front front back i at = grind (arith, common_steps)
 
-pub words_of_four : (y : FourRows) (k s start : ℕ) (f : ℕ → ℕ) → symbol (chunk y.row_0.now k) s ≡ f start
-    → symbol (chunk y.row_1.now k) s ≡ f (start + 1) → symbol (chunk y.row_2.now k) s ≡ f (start + 2)
-    → symbol (chunk y.row_3.now k) s ≡ f (start + 3)
-    → (i : ℕ) → i < 4 → symbol (chunk (row_of_four y i) k) s ≡ f (start + i)
-words_of_four y k s start f e0 e1 e2 e3 zero few = e0 ∙ ap f (omega arith)
-words_of_four y k s start f e0 e1 e2 e3 (suc zero) few = e1
-words_of_four y k s start f e0 e1 e2 e3 (suc (suc zero)) few = e2
-words_of_four y k s start f e0 e1 e2 e3 (suc (suc (suc zero))) few = e3
-words_of_four y k s start f e0 e1 e2 e3 (suc (suc (suc (suc i)))) few = absurd (omega (arith, few))
+-- Sums of blocks in the rows at the front of chunks.
+pub front_sums : (front back : Chunks) (block n count len k s : ℕ) (old : ℕ → ℕ) → length front ≡ block * len → k < len
+    → SumsBlocks block n count old (word_in front len k s)
+    → SumsBlocks block n count old (word_in (front ++ back) len k s)
+front_sums front back block n count len k s old long inside (combinations, values, sums) =
+    (combinations, values, λ q few. front_word front back block len k s q long few inside ∙ sums q few)
 
--- What is added for rows is what is added for the block whose words they have.
-pub block_added : (size block shift len n k s start : ℕ) (f : ℕ → ℕ) (rows : ℕ → Chunks) (old new : Chunks)
-    → size ≡ block → n ≡ len → shift ≡ start + block
-    → ((i : ℕ) → i < size → symbol (chunk (rows i) k) s ≡ f (start + i))
-    → AreAdded size shift n k s rows old new
-    → IsBackward block (start + block) (λ i. f (start + i))
-    (λ q. bit_xor (word_in old len k s q) (word_in new len k s q))
-block_added size block shift len n k s start f rows old new whole same at words added =
-    let here : IsBackward size shift (λ i. f (start + i)) (λ q. bit_xor (word_in old n k s q) (word_in new n k s q)) =
-    λ i few. sym (words i few) ∙ added i few in
-    subst (λ (b : ℕ). IsBackward b (start + block) (λ i. f (start + i))
-    (λ q. bit_xor (word_in old len k s q) (word_in new len k s q))) whole
-    (subst (λ (t : ℕ). IsBackward size t (λ i. f (start + i))
-    (λ q. bit_xor (word_in old len k s q) (word_in new len k s q))) at
-    (subst (λ (m : ℕ). IsBackward size shift (λ i. f (start + i))
-    (λ q. bit_xor (word_in old m k s q) (word_in new m k s q))) same here))
+-- Shorter shards without tails can be read, too.
+pub reads_shorter : {c : Configuration} → CanRead c → (bytes : ℕ) → bytes ≤ c.shard_bytes → bytes % 64 ≡ 0
+    → CanRead (record c { shard_bytes = bytes })
+reads_shorter can bytes less whole = record {
+  high = can.high;
+  some = can.some;
+  few = can.few;
+  even = can.even;
+  whole = whole;
+  short = omega (arith, less, can.short);
+}
+
+-- There are rows for the recovery shards.
+pub recovery_fits : (reads : Bool) (own : Configuration) → IsConfigured own → (reads ≡ true → CanRead own)
+    → own.recovery_count ≤ strip_rows reads own
+recovery_fits true own configured can =
+    let by = configuration-by configured (can refl).high in
+    let rows = rows-fit false own.original_count own.recovery_count by.0 in
+    omega (arith, rows.block, by.1)
+recovery_fits false own configured can = configured.recovery

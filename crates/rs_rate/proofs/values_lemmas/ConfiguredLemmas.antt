@@ -28,6 +28,22 @@ pub with_frame-is : (asked : AsDefined) → supports asked.rate asked.original_c
     → 0 < asked.shard_bytes → asked.shard_bytes % 2 ≡ 0 → IsConfigured (with_frame asked)
 with_frame-is asked is some even = search (rules, chosen, frame-low, frame_alike, chooses, distinct_rows, coded-fit)
 
+-- A valid configuration is valid for another size that is positive and even.
+pub narrowed : {c : Configuration} → IsConfigured c → (bytes : ℕ) → 0 < bytes → bytes % 2 ≡ 0
+    → IsConfigured (record c { shard_bytes = bytes })
+narrowed own bytes some even = record {
+  positive = some;
+  even = even;
+  supported = own.supported;
+  framed = own.framed;
+  rows = own.rows;
+  few = own.few;
+  own_rows = own.own_rows;
+  other_rows = own.other_rows;
+  originals = own.originals;
+  recovery = own.recovery;
+}
+
 -- The frame of a valid configuration has the facts of a frame.
 pub places-known : {c : Configuration} → IsConfigured c → HasDistinctRows c.frame c.original_count c.recovery_count
 places-known {c} is = subst (λ (f : Frame). HasDistinctRows f c.original_count c.recovery_count) (sym is.framed)

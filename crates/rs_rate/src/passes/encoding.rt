@@ -1,19 +1,17 @@
 //! The coding of a round: the rows over the chunks, the coding of the rate, the tails.
-ghost use Rattle.std.specs.Prelude.{◌≡◌, ℕ, ◌%◌, ◌<◌, ◌≤◌, ◌⊎◌, true, false, All, length};
+ghost use Rattle.std.specs.Prelude.{◌≡◌, ℕ, ◌<◌, ◌≤◌, length};
 ghost use Rattle.std.specs.Vec.{vec_capacity};
 ghost use Rattle.rs_field.specs.code.Bounds.{EncodeCountsAt};
 ghost use Rattle.rs_field.specs.code.Code.{AreRecovery};
 ghost use Rattle.rs_field.specs.rows.Layout.{row_len};
 ghost use Rattle.rs_field.specs.rows.Rows.{word_in};
 ghost use Rattle.rs_rate.specs.passes.Coding.{CodesWords, CodingCounts};
-ghost use Rattle.rs_rate.specs.values.Configured.{block_of, configuration_at, IsConfigured, rate_of, rows_to_encode};
+ghost use Rattle.rs_rate.specs.values.Configured.{configuration_at, IsConfigured, rate_of, rows_to_encode};
 ghost use Rattle.rs_rate.specs.rows.EncoderView.{given_originals, lent_shards};
 ghost use Rattle.rs_rate.specs.values.ChunkCounts.{chunk_count};
 
 use crate::passes::high_encoding::code_high;
 use crate::passes::low_encoding::code_low;
-use crate::passes::read_encoding::code_read;
-use crate::passes::strip_message::StripMessage;
 use crate::rows::encoder_work::EncoderRows;
 use crate::rows::shard_rows::{move_tails, rows_are_bytes};
 use crate::values::configuration::Configuration;
@@ -41,49 +39,9 @@ pub(crate) fn encode_rows<E: Engine>(engine: &E, steps: &mut Steps, rows: &mut E
     move_tails(steps, chunks, recovery_count, configuration.shard_bytes);
 }
 
-// Computes the recovery shards of a message whose originals are read where they are, and returns true. Or returns
-// false if the engine has no sums for this. Then the chunks hold anything.
-pub(crate) fn read_rows<E: Engine, M: StripMessage>(
-    engine: &E,
-    rows: &mut EncoderRows,
-    message: &M,
-) -> bool
-    requires none { rows.old.originals_given ≡ 0 }
-    requires high { rows.old.configuration.frame.is_low ≡ false }
-    requires block { (block_of rows.old.configuration ≡ 2)
-        ⊎ (block_of rows.old.configuration ≡ 4) }
-    requires enough { block_of rows.old.configuration ≤ rows.old.configuration.original_count }
-    requires whole { rows.old.configuration.shard_bytes % 64 ≡ 0 }
-    requires short { rows.old.configuration.shard_bytes ≤ 4096 }
-    requires number { length (M.shards message.now) ≡ rows.old.configuration.original_count }
-    requires sized { All (λ shard. length shard ≡ rows.old.configuration.shard_bytes)
-        (M.shards message.now) }
-    ensures configuration { rows.new.configuration ≡ rows.old.configuration }
-    ensures none { rows.new.originals_given ≡ 0 }
-    ensures recovery { let c = rows.old.configuration in result ≡ true
-        → AreRecovery (configuration_at (rate_of c) c) (M.shards message.now)
-        (lent_shards rows.new) }
-{
-    let configuration = rows.configuration;
-    let recovery_count = configuration.recovery_count;
-    let mut steps = Steps::new();
-    let chunks = rows.chunks.as_mut_slice();
-    if !code_read(engine, &mut steps, chunks, configuration, message) {
-        return false;
-    }
-    rows_are_bytes(chunks, recovery_count, configuration.shard_bytes);
-    move_tails(
-        &mut steps,
-        chunks,
-        recovery_count,
-        configuration.shard_bytes,
-    );
-    true
-}
-
 // Computes the words of the recovery shards in all chunks, with the coding of the low or of the high rate.
 #[tactic(auto, unfolding(crate::specs::values::ChunkCounts::chunk_count))]
-fn code_chunks<E: Engine>(
+pub(crate) fn code_chunks<E: Engine>(
     engine: &E,
     steps: &mut Steps,
     chunks: &mut [[u8; 64]],

@@ -1,114 +1,71 @@
 //! The coding of the high rate over originals that are read where they are, for blocks of two or four rows. Each block
-//! of originals is transformed backward and added to the first rows at once, so no original is copied.
-ghost use Rattle.std.specs.Prelude.{◌≡◌, ℕ, ◌+◌, ◌*◌, ◌/◌, ◌%◌, ◌<◌, ◌≤◌, ◌⊎◌, true, false, All, length, bit_xor};
+//! of originals is transformed backward and added to the same rows, so no original is copied, and there are rows for one
+//! block only.
+ghost use Rattle.std.specs.Prelude.{◌≡◌, ℕ, ◌+◌, ◌*◌, ◌%◌, ◌<◌, ◌≤◌, true, All, length};
 ghost use Rattle.rs_field.specs.code.Counts.{high_rate};
 ghost use Rattle.rs_field.specs.rows.Layout.{row_len};
 ghost use Rattle.rs_field.specs.rows.Rows.{chunk, symbol, word_in};
-ghost use Rattle.rs_field.specs.words.Transform.{IsBackward};
-ghost use Rattle.rs_rate.specs.passes.Coding.{CodesWords, SumsBlocks, zero_padded};
-ghost use Rattle.rs_rate.specs.passes.Reading.{IsBlank, message_word};
+ghost use Rattle.rs_field.specs.rows.Written.{AreWritten, written_steps};
+ghost use Rattle.rs_field.specs.words.StepBounds.{CountsUpTo, transform_steps};
+ghost use Rattle.rs_rate.specs.passes.Coding.{CodesWords, CodingCounts, SumsBlocks, further_blocks, zero_padded};
+ghost use Rattle.rs_rate.specs.passes.Reading.{CanRead, IsBlank, message_word};
 ghost use Rattle.rs_rate.specs.values.ChunkCounts.{chunk_count};
-ghost use Rattle.rs_rate.specs.values.Configured.{IsConfigured, block_of, rows_to_encode};
+ghost use Rattle.rs_rate.specs.values.Configured.{IsConfigured, block_of};
 
 use crate::passes::strip_message::StripMessage;
-use crate::passes::sums::clear_sum;
 use crate::values::configuration::Configuration;
-use rs_field::engine::kernel::FourRows;
 use rs_field::engine::layout::row_len;
-use rs_field::engine::{Engine, ShardsRefMut, Steps};
+use rs_field::engine::{Engine, ReadRows, ShardsRefMut, Steps, Writing, ifft_of_rows};
 
 // As many zeros as the longest row that is read has.
 static ZEROS: [[u8; 64]; 64] = [[0; 64]; 64];
 
-/// Returns whether [`code_read`] can encode with this configuration: at the high rate, with blocks of two or four rows
-/// of which the first one is full, and with shards of at most 64 chunks and no tail.
+/// Returns whether [`code_read`] can encode with this configuration: at the high rate, with blocks of two or four rows,
+/// and with shards of at most 64 chunks and no tail.
 pub(crate) fn can_read(configuration: Configuration) -> bool
-    requires { IsConfigured configuration }
-    ensures high { result ≡ true → configuration.frame.is_low ≡ false }
-    ensures block { result ≡ true → (block_of configuration ≡ 2) ⊎ (block_of configuration ≡ 4) }
-    ensures enough { result ≡ true → block_of configuration ≤ configuration.original_count }
-    ensures whole { result ≡ true → configuration.shard_bytes % 64 ≡ 0 }
-    ensures short { result ≡ true → configuration.shard_bytes ≤ 4096 }
+    ensures { result ≡ true → CanRead configuration }
 {
     let block = configuration.block_rows();
     !configuration.frame.is_low
         && (block == 2 || block == 4)
-        && block <= configuration.original_count
         && configuration.shard_bytes % 64 == 0
         && configuration.shard_bytes <= 4096
 }
 
-/// Computes the words of the recovery shards in the first rows from the originals of a message, and returns true. Or
-/// returns false if the engine has no sums for this. Then the chunks hold anything.
+/// Computes the words of the recovery shards in one block of rows from the originals of a message.
 pub(crate) fn code_read<E: Engine, M: StripMessage>(
     engine: &E,
     steps: &mut Steps,
     chunks: &mut [[u8; 64]],
     configuration: Configuration,
     message: &M,
-) -> bool
+)
     requires configured { IsConfigured configuration }
-    requires high { configuration.frame.is_low ≡ false }
-    requires block { (block_of configuration ≡ 2) ⊎ (block_of configuration ≡ 4) }
-    requires enough { block_of configuration ≤ configuration.original_count }
-    requires whole { configuration.shard_bytes % 64 ≡ 0 }
-    requires short { configuration.shard_bytes ≤ 4096 }
-    requires room { chunk_count (rows_to_encode configuration) configuration.shard_bytes
+    requires can { CanRead configuration }
+    requires room { chunk_count (block_of configuration) configuration.shard_bytes
         ≤ length chunks.old }
     requires number { length (M.shards message.now) ≡ configuration.original_count }
     requires sized { All (λ shard. length shard ≡ configuration.shard_bytes)
         (M.shards message.now) }
     ensures words { let c = configuration in let n = row_len c.shard_bytes in
-        result ≡ true → (k s : ℕ) → k < n → s < 32
+        (k s : ℕ) → k < n → s < 32
         → CodesWords high_rate c.original_count c.recovery_count
         (message_word (M.shards message.now) k s) (word_in chunks.new n k s) }
+    ensures counts { let c = configuration in
+        CodingCounts high_rate c.original_count c.recovery_count steps.old steps.new }
 {
     let len = row_len(configuration.shard_bytes);
     let block = configuration.block_rows();
-    let count = configuration.original_count;
-    if !sum_read(engine, steps, chunks, message, count, block, len) {
-        return false;
-    }
-    let mut rows = ShardsRefMut::new(configuration.encoder_rows(), len, chunks);
-    engine.fft(steps, &mut rows, 0, block, configuration.recovery_count, 0);
-    true
-}
-
-// Sums the combinations of all blocks of originals in the first rows, which have `len` chunks each, and returns true.
-// Or returns false if the engine has no sums for this. Then the chunks hold anything.
-fn sum_read<E: Engine, M: StripMessage>(
-    engine: &E,
-    steps: &mut Steps,
-    chunks: &mut [[u8; 64]],
-    message: &M,
-    count: usize,
-    block: usize,
-    len: usize,
-) -> bool
-    requires block { (block ≡ 2) ⊎ (block ≡ 4) }
-    requires enough { block ≤ count }
-    requires points { (start : ℕ) → start % block ≡ 0 → start < count
-        → start + 2 * block ≤ 65536 }
-    requires number { length (M.shards message.now) ≡ count }
-    requires sized { All (λ shard. length shard ≡ len * 64) (M.shards message.now) }
-    requires short { len ≤ 64 }
-    requires room { count * len ≤ length chunks.old }
-    ensures length { length chunks.new ≡ length chunks.old }
-    ensures sums { result ≡ true → (n : ℕ) × (count ≤ n * block) × (n * block + block ≤ 65536)
-        × ((k s : ℕ) → k < len → s < 32
-        → SumsBlocks block n count (message_word (M.shards message.now) k s)
-        (word_in chunks.new len k s)) }
-{
-    let sums = &mut chunks[..block * len];
-    clear_sum(sums);
-    let rows = MessageRows {
+    let message = MessageRows {
         message,
-        count,
+        count: configuration.original_count,
         block,
         len,
         zeros: zero_row(len),
     };
-    rows.add_blocks(engine, steps, sums)
+    message.sum_blocks(engine, steps, &mut chunks[..block * len]);
+    let mut rows = ShardsRefMut::new(block, len, chunks);
+    engine.fft(steps, &mut rows, 0, block, configuration.recovery_count, 0);
 }
 
 fn zero_row(len: usize) -> &'static [[u8; 64]]
@@ -130,72 +87,64 @@ struct MessageRows<'a, M: StripMessage> {
     len: usize,
     /// A row of zeros, which fills the last block up.
     zeros: &'a [[u8; 64]],
-    ghost some: { 0 < block },
-    ghost even: { block % 2 ≡ 0 },
+    ghost some: { 1 < block },
     ghost few: { block ≤ 4 },
+    ghost even: { block % 2 ≡ 0 },
     ghost number: { length (M.shards message.now) ≡ count },
     ghost sized: { All (λ shard. length shard ≡ len * 64) (M.shards message.now) },
     ghost blank: { IsBlank len zeros.now },
+    ghost originals: { 0 < count },
     ghost points: { (start : ℕ) → start % block ≡ 0 → start < count → start + 2 * block ≤ 65536 },
 }
 
 impl<'a, M: StripMessage> MessageRows<'a, M> {
-    // Adds the combinations of all blocks to sums that are zero, and returns true, or false if the engine has no sums
-    // for this.
-    fn add_blocks<E: Engine>(&self, engine: &E, steps: &mut Steps, sums: &mut [[u8; 64]]) -> bool
+    // Sums the combinations of all blocks in rows for one block.
+    fn sum_blocks<E: Engine>(&self, engine: &E, steps: &mut Steps, sums: &mut [[u8; 64]])
         requires room { length sums.old ≡ self.now.block * self.now.len }
-        requires zero { (k s q : ℕ) → k < self.now.len → s < 32 → q < self.now.block
-            → word_in sums.old self.now.len k s q ≡ 0 }
         ensures length { length sums.new ≡ length sums.old }
-        ensures sums { result ≡ true → (n : ℕ) × (self.now.count ≤ n * self.now.block)
+        ensures sums { (n : ℕ) × (self.now.count ≤ n * self.now.block)
             × (n * self.now.block + self.now.block ≤ 65536)
             × ((k s : ℕ) → k < self.now.len → s < 32
             → SumsBlocks self.now.block n self.now.count
             (message_word (M.shards self.now.message.now) k s)
             (word_in sums.new self.now.len k s)) }
+        ensures counts { (rows : ℕ) → self.now.count ≤ rows → rows % self.now.block ≡ 0
+            → CountsUpTo (self.now.block + transform_steps self.now.block
+            + further_blocks self.now.block rows
+            * (2 * self.now.block + transform_steps self.now.block)) 0 0 steps.old steps.new }
     {
-        let mut start = 0;
+        self.write_block(engine, steps, sums, 0, Writing::Replacing);
+        let mut start = self.block;
         while start < self.count {
-            if !self.add_block(engine, steps, sums, start) {
-                return false;
-            }
+            self.write_block(engine, steps, sums, start, Writing::Adding);
             start += self.block;
         }
-        true
     }
 
-    // Adds the combination whose values are the originals of the block from `start` on, and zero after them, to sums,
-    // and returns true, or false if the engine has no sums for this.
-    fn add_block<E: Engine>(
+    // Writes the combination whose values are the originals of the block from `start` on, and zero after them.
+    fn write_block<E: Engine>(
         &self,
         engine: &E,
         steps: &mut Steps,
         sums: &mut [[u8; 64]],
         start: usize,
-    ) -> bool
+        writing: Writing,
+    )
         requires room { length sums.old ≡ self.now.block * self.now.len }
         requires some { start < self.now.count }
         requires aligned { start % self.now.block ≡ 0 }
         ensures length { length sums.new ≡ length sums.old }
-        ensures added { result ≡ true → (k s : ℕ) → k < self.now.len → s < 32
-            → IsBackward self.now.block (start + self.now.block)
+        ensures written { (k s : ℕ) → k < self.now.len → s < 32
+            → AreWritten writing self.now.block (start + self.now.block) self.now.len k s
             (λ i. zero_padded self.now.count (message_word (M.shards self.now.message.now) k s)
-            (start + i))
-            (λ q. bit_xor (word_in sums.old self.now.len k s q)
-            (word_in sums.new self.now.len k s q)) }
+            (start + i)) sums.old sums.new }
+        ensures counts { CountsUpTo (written_steps writing self.now.block) 0 0 steps.old steps.new }
     {
-        let shift = start + self.block;
-        if self.block == 2 {
-            let (first, second) = (self.row(start), self.row(start + 1));
-            return engine.add_ifft_of_two(steps, sums, first, second, shift);
-        }
-        let rows = FourRows {
-            row_0: self.row(start),
-            row_1: self.row(start + 1),
-            row_2: self.row(start + 2),
-            row_3: self.row(start + 3),
+        let rows = BlockRows {
+            message: self,
+            start,
         };
-        engine.add_ifft_of_four(steps, sums, rows, shift)
+        ifft_of_rows(engine, steps, sums, &rows, start + self.block, writing);
     }
 
     // Returns the chunks of an original, or a row of zeros after the last original.
@@ -209,5 +158,31 @@ impl<'a, M: StripMessage> MessageRows<'a, M> {
             return self.zeros;
         }
         self.message.piece(index).as_chunks().0
+    }
+}
+
+/// A block of rows of a message.
+#[derive(Drop)]
+struct BlockRows<'a, M: StripMessage> {
+    message: &'a MessageRows<'a, M>,
+    /// The index of the first original of the block.
+    start: usize,
+    ghost points: { start + message.now.block ≤ 65536 },
+}
+
+impl<'a, M: StripMessage> ReadRows for BlockRows<'a, M> {
+    ghost row_count = { λ x. x.message.now.block };
+
+    ghost row_len = { λ x. x.message.now.len };
+
+    ghost word = { λ x k s i. zero_padded x.message.now.count
+        (message_word (M.shards x.message.now.message.now) k s) (x.start + i) };
+
+    fn count(&self) -> usize {
+        self.message.block
+    }
+
+    fn row(&self, index: usize) -> &[[u8; 64]] {
+        self.message.row(self.start + index)
     }
 }

@@ -1,5 +1,5 @@
 //! The work of an encoder, which is the memory that encoders pass on, and the rows of an encoder in this memory.
-ghost use Rattle.std.specs.Prelude.{◌≡◌, ◌≢◌, ℕ, ◌*◌, ◌^◌, ◌<◌, ◌≤◌, length, vec_len, IfSome, MatchOption};
+ghost use Rattle.std.specs.Prelude.{◌≡◌, ℕ, ◌*◌, ◌^◌, ◌<◌, ◌≤◌, length, vec_len, IfSome, MatchOption};
 ghost use Rattle.std.specs.Vec.{vec_capacity};
 ghost use Rattle.rs_field.specs.code.Column.{IsShard};
 ghost use Rattle.rs_field.specs.code.Counts.{Rate};
@@ -7,11 +7,11 @@ ghost use Rattle.rs_field.specs.code.Outcome.{answer_of, state_after};
 ghost use Rattle.rs_field.specs.code.Encoder.{fresh_encoder, with_shard, message_of};
 ghost use Rattle.rs_rate.specs.values.Configured.{IsConfigured, rows_to_encode};
 ghost use Rattle.rs_rate.specs.values.ChunkCounts.{chunk_count};
-ghost use Rattle.rs_rate.specs.rows.ShardRows.{shard_laid_out, shard_in_order, IsByteSum};
+ghost use Rattle.rs_rate.specs.rows.ShardRows.{shard_laid_out, shard_in_order};
 
 use crate::rows::memory::{make_room, set_chunks, vec_of};
 use crate::rows::object_rows::ObjectRows;
-use crate::rows::shard_rows::{add_at, insert_at, shard_at};
+use crate::rows::shard_rows::{insert_at, shard_at};
 use crate::values::configuration::{Configuration, chunk_count};
 use rs_field::bytes::are_bytes;
 use rs_field::error::Error;
@@ -170,7 +170,7 @@ impl EncoderRows {
     }
 
     // Takes the next original: copies it into its row. An original is missing, and the shard has the size.
-    pub(crate) fn take_original_shard(&mut self, original_shard: &[u8])
+    fn take_original_shard(&mut self, original_shard: &[u8])
         requires more { self.old.originals_given < self.old.configuration.original_count }
         requires size { length original_shard.now ≡ self.old.configuration.shard_bytes }
         ensures left { (rate : Rate)
@@ -215,22 +215,5 @@ impl EncoderRows {
             self.configuration.shard_bytes,
             index,
         ))
-    }
-
-    // Adds a shard, byte by byte, to the recovery shard with this index. No original was added since the last round.
-    pub(crate) fn add_to_recovery(&mut self, index: usize, shard: &[u8])
-        requires ended { self.old.originals_given ≡ 0 }
-        requires index { index < self.old.configuration.recovery_count }
-        requires sized { length shard.now ≡ self.old.configuration.shard_bytes }
-        ensures sum { IsByteSum (shard_in_order self.old.chunks.items
-            self.old.configuration.shard_bytes index) shard.now
-            (shard_in_order self.new.chunks.items self.old.configuration.shard_bytes index) }
-        ensures others { (i : ℕ) → i ≢ index
-            → shard_in_order self.new.chunks.items self.old.configuration.shard_bytes i
-            ≡ shard_in_order self.old.chunks.items self.old.configuration.shard_bytes i }
-        ensures configuration { self.new.configuration ≡ self.old.configuration }
-        ensures ended { self.new.originals_given ≡ 0 }
-    {
-        add_at(self.chunks.as_mut_slice(), shard, index);
     }
 }

@@ -6,7 +6,7 @@ use Rattle.rs_field.specs.code.Encoder.{EncoderState, fresh_encoder}
 use Rattle.rs_field.specs.code.OneCall.{default_of}
 use Rattle.rs_field.specs.code.Pieces.{pieces}
 use Rattle.rs_field.proofs.code_lemmas.Pieces.{pieces-count, pieces-sized}
-use Rattle.rs_rate.specs.rows.EncoderView.{lent_shards}
+use Rattle.rs_rate.specs.objects.StripView.{coded_shards}
 use Rattle.rs_rate.specs.objects.ResultView.{recovery_shards}
 use Rattle.reed_solomon_simd.proofs.strip_encoder.encode_strip.Given.{Over}
 use Rattle.reed_solomon_simd.proofs.strip_encoder.encode_strip.Goals.{After-lent_recovery}
@@ -24,11 +24,11 @@ recoded g c =
     (subst (λ (d : Configuration). AreRecovery
     (configuration d.rate d.original_count d.recovery_count (c.args.end - c.args.start))
     (pieces c.args.start c.args.end (g.O.Originals.shards c.args.originals.now))
-    (lent_shards c.encode_message.new.encoder.rows)) (ap (λ (s : EncoderState). s.configuration) fresh)
-    c.encode_message.ensures.coded)
+    (coded_shards c.encode.new.self)) (ap (λ (s : EncoderState). s.configuration) fresh)
+    c.encode.ensures.coded)
 
-pub encode_message-requires : goal.encode_message-requires
-encode_message-requires g c =
+pub encode-requires : goal.encode-requires
+encode-requires g c =
     let (n, most, fresh) = c.requires.fresh in
     let originals = g.O.Originals.shards c.args.originals.now in
     let own = ap (λ (s : EncoderState). s.configuration.shard_bytes) fresh in
@@ -55,7 +55,7 @@ put_pieces-requires-clause-sized g c =
 pub returns-clause-fresh : goal.returns-clause-fresh
 returns-clause-fresh g c =
     let (n, most, fresh) = c.requires.fresh in
-    c.encode_message.ensures.fresh
+    c.encode.ensures.code
     ∙ ap (λ (s : EncoderState). fresh_encoder (configuration s.configuration.rate s.configuration.original_count
     s.configuration.recovery_count (c.args.end - c.args.start))) fresh
 

@@ -3,7 +3,7 @@ use Rattle.rs_field.specs.code.Counts.{default_rate}
 use Rattle.rs_field.specs.code.Encoder.{fresh_encoder}
 use Rattle.rs_field.specs.code.OneCall.{default_of}
 use Rattle.rs_field.proofs.code_lemmas.Pieces.{IsDone}
-use Rattle.rs_rate.specs.rows.EncoderView.{encoder_state}
+use Rattle.rs_rate.specs.objects.StripView.{code_of}
 use Rattle.reed_solomon_simd.proofs.StripLoops.{IsCut}
 use Rattle.reed_solomon_simd.proofs.strip_encoder.encode_strips_with.Given as goal
 
@@ -14,7 +14,7 @@ invariant-loop-start g l =
     record {
       cut : IsCut l.start l.shard_bytes;
       fresh : (n : ℕ) × (min l.width (l.shard_bytes - l.start) ≤ n)
-          × (encoder_state default_rate l.encoder.rows
+          × (code_of l.encoder
           ≡ fresh_encoder (default_of (length (g.O.Originals.shards l.originals))
           (length (g.R.Rooms.held l.initial.rooms)) n));
       done : IsDone (length (g.O.Originals.shards l.originals)) (length (g.R.Rooms.held l.initial.rooms)) l.shard_bytes

@@ -7,17 +7,17 @@ use Rattle.rs_field.specs.code.Encoder.{EncoderState}
 use Rattle.rs_field.specs.code.PieceStates.{state_of_pieces}
 use Rattle.rs_field.proofs.words_lemmas.UpTo.{length-up_to}
 use Rattle.rs_rate.specs.objects.ResultView.{restored_originals}
-use Rattle.rs_rate.specs.rows.EncoderView.{lent_shards}
+use Rattle.rs_rate.specs.objects.StripView.{coded_shards}
 use Rattle.reed_solomon_simd.specs.Rounds.{own_message}
 use Rattle.reed_solomon_simd.proofs.RebuiltStrips.{own-agreeing}
 use Rattle.reed_solomon_simd.proofs.strip_rebuilder.encode_restored.Goals as goal
 
-pub encode_message-requires-clause-number : goal.encode_message-requires-clause-number
-encode_message-requires-clause-number g c =
-    length-up_to _ _ ∙ sym (ap (λ (s : EncoderState). s.configuration.original_count) c.requires.ready.fresh)
+pub encode-requires-clause-number : goal.encode-requires-clause-number
+encode-requires-clause-number g c =
+    length-up_to _ _ ∙ sym (ap (λ (s : EncoderState). s.configuration.original_count) c.requires.ready.code)
 
-pub encode_message-requires-clause-sized : goal.encode_message-requires-clause-sized
-encode_message-requires-clause-sized g c =
+pub encode-requires-clause-sized : goal.encode-requires-clause-sized
+encode-requires-clause-sized g c =
     let x : DecoderState = g.P.Pieces.received c.args.received.now in
     let agrees = c.requires.restored.agrees in
     subst (λ (l : List Shard). All (λ piece. length piece ≡ c.args.end - c.args.start) l)
@@ -30,8 +30,8 @@ returns-clause-coded g c message agrees =
     let x : DecoderState = g.P.Pieces.received c.args.received.now in
     let t : DecoderState = state_of_pieces c.args.start c.args.end x in
     subst (λ (l : List Shard). AreRecovery (state_of_pieces c.args.start c.args.end x).configuration l
-    (lent_shards c.encode_message.new.encoder.rows))
+    (coded_shards c.encode.new.self))
     (own-agreeing t (restored_originals c.args.restored.now) message c.requires.restored agrees)
     (subst (λ (s : EncoderState). AreRecovery (configuration s.configuration.rate s.configuration.original_count
     s.configuration.recovery_count (c.args.end - c.args.start)) (own_message t (restored_originals c.args.restored.now))
-    (lent_shards c.encode_message.new.encoder.rows)) c.requires.ready.fresh c.encode_message.ensures.coded)
+    (coded_shards c.encode.new.self)) c.requires.ready.code c.encode.ensures.coded)

@@ -4,7 +4,7 @@ use Rattle.rs_field.specs.code.Column.{Shard}
 use Rattle.rs_field.specs.code.Counts.{default_rate}
 use Rattle.rs_field.specs.code.Decoder.{DecoderState}
 use Rattle.rs_field.specs.code.PieceStates.{state_of_pieces}
-use Rattle.rs_rate.specs.rows.EncoderView.{encoder_state, lent_shards}
+use Rattle.rs_rate.specs.objects.StripView.{code_of, coded_shards}
 use Rattle.reed_solomon_simd.proofs.BaseSums.{within-pieces}
 use Rattle.reed_solomon_simd.proofs.SyndromeRounds.{AddedBelow, added-none, added-more, added-passed, lent-count}
 use Rattle.reed_solomon_simd.proofs.SyndromeRounds.{lent-size}
@@ -18,7 +18,7 @@ add_to_recovery-requires-clause-ended g c =
 pub add_to_recovery-requires-clause-index : goal.add_to_recovery-requires-clause-index
 add_to_recovery-requires-clause-index g c =
     let t : DecoderState = state_of_pieces c.args.start c.args.end (g.P.Pieces.received c.args.received.now) in
-    let count = lent-count c.loop-index.encoder.rows t.configuration (c.loop-index.invariant.fresh ∙ c.requires.fresh)
+    let count = lent-count c.loop-index.encoder t.configuration (c.loop-index.invariant.fresh ∙ c.requires.fresh)
     in
     omega (arith, count, c.loop-index-test.true, c.counts-index-end.ensures.recovery)
 
@@ -29,35 +29,35 @@ add_to_recovery-requires-clause-sized g c =
     let within = within-pieces c.args.start c.args.end s.configuration.recovery_count s.configuration.shard_bytes
     s.recovery c.requires.strip c.requires.set_up.recovery_within in
     (within.sized c.loop-index.index c.in-Some.piece.now (sym c.in-Some.ensures)).length_is
-    ∙ sym (lent-size c.loop-index.encoder.rows t.configuration (c.loop-index.invariant.fresh ∙ c.requires.fresh))
+    ∙ sym (lent-size c.loop-index.encoder t.configuration (c.loop-index.invariant.fresh ∙ c.requires.fresh))
 
 pub loop-index-init : goal.loop-index-init
 loop-index-init g c =
     let t : DecoderState = state_of_pieces c.args.start c.args.end (g.P.Pieces.received c.args.received.now) in
-    record { fresh = refl; added = added-none t.recovery (lent_shards c.args.encoder.now.rows) }
+    record { fresh = refl; added = added-none t.recovery (coded_shards c.args.encoder.now) }
 
 pub loop-index-preserved : goal.loop-index-preserved
 loop-index-preserved g c =
     let t : DecoderState = state_of_pieces c.args.start c.args.end (g.P.Pieces.received c.args.received.now) in
-    let encoded : List Shard = lent_shards c.args.encoder.now.rows in
+    let encoded : List Shard = coded_shards c.args.encoder.now in
     let before = c.loop-index.invariant in
     elim c.match-piece.branch [
       | in-Some w ↦
           record {
-            fresh = ap (λ e. encoder_state default_rate e.rows) w.encoder-is ∙ w.add_to_recovery.ensures.state
+            fresh = ap (λ e. code_of e) w.encoder-is ∙ w.add_to_recovery.ensures.state
                 ∙ before.fresh;
-            added = subst (λ e. AddedBelow (c.loop-index.index + 1) t.recovery encoded (lent_shards e.rows))
+            added = subst (λ e. AddedBelow (c.loop-index.index + 1) t.recovery encoded (coded_shards e))
                 (sym w.encoder-is)
                 (added-more c.loop-index.index t.recovery w.in-Some.piece.now encoded
-                (lent_shards c.loop-index.encoder.rows) (lent_shards w.add_to_recovery.new.self.rows)
+                (coded_shards c.loop-index.encoder) (coded_shards w.add_to_recovery.new.self)
                 (sym w.in-Some.ensures) w.add_to_recovery.ensures.sum w.add_to_recovery.ensures.others before.added);
           }
       | in_default w ↦
           record {
-            fresh = ap (λ e. encoder_state default_rate e.rows) w.encoder-is ∙ before.fresh;
-            added = subst (λ e. AddedBelow (c.loop-index.index + 1) t.recovery encoded (lent_shards e.rows))
+            fresh = ap (λ e. code_of e) w.encoder-is ∙ before.fresh;
+            added = subst (λ e. AddedBelow (c.loop-index.index + 1) t.recovery encoded (coded_shards e))
                 (sym w.encoder-is)
-                (added-passed c.loop-index.index t.recovery encoded (lent_shards c.loop-index.encoder.rows)
+                (added-passed c.loop-index.index t.recovery encoded (coded_shards c.loop-index.encoder)
                 (sym w.in_default.ensures) before.added);
           }
     ]
@@ -69,7 +69,7 @@ returns-clause-made g c =
     let within = within-pieces c.args.start c.args.end s.configuration.recovery_count s.configuration.shard_bytes
     s.recovery c.requires.strip c.requires.set_up.recovery_within in
     record {
-      encoded = lent_shards c.args.encoder.now.rows;
+      encoded = coded_shards c.args.encoder.now;
       coded = c.requires.coded;
       sums = λ i shard e. elim (cases_lt i c.loop-index.index) [
         | inl below ↦ c.loop-index.invariant.added.added i shard below e

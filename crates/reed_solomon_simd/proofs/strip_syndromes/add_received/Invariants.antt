@@ -1,7 +1,7 @@
 use Rattle.std.proofs.Common.{◌≡◌}
 use Rattle.rs_field.specs.code.Counts.{default_rate}
 use Rattle.rs_field.specs.code.PieceStates.{state_of_pieces}
-use Rattle.rs_rate.specs.rows.EncoderView.{encoder_state, lent_shards}
+use Rattle.rs_rate.specs.objects.StripView.{code_of, coded_shards}
 use Rattle.reed_solomon_simd.proofs.SyndromeRounds.{AddedBelow}
 use Rattle.reed_solomon_simd.proofs.strip_syndromes.add_received.Given as goal
 
@@ -9,7 +9,7 @@ use Rattle.reed_solomon_simd.proofs.strip_syndromes.add_received.Given as goal
 abbrev pub invariant-loop-index : goal.invariant-loop-index
 invariant-loop-index g l =
     record {
-      fresh : encoder_state default_rate l.encoder.rows ≡ encoder_state default_rate l.initial.encoder.rows;
+      fresh : code_of l.encoder ≡ code_of l.initial.encoder;
       added : AddedBelow l.index (state_of_pieces l.start l.end (g.P.Pieces.received l.received)).recovery
-          (lent_shards l.initial.encoder.rows) (lent_shards l.encoder.rows);
+          (coded_shards l.initial.encoder) (coded_shards l.encoder);
     }

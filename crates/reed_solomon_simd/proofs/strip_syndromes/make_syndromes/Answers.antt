@@ -6,7 +6,7 @@ use Rattle.rs_field.specs.code.Decoder.{DecoderState}
 use Rattle.rs_field.specs.code.Encoder.{EncoderState, fresh_encoder}
 use Rattle.rs_field.specs.code.PieceStates.{state_of_pieces}
 use Rattle.rs_field.proofs.words_lemmas.UpTo.{length-up_to}
-use Rattle.rs_rate.specs.rows.EncoderView.{encoder_state, lent_shards}
+use Rattle.rs_rate.specs.objects.StripView.{code_of, coded_shards}
 use Rattle.reed_solomon_simd.specs.Syndromes.{zeroed}
 use Rattle.reed_solomon_simd.proofs.BaseSums.{given}
 use Rattle.reed_solomon_simd.proofs.SyndromeRounds.{fewer-zeros}
@@ -16,22 +16,22 @@ use Rattle.reed_solomon_simd.proofs.strip_syndromes.make_syndromes.Goals as goal
 pub invariant_of-strip-clause-blank : goal.invariant_of-strip-clause-blank
 invariant_of-strip-clause-blank g c = fewer-zeros (c.args.end - c.args.start) 2048 c.requires.few
 
-pub encode_message-requires-clause-number : goal.encode_message-requires-clause-number
-encode_message-requires-clause-number g c =
-    length-up_to _ _ ∙ sym (ap (λ (s : EncoderState). s.configuration.original_count) c.requires.ready.fresh)
+pub encode-requires-clause-number : goal.encode-requires-clause-number
+encode-requires-clause-number g c =
+    length-up_to _ _ ∙ sym (ap (λ (s : EncoderState). s.configuration.original_count) c.requires.ready.code)
 
-pub encode_message-requires-clause-sized : goal.encode_message-requires-clause-sized
-encode_message-requires-clause-sized g c i d h =
+pub encode-requires-clause-sized : goal.encode-requires-clause-sized
+encode-requires-clause-sized g c i d h =
     let x : DecoderState = g.P.Pieces.received c.args.received.now in
     let t : DecoderState = state_of_pieces c.args.start c.args.end x in
     ((zeroed-shards t (given x c.requires.set_up c.args.start c.args.end c.requires.strip)).each i d h).length_is
 
 pub add_received-requires-clause-fresh : goal.add_received-requires-clause-fresh
 add_received-requires-clause-fresh g c =
-    subst (λ (s : EncoderState). encoder_state default_rate c.encode_message.new.encoder.rows
+    subst (λ (s : EncoderState). code_of c.encode.new.self
     ≡ fresh_encoder (configuration s.configuration.rate s.configuration.original_count
-    s.configuration.recovery_count (c.args.end - c.args.start))) c.requires.ready.fresh
-    c.encode_message.ensures.fresh
+    s.configuration.recovery_count (c.args.end - c.args.start))) c.requires.ready.code
+    c.encode.ensures.code
 
 pub add_received-requires-clause-coded : goal.add_received-requires-clause-coded
 add_received-requires-clause-coded g c =
@@ -39,4 +39,4 @@ add_received-requires-clause-coded g c =
     let t : DecoderState = state_of_pieces c.args.start c.args.end x in
     subst (λ (s : EncoderState). AreRecovery (configuration s.configuration.rate s.configuration.original_count
     s.configuration.recovery_count (c.args.end - c.args.start)) (zeroed t)
-    (lent_shards c.encode_message.new.encoder.rows)) c.requires.ready.fresh c.encode_message.ensures.coded
+    (coded_shards c.encode.new.self)) c.requires.ready.code c.encode.ensures.coded

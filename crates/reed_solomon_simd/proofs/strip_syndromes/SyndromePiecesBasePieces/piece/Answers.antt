@@ -6,4 +6,4 @@ use Rattle.reed_solomon_simd.proofs.strip_syndromes.SyndromePiecesBasePieces.pie
 pub returns-clause-length : goal.returns-clause-length
 returns-clause-length c =
     ap (λ (shard : Shard). length shard) c.syndrome_at.ensures
-    ∙ lent-length c.args.self.now.encoder.now.rows (c.args.row - c.args.self.now.recovery_from) c.requires.1
+    ∙ lent-length c.args.self.now.encoder.now (c.args.row - c.args.self.now.recovery_from) c.requires.1

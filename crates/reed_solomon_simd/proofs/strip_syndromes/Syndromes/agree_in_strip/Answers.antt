@@ -1,7 +1,7 @@
 use Rattle.std.proofs.Common.{ℕ, refl, arith, below_more}
 use Rattle.rs_field.specs.code.Decoder.{DecoderState}
 use Rattle.rs_field.specs.code.PieceStates.{state_of_pieces}
-use Rattle.rs_rate.specs.rows.EncoderView.{lent_shards}
+use Rattle.rs_rate.specs.objects.StripView.{coded_shards}
 use Rattle.reed_solomon_simd.specs.Syndromes.{AgreesAt}
 use Rattle.reed_solomon_simd.proofs.SyndromeChecks.{consistent-syndrome, syndromes-consistent}
 use Rattle.reed_solomon_simd.proofs.strip_syndromes.Syndromes.agree_in_strip.Goals as goal
@@ -13,7 +13,7 @@ returns-then-not-agrees g c =
       λ is. absurd (let no : ⊥ = cc is in no),
       λ consistent.
           c.if-not-agrees.ensures.1 (consistent-syndrome s ready.set_up c.args.start c.args.end ready.strip
-          c.args.self.now.base ready.based (lent_shards c.args.self.now.encoder.rows) ready.made consistent
+          c.args.self.now.base ready.based (coded_shards c.args.self.now.encoder) ready.made consistent
           c.loop-index.index (omega (arith, c.loop-index-test.true, c.counts-index-end.ensures.recovery))),
     )
 
@@ -23,7 +23,7 @@ returns g c =
     let ready = c.requires.ready in (
       λ is.
           syndromes-consistent s ready.set_up c.args.start c.args.end ready.strip c.args.self.now.base ready.based
-          (lent_shards c.args.self.now.encoder.rows) ready.made
+          (coded_shards c.args.self.now.encoder) ready.made
           (λ i inside. c.loop-index.invariant i
           (omega (arith, inside, c.loop-index-test.false, c.counts-index-end.ensures.recovery))),
       λ consistent. refl,
@@ -32,5 +32,5 @@ returns g c =
 pub loop-index-preserved : goal.loop-index-preserved
 loop-index-preserved g c =
     below_more (λ (i : ℕ). AgreesAt (state_of_pieces c.args.start c.args.end (g.P.Pieces.received c.args.received.now))
-    c.args.self.now.base (lent_shards c.args.self.now.encoder.rows) i) c.loop-index.index
+    c.args.self.now.base (coded_shards c.args.self.now.encoder) i) c.loop-index.index
     c.loop-index.invariant (c.if-not-agrees.ensures.0 refl)

@@ -1,6 +1,6 @@
 use Rattle.std.proofs.Common.{ℕ, ◌<◌}
 use Rattle.rs_field.specs.code.PieceStates.{state_of_pieces}
-use Rattle.rs_rate.specs.rows.EncoderView.{lent_shards}
+use Rattle.rs_rate.specs.objects.StripView.{coded_shards}
 use Rattle.reed_solomon_simd.specs.Syndromes.{AgreesAt}
 use Rattle.reed_solomon_simd.proofs.strip_syndromes.Syndromes.agree_in_strip.Given as goal
 
@@ -9,4 +9,4 @@ abbrev pub invariant-loop-index : goal.invariant-loop-index
 invariant-loop-index g l =
     (i : ℕ) → i < l.index
     → AgreesAt (state_of_pieces l.start l.end (g.P.Pieces.received l.received)) l.self.base
-    (lent_shards l.self.encoder.rows) i
+    (coded_shards l.self.encoder.rows) i

@@ -8,7 +8,7 @@ use Rattle.rs_field.specs.code.Frame.{recovery_row, frame_at}
 use Rattle.rs_field.specs.code.PieceStates.{state_of_pieces}
 use Rattle.rs_field.specs.rows.MarkedRows.{is_marked}
 use Rattle.rs_field.proofs.code_lemmas.Given.{some_of}
-use Rattle.rs_rate.specs.rows.EncoderView.{lent_shards}
+use Rattle.rs_rate.specs.objects.StripView.{coded_shards}
 use Rattle.rs_rate.specs.rows.ShardRows.{shard_in_order}
 use Rattle.rs_rate.proofs.passes_lemmas.ChangeLemmas.{distinct_rows_of}
 use Rattle.rs_rate.proofs.rows_lemmas.AddedShards.{none_of}
@@ -33,7 +33,7 @@ returns-then-is_none g c =
     (g.P.Pieces.received c.args.received.now)).recovery c.args.index) ≡ false =
     sym (ap is_some c.piece.ensures) ∙ some-copied c.piece.result ∙ c.is_none.ensures ∙ ap not c.if-is_none.true in (
       λ is. none-agrees s ready.set_up c.args.start c.args.end ready.strip c.args.self.now.base ready.based
-          (lent_shards c.args.self.now.encoder.rows) ready.made c.args.index
+          (coded_shards c.args.self.now.encoder) ready.made c.args.index
           (none_of ((state_of_pieces c.args.start c.args.end s).recovery c.args.index) missing),
       λ agrees. refl,
     )
@@ -47,7 +47,7 @@ returns-then-row-self g c =
     ≡ recovery_row (frame_at (g.P.Pieces.received c.args.received.now).configuration) c.args.index =
     c.recovery_row-row.ensures ∙ ap (λ (f : Frame). recovery_row f c.args.index) frame in (
       λ is. early-agrees s ready.set_up c.args.start c.args.end ready.strip c.args.self.now.base ready.based
-          (lent_shards c.args.self.now.encoder.rows) ready.made c.args.index c.requires.index
+          (coded_shards c.args.self.now.encoder) ready.made c.args.index c.requires.index
           (omega (arith, row, c.if-row-self.true)),
       λ agrees. refl,
     )
@@ -56,7 +56,7 @@ pub syndrome_at-requires : goal.syndrome_at-requires
 syndrome_at-requires g c =
     let s : DecoderState = g.P.Pieces.received c.args.received.now in
     let t : DecoderState = state_of_pieces c.args.start c.args.end s in
-    let count = lent-count c.args.self.now.encoder.rows t.configuration c.requires.ready.fresh in
+    let count = lent-count c.args.self.now.encoder t.configuration c.requires.ready.code in
     omega (arith, count, c.requires.index)
 
 pub returns : goal.returns
@@ -64,19 +64,19 @@ returns g c =
     let s : DecoderState = g.P.Pieces.received c.args.received.now in
     let ready = c.requires.ready in
     let base = c.args.self.now.base in
-    let shards = lent_shards c.args.self.now.encoder.rows in
+    let shards = coded_shards c.args.self.now.encoder in
     let n : ℕ = c.args.index in
     let frame = frame_same s ready.set_up c.counts.result.framed c.counts.ensures.originals c.counts.ensures.recovery in
     let row : c.recovery_row-row.result
     ≡ recovery_row (frame_at (g.P.Pieces.received c.args.received.now).configuration) c.args.index =
     c.recovery_row-row.ensures ∙ ap (λ (f : Frame). recovery_row f c.args.index) frame in
     let sum : IsSyndromeSum (state_of_pieces c.args.start c.args.end (g.P.Pieces.received c.args.received.now))
-    c.args.self.now.base (lent_shards c.args.self.now.encoder.rows)
+    c.args.self.now.base (coded_shards c.args.self.now.encoder)
     (recovery_row (frame_at (g.P.Pieces.received c.args.received.now).configuration) c.args.index)
     (shard_in_order c.sum_row.new.sum (c.args.end - c.args.start) 0) =
     subst (λ (y : ℕ). IsSyndromeSum
     (state_of_pieces c.args.start c.args.end (g.P.Pieces.received c.args.received.now)) c.args.self.now.base
-    (lent_shards c.args.self.now.encoder.rows) y (shard_in_order c.sum_row.new.sum (c.args.end - c.args.start) 0))
+    (coded_shards c.args.self.now.encoder) y (shard_in_order c.sum_row.new.sum (c.args.end - c.args.start) 0))
     row c.sum_row.ensures in
     let outside : is_marked c.args.self.now.base.marks.now
     (recovery_row (frame_at (g.P.Pieces.received c.args.received.now).configuration) c.args.index) ≡ false =
@@ -88,7 +88,7 @@ returns g c =
       λ is shard e not.
           subst (λ (p : Shard). IsSyndromeSum
           (state_of_pieces c.args.start c.args.end (g.P.Pieces.received c.args.received.now)) c.args.self.now.base
-          (lent_shards c.args.self.now.encoder.rows)
+          (coded_shards c.args.self.now.encoder)
           (recovery_row (frame_at (g.P.Pieces.received c.args.received.now).configuration) c.args.index) p)
           (sym c.summed_piece.ensures ∙ equal.0 is ∙ c.syndrome_at.ensures) sum,
       λ agrees.

@@ -3,7 +3,7 @@ use Rattle.rs_field.specs.declared.code.frame.Frame.{Frame}
 use Rattle.rs_field.specs.code.Column.{column, shard_at}
 use Rattle.rs_field.specs.code.Decoder.{DecoderState}
 use Rattle.rs_field.specs.code.PieceStates.{state_of_pieces}
-use Rattle.rs_rate.specs.rows.EncoderView.{lent_shards}
+use Rattle.rs_rate.specs.objects.StripView.{coded_shards}
 use Rattle.rs_rate.specs.rows.ShardRows.{shard_in_order}
 use Rattle.reed_solomon_simd.specs.StripSums.{HasSums}
 use Rattle.reed_solomon_simd.proofs.BaseLemmas.{frame_same}
@@ -18,7 +18,7 @@ make-requires-clause-there g c = λ x inside is.
     let (i, hi, at) = ready.based.only x is in
     let from = ap (λ (f : Frame). f.recovery_from) (frame_same s ready.set_up c.counts.result.framed
     c.counts.ensures.originals c.counts.ensures.recovery) in
-    let count = lent-count c.args.self.now.encoder.rows t.configuration ready.fresh in
+    let count = lent-count c.args.self.now.encoder t.configuration ready.fresh in
     (omega (arith, at, from), omega (arith, at, from, count, hi))
 
 pub returns : goal.returns
@@ -27,6 +27,6 @@ returns g c =
     let frame = frame_same s c.requires.ready.set_up c.counts.result.framed c.counts.ensures.originals
     c.counts.ensures.recovery in
     subst (λ (f : Frame). HasSums c.args.self.now.base
-    (λ j x. column j (shard_at (lent_shards c.args.self.now.encoder.rows) (x - f.recovery_from)))
+    (λ j x. column j (shard_at (coded_shards c.args.self.now.encoder) (x - f.recovery_from)))
     (c.args.end - c.args.start) c.args.row (shard_in_order c.make.new.sum (c.args.end - c.args.start) 0)) frame
     c.make.ensures

@@ -1,7 +1,7 @@
 use Rattle.std.proofs.Common.{rules, ◌∙◌, ap, pow_mono}
 use Rattle.rs_field.specs.declared.code.frame.Frame.{Frame}
 use Rattle.rs_field.specs.code.Decoder.{DecoderState}
-use Rattle.rs_rate.specs.rows.EncoderView.{lent_shards}
+use Rattle.rs_rate.specs.objects.StripView.{coded_shards}
 use Rattle.reed_solomon_simd.specs.Base.{row_of}
 use Rattle.reed_solomon_simd.proofs.BaseLemmas.{decoder_frame, frame_same}
 use Rattle.reed_solomon_simd.proofs.BaseSums.{row-inside}
@@ -33,7 +33,7 @@ returns-clause-first g c =
     let ready = c.requires.ready in
     let frame = frame_same s ready.set_up c.counts.result.framed c.counts.ensures.originals c.counts.ensures.recovery in
     syndrome-piece s ready.set_up c.args.start c.args.end ready.strip c.args.self.now.base ready.based
-    (lent_shards c.args.self.now.encoder.rows) ready.made
+    (coded_shards c.args.self.now.encoder) ready.made
     c.args.wanted.0 _ _ c.requires.first (c.row_of.ensures ∙ ap (λ (p : Frame). row_of p c.args.wanted.0) frame)
     c.sum_two_rows.ensures.first
 
@@ -43,6 +43,6 @@ returns-clause-second g c =
     let ready = c.requires.ready in
     let frame = frame_same s ready.set_up c.counts.result.framed c.counts.ensures.originals c.counts.ensures.recovery in
     syndrome-piece s ready.set_up c.args.start c.args.end ready.strip c.args.self.now.base ready.based
-    (lent_shards c.args.self.now.encoder.rows) ready.made
+    (coded_shards c.args.self.now.encoder) ready.made
     c.args.wanted.1 _ _ c.requires.second (c.row_of-2.ensures ∙ ap (λ (p : Frame). row_of p c.args.wanted.1) frame)
     c.sum_two_rows.ensures.second

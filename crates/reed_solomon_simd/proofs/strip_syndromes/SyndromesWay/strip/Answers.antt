@@ -10,7 +10,7 @@ agree_in_strip-requires-clause-ready g c =
       set_up = c.requires.can.set_up;
       based = held.based;
       strip = c.requires.strip;
-      fresh = c.make_syndromes.ensures.fresh;
+      fresh = c.make_syndromes.ensures.code;
       made = c.make_syndromes.ensures.made;
     }
 
@@ -21,7 +21,7 @@ put_sums-requires-clause-ready g c =
       set_up = c.requires.can.set_up;
       based = held.based;
       strip = c.requires.strip;
-      fresh = c.make_syndromes.ensures.fresh;
+      fresh = c.make_syndromes.ensures.code;
       made = c.make_syndromes.ensures.made;
     }
 

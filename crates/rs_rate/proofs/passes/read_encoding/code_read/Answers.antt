@@ -1,112 +1,159 @@
-use Rattle.std.proofs.Common.{rules, ◌≡◌, ℕ, ◌+◌, ◌*◌, ◌%◌, ◌≤◌, false, length, refl, sym, ap, ap₂, ◌∙◌, subst}
+use Rattle.std.proofs.Common.{rules, ◌≡◌, ℕ, ◌+◌, ◌*◌, ◌%◌, ◌≤◌, All, false, length, drop, ◌++◌, refl, sym, ap, ap₂, ◌∙◌, subst}
 use Rattle.std.proofs.Common.{arith, zero-add}
-use Rattle.std.proofs.Math.Nat.{mul-le-mul_right}
+use Rattle.std.proofs.lemmas.Grind.{common_steps}
+use Rattle.std.proofs.lemmas.List.{length-take-le}
 use Rattle.rs_field.specs.code.Counts.{next_power}
 use Rattle.rs_field.specs.code.Frame.{encoder_rows}
-use Rattle.rs_field.specs.declared.rows.shards.ShardsRefMut.{ShardsRefMut}
 use Rattle.rs_field.specs.rows.Layout.{row_len}
 use Rattle.rs_field.specs.rows.Rows.{Chunks, word_in}
-use Rattle.rs_field.specs.rows.View.{cell, word}
+use Rattle.rs_field.specs.rows.View.{word}
 use Rattle.rs_field.specs.words.Transform.{forward}
+use Rattle.rs_field.proofs.code_lemmas.SupportedCounts.{high_fits}
+use Rattle.rs_field.proofs.rows_lemmas.RowOffsets.{word_of}
 use Rattle.rs_field.proofs.words_lemmas.Combination.{forward-same}
 use Rattle.rs_rate.specs.passes.Coding.{SumsBlocks}
 use Rattle.rs_rate.specs.passes.Reading.{message_word}
 use Rattle.rs_rate.specs.values.ChunkCounts.{chunk_count}
-use Rattle.rs_rate.specs.values.Configured.{low_or_high, rows_to_encode}
+use Rattle.rs_rate.specs.declared.values.configuration.Configuration.{Configuration}
+use Rattle.rs_rate.specs.values.Configured.{low_or_high, block_of}
+use Rattle.rs_rate.proofs.passes_lemmas.EncodeCounting.{counts_both, high_total}
 use Rattle.rs_rate.proofs.passes_lemmas.HighCoding.{high_coded}
+use Rattle.rs_rate.proofs.passes_lemmas.Reading.{block_power, front_sums}
 use Rattle.rs_rate.proofs.values_lemmas.ConfiguredLemmas.{configuration-by}
 use Rattle.rs_rate.proofs.values_lemmas.HighCounts.{rows-fit}
 use Rattle.rs_rate.proofs.values_lemmas.PowerLemmas.{next_block}
 use Rattle.rs_rate.proofs.passes.read_encoding.code_read.Goals as goal
 
--- A word of rows is a word of their chunks.
-word-of : (rows : ShardsRefMut) (chunks : Chunks) (n k s i : ℕ) → rows.shard_len_64 ≡ n → chunks ≡ rows.chunks.now
-    → word_in chunks n k s i ≡ word rows k s i
-unfolding cell
-word-of rows chunks n k s i len is = search rules
-
-pub sum_read-requires-clause-points : goal.sum_read-requires-clause-points
-sum_read-requires-clause-points g c start aligned few =
-    let own = c.args.configuration in
-    let by = configuration-by c.requires.configured c.requires.high in
-    let rows = rows-fit false own.original_count own.recovery_count by.0 in
-    let block : c.block_rows-block.result ≡ next_power c.args.configuration.recovery_count =
-    c.block_rows-block.ensures ∙ by.1 in
-    let next = next_block start (encoder_rows (low_or_high false) own.original_count own.recovery_count)
-    (next_power own.recovery_count) (omega (arith, few, rows.enough))
-    (subst (λ (m : ℕ). start % m ≡ 0) block aligned) rows.whole in
-    omega (arith, next, rows.points, block)
-
-pub sum_read-requires-clause-room : goal.sum_read-requires-clause-room
+-- The chunks have room for a block.
+roomy : (own : Configuration) (chunks : Chunks) (block len : ℕ) → block ≡ block_of own → len ≡ row_len own.shard_bytes
+    → chunk_count (block_of own) own.shard_bytes ≤ length chunks → block * len ≤ length chunks
 unfolding chunk_count
-sum_read-requires-clause-room g c =
+roomy own chunks block len is same room =
+    subst (λ (m : ℕ). m * len ≤ length chunks) (sym is)
+    (subst (λ (n : ℕ). block_of own * n ≤ length chunks) (sym same) room)
+
+pub invariant_of-message : goal.invariant_of-message
+invariant_of-message g c =
     let own = c.args.configuration in
-    subst (λ (n : ℕ). c.args.configuration.original_count * n ≤ length c.args.chunks.now) (sym c.row_len-len.ensures)
-    (omega (arith, mul-le-mul_right (row_len own.shard_bytes) c.requires.configured.originals, c.requires.room))
+    let can = c.requires.can in
+    let by = configuration-by c.requires.configured can.high in
+    let rows = rows-fit false own.original_count own.recovery_count by.0 in
+    let is : c.block_rows-block.result ≡ block_of c.args.configuration = c.block_rows-block.ensures in
+    let block : c.block_rows-block.result ≡ next_power c.args.configuration.recovery_count = is ∙ by.1 in
+    let len : c.row_len-len.result ≡ row_len c.args.configuration.shard_bytes = c.row_len-len.ensures in
+    let size : c.args.configuration.shard_bytes ≡ c.row_len-len.result * 64 = omega (arith, len, can.whole) in
+    record {
+      some = omega (arith, is, can.some);
+      few = omega (arith, is, can.few);
+      even = ap (λ n. n % 2) is ∙ can.even;
+      number = c.requires.number;
+      sized = subst (λ (n : ℕ). All (λ shard. length shard ≡ n) (g.M.StripMessage.shards c.args.message.now)) size
+          c.requires.sized;
+      blank = c.zero_row.ensures;
+      originals = (high_fits own.original_count own.recovery_count by.0).0;
+      points = λ start aligned few.
+          let next = next_block start (encoder_rows (low_or_high false) own.original_count own.recovery_count)
+          (next_power own.recovery_count) (omega (arith, few, rows.enough))
+          (subst (λ (m : ℕ). start % m ≡ 0) block aligned) rows.whole in
+          omega (arith, next, rows.points, block);
+    }
+
+pub slice_bounds-sum_blocks-end : goal.slice_bounds-sum_blocks-end
+slice_bounds-sum_blocks-end g c =
+    roomy c.args.configuration _ _ _ c.block_rows-block.ensures c.row_len-len.ensures c.requires.room
+
+pub slice_bounds-sum_blocks-end-2 : goal.slice_bounds-sum_blocks-end-2
+slice_bounds-sum_blocks-end-2 g c =
+    sym (length-take-le _ c.args.chunks.now
+    (roomy c.args.configuration _ _ _ c.block_rows-block.ensures c.row_len-len.ensures c.requires.room))
+
+pub sum_blocks-requires : goal.sum_blocks-requires
+sum_blocks-requires g c = record {
+  room = length-take-le _ c.args.chunks.now
+      (roomy c.args.configuration _ _ _ c.block_rows-block.ensures c.row_len-len.ensures c.requires.room);
+}
+
+-- Chunks whose front has room have room.
+front_room : (front back : Chunks) (count : ℕ) → length front ≡ count → count ≤ length (front ++ back)
+front_room front back count long = grind (arith, common_steps)
 
 pub new-rows-requires : goal.new-rows-requires
-unfolding chunk_count
 new-rows-requires g c =
-    let own = c.args.configuration in
-    subst (λ (n : ℕ). n * c.row_len-len.result ≤ length c.sum_read.new.chunks) (sym c.encoder_rows.ensures)
-    (subst (λ (n : ℕ). rows_to_encode c.args.configuration * n ≤ length c.sum_read.new.chunks)
-    (sym c.row_len-len.ensures) (omega (arith, c.requires.room, c.sum_read.ensures.length)))
+    front_room c.sum_blocks.new.sums _ _ (c.sum_blocks.ensures.length ∙ length-take-le _ c.args.chunks.now
+    (roomy c.args.configuration c.args.chunks.now _ _ c.block_rows-block.ensures c.row_len-len.ensures
+    c.requires.room))
 
 pub fft-requires-clause-fits : goal.fft-requires-clause-fits
-unfolding chunk_count
 fft-requires-clause-fits g c =
-    let own = c.args.configuration in
-    let rows = c.new-rows.result in
-    let count : c.new-rows.result.shard_count ≡ rows_to_encode c.args.configuration =
-    c.new-rows.ensures.count ∙ c.encoder_rows.ensures in
-    let len : c.new-rows.result.shard_len_64 ≡ row_len c.args.configuration.shard_bytes =
-    c.new-rows.ensures.len_64 ∙ c.row_len-len.ensures in
-    subst (λ (n : ℕ). n ≤ length c.new-rows.result.chunks.now) (sym (ap₂ (λ (a b : ℕ). a * b) count len))
-    (omega (arith, ap length c.new-rows.ensures.chunks, c.requires.room, c.sum_read.ensures.length))
+    subst (λ (n : ℕ). n ≤ length c.new-rows.result.chunks.now)
+    (sym (ap₂ (λ (a b : ℕ). a * b) c.new-rows.ensures.count c.new-rows.ensures.len_64))
+    (subst (λ (xs : Chunks). c.block_rows-block.result * c.row_len-len.result ≤ length xs)
+    (sym c.new-rows.ensures.chunks)
+    (front_room c.sum_blocks.new.sums _ _ (c.sum_blocks.ensures.length ∙ length-take-le _ c.args.chunks.now
+    (roomy c.args.configuration c.args.chunks.now _ _ c.block_rows-block.ensures c.row_len-len.ensures
+    c.requires.room))))
 
 pub fft-requires-clause-power : goal.fft-requires-clause-power
 fft-requires-clause-power g c =
-    let own = c.args.configuration in
-    let by = configuration-by c.requires.configured c.requires.high in
-    let rows = rows-fit false own.original_count own.recovery_count by.0 in
-    (rows.power.0, c.block_rows-block.ensures ∙ by.1 ∙ rows.power.1)
+    let can = c.requires.can in
+    let power = block_power (block_of c.args.configuration) can.some can.few can.even in
+    (power.0, c.block_rows-block.ensures ∙ power.1)
 
 pub fft-requires-clause-truncated : goal.fft-requires-clause-truncated
 fft-requires-clause-truncated g c =
     let own = c.args.configuration in
-    let by = configuration-by c.requires.configured c.requires.high in
+    let by = configuration-by c.requires.configured c.requires.can.high in
     let rows = rows-fit false own.original_count own.recovery_count by.0 in
     omega (arith, rows.block, c.block_rows-block.ensures, by.1)
 
-pub returns : goal.returns
-returns g c = record {
-  words = λ is k s inside symbols.
-      let own = c.args.configuration in
-      let by = configuration-by c.requires.configured c.requires.high in
-      let block : c.block_rows-block.result ≡ next_power c.args.configuration.recovery_count =
-      c.block_rows-block.ensures ∙ by.1 in
-      let n : ℕ = row_len own.shard_bytes in
-      let len : c.new-rows.result.shard_len_64 ≡ row_len c.args.configuration.shard_bytes =
-      c.new-rows.ensures.len_64 ∙ c.row_len-len.ensures in
-      let len_too : c.fft.new.data.shard_len_64 ≡ row_len c.args.configuration.shard_bytes =
-      c.fft.ensures.extent.len_64 ∙ len in
-      let sums = c.if-not-sum_read.ensures.sums refl in
-      let old = message_word (g.M.StripMessage.shards c.args.message.now) k s in
-      let mid = word_in c.sum_read.new.chunks n k s in
-      let new = word_in c.chunks-2-1.given.0 n k s in
-      high_coded own.original_count own.recovery_count sums.0 old mid new by.0
-      (subst (λ (m : ℕ). c.args.configuration.original_count ≤ sums.0 * m) block sums.1)
-      (subst (λ (m : ℕ). sums.0 * m + m ≤ 65536) block sums.2)
-      (subst (λ (m : ℕ). SumsBlocks m sums.0 c.args.configuration.original_count old mid) block
-      (subst (λ (m : ℕ). SumsBlocks c.block_rows-block.result sums.0 c.args.configuration.original_count old
-      (word_in c.sum_read.new.chunks m k s)) c.row_len-len.ensures
-      (sums.3 k s (omega (arith, inside, c.row_len-len.ensures)) symbols)))
-      (λ i few.
-      word-of c.fft.new.data c.chunks-2-1.given.0 n k s i len_too (search rules)
-      ∙ ap (word c.fft.new.data k s) (sym (zero-add i))
-      ∙ c.fft.ensures.values k s i (omega (arith, inside, len)) symbols few
-      ∙ forward-same c.block_rows-block.result 0 (λ q. word c.new-rows.result k s (0 + q)) mid i
-      (λ q hq. ap (word c.new-rows.result k s) (zero-add q)
-      ∙ sym (word-of c.new-rows.result c.sum_read.new.chunks n k s q len (sym c.new-rows.ensures.chunks)))
-      ∙ ap (λ m. forward m 0 mid i) block);
-}
+pub returns-clause-words : goal.returns-clause-words
+returns-clause-words g c k s inside symbols =
+    let own = c.args.configuration in
+    let by = configuration-by c.requires.configured c.requires.can.high in
+    let block : c.block_rows-block.result ≡ next_power c.args.configuration.recovery_count =
+    c.block_rows-block.ensures ∙ by.1 in
+    let n : ℕ = row_len own.shard_bytes in
+    let len : c.new-rows.result.shard_len_64 ≡ row_len c.args.configuration.shard_bytes =
+    c.new-rows.ensures.len_64 ∙ c.row_len-len.ensures in
+    let len_too : c.fft.new.data.shard_len_64 ≡ row_len c.args.configuration.shard_bytes =
+    c.fft.ensures.extent.len_64 ∙ len in
+    let taken = length-take-le _ c.args.chunks.now
+    (roomy c.args.configuration c.args.chunks.now _ _ c.block_rows-block.ensures c.row_len-len.ensures
+    c.requires.room) in
+    let sums = c.sum_blocks.ensures.sums in
+    let old = message_word (g.M.StripMessage.shards c.args.message.now) k s in
+    let front = c.sum_blocks.new.sums in
+    let back = drop (c.block_rows-block.result * c.row_len-len.result) c.args.chunks.now in
+    let mid = word_in (front ++ back) n k s in
+    let new = word_in c.chunks-2-1.given.0 n k s in
+    high_coded own.original_count own.recovery_count sums.0 old mid new by.0
+    (subst (λ (m : ℕ). c.args.configuration.original_count ≤ sums.0 * m) block sums.1)
+    (subst (λ (m : ℕ). sums.0 * m + m ≤ 65536) block sums.2)
+    (subst (λ (m : ℕ). SumsBlocks m sums.0 c.args.configuration.original_count old mid) block
+    (subst (λ (m : ℕ). SumsBlocks c.block_rows-block.result sums.0 c.args.configuration.original_count old
+    (word_in (front ++ back) m k s)) c.row_len-len.ensures
+    (front_sums front back c.block_rows-block.result sums.0 c.args.configuration.original_count c.row_len-len.result k s
+    old (c.sum_blocks.ensures.length ∙ taken) (omega (arith, inside, c.row_len-len.ensures))
+    (sums.3 k s (omega (arith, inside, c.row_len-len.ensures)) symbols))))
+    (λ i few.
+    word_of c.fft.new.data c.chunks-2-1.given.0 n k s i len_too (search rules)
+    ∙ ap (word c.fft.new.data k s) (sym (zero-add i))
+    ∙ c.fft.ensures.values k s i (omega (arith, inside, len)) symbols few
+    ∙ forward-same c.block_rows-block.result 0 (λ q. word c.new-rows.result k s (0 + q)) mid i
+    (λ q hq. ap (word c.new-rows.result k s) (zero-add q)
+    ∙ sym (word_of c.new-rows.result (front ++ back) n k s q len (sym c.new-rows.ensures.chunks)))
+    ∙ ap (λ m. forward m 0 mid i) block)
+
+pub returns-clause-counts : goal.returns-clause-counts
+returns-clause-counts g c =
+    let own = c.args.configuration in
+    let by = configuration-by c.requires.configured c.requires.can.high in
+    let rows = rows-fit false own.original_count own.recovery_count by.0 in
+    let block : c.block_rows-block.result ≡ next_power c.args.configuration.recovery_count =
+    c.block_rows-block.ensures ∙ by.1 in
+    let all = high_total own.original_count own.recovery_count c.block_rows-block.result
+    (encoder_rows (low_or_high false) own.original_count own.recovery_count) by.0 block refl in
+    counts_both (omega (arith, all))
+    (c.sum_blocks.ensures.counts (encoder_rows (low_or_high false) own.original_count own.recovery_count) rows.enough
+    (subst (λ (m : ℕ). encoder_rows (low_or_high false) own.original_count own.recovery_count % m ≡ 0) (sym block)
+    rows.whole)) c.fft.ensures.counts

@@ -4,6 +4,7 @@ use Rattle.rs_rate.specs.rows.RowsLaws.{room_within}
 use Rattle.rs_rate.specs.values.Configured.{rows_to_decode}
 use Rattle.rs_rate.proofs.rows_lemmas.RowMaps.{hold_nothing, none-marked, nothing-given}
 use Rattle.rs_rate.proofs.rows_lemmas.StateLemmas.{memory_outcome-fits}
+use Rattle.rs_rate.proofs.values_lemmas.ConfiguredLemmas.{narrowed}
 use Rattle.rs_rate.proofs.rows.decoder_work.DecoderRows.narrow.Goals as goal
 use Rattle.rs_rate.proofs.rows.decoder_work.DecoderRows.narrow.Goals.{After-lay_out}
 
@@ -19,21 +20,9 @@ laid c =
 
 pub invariant_of-self : goal.invariant_of-self
 invariant_of-self c =
-    let own = c.args.self.now.configured in
     let laid = laid (goal.at.invariant_of-self c).After-lay_out in
     record {
-      configured = record {
-        positive = c.requires.some;
-        even = c.requires.even;
-        supported = own.supported;
-        framed = own.framed;
-        rows = own.rows;
-        few = own.few;
-        own_rows = own.own_rows;
-        other_rows = own.other_rows;
-        originals = own.originals;
-        recovery = own.recovery;
-      };
+      configured = narrowed c.args.self.now.configured c.args.shard_bytes c.requires.some c.requires.even;
       laid_out = rw laid at c.lay_out.ensures.laid_out;
       given = hold_nothing _ _ (none-marked _ _ (rw laid at c.lay_out.ensures.empty));
     }
