@@ -312,7 +312,14 @@ pub struct FourChunks<'a> {
 // Writes to as many symbols of four chunks as a vector has lanes, from symbol `at` on, what two layers of butterflies
 // make of four other chunks.
 #[inline(always)]
-fn lanes_of_four_written<V: ByteVector, D: Butterflies, W: WriteWords, F02: Factor, F01: Factor, F23: Factor>(
+fn lanes_of_four_written<
+    V: ByteVector,
+    D: Butterflies,
+    W: WriteWords,
+    F02: Factor,
+    F01: Factor,
+    F23: Factor,
+>(
     c0: &mut [u8; 64],
     c1: &mut [u8; 64],
     c2: &mut [u8; 64],
@@ -349,7 +356,14 @@ fn lanes_of_four_written<V: ByteVector, D: Butterflies, W: WriteWords, F02: Fact
 
 /// Writes to four chunks what two layers of butterflies make of four other chunks.
 #[inline(always)]
-pub fn four_chunks_written<V: ByteVector, D: Butterflies, W: WriteWords, F02: Factor, F01: Factor, F23: Factor>(
+pub fn four_chunks_written<
+    V: ByteVector,
+    D: Butterflies,
+    W: WriteWords,
+    F02: Factor,
+    F01: Factor,
+    F23: Factor,
+>(
     c0: &mut [u8; 64],
     c1: &mut [u8; 64],
     c2: &mut [u8; 64],

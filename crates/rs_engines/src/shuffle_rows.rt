@@ -186,7 +186,14 @@ fn two_rows_written<V: ByteVector, D: Butterflies, W: WriteWords, F: Factor>(
 
 // Writes to four rows what two layers of butterflies, with factors of the classes F02, F01 and F23, make of four other
 // rows.
-fn four_rows_written<V: ByteVector, D: Butterflies, W: WriteWords, F02: Factor, F01: Factor, F23: Factor>(
+fn four_rows_written<
+    V: ByteVector,
+    D: Butterflies,
+    W: WriteWords,
+    F02: Factor,
+    F01: Factor,
+    F23: Factor,
+>(
     x0: &mut [[u8; 64]],
     x1: &mut [[u8; 64]],
     x2: &mut [[u8; 64]],

@@ -93,55 +93,55 @@ module _ (skew : List ℕ) (table : IsSkew skew) (shift : ℕ) (given made : ℕ
 
 module _ (writing : Writing) (skew : List ℕ) (table : IsSkew skew) (shift n k s : ℕ) (old new : Chunks) (given : ℕ → ℕ)
   where
-  -- The word that was written to row q.
-  abbrev made : ℕ → ℕ
-  made q = bit_xor (held writing (word_in old n k s q)) (word_in new n k s q)
+    -- The word that was written to row q.
+    abbrev made : ℕ → ℕ
+    made q = bit_xor (held writing (word_in old n k s q)) (word_in new n k s q)
 
-  -- The word that was written to a chunk.
-  abbrev made_in : ℕ → ℕ
-  made_in i = bit_xor (held writing (symbol (chunk old i) s)) (symbol (chunk new i) s)
+    -- The word that was written to a chunk.
+    abbrev made_in : ℕ → ℕ
+    made_in i = bit_xor (held writing (symbol (chunk old i) s)) (symbol (chunk new i) s)
 
-  made_at : (q at : ℕ) → at ≡ q * n + k → made_in at ≡ made q
-  made_at q at is = ap (λ i. made_in i) is
+    made_at : (q at : ℕ) → at ≡ q * n + k → made_in at ≡ made q
+    made_at q at is = ap (λ i. made_in i) is
 
-  pub two_written : (m : ℕ) (y0 y1 : Chunks) → shift % 2 ≡ 0 → shift + 2 ≤ 65536 → m ≡ n
-      → symbol (chunk y0 k) s < 65536 → symbol (chunk y1 k) s < 65536
-      → symbol (chunk y0 k) s ≡ given 0 → symbol (chunk y1 k) s ≡ given 1
-      → at_two_added s (IsBackwardTwo (get_or skew shift 0)) (held writing) (chunk y0 k) (chunk y1 k) (chunk old k)
-      (chunk old (m + k)) (chunk new k) (chunk new (m + k))
-      → AreWritten writing 2 shift n k s given old new
-  two_written m y0 y1 aligned points len w0 w1 e0 e1 pair =
-      two_backward skew table shift given made aligned points small
-      (let at₀ = made_at 0 k (omega arith) in let at₁ = made_at 1 (m + k) (omega (arith, len)) in
-      rw (e0, e1, at₀, at₁) at pair)
-    where
-      small : (i : ℕ) → i < 2 → given i < 65536
-      small zero few = omega (arith, e0, w0)
-      small (suc zero) few = omega (arith, e1, w1)
-      small (suc (suc i)) few = absurd (omega (arith, few))
+    pub two_written : (m : ℕ) (y0 y1 : Chunks) → shift % 2 ≡ 0 → shift + 2 ≤ 65536 → m ≡ n
+        → symbol (chunk y0 k) s < 65536 → symbol (chunk y1 k) s < 65536
+        → symbol (chunk y0 k) s ≡ given 0 → symbol (chunk y1 k) s ≡ given 1
+        → at_two_added s (IsBackwardTwo (get_or skew shift 0)) (held writing) (chunk y0 k) (chunk y1 k) (chunk old k)
+        (chunk old (m + k)) (chunk new k) (chunk new (m + k))
+        → AreWritten writing 2 shift n k s given old new
+    two_written m y0 y1 aligned points len w0 w1 e0 e1 pair =
+        two_backward skew table shift given made aligned points small
+        (let at₀ = made_at 0 k (omega arith) in let at₁ = made_at 1 (m + k) (omega (arith, len)) in
+        rw (e0, e1, at₀, at₁) at pair)
+      where
+        small : (i : ℕ) → i < 2 → given i < 65536
+        small zero few = omega (arith, e0, w0)
+        small (suc zero) few = omega (arith, e1, w1)
+        small (suc (suc i)) few = absurd (omega (arith, few))
 
-  pub four_written : (m : ℕ) (y0 y1 y2 y3 : Chunks) → shift % 4 ≡ 0 → shift + 4 ≤ 65536 → m ≡ n
-      → symbol (chunk y0 k) s < 65536 → symbol (chunk y1 k) s < 65536
-      → symbol (chunk y2 k) s < 65536 → symbol (chunk y3 k) s < 65536
-      → symbol (chunk y0 k) s ≡ given 0 → symbol (chunk y1 k) s ≡ given 1
-      → symbol (chunk y2 k) s ≡ given 2 → symbol (chunk y3 k) s ≡ given 3
-      → at_four_added s (IsBackwardFour (get_or skew (shift + 1) 0) (get_or skew shift 0) (get_or skew (shift + 2) 0))
-      (held writing) (chunk y0 k) (chunk y1 k) (chunk y2 k) (chunk y3 k)
-      (chunk old k) (chunk old (m + k)) (chunk old (2 * m + k)) (chunk old (3 * m + k))
-      (chunk new k) (chunk new (m + k)) (chunk new (2 * m + k)) (chunk new (3 * m + k))
-      → AreWritten writing 4 shift n k s given old new
-  four_written m y0 y1 y2 y3 aligned points len w0 w1 w2 w3 e0 e1 e2 e3 four =
-      four_backward skew table shift given made aligned points small
-      (let at₀ = made_at 0 k (omega arith) in let at₁ = made_at 1 (m + k) (omega (arith, len)) in
-      let at₂ = made_at 2 (2 * m + k) (omega (arith, len)) in let at₃ = made_at 3 (3 * m + k) (omega (arith, len)) in
-      rw (e0, e1, e2, e3, at₀, at₁, at₂, at₃) at four)
-    where
-      small : (i : ℕ) → i < 4 → given i < 65536
-      small zero few = omega (arith, e0, w0)
-      small (suc zero) few = omega (arith, e1, w1)
-      small (suc (suc zero)) few = omega (arith, e2, w2)
-      small (suc (suc (suc zero))) few = omega (arith, e3, w3)
-      small (suc (suc (suc (suc i)))) few = absurd (omega (arith, few))
+    pub four_written : (m : ℕ) (y0 y1 y2 y3 : Chunks) → shift % 4 ≡ 0 → shift + 4 ≤ 65536 → m ≡ n
+        → symbol (chunk y0 k) s < 65536 → symbol (chunk y1 k) s < 65536
+        → symbol (chunk y2 k) s < 65536 → symbol (chunk y3 k) s < 65536
+        → symbol (chunk y0 k) s ≡ given 0 → symbol (chunk y1 k) s ≡ given 1
+        → symbol (chunk y2 k) s ≡ given 2 → symbol (chunk y3 k) s ≡ given 3
+        → at_four_added s (IsBackwardFour (get_or skew (shift + 1) 0) (get_or skew shift 0) (get_or skew (shift + 2) 0))
+        (held writing) (chunk y0 k) (chunk y1 k) (chunk y2 k) (chunk y3 k)
+        (chunk old k) (chunk old (m + k)) (chunk old (2 * m + k)) (chunk old (3 * m + k))
+        (chunk new k) (chunk new (m + k)) (chunk new (2 * m + k)) (chunk new (3 * m + k))
+        → AreWritten writing 4 shift n k s given old new
+    four_written m y0 y1 y2 y3 aligned points len w0 w1 w2 w3 e0 e1 e2 e3 four =
+        four_backward skew table shift given made aligned points small
+        (let at₀ = made_at 0 k (omega arith) in let at₁ = made_at 1 (m + k) (omega (arith, len)) in
+        let at₂ = made_at 2 (2 * m + k) (omega (arith, len)) in let at₃ = made_at 3 (3 * m + k) (omega (arith, len)) in
+        rw (e0, e1, e2, e3, at₀, at₁, at₂, at₃) at four)
+      where
+        small : (i : ℕ) → i < 4 → given i < 65536
+        small zero few = omega (arith, e0, w0)
+        small (suc zero) few = omega (arith, e1, w1)
+        small (suc (suc zero)) few = omega (arith, e2, w2)
+        small (suc (suc (suc zero))) few = omega (arith, e3, w3)
+        small (suc (suc (suc (suc i)))) few = absurd (omega (arith, few))
 
 -- A word that is added twice is gone.
 twice : (a b : ℕ) → bit_xor a (bit_xor a b) ≡ b

@@ -35,9 +35,9 @@ read_word n k s i piece shards is few sized inside symbols =
 -- A block of two or four rows has a power of two of them, and its transform takes at most a step for each row.
 pub block_power : (block : ℕ) → 1 < block → block ≤ 4 → block % 2 ≡ 0 → (d : ℕ) × (block ≡ 2 ^ d)
 block_power block some few even = elim (cases_lt block 3) [
-      | inl less ↦ (1, omega (arith, some, less))
-      | inr more ↦ (2, omega (arith, more, few, even))
-    ]
+  | inl less ↦ (1, omega (arith, some, less))
+  | inr more ↦ (2, omega (arith, more, few, even))
+]
 
 few_steps : (transform_steps 2 ≡ 1) × (transform_steps 4 ≡ 4)
 unfolding transform_steps log2 first_below
@@ -45,13 +45,13 @@ few_steps = (refl, refl)
 
 pub block_steps : (block : ℕ) → 1 < block → block ≤ 4 → block % 2 ≡ 0 → transform_steps block ≤ block
 block_steps block some few even = elim (cases_lt block 3) [
-      | inl less ↦
-          let two : 2 ≡ block = omega (arith, some, less) in
-          subst (λ (n : ℕ). transform_steps n ≤ n) two (omega (arith, few_steps.0))
-      | inr more ↦
-          let four : 4 ≡ block = omega (arith, more, few, even) in
-          subst (λ (n : ℕ). transform_steps n ≤ n) four (omega (arith, few_steps.1))
-    ]
+  | inl less ↦
+      let two : 2 ≡ block = omega (arith, some, less) in
+      subst (λ (n : ℕ). transform_steps n ≤ n) two (omega (arith, few_steps.0))
+  | inr more ↦
+      let four : 4 ≡ block = omega (arith, more, few, even) in
+      subst (λ (n : ℕ). transform_steps n ≤ n) four (omega (arith, few_steps.1))
+]
 
 -- The words of the rows at the front of chunks are those of these rows alone.
 pub front_word : (front back : Chunks) (block len k s q : ℕ) → length front ≡ block * len → q < block → k < len

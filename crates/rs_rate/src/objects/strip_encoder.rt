@@ -108,7 +108,14 @@ impl StripEncoder {
     {
         self.configuration.shard_bytes = bytes;
         let chunks = self.chunks.as_mut_slice();
-        encode_message(engine, steps, chunks, self.configuration, self.reads, message);
+        encode_message(
+            engine,
+            steps,
+            chunks,
+            self.configuration,
+            self.reads,
+            message,
+        );
     }
 
     /// Returns the number of recovery shards.

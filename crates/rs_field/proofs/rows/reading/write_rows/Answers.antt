@@ -15,22 +15,22 @@ loop-index-preserved g c =
     record {
       length = omega (arith, loop.length, c.write_row_at.auto.x);
       done = λ k s i inside symbols few. elim (cases_lt i c.loop-index.index) [
-          | inl before ↦
-              let ends = row_ends i c.loop-index.index n before in
-              ap (λ d. symbol d s) (c.write_row_at.ensures.others (i * n + k) (inl (omega (arith, ends, inside, at))))
-              ∙ loop.done k s i inside symbols before
-          | inr past ↦
-              let is : i ≡ c.loop-index.index = omega (arith, few, past) in
-              subst (λ (i : ℕ). word_in c.write_row_at.new.x (g.R.ReadRows.row_len c.args.rows.now) k s i
-              ≡ bit_xor (held c.args.writing (word_in c.args.x.now (g.R.ReadRows.row_len c.args.rows.now) k s i))
-              (g.R.ReadRows.word c.args.rows.now k s i)) (sym is)
-              (ap (λ m. symbol (chunk c.write_row_at.new.x (m + k)) s) (sym at)
-              ∙ c.write_row_at.ensures.words k s (omega (arith, inside, len)) symbols
-              ∙ ap₂ bit_xor (ap (held c.args.writing)
-              (ap (λ m. symbol (chunk c.loop-index.x (m + k)) s) at
-              ∙ ap (λ d. symbol d s) (loop.rest (c.loop-index.index * n + k) (omega arith))))
-              (c.row-row.ensures.words k s inside symbols))
-        ];
+        | inl before ↦
+            let ends = row_ends i c.loop-index.index n before in
+            ap (λ d. symbol d s) (c.write_row_at.ensures.others (i * n + k) (inl (omega (arith, ends, inside, at))))
+            ∙ loop.done k s i inside symbols before
+        | inr past ↦
+            let is : i ≡ c.loop-index.index = omega (arith, few, past) in
+            subst (λ (i : ℕ). word_in c.write_row_at.new.x (g.R.ReadRows.row_len c.args.rows.now) k s i
+            ≡ bit_xor (held c.args.writing (word_in c.args.x.now (g.R.ReadRows.row_len c.args.rows.now) k s i))
+            (g.R.ReadRows.word c.args.rows.now k s i)) (sym is)
+            (ap (λ m. symbol (chunk c.write_row_at.new.x (m + k)) s) (sym at)
+            ∙ c.write_row_at.ensures.words k s (omega (arith, inside, len)) symbols
+            ∙ ap₂ bit_xor (ap (held c.args.writing)
+            (ap (λ m. symbol (chunk c.loop-index.x (m + k)) s) at
+            ∙ ap (λ d. symbol d s) (loop.rest (c.loop-index.index * n + k) (omega arith))))
+            (c.row-row.ensures.words k s inside symbols))
+      ];
       rest = λ j past. c.write_row_at.ensures.others j (inr (omega (arith, past, at, len)))
           ∙ loop.rest j (omega (arith, past));
     }

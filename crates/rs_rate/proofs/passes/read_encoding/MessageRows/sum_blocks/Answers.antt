@@ -83,9 +83,12 @@ returns-clause-sums g c =
     let loop = c.loop-start.invariant in
     let parts : c.loop-start.start / c.args.self.now.block * c.args.self.now.block
     + c.loop-start.start % c.args.self.now.block ≡ c.loop-start.start =
-    div-add-mod' c.loop-start.start c.args.self.now.block in
-    (c.loop-start.start / own.block, omega (arith, parts, loop.aligned, c.loop-start-test.false),
-    omega (arith, parts, loop.aligned, loop.points), loop.sums)
+    div-add-mod' c.loop-start.start c.args.self.now.block in (
+      c.loop-start.start / own.block,
+      omega (arith, parts, loop.aligned, c.loop-start-test.false),
+      omega (arith, parts, loop.aligned, loop.points),
+      loop.sums,
+    )
 
 pub returns-clause-counts : goal.returns-clause-counts
 returns-clause-counts g c rows enough whole =
