@@ -19,8 +19,8 @@ decode-shorter most ready = record {
   located = ready.located;
 }
 
-pub encode-shorter : {encoder : StripEncoder} {s : DecoderState} {m n : ℕ} → m ≤ n → IsReadyToEncode rows s n
-    → IsReadyToEncode rows s m
+pub encode-shorter : {encoder : StripEncoder} {s : DecoderState} {m n : ℕ} → m ≤ n → IsReadyToEncode encoder s n
+    → IsReadyToEncode encoder s m
 encode-shorter most ready = record {
   size = ready.size;
   room = let room = ready.room in omega (arith, room, most);

@@ -29,3 +29,7 @@ cut-last cut none long = let inside = cut.inside in omega (arith, inside, none, 
 -- A strip of a shard of even size has an even number of bytes.
 pub strip-even : {start end size : ℕ} → IsStrip start end size → size % 2 ≡ 0 → (end - start) % 2 ≡ 0
 strip-even strip even = search rules
+
+-- A strip of a shard without a tail has no tail.
+pub strip-whole : {start end size : ℕ} → IsStrip start end size → size % 64 ≡ 0 → (end - start) % 64 ≡ 0
+strip-whole strip whole = search rules

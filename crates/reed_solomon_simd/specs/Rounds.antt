@@ -42,7 +42,7 @@ lent_by None = []
 
 -- an encoder is ready for strips of n bytes, and all originals and some recovery shards were received
 pub record IsReadyToCompare (encoder : StripEncoder) (s : DecoderState) (n : ℕ) : Type 0 where
-  pub encoder : IsReadyToEncode encoder s n
+  pub ready : IsReadyToEncode encoder s n
   pub all : originals_given s ≡ s.configuration.original_count
   pub some : 0 < recovery_given s
 

@@ -82,7 +82,7 @@ pub record CanSumSyndromes (s : DecoderState) (base : SumBase) (encoder : StripE
 pub record AreSyndromesReady (encoder : StripEncoder) (base : SumBase) (wanted : List ShardIndex) (surplus : ℕ)
     (s : DecoderState) (n : ℕ) : Type 0
   where
-    pub encoder : IsReadyToEncode encoder s n
+    pub ready : IsReadyToEncode encoder s n
     pub based : IsSyndromeBase s base
     pub names : NamesMissing s.configuration.original_count s wanted
     pub surplus_is : originals_given s + recovery_given s ≡ s.configuration.original_count + surplus

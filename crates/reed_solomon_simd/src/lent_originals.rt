@@ -107,8 +107,7 @@ impl<'a> LentOriginals<'a> {
             });
         };
         let mut originals: LentOriginals<'a> = LentOriginals::new(alloc, counts, first.len())?;
-        let encoder =
-            StripEncoder::new(alloc, counts, first.len(), ENCODE_STRIP_BYTES, engine)?;
+        let encoder = StripEncoder::new(alloc, counts, first.len(), ENCODE_STRIP_BYTES, engine)?;
         originals.add(first)?;
         originals.add_all(original)?;
         Ok((originals, encoder))

@@ -138,12 +138,7 @@ fn received_piece<P: Pieces>(received: &P, index: usize, start: usize, end: usiz
         .unwrap_or(&[])
 }
 
-fn are_encoded<P: Pieces>(
-    encoder: &StripEncoder,
-    received: &P,
-    start: usize,
-    end: usize,
-) -> bool
+fn are_encoded<P: Pieces>(encoder: &StripEncoder, received: &P, start: usize, end: usize) -> bool
     requires set_up { IsDecoder default_rate (P.received received.now) }
     requires number { length (coded_shards encoder.now)
         ≡ (P.received received.now).configuration.recovery_count }

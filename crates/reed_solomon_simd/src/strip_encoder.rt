@@ -49,8 +49,7 @@ pub fn encode_strips<E: Engine, O: Originals, R: Rooms>(
     ensures places { R.places rooms.new ≡ R.places rooms.old }
     ensures loan { R.loan rooms.new ≡ R.loan rooms.old }
 {
-    let mut encoder =
-        StripEncoder::new(alloc, counts, shard_bytes, ENCODE_STRIP_BYTES, &engine)?;
+    let mut encoder = StripEncoder::new(alloc, counts, shard_bytes, ENCODE_STRIP_BYTES, &engine)?;
     encode_strips_with(&engine, &mut encoder, shard_bytes, originals, rooms)
 }
 

@@ -1,7 +1,7 @@
-use Rattle.std.proofs.Common.{◌+◌, ◌-◌, ◌∙◌, min, refl, arith}
+use Rattle.std.proofs.Common.{◌+◌, ◌-◌, ◌∙◌, min, refl, sym, arith}
 use Rattle.rs_field.proofs.code_lemmas.Pieces.{done-none, done-further, done-all}
 use Rattle.reed_solomon_simd.proofs.SetUp.{valid-even}
-use Rattle.reed_solomon_simd.proofs.StripLoops.{IsNext, cut-first, strip-next, cut-last, strip-even}
+use Rattle.reed_solomon_simd.proofs.StripLoops.{IsNext, cut-first, strip-next, cut-last, strip-even, strip-whole}
 use Rattle.reed_solomon_simd.proofs.strip_encoder.encode_strips_with.Given.{Over}
 use Rattle.reed_solomon_simd.proofs.strip_encoder.encode_strips_with.Goals.{After-min}
 use Rattle.reed_solomon_simd.proofs.strip_encoder.encode_strips_with.Goals as goal
@@ -10,7 +10,8 @@ pub loop-start-init : goal.loop-start-init
 loop-start-init g c =
     record {
       cut = cut-first c.args.shard_bytes;
-      fresh = (min 4096 c.args.shard_bytes, omega (arith, c.min-width.ensures), c.requires.fresh);
+      code = (min 4096 c.args.shard_bytes, omega (arith, c.min-width.ensures), c.requires.code);
+      reads = refl;
       done = done-none refl c.requires.fit;
       places = refl;
       loan = refl;
@@ -22,13 +23,18 @@ next : (g : Over) (c : After-min g)
 next g c =
     strip-next 4096 c.min-width.ensures c.min.ensures refl c.loop-start.invariant.cut c.loop-start-test.true refl
 
-pub encode_strip-requires-clause-fresh : goal.encode_strip-requires-clause-fresh
-encode_strip-requires-clause-fresh g c =
+pub encode_strip-requires-clause-code : goal.encode_strip-requires-clause-code
+encode_strip-requires-clause-code g c =
     let held = c.loop-start.invariant in (
-      held.fresh.0,
-      omega (arith, held.fresh.1, c.min.ensures),
-      rw held.done.number held.fresh.2,
+      held.code.0,
+      omega (arith, held.code.1, c.min.ensures),
+      rw held.done.number held.code.2,
     )
+
+pub encode_strip-requires-clause-whole : goal.encode_strip-requires-clause-whole
+encode_strip-requires-clause-whole g c reads =
+    strip-whole (next g (goal.at.encode_strip-requires-clause-whole g c).After-min).strip
+    (c.requires.whole (sym c.loop-start.invariant.reads ∙ reads))
 
 pub encode_strip-requires-clause-some : goal.encode_strip-requires-clause-some
 encode_strip-requires-clause-some g c =
@@ -52,11 +58,12 @@ loop-start-preserved g c =
     let now = c.in_ok-encode_strip.ensures in
     record {
       cut = next.cut;
-      fresh = (
+      code = (
         c.loop-start.start + c.min.result - c.loop-start.start,
         omega (arith, c.min.ensures),
-        rw held.done.number at now.fresh,
+        rw held.done.number at now.code,
       );
+      reads = now.reads ∙ held.reads;
       done = done-further (g.R.Rooms.held c.encode_strip.new.rooms) next.strip c.requires.sized
           held.done (rw held.done.number at now.coded.1) now.coded.2;
       places = now.places ∙ held.places;

@@ -1,6 +1,5 @@
 use Rattle.std.proofs.Common.{◌≡◌, ℕ, ◌-◌, ◌≤◌, length, min}
 use Rattle.rs_field.specs.code.Counts.{default_rate}
-use Rattle.rs_field.specs.code.Encoder.{fresh_encoder}
 use Rattle.rs_field.specs.code.OneCall.{default_of}
 use Rattle.rs_field.proofs.code_lemmas.Pieces.{IsDone}
 use Rattle.rs_rate.specs.objects.StripView.{code_of}
@@ -13,10 +12,10 @@ abbrev pub invariant-loop-start : goal.invariant-loop-start
 invariant-loop-start g l =
     record {
       cut : IsCut l.start l.shard_bytes;
-      fresh : (n : ℕ) × (min l.width (l.shard_bytes - l.start) ≤ n)
+      code : (n : ℕ) × (min l.width (l.shard_bytes - l.start) ≤ n)
           × (code_of l.encoder
-          ≡ fresh_encoder (default_of (length (g.O.Originals.shards l.originals))
-          (length (g.R.Rooms.held l.initial.rooms)) n));
+          ≡ default_of (length (g.O.Originals.shards l.originals)) (length (g.R.Rooms.held l.initial.rooms)) n);
+      reads : l.encoder.reads ≡ l.initial.encoder.reads;
       done : IsDone (length (g.O.Originals.shards l.originals)) (length (g.R.Rooms.held l.initial.rooms)) l.shard_bytes
           l.start g.R.Rooms.grows default_rate (g.O.Originals.shards l.originals) (g.R.Rooms.held l.rooms);
       places : g.R.Rooms.places l.rooms ≡ g.R.Rooms.places l.initial.rooms;

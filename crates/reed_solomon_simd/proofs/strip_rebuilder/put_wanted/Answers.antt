@@ -1,6 +1,5 @@
 use Rattle.std.proofs.Common.{rules, ◌≡◌, ℕ, ◌-◌, ◌<◌, ◌≤◌, [], length, get_or, sym, ap, ◌∙◌, arith}
 use Rattle.std.specs.Prelude.{unwrap_or}
-use Rattle.std.specs.Option.{option_map}
 use Rattle.rs_rate.specs.objects.ResultView.{restored_originals}
 use Rattle.reed_solomon_simd.specs.Rounds.{lent_by}
 use Rattle.reed_solomon_simd.proofs.RebuiltStrips.{piece-there}
@@ -12,7 +11,7 @@ put-requires-clause-fits g c =
     let held = c.loop-room.invariant in
     let n : ℕ = c.loop-room.room in
     let there = piece-there (restored_originals c.args.restored.now)
-    (lent_by (option_map (λ e. e.rows) c.args.encoder.now))
+    (lent_by c.args.encoder.now)
     c.args.wanted.now held.made n _ held.listed c.loop-room-test.true in
     let same : get_or held.made c.loop-room.room [] ≡ c.in-Some.piece.now =
     ap (λ o. unwrap_or o []) (sym (c.in-Some.ensures ∙ there.0)) in

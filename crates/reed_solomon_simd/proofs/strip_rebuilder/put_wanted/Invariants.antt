@@ -1,6 +1,5 @@
 use Rattle.std.proofs.Common.{◌≡◌, ℕ, ◌-◌, ◌<◌, ◌≤◌, List, [], ◌++◌, length, take, drop, get_or, map, Some, All}
 use Rattle.rs_field.specs.code.Column.{Shard}
-use Rattle.std.specs.Option.{option_map}
 use Rattle.rs_rate.specs.objects.ResultView.{restored_originals}
 use Rattle.reed_solomon_simd.specs.Rounds.{lent_by}
 use Rattle.reed_solomon_simd.specs.Reconstructed.{lent_at}
@@ -11,7 +10,7 @@ abbrev pub invariant-loop-room : goal.invariant-loop-room
 invariant-loop-room g l =
     record {
       made : List Shard;
-      listed : map (lent_at (restored_originals l.restored) (lent_by (option_map (λ e. e.rows) l.encoder))) l.wanted
+      listed : map (lent_at (restored_originals l.restored) (lent_by l.encoder)) l.wanted
           ≡ map (λ piece. Some piece) made;
       sized : All (λ piece. length piece ≡ l.end - l.start) made;
       number : length (g.R.Rooms.held l.rooms) ≡ length (g.R.Rooms.held l.initial.rooms);

@@ -1,7 +1,6 @@
 use Rattle.std.proofs.Common.{◌+◌, List, refl, sym, ap, ◌∙◌, subst, inl, inr, arith}
 use Rattle.std.proofs.lemmas.Bool.{cases_lt}
 use Rattle.rs_field.specs.code.Column.{Shard}
-use Rattle.rs_field.specs.code.Counts.{default_rate}
 use Rattle.rs_field.specs.code.Decoder.{DecoderState}
 use Rattle.rs_field.specs.code.PieceStates.{state_of_pieces}
 use Rattle.rs_rate.specs.objects.StripView.{code_of, coded_shards}
@@ -11,14 +10,10 @@ use Rattle.reed_solomon_simd.proofs.SyndromeRounds.{lent-size}
 use Rattle.reed_solomon_simd.proofs.strip_syndromes.add_received.Goals.{in-Some, in_default}
 use Rattle.reed_solomon_simd.proofs.strip_syndromes.add_received.Goals as goal
 
-pub add_to_recovery-requires-clause-ended : goal.add_to_recovery-requires-clause-ended
-add_to_recovery-requires-clause-ended g c =
-    ap (λ e. e.given) (c.loop-index.invariant.fresh ∙ c.requires.fresh)
-
 pub add_to_recovery-requires-clause-index : goal.add_to_recovery-requires-clause-index
 add_to_recovery-requires-clause-index g c =
     let t : DecoderState = state_of_pieces c.args.start c.args.end (g.P.Pieces.received c.args.received.now) in
-    let count = lent-count c.loop-index.encoder t.configuration (c.loop-index.invariant.fresh ∙ c.requires.fresh)
+    let count = lent-count c.loop-index.encoder t.configuration (c.loop-index.invariant.code ∙ c.requires.code)
     in
     omega (arith, count, c.loop-index-test.true, c.counts-index-end.ensures.recovery)
 
@@ -29,12 +24,12 @@ add_to_recovery-requires-clause-sized g c =
     let within = within-pieces c.args.start c.args.end s.configuration.recovery_count s.configuration.shard_bytes
     s.recovery c.requires.strip c.requires.set_up.recovery_within in
     (within.sized c.loop-index.index c.in-Some.piece.now (sym c.in-Some.ensures)).length_is
-    ∙ sym (lent-size c.loop-index.encoder t.configuration (c.loop-index.invariant.fresh ∙ c.requires.fresh))
+    ∙ sym (lent-size c.loop-index.encoder t.configuration (c.loop-index.invariant.code ∙ c.requires.code))
 
 pub loop-index-init : goal.loop-index-init
 loop-index-init g c =
     let t : DecoderState = state_of_pieces c.args.start c.args.end (g.P.Pieces.received c.args.received.now) in
-    record { fresh = refl; added = added-none t.recovery (coded_shards c.args.encoder.now) }
+    record { code = refl; reads = refl; added = added-none t.recovery (coded_shards c.args.encoder.now) }
 
 pub loop-index-preserved : goal.loop-index-preserved
 loop-index-preserved g c =
@@ -44,8 +39,8 @@ loop-index-preserved g c =
     elim c.match-piece.branch [
       | in-Some w ↦
           record {
-            fresh = ap (λ e. code_of e) w.encoder-is ∙ w.add_to_recovery.ensures.state
-                ∙ before.fresh;
+            code = ap (λ e. code_of e) w.encoder-is ∙ w.add_to_recovery.ensures.code ∙ before.code;
+            reads = ap (λ e. e.reads) w.encoder-is ∙ w.add_to_recovery.ensures.reads ∙ before.reads;
             added = subst (λ e. AddedBelow (c.loop-index.index + 1) t.recovery encoded (coded_shards e))
                 (sym w.encoder-is)
                 (added-more c.loop-index.index t.recovery w.in-Some.piece.now encoded
@@ -54,7 +49,8 @@ loop-index-preserved g c =
           }
       | in_default w ↦
           record {
-            fresh = ap (λ e. code_of e) w.encoder-is ∙ before.fresh;
+            code = ap (λ e. code_of e) w.encoder-is ∙ before.code;
+            reads = ap (λ e. e.reads) w.encoder-is ∙ before.reads;
             added = subst (λ e. AddedBelow (c.loop-index.index + 1) t.recovery encoded (coded_shards e))
                 (sym w.encoder-is)
                 (added-passed c.loop-index.index t.recovery encoded (coded_shards c.loop-index.encoder)

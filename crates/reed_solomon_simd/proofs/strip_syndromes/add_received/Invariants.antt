@@ -1,5 +1,4 @@
 use Rattle.std.proofs.Common.{◌≡◌}
-use Rattle.rs_field.specs.code.Counts.{default_rate}
 use Rattle.rs_field.specs.code.PieceStates.{state_of_pieces}
 use Rattle.rs_rate.specs.objects.StripView.{code_of, coded_shards}
 use Rattle.reed_solomon_simd.proofs.SyndromeRounds.{AddedBelow}
@@ -9,7 +8,8 @@ use Rattle.reed_solomon_simd.proofs.strip_syndromes.add_received.Given as goal
 abbrev pub invariant-loop-index : goal.invariant-loop-index
 invariant-loop-index g l =
     record {
-      fresh : code_of l.encoder ≡ code_of l.initial.encoder;
+      code : code_of l.encoder ≡ code_of l.initial.encoder;
+      reads : l.encoder.reads ≡ l.initial.encoder.reads;
       added : AddedBelow l.index (state_of_pieces l.start l.end (g.P.Pieces.received l.received)).recovery
           (coded_shards l.initial.encoder) (coded_shards l.encoder);
     }

@@ -71,7 +71,7 @@ make_strips-requires-clause-ready g c =
     let count = ap (λ n. how_many n (is_marked (take c.list_base-end.result c.in_ok-recovery.recovery.items)))
     (sym exact.count) ∙ sym listed.count ∙ rows in
     record {
-      encoder = search rules;
+      ready = search rules;
       based = record {
         all = all;
         marked = all-base s is marks all end exact adds (length c.in_ok-wanted.wanted.items)

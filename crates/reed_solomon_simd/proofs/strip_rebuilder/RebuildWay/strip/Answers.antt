@@ -1,5 +1,4 @@
 use Rattle.std.proofs.Common.{◌≡◌, List, map, Some, sym, ap, ◌∙◌, inr}
-use Rattle.std.specs.Option.{option_map}
 use Rattle.std.proofs.lemmas.Result.{on_ok_weaker}
 use Rattle.rs_field.specs.code.Code.{AreRecovery}
 use Rattle.rs_field.specs.code.Column.{Shard}
@@ -31,7 +30,7 @@ encode_if_made-requires-clause-ready g c =
 -- The lent pieces are the wanted pieces of the message.
 named : (g : Over) (c : After-encode_if_made g) → let restored = c.in_ok-restored_count.ensures.restored in
     map (lent_at (restored_originals c.restored-restored.result)
-    (lent_by (option_map (λ e. e.rows) c.encode_if_made.new.encoder))) c.args.self.now.wanted.now
+    (lent_by c.encode_if_made.new.encoder)) c.args.self.now.wanted.now
     ≡ map (λ x. Some x) (named_shards restored.message restored.agrees.coded.0 c.args.self.now.wanted.now)
 named g c =
     let x : DecoderState = g.S.Pieces.received c.args.store.now in
@@ -40,14 +39,14 @@ named g c =
     let can = c.requires.can in
     let (n, most, (rounds, wants, encoder)) = c.requires.ready in
     let coded = c.encode_if_made.ensures in
-    ap (λ (o : Shards). map (lent_at o (lent_by (option_map (λ e. e.rows) c.encode_if_made.new.encoder)))
+    ap (λ (o : Shards). map (lent_at o (lent_by c.encode_if_made.new.encoder))
     c.args.self.now.wanted.now) c.restored-restored.ensures
     ∙ lent-named t (restored_by_rows c.decode.new.self.decoder.rows)
-    (lent_by (option_map (λ e. e.rows) c.encode_if_made.new.encoder)) restored.message restored.agrees restored
+    (lent_by c.encode_if_made.new.encoder) restored.message restored.agrees restored
     c.args.self.now.wanted.now (can-pieces x c.args.start c.args.end c.args.self.now.wanted.now can.can)
     (λ wanted. recovery_unique (few-originals x can.set_up)
     (even-strip x can.set_up c.args.start c.args.end c.requires.strip)
-    (lent-some (λ e. e.rows) (λ (l : List Shard). (message : List Shard)
+    (lent-some (λ (l : List Shard). (message : List Shard)
     → IsAgreeing (state_of_pieces c.args.start c.args.end (g.S.Pieces.received c.args.store.now)) message
     → AreRecovery (state_of_pieces c.args.start c.args.end (g.S.Pieces.received c.args.store.now)).configuration message
     l) c.encode_if_made.new.encoder (coded.same ∙ sym wants ∙ wanted) coded.coded restored.message restored.agrees)

@@ -14,7 +14,7 @@ use Rattle.reed_solomon_simd.proofs.strip_rounds.Rounds.decode.Goals as goal
 narrowed : (g : Over) (c : After-narrow g)
     → decoder_state default_rate c.narrow.new.self.rows
     ≡ fresh_decoder (state_of_pieces c.args.start c.args.end (g.P.Pieces.received c.args.received.now)).configuration
-narrowed g c = c.narrow.ensures.code _ c.requires.ready.code
+narrowed g c = c.narrow.ensures.fresh _ c.requires.ready.fresh
 
 -- After all pieces were added, the decoder has the state of the pieces.
 added : (g : Over) (c : After-add_recovery_pieces g)
@@ -22,7 +22,7 @@ added : (g : Over) (c : After-add_recovery_pieces g)
     ≡ state_of_pieces c.args.start c.args.end (g.P.Pieces.received c.args.received.now)
 added g c =
     pieces-added c.args.start c.args.end (g.P.Pieces.received c.args.received.now)
-    (c.narrow.ensures.code _ c.requires.ready.code)
+    (c.narrow.ensures.fresh _ c.requires.ready.fresh)
     c.add_original_pieces.ensures.added c.add_recovery_pieces.ensures.added
 
 -- It has this state, too, when it has the locator.
@@ -32,7 +32,7 @@ located : (g : Over) (c : After-locate_once g)
 located g c =
     c.locate_once.ensures.state
     ∙ pieces-added c.args.start c.args.end (g.P.Pieces.received c.args.received.now)
-    (c.narrow.ensures.code _ c.requires.ready.code)
+    (c.narrow.ensures.fresh _ c.requires.ready.fresh)
     c.add_original_pieces.ensures.added c.add_recovery_pieces.ensures.added
 
 pub add_original_pieces-requires-clause-none : goal.add_original_pieces-requires-clause-none

@@ -9,4 +9,4 @@ abbrev pub invariant-loop-index : goal.invariant-loop-index
 invariant-loop-index g l =
     (i : ℕ) → i < l.index
     → AgreesAt (state_of_pieces l.start l.end (g.P.Pieces.received l.received)) l.self.base
-    (coded_shards l.self.encoder.rows) i
+    (coded_shards l.self.encoder) i

@@ -1,10 +1,10 @@
-use Rattle.std.proofs.Common.{rules, ◌≡◌, ◌-◌, ℕ, refl, sym, ap, ◌∙◌, subst, arith, pow_mono}
+use Rattle.std.proofs.Common.{rules, ◌≡◌, ◌-◌, ◌<◌, ℕ, refl, sym, ap, ◌∙◌, subst, arith, pow_mono}
 use Rattle.std.specs.Prelude.{true, false, not, is_some, ◌↔◌, IsTrue}
 use Rattle.std.proofs.lemmas.List.{get_or_past}
 use Rattle.rs_field.specs.declared.code.frame.Frame.{Frame}
 use Rattle.rs_field.specs.code.Column.{Shard, shard_at}
 use Rattle.rs_field.specs.code.Decoder.{DecoderState}
-use Rattle.rs_field.specs.code.Frame.{recovery_row, frame_at}
+use Rattle.rs_field.specs.code.Frame.{recovery_row, frame_at, row_count}
 use Rattle.rs_field.specs.code.PieceStates.{state_of_pieces}
 use Rattle.rs_field.specs.rows.MarkedRows.{is_marked}
 use Rattle.rs_field.proofs.code_lemmas.Given.{some_of}
@@ -51,6 +51,15 @@ returns-then-row-self g c =
           (omega (arith, row, c.if-row-self.true)),
       λ agrees. refl,
     )
+
+pub sum_row-requires-clause-row : goal.sum_row-requires-clause-row
+sum_row-requires-clause-row g c =
+    let s : DecoderState = g.P.Pieces.received c.args.received.now in
+    let ready = c.requires.ready in
+    let f = distinct_rows_of c.counts.result.framed c.counts.result.supported in
+    subst (λ (f : Frame). c.recovery_row-row.result < row_count f)
+    (frame_same s ready.set_up c.counts.result.framed c.counts.ensures.originals c.counts.ensures.recovery)
+    (omega (arith, c.recovery_row-row.ensures, f.recovery, c.requires.index, c.counts.ensures.recovery))
 
 pub syndrome_at-requires : goal.syndrome_at-requires
 syndrome_at-requires g c =

@@ -18,7 +18,7 @@ make-requires-clause-there g c = λ x inside is.
     let (i, hi, at) = ready.based.only x is in
     let from = ap (λ (f : Frame). f.recovery_from) (frame_same s ready.set_up c.counts.result.framed
     c.counts.ensures.originals c.counts.ensures.recovery) in
-    let count = lent-count c.args.self.now.encoder t.configuration ready.fresh in
+    let count = lent-count c.args.self.now.encoder t.configuration ready.code in
     (omega (arith, at, from), omega (arith, at, from, count, hi))
 
 pub returns : goal.returns
