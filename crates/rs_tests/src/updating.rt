@@ -2,9 +2,11 @@
 //! often they call it is in no contract.
 use super::shards::drawn;
 use reed_solomon_simd::engine::tables::Tables;
-use reed_solomon_simd::engine::{Engine, GfElement, ShardsRefMut, Ssse3, Steps, TwoLogarithms};
+use reed_solomon_simd::engine::{
+    DefaultEngine, Engine, EngineKind, GfElement, ShardsRefMut, Ssse3, Steps, TwoLogarithms,
+};
 use reed_solomon_simd::{Error, encode_into, update_into};
-use rs_field::engine::kernel::FourRows;
+use rs_field::engine::{ReadRows, Writing};
 use std::alloc::Global;
 use std::cell::Cell;
 use std::process::Abort;
@@ -27,7 +29,7 @@ pub struct AddCalls {
     pub to_two: u32,
     /// The number of calls that add a row to a shard in place.
     pub in_place: u32,
-    /// The number of calls that add the backward transform of rows that are only read.
+    /// The number of calls that transform rows that are only read.
     pub read: u32,
     /// The number of calls that compute a locator.
     pub locators: u32,
@@ -38,13 +40,6 @@ impl<'t> Additions<'t> {
     pub fn new(tables: &'t Tables, calls: &'t Cell<AddCalls>) -> Additions<'t> {
         let inner = Ssse3::new(tables);
         Additions { inner, calls }
-    }
-
-    // Counts a call that reads rows where they are.
-    fn count_read(&self) {
-        let calls = self.calls.get();
-        let read = calls.read.saturating_add(1);
-        self.calls.set(AddCalls { read, ..calls });
     }
 }
 
@@ -75,27 +70,22 @@ impl Engine for Additions<'_> {
             .ifft(steps, rows, pos, size, truncated_size, skew_delta);
     }
 
-    fn add_ifft_of_two(
-        &self,
-        steps: &mut Steps,
-        x: &mut [[u8; 64]],
-        y0: &[[u8; 64]],
-        y1: &[[u8; 64]],
-        skew_delta: usize,
-    ) -> bool {
-        self.count_read();
-        self.inner.add_ifft_of_two(steps, x, y0, y1, skew_delta)
+    fn reads_rows(&self) -> bool {
+        Engine::reads_rows(&self.inner)
     }
 
-    fn add_ifft_of_four(
+    fn ifft_of<R: ReadRows>(
         &self,
         steps: &mut Steps,
         x: &mut [[u8; 64]],
-        y: FourRows<'_>,
+        rows: &R,
         skew_delta: usize,
+        writing: Writing,
     ) -> bool {
-        self.count_read();
-        self.inner.add_ifft_of_four(steps, x, y, skew_delta)
+        let calls = self.calls.get();
+        let read = calls.read.saturating_add(1);
+        self.calls.set(AddCalls { read, ..calls });
+        self.inner.ifft_of(steps, x, rows, skew_delta, writing)
     }
 
     fn mul(&self, steps: &mut Steps, x: &mut [[u8; 64]], log_m: GfElement) {
@@ -210,8 +200,7 @@ fn views(alloc: Global, shards: &[Vec<u8>]) -> Result<Vec<&[u8]>, Error> {
     Ok(views)
 }
 
-// At the high rate, each block of two or four originals is read where it is, if there are as many originals as rows in
-// a block. This is so in each strip without a tail.
+// At the high rate, each block of two or four originals is read where it is in each strip, if no strip has a tail.
 #[test]
 fn an_encode_reads_originals_where_they_are(rt: HostRuntime) {
     let tables = Tables::new(rt.alloc()).expect(&rt, "tables");
@@ -220,12 +209,12 @@ fn an_encode_reads_originals_where_they_are(rt: HostRuntime) {
         (4, 2, 64, 2),
         (5, 2, 64, 3),
         (4, 4, 64, 1),
+        (3, 4, 64, 1),
         (10, 4, 4096, 3),
         (10, 4, 8192, 6),
         (10, 3, 4160, 6),
-        (10, 4, 4098, 3),
+        (10, 4, 4098, 0),
         (10, 4, 62, 0),
-        (3, 4, 64, 0),
         (4, 3, 64, 0),
         (20, 8, 64, 0),
         (2, 10, 64, 0),
@@ -247,5 +236,19 @@ fn an_encode_reads_originals_where_they_are(rt: HostRuntime) {
         .expect(&rt, "an encode");
         let asked = (count, recovery_count, size);
         assert_eq!(rt; (asked, calls.get().read), (asked, read));
+    }
+}
+
+// Reading pays for engines by shuffles alone.
+#[test]
+fn engines_say_whether_they_read_rows(rt: HostRuntime) {
+    let tables = Tables::new(rt.alloc()).expect(&rt, "tables");
+    for (kind, reads) in [
+        (EngineKind::Naive, false),
+        (EngineKind::NoSimd, false),
+        (EngineKind::Avx2, true),
+        (EngineKind::Ssse3, true),
+    ] {
+        assert_eq!(rt; DefaultEngine::new(&tables, kind).reads_rows(), reads);
     }
 }
