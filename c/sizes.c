@@ -75,10 +75,11 @@ static bool is_counted(size_t original_count, size_t recovery_count, size_t shar
            shard_bytes <= SIZE_MAX / 2 / (restored + 1);
 }
 
-/* An encode requests its rows. A decode requests the lists. It also requests its rows, or what syndromes need, or, if
-   few shards are lost, what sums need with 16 bytes for each lost shard. The rows take most, with two exceptions: sums
-   need more for one original and one recovery shard of at most 64 bytes, and syndromes can need more for many short
-   shards, if an encode has nearly as many rows as a decode. */
+/* An encode requests its rows. For some counts, a build that reads originals where they are requests fewer. A decode
+   requests the lists. It also requests its rows, or what syndromes need, or, if few shards are lost, what sums need with
+   16 bytes for each lost shard. The rows take most, with two exceptions: sums need more for one original and one
+   recovery shard of at most 64 bytes, and syndromes can need more for many short shards, if an encode has nearly as many
+   rows as a decode. */
 size_t rs_work_bytes(size_t original_count, size_t recovery_count, size_t shard_bytes, size_t restored) {
     if (!is_counted(original_count, recovery_count, shard_bytes, restored) || restored > original_count) return 0;
     struct shape shape = shape_of(original_count, recovery_count);
