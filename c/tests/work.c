@@ -151,27 +151,28 @@ static int has_rows(const struct message *of, int call) {
     return requests_watched > 0;
 }
 
-/* Whether builds with shuffles encode in rows for one block only. The build without them has rows for all originals, and
-   rs_work_bytes is enough for each build. */
-static int encodes_in_a_block(size_t k, size_t r, size_t size) {
-    size_t low = 1, high = 1;
-    while (low < k) low *= 2;
-    while (high < r) high *= 2;
-    return (high < low || (high == low && k <= r)) && (high == 2 || high == 4) && size % 64 == 0;
+/* How many rows an encode needs, if it has rows for one block only: a block of two or four rows, and further originals
+   that are read where they are. The build for x86-64 reads no originals. For all others, 0 is returned. */
+static size_t rows_of_a_block(size_t k, size_t r, size_t size) {
+    size_t block = 1;
+    while (block < r) block *= 2;
+    return k > block && (block == 2 || block == 4) && size % 64 == 0 && strcmp(rs_build_name(), "x86-64") ? block : 0;
 }
 
 /* Counts and a size. rs_work_bytes is what the call needs that needs most. */
 static void shape(size_t k, size_t r, size_t size) {
     size_t used = heap_used, most = 0;
-    int is_exact = !encodes_in_a_block(k, r, size);
     struct message m = made(k, r, size);
     for (int call = 0; call < CALLS; call++) {
         size_t restored = has_surplus(call) ? lost(&m, call) : 0, enough = rs_work_bytes(k, r, size, restored);
         size_t least_number = needed(&m, call, enough), offsets = k + r < 40 && size < 200 ? 64 : 3;
+        size_t rows = rows_of_a_block(k, r, size);
+        if (call <= ENCODE_SHARDS && rows && least_number != 63 + rows * (size < 4096 ? size : 4096))
+            wrong("an encode does not need the rows of a block");
         if (least_number > most) most = least_number;
-        if (call == DECODE_SHARDS && is_exact && most != enough && has_rows(&m, call))
+        if (call == DECODE_SHARDS && most != enough && has_rows(&m, call))
             wrong("rs_work_bytes is larger than what calls need");
-        if (call == DECODE_SHARDS_SURPLUS && is_exact && most != enough && has_rows(&m, call))
+        if (call == DECODE_SHARDS_SURPLUS && most != enough && has_rows(&m, call))
             wrong("rs_work_bytes is larger than what a decode with surplus needs");
         for (size_t i = 0; i < offsets; i++) {
             size_t offset = offsets == 64 ? i : 31 * i, before = heap_used;

@@ -11,14 +11,15 @@ use std::alloc::Global;
 use std::cell::Cell;
 use std::process::Abort;
 
-/// The engine with vectors of 16 bytes, which counts the calls that add rows or compute a locator.
+/// The engine with vectors of 16 bytes, which counts the calls that add rows, transform
+/// rows that are only read, or compute a locator.
 #[derive(Drop)]
 pub struct Additions<'t> {
     inner: Ssse3<'t>,
     calls: &'t Cell<AddCalls>,
 }
 
-/// How often an engine adds rows, and computes a locator.
+/// How often an engine adds rows, transforms rows that are only read, and computes a locator.
 #[derive(Clone, Copy, Debug, Default, PartialEq, Eq)]
 pub struct AddCalls {
     /// The number of calls that add one row.
