@@ -14,7 +14,7 @@ use std::process::Abort;
 
 // The number of calls of each method. The constants below are the indexes of the methods. `eval_poly` and `locate` both
 // compute a locator, and share an index.
-type Calls = [u32; 5];
+type Calls = [u32; 4];
 
 const FFT: usize = 0;
 
@@ -24,10 +24,8 @@ const MUL: usize = 2;
 
 const LOCATOR: usize = 3;
 
-const SUM: usize = 4;
-
-/// The plain engine, which counts its calls, and the entries of all locators that it computed. If it has no logarithms,
-/// its decoders never use direct sums.
+/// The plain engine without sums of its own, which counts its calls, and the entries of all locators that it computed. If
+/// it has no logarithms, its decoders never use direct sums.
 #[derive(Drop)]
 pub struct Counting<'t> {
     naive: Naive<'t>,
@@ -41,14 +39,14 @@ impl<'t> Counting<'t> {
         Counting {
             naive: Naive::new(tables),
             has_logarithms,
-            calls: Cell::new([0; 5]),
+            calls: Cell::new([0; 4]),
             entries: Cell::new(0),
         }
     }
 
     // Counts a call of the method that has this place.
     fn count(&self, method: usize)
-        requires { method < 5 }
+        requires { method < 4 }
     {
         let mut calls = self.calls.get();
         calls[method] = calls[method].saturating_add(1);
@@ -106,68 +104,8 @@ impl Engine for Counting<'_> {
         self.naive.locate(steps, entries);
     }
 
-    fn mul_add(&self, steps: &mut Steps, x: &mut [[u8; 64]], y: &[[u8; 64]], log_m: GfElement) {
-        self.count(SUM);
-        self.naive.mul_add(steps, x, y, log_m);
-    }
-
     fn logarithms(&self, logs: &mut [GfElement]) -> bool {
         self.has_logarithms && self.naive.logarithms(logs)
-    }
-}
-
-/// The plain engine with the four calls that every engine has, and with logarithms. It counts its calls.
-#[derive(Drop)]
-pub struct FourCalls<'t> {
-    counting: Counting<'t>,
-}
-
-impl<'t> FourCalls<'t> {
-    /// Makes the engine over these tables.
-    pub fn new(tables: &'t Tables) -> FourCalls<'t> {
-        FourCalls {
-            counting: Counting::new(tables, true),
-        }
-    }
-}
-
-impl Engine for FourCalls<'_> {
-    fn fft(
-        &self,
-        steps: &mut Steps,
-        rows: &mut ShardsRefMut<'_>,
-        pos: usize,
-        size: usize,
-        truncated_size: usize,
-        skew_delta: usize,
-    ) {
-        self.counting
-            .fft(steps, rows, pos, size, truncated_size, skew_delta);
-    }
-
-    fn ifft(
-        &self,
-        steps: &mut Steps,
-        rows: &mut ShardsRefMut<'_>,
-        pos: usize,
-        size: usize,
-        truncated_size: usize,
-        skew_delta: usize,
-    ) {
-        self.counting
-            .ifft(steps, rows, pos, size, truncated_size, skew_delta);
-    }
-
-    fn mul(&self, steps: &mut Steps, x: &mut [[u8; 64]], log_m: GfElement) {
-        self.counting.mul(steps, x, log_m);
-    }
-
-    fn eval_poly(&self, steps: &mut Steps, entries: &mut [GfElement], truncated_size: usize) {
-        self.counting.eval_poly(steps, entries, truncated_size);
-    }
-
-    fn logarithms(&self, logs: &mut [GfElement]) -> bool {
-        self.counting.logarithms(logs)
     }
 }
 
@@ -252,8 +190,8 @@ fn check_decode(
 ) {
     let engine = Counting::new(tables, false);
     let engine = after_decode(alloc, counts, original, recovery, engine).expect(rt, "an engine");
-    let [fft, ifft, mul, locator, sums] = engine.calls.get();
-    assert_eq!(rt; ([fft, ifft, locator], sums), (others, 0));
+    let [fft, ifft, mul, locator] = engine.calls.get();
+    assert_eq!(rt; [fft, ifft, locator], others);
     assert!(rt; mul <= most);
 }
 
@@ -265,7 +203,7 @@ fn each_rate_calls_its_engine_so_often(rt: HostRuntime) {
     let tables = Tables::new(alloc).expect(&rt, "tables");
     let low = calls_of_encode(alloc, &tables, &[[0, 0], [1, 0]], 3);
     let high = calls_of_encode(alloc, &tables, &[[2, 0], [0, 0], [4, 0]], 2);
-    assert_eq!(rt; (low, high), (Ok([2, 1, 0, 0, 0]), Ok([1, 2, 0, 0, 0])));
+    assert_eq!(rt; (low, high), (Ok([2, 1, 0, 0]), Ok([1, 2, 0, 0])));
     for counts in LOW_AND_HIGH {
         for decode in DECODES {
             check_decode(&rt, alloc, &tables, counts, decode);
@@ -360,19 +298,13 @@ fn a_decode_of_few_lost_shards_calls_its_engine_so_often(rt: HostRuntime) {
     let alloc = rt.alloc();
     let tables = Tables::new(alloc).expect(&rt, "tables");
     for counts in LOW_AND_HIGH {
-        for (original, recovery, sums, products) in FEW_LOST {
+        for (original, recovery, _, products) in FEW_LOST {
             let engine = Counting::new(&tables, true);
             let engine = after_decode(alloc, counts, original, recovery, engine).expect(
                 &rt,
                 "an engine",
             );
-            assert_eq!(rt; engine.calls.get(), [0, 0, 0, 1, sums]);
-            let engine = FourCalls::new(&tables);
-            let engine = after_decode(alloc, counts, original, recovery, engine).expect(
-                &rt,
-                "an engine",
-            );
-            assert_eq!(rt; engine.counting.calls.get(), [0, 0, products, 1, 0]);
+            assert_eq!(rt; engine.calls.get(), [0, 0, products, 1]);
         }
     }
 }
