@@ -459,7 +459,7 @@ def wrong_words():
         run("create", at("a"), *CREATE)
         cases = ((("verify", at("a.rsv"), "--nonsense"), "--nonsense"), (("verify",), "VOLUME"), (("nonsense", at("a.rsv")), "nonsense"),
                  (("split", at("a"), "-o", at("v")), "--volumes"), (("create", at("a"), "--block", "7"), "--block: write an even number"),
-                 (("split", at("a"), "-n", "3", "--lose", "3", "-o", at("v")), "--lose must be"), (("verify", at("a.rsv"), "--quick", "--search", at()), "--quick reads no file"))
+                 (("split", at("a"), "-n", "3", "--lose", "3", "-o", at("v")), "--lose must be"), (("update", at("a.rsv"), at("b.rsv")), "name one volume"), (("verify", at("a.rsv"), "--quick", "--search", at()), "--quick reads no file"))
         for words, reason in cases:
             for line in ((*words, "--json"), (words[0], "--json", *words[1:])):
                 out, error = printed(*line, status=2)

@@ -209,7 +209,7 @@ const VERIFY: Form = Form {
     name: "verify",
     paths: VOLUMES,
     about: "Look for damage",
-    after: "Status 0: all is whole. 1: damage that can be repaired. 3: damage that cannot be repaired.\n\n\
+    after: "Status 0: all is whole. 1: damage that can be repaired. 3: damage that cannot be repaired. 4: an error.\n\n\
             Examples:\n  rs_files verify photos.rsv\n  rs_files verify photos.rsv --only photos/2024",
     options: &[
         FOLDER,

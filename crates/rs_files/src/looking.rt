@@ -178,7 +178,9 @@ pub fn look_for<R: Runtime>(
         folders.push(folder.as_str())?;
     }
     let (to, is_told) = (&request.to, !request.quiet);
-    let elsewhere = find_elsewhere(rt, alloc, folders.as_slice(), to, &mut scan, is_told)?;
+    let mut elsewhere = find_elsewhere(rt, alloc, folders.as_slice(), to, &mut scan, is_told)?;
+    // The order of the entries is that of their names.
+    elsewhere.files.sort()?;
     let moved = elsewhere.files.as_slice();
     let renamed = renaming_of(rt, alloc, request, folder, &scan, moved)?;
     let broken = broken_of(alloc, &scan, &chosen)?;

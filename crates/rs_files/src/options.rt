@@ -2,7 +2,7 @@
 use crate::arguments::{bytes_of, recovery_of};
 use crate::forms::{COMMANDS, Choice, Form, Takes};
 use crate::settings::{
-    Action, NO_OUTPUT, Request, STATUS_FAILED, STATUS_USAGE, STATUS_WHOLE, VERSION,
+    Action, NO_OUTPUT, ONE_VOLUME, Request, STATUS_FAILED, STATUS_USAGE, STATUS_WHOLE, VERSION,
 };
 use clap::error::ErrorKind;
 use clap::{Arg, ArgAction, ArgMatches, Command};
@@ -237,6 +237,7 @@ fn check(request: &Request) -> Result<(), &'static str> {
         Action::Split if request.lose == 0 || request.lose >= request.volumes => {
             Err("split: --lose must be at least 1, and below the number of volumes")
         }
+        Action::Update if request.paths.len() > 1 => Err(ONE_VOLUME),
         Action::Verify if request.quick && !request.search.is_empty() => {
             Err("verify: --quick reads no file, so it looks for none with --search")
         }

@@ -22,6 +22,10 @@ pub const STATUS_FAILED: u8 = 4;
 /// The message about a command line that does not name the volume of `create`.
 pub const NO_OUTPUT: &str = "create: say which volume to write, as -o SET.rsv";
 
+/// The message about a command line that does not name exactly one volume for `update`.
+pub const ONE_VOLUME: &str =
+    "update: name one volume. The volumes of split are made again with split --force";
+
 /// A command of the program.
 #[derive(Clone, Copy)]
 pub enum Action {

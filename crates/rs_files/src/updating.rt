@@ -2,7 +2,7 @@
 use crate::creating::{Task, make};
 use crate::looking::{folder_of, open_request};
 use crate::renamed::tops_of;
-use crate::settings::Request;
+use crate::settings::{ONE_VOLUME, Request};
 use rs_file_sets::cutting::{Recovery, cut_data};
 use rs_folders::failure::{Failure, Result};
 use rs_folders::identity::exists;
@@ -56,9 +56,7 @@ fn block_of(set: &Description) -> Option<u64> {
 /// - the new volume cannot be made, for a reason of [`make`].
 pub fn update<R: Runtime>(rt: &R, alloc: Global, request: &Request) -> Result<u8> {
     let [volume] = request.paths.as_slice() else {
-        return Err(Failure::of(
-            "name one volume: the volumes of split are made again with split --force",
-        ));
+        return Err(Failure::of(ONE_VOLUME));
     };
     let old = open_request(rt, alloc, request)?;
     let set = &old.set.description;
