@@ -14,7 +14,7 @@ pub mod ByIndex
 pub mod CallerLemmas
 pub mod ObjectRoundTrip
 pub mod StripLoops
-pub mod StripLemmas
+pub mod ChunkChanges
 pub mod RoomFits
 pub mod MessageLemmas
 pub mod CompletingLemmas

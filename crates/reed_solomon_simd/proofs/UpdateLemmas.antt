@@ -28,7 +28,7 @@ use Rattle.reed_solomon_simd.specs.declared.room_error.RoomError.{RoomError}
 use Rattle.reed_solomon_simd.specs.declared.room_error.RoomError.TheVariants.{Refused}
 use Rattle.reed_solomon_simd.specs.Into.{rooms_fit}
 use Rattle.reed_solomon_simd.specs.Rooms.{bytes_in}
-use Rattle.reed_solomon_simd.specs.Updated.{IsChanged, IsChangedStrip, UpdatesShards, AddsChange, UpdatesInto}
+use Rattle.reed_solomon_simd.specs.Updated.{AddsToStrip, IsChanged, IsChangedStrip, UpdatesShards, AddsChange, UpdatesInto}
 use Rattle.reed_solomon_simd.specs.Updated.{change_outcome}
 use Rattle.reed_solomon_simd.specs.Updated.{update_outcome}
 use Rattle.reed_solomon_simd.proofs.ReconstructLemmas.{zeros}
@@ -120,7 +120,7 @@ pub changed-more : (start end : ℕ) (old new : Shard) (log : ℕ) (before now a
     → IsChangedBelow start old new log before now → IsStrip start end (length before)
     → length old ≡ length before → length new ≡ length before → IsChangedStrip start end old new log now after
     → IsChangedBelow end old new log before after
-changed-more start end old new log before now after is strip same_old same_new (change, sized, words, adds) =
+changed-more start end old new log before now after is strip same_old same_new adds =
     record {
       length_is = long;
       bytes = inr adds.bytes;
@@ -158,22 +158,32 @@ changed-more start end old new log before now after is strip same_old same_new (
     late : (i : ℕ) → i < (end - start) / 2
         → column (start / 2 + i) after ≡ changed_at old new log before (start / 2 + i)
     late i h =
-        let inside : i < length change / 2 = omega (arith, h, sized) in
         sym (column-piece start end i after (subst (IsStrip start end) (sym long) strip) h)
-        ∙ adds.words i inside
+        ∙ adds.words i h
         ∙ ap₂ bit_xor
         (column-piece start end i now (subst (IsStrip start end) (sym is.length_is) strip) h
         ∙ sym (column-rest start i now strip.begins) ∙ ap (column i) is.above
         ∙ column-rest start i before strip.begins)
-        (ap (λ (w : ℕ). product w (power log)) (words i inside)
-        ∙ ap₂ (λ (x y : ℕ). product (bit_xor x y) (power log))
+        (ap₂ (λ (x y : ℕ). product (bit_xor x y) (power log))
         (column-piece start end i old (subst (IsStrip start end) (sym same_old) strip) h)
         (column-piece start end i new (subst (IsStrip start end) (sym same_new) strip) h))
 
--- The next piece of at most 2048 bytes is a strip.
-pub next-strip : (start size width : ℕ) → (start % 64 ≡ 0) ⊎ (start ≡ size) → start < size
-    → width ≡ min 2048 (size - start) → IsStrip start (start + width) size
-next-strip start size width begins more is = search rules
+-- A change that is the XOR of two strips is the change of a strip.
+pub strip-changed : (start end : ℕ) (old new change : Shard) (log : ℕ) (before after : Shard)
+    → length change ≡ end - start
+    → ((j : ℕ) → j < length change / 2
+    → column j change ≡ bit_xor (column j (between start end old)) (column j (between start end new)))
+    → AddsToStrip start end change log before after → IsChangedStrip start end old new log before after
+strip-changed start end old new change log before after sized words adds = record {
+  length_is = adds.length_is;
+  bytes = adds.bytes;
+  first = adds.first;
+  rest = adds.rest;
+  words = λ j h.
+      let inside : j < length change / 2 = omega (arith, h, sized) in
+      adds.words j inside
+      ∙ ap (λ (w : ℕ). bit_xor (column j (between start end before)) (product w (power log))) (words j inside);
+}
 
 -- ---- all recovery shards
 

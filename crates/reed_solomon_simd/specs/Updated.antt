@@ -103,9 +103,12 @@ pub record AddsToStrip (start end : ℕ) (change : Shard) (log : ℕ) (before af
 
 -- a shard is another one plus the change of an original from byte `start` up to byte `end`, times the generator to the
 -- power of this logarithm
-abbrev pub IsChangedStrip : ℕ → ℕ → Shard → Shard → ℕ → Shard → Shard → Type 0
-IsChangedStrip start end old new log before after =
-    (change : Shard) × (length change ≡ end - start)
-    × ((j : ℕ) → j < length change / 2
-    → column j change ≡ bit_xor (column j (between start end old)) (column j (between start end new)))
-    × AddsToStrip start end change log before after
+pub record IsChangedStrip (start end : ℕ) (old new : Shard) (log : ℕ) (before after : Shard) : Type 0 where
+  pub length_is : length after ≡ length before
+  pub bytes : All (λ b. b < 256) after
+  pub first : take start after ≡ take start before
+  pub rest : drop end after ≡ drop end before
+  pub words : (j : ℕ) → j < (end - start) / 2
+      → column j (between start end after)
+      ≡ bit_xor (column j (between start end before))
+      (product (bit_xor (column j (between start end old)) (column j (between start end new))) (power log))

@@ -74,8 +74,8 @@ impl<'a> LentOriginals<'a> {
         })
     }
 
-    /// Gathers all `original` shards for these counts, and makes an encoder for their strips, with this engine. The shard
-    /// size is that of the first original.
+    /// Gathers all `original` shards for these counts, and makes an encoder for their strips, with this engine. The
+    /// shard size is that of the first original.
     ///
     /// # Errors
     ///

@@ -25,6 +25,7 @@ mod receiving;
 mod reconstruct_error;
 mod reconstructing;
 mod restoring;
+mod room_chunks;
 mod room_error;
 mod rooms;
 mod separate_store;

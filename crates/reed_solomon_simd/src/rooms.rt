@@ -1,10 +1,11 @@
 //! Rooms: memory that shards are written into, strip by strip.
-ghost use Rattle.std.specs.Prelude.{◌≡◌, ◌+◌, ◌≤◌, ◌++◌, List, All, OnOk, length, take, drop};
+ghost use Rattle.std.specs.Prelude.{◌≡◌, ◌+◌, ◌<◌, ◌≤◌, ◌++◌, List, All, OnOk, length, take, drop};
 ghost use Rattle.rs_field.specs.code.Column.{Shard};
 ghost use Rattle.reed_solomon_simd.specs.Into.{rooms_fit};
 ghost use Rattle.reed_solomon_simd.specs.Rooms.{bytes_in};
 
 use crate::room_error::RoomError;
+use rs_field::bytes::are_bytes;
 use rs_field::error::Error;
 
 /// Rooms for shards: each room is memory for one shard. A shard is written strip by strip, in order.
@@ -135,4 +136,22 @@ pub fn check_rooms(count: usize, shard_bytes: usize, rooms: &[&mut [u8]]) -> Res
         }
     }
     Ok(())
+}
+
+/// Guarantees that every byte of each room is below 256.
+pub(crate) fn rooms_are_bytes(rooms: &mut [&mut [u8]])
+    ensures bytes { All (All (λ b. b < 256)) (bytes_in rooms.new) }
+    ensures kept { rooms.new ≡ rooms.old }
+{
+    for i in 0..rooms.len() {
+        room_is_bytes(rooms[i]);
+    }
+}
+
+// Guarantees that every byte of a room is below 256.
+fn room_is_bytes(room: &mut [u8])
+    ensures bytes { All (λ b. b < 256) room.new }
+    ensures same { room.new ≡ room.old }
+{
+    are_bytes(room);
 }

@@ -115,10 +115,6 @@ struct ReceivedStrip<'a, P: Pieces> {
 impl<'a, P: Pieces> StripMessage for ReceivedStrip<'a, P> {
     ghost shards = { λ x. own_message (state_of_pieces x.start x.end (P.received x.received.now)) nothing };
 
-    fn count(&self) -> usize {
-        self.received.counts().original_count
-    }
-
     fn piece(&self, index: usize) -> &[u8] {
         received_piece(self.received, index, self.start, self.end)
     }

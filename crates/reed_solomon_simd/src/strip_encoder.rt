@@ -2,7 +2,7 @@
 //! of the originals are read where they are or copied into the work area, and the recovery pieces are copied from there
 //! into the rooms.
 ghost use Rattle.std.specs.Prelude.{◌≡◌, ℕ, List, ◌-◌, ◌%◌, ◌<◌, ◌≤◌, All, true, false, length, min, Ok, Err};
-ghost use Rattle.std.specs.Prelude.{OnOk, OnErr, IfOk, IfErr};
+ghost use Rattle.std.specs.Prelude.{OnOk, OnErr};
 ghost use Rattle.rs_field.specs.code.Code.{AreRecovery};
 ghost use Rattle.rs_field.specs.code.Column.{Shard};
 ghost use Rattle.rs_field.specs.code.Configuration.{validation_outcome};
@@ -144,10 +144,6 @@ struct OriginalsStrip<'a, O: Originals> {
 
 impl<'a, O: Originals> StripMessage for OriginalsStrip<'a, O> {
     ghost shards = { λ x. pieces x.start x.end (O.shards x.originals.now) };
-
-    fn count(&self) -> usize {
-        self.originals.count()
-    }
 
     fn piece(&self, index: usize) -> &[u8] {
         self.originals.piece(index, self.start, self.end)

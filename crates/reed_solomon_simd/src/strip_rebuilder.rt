@@ -222,10 +222,6 @@ impl<'a, P: Pieces> StripMessage for RestoredStrip<'a, P> {
     ghost shards = { λ x. own_message (state_of_pieces x.start x.end (P.received x.received.now))
         (restored_originals x.restored.now) };
 
-    fn count(&self) -> usize {
-        self.received.counts().original_count
-    }
-
     fn piece(&self, index: usize) -> &[u8] {
         message_piece(self.received, self.restored, index, self.start, self.end)
     }

@@ -255,10 +255,6 @@ struct ZeroedStrip<'a, P: Pieces> {
 impl<'a, P: Pieces> StripMessage for ZeroedStrip<'a, P> {
     ghost shards = { λ x. zeroed (state_of_pieces x.start x.end (P.received x.received.now)) };
 
-    fn count(&self) -> usize {
-        self.received.counts().original_count
-    }
-
     fn piece(&self, index: usize) -> &[u8] {
         zeroed_piece(self.received, self.zeros, index, self.start, self.end)
     }

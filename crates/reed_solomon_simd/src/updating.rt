@@ -1,18 +1,19 @@
 //! A function that updates recovery shards if one original changes.
-ghost use Rattle.std.specs.Prelude.{◌≡◌, ◌+◌, ◌-◌, ◌/◌, ◌%◌, ℕ, ◌<◌, ◌≤◌, length, slice_index, bit_xor};
+ghost use Rattle.std.specs.Prelude.{◌≡◌, ◌+◌, ◌*◌, ◌/◌, ◌%◌, ℕ, ◌<◌, ◌≤◌, All, length, slice_index, bit_xor};
 ghost use Rattle.rs_field.specs.code.Column.{shard_at, column};
-ghost use Rattle.rs_field.specs.code.Pieces.{IsStrip};
-ghost use Rattle.reed_solomon_simd.specs.Rooms.{bytes_in, loans_of};
+ghost use Rattle.rs_field.specs.rows.Changed.{AreChanged};
+ghost use Rattle.rs_field.specs.rows.Rows.{byte_symbol};
+ghost use Rattle.reed_solomon_simd.specs.Rooms.{bytes_in, loans_of, rests};
 ghost use Rattle.reed_solomon_simd.specs.Updated.{UpdatesInto, IsChanged, IsChangedStrip, AddsToStrip};
 ghost use Rattle.reed_solomon_simd.specs.Updated.{change_outcome};
 
-use crate::rooms::check_rooms;
-use crate::strip_bytes::DECODE_STRIP_BYTES;
+use crate::room_chunks::RoomChunks;
+use crate::rooms::{check_rooms, rooms_are_bytes};
 use crate::{Error, RoomError};
 use rs_field::bytes::are_bytes;
-use rs_field::engine::{Engine, GfElement, Steps};
+use rs_field::engine::{Change, Engine, GfElement, Steps, change_rows};
 use rs_rate::rate::DefaultRateCounts;
-use rs_rate::rate::changes::{add_change, change_factors};
+use rs_rate::rate::changes::{add_to_tail, change_factors};
 use std::alloc::Global;
 
 /// Updates recovery shards after one original has changed. The other originals are not needed.
@@ -97,8 +98,8 @@ fn check_change(
     Ok(())
 }
 
-// Adds the change from `old` to `new` to each recovery shard, times the factor of the shard, strip by strip. `factors`
-// has the logarithms of the factors.
+// Adds the change from `old` to `new` to each recovery shard, times the factor of the shard: to its whole chunks, and then
+// to its tail. `factors` has the logarithms of the factors.
 fn add_to_all<E: Engine>(
     engine: &E,
     steps: &mut Steps,
@@ -120,28 +121,78 @@ fn add_to_all<E: Engine>(
         → IsChanged old.now new.now (slice_index factors.now i)
         (shard_at (bytes_in recovery.old) i) (shard_at (bytes_in recovery.new) i) }
 {
-    let mut start = 0;
-    while start < old.len() {
-        let end = start + DECODE_STRIP_BYTES.min(old.len() - start);
-        add_strip(engine, steps, recovery, old, new, start, end, factors);
-        start = end;
+    let end = old.len() / 64 * 64;
+    if end > 0 {
+        add_to_chunks(engine, steps, recovery, old, new, factors);
+    }
+    if end < old.len() {
+        add_to_tails(engine, steps, recovery, old, new, factors);
     }
 }
 
-// Adds a strip of the change to the same strip of each recovery shard, times the factor of the shard.
-fn add_strip<E: Engine>(
+// Adds the whole chunks of the change from `old` to `new` to those of each recovery shard, times the factor of the shard.
+fn add_to_chunks<E: Engine>(
     engine: &E,
     steps: &mut Steps,
     recovery: &mut [&mut [u8]],
     old: &[u8],
     new: &[u8],
-    start: usize,
-    end: usize,
     factors: &[GfElement],
 )
     requires number { length factors.now ≡ length recovery.old }
-    requires strip { IsStrip start end (length old.now) }
-    requires few { end - start ≤ 2048 }
+    requires some { 64 ≤ length old.now }
+    requires same { length new.now ≡ length old.now }
+    requires fit { (i : ℕ) → i < length recovery.old
+        → length (shard_at (bytes_in recovery.old) i) ≡ length old.now }
+    requires small { (i : ℕ) → i < length recovery.old → slice_index factors.now i < 65535 }
+    ensures number { length recovery.new ≡ length recovery.old }
+    ensures kept { loans_of recovery.new ≡ loans_of recovery.old }
+    ensures changed { (i : ℕ) → i < length recovery.old
+        → IsChangedStrip 0 (length old.now / 64 * 64) old.now new.now (slice_index factors.now i)
+        (shard_at (bytes_in recovery.old) i) (shard_at (bytes_in recovery.new) i) }
+{
+    let (old, _) = old.as_chunks::<64>();
+    let (new, _) = new.as_chunks::<64>();
+    change_chunks(engine, steps, recovery, Change { old, new }, factors);
+    rooms_are_bytes(recovery);
+}
+
+// Adds a change of at least one chunk to the first chunks of each recovery shard, times the factor of the shard.
+fn change_chunks<E: Engine>(
+    engine: &E,
+    steps: &mut Steps,
+    recovery: &mut [&mut [u8]],
+    change: Change<'_>,
+    factors: &[GfElement],
+)
+    requires number { length factors.now ≡ length recovery.old }
+    requires some { 0 < length change.old.now }
+    requires room { All (λ room. length change.old.now * 64 ≤ length room) (bytes_in recovery.old) }
+    ensures kept { loans_of recovery.new ≡ loans_of recovery.old }
+    ensures rest { rests (length change.entry.old.now) recovery.new
+        ≡ rests (length change.entry.old.now) recovery.old }
+    ensures words { AreChanged change.entry factors.now
+        (λ k s i. byte_symbol (shard_at (bytes_in recovery.old) i) k s)
+        (λ k s i. byte_symbol (shard_at (bytes_in recovery.new) i) k s) }
+{
+    let count = change.old.len();
+    let mut rooms = RoomChunks {
+        rooms: recovery,
+        count,
+    };
+    change_rows(engine, steps, &mut rooms, change, factors);
+}
+
+// Adds the tail of the change from `old` to `new` to the tail of each recovery shard, times the factor of the shard.
+fn add_to_tails<E: Engine>(
+    engine: &E,
+    steps: &mut Steps,
+    recovery: &mut [&mut [u8]],
+    old: &[u8],
+    new: &[u8],
+    factors: &[GfElement],
+)
+    requires number { length factors.now ≡ length recovery.old }
     requires same { length new.now ≡ length old.now }
     requires even { length old.now % 2 ≡ 0 }
     requires fit { (i : ℕ) → i < length recovery.old
@@ -150,20 +201,23 @@ fn add_strip<E: Engine>(
     ensures number { length recovery.new ≡ length recovery.old }
     ensures kept { loans_of recovery.new ≡ loans_of recovery.old }
     ensures changed { (i : ℕ) → i < length recovery.old
-        → IsChangedStrip start end old.now new.now (slice_index factors.now i)
+        → IsChangedStrip (length old.now / 64 * 64) (length old.now) old.now new.now
+        (slice_index factors.now i)
         (shard_at (bytes_in recovery.old) i) (shard_at (bytes_in recovery.new) i) }
 {
-    let mut room = [0; DECODE_STRIP_BYTES];
+    let end = old.len();
+    let start = end / 64 * 64;
+    let mut room = [0; 64];
     let change = &mut room[..end - start];
     put_change(change, &old[start..end], &new[start..end]);
     for i in 0..recovery.len() {
-        add_to_strip(engine, steps, recovery[i], change, start, factors[i]);
+        add_to_rest(engine, steps, recovery[i], change, start, factors[i]);
     }
 }
 
-// Adds a strip of a change to the same strip of a recovery shard, times a factor. `log_m` is the logarithm of the
-// factor.
-fn add_to_strip<E: Engine>(
+// Adds a change of less than a chunk to a recovery shard from byte `start` on, times a factor. `log_m` is the logarithm
+// of the factor.
+fn add_to_rest<E: Engine>(
     engine: &E,
     steps: &mut Steps,
     shard: &mut [u8],
@@ -171,13 +225,14 @@ fn add_to_strip<E: Engine>(
     start: usize,
     log_m: GfElement,
 )
-    requires inside { start + length change.now ≤ length shard.old }
+    requires inside { start + length change.now ≡ length shard.old }
+    requires short { length change.now < 64 }
     requires even { length change.now % 2 ≡ 0 }
     requires factor { log_m < 65535 }
     ensures { AddsToStrip start (start + length change.now) change.now log_m shard.old shard.new }
 {
     let end = start + change.len();
-    add_change(engine, steps, &mut shard[start..end], change, log_m);
+    add_to_tail(engine, steps, &mut shard[start..end], change, log_m);
     are_bytes(shard);
 }
 

@@ -5,3 +5,4 @@ pub mod WordBytes
 pub mod LookUp
 pub mod Kept
 pub mod Halves
+pub mod Groups

@@ -1,4 +1,5 @@
 pub mod Kind
 pub mod Lanes
 pub mod Factors
+pub mod Changes
 pub mod Additive

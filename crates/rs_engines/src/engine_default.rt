@@ -3,7 +3,8 @@ use crate::engine_nosimd::NoSimd;
 use crate::engine_shuffle::{Avx2, Ssse3};
 use rs_field::engine::tables::Tables;
 use rs_field::engine::{
-    Engine, GfElement, Naive, ReadRows, ShardsRefMut, Steps, TwoLogarithms, Writing,
+    Change, ChangeRows, Engine, GfElement, Naive, ReadRows, ShardsRefMut, Steps, TwoLogarithms,
+    Writing,
 };
 use std::fmt;
 use std::str::FromStr;
@@ -359,12 +360,18 @@ impl Engine for DefaultEngine<'_> {
         }
     }
 
-    fn mul_add_bytes(&self, steps: &mut Steps, x: &mut [u8], y: &[[u8; 64]], log_m: GfElement) {
+    fn add_change<R: ChangeRows>(
+        &self,
+        steps: &mut Steps,
+        rows: &mut R,
+        change: Change<'_>,
+        logs: &[GfElement],
+    ) -> bool {
         match self {
-            Self::Naive(engine) => Engine::mul_add_bytes(engine, steps, x, y, log_m),
-            Self::NoSimd(engine) => Engine::mul_add_bytes(engine, steps, x, y, log_m),
-            Self::Avx2(engine) => Engine::mul_add_bytes(engine, steps, x, y, log_m),
-            Self::Ssse3(engine) => Engine::mul_add_bytes(engine, steps, x, y, log_m),
+            Self::Naive(engine) => Engine::add_change(engine, steps, rows, change, logs),
+            Self::NoSimd(engine) => Engine::add_change(engine, steps, rows, change, logs),
+            Self::Avx2(engine) => Engine::add_change(engine, steps, rows, change, logs),
+            Self::Ssse3(engine) => Engine::add_change(engine, steps, rows, change, logs),
         }
     }
 

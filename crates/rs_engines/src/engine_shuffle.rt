@@ -9,16 +9,17 @@ use crate::any_factor::{AnyFactor, factor_of};
 use crate::butterflies::{Backward, Forward};
 use crate::byte_vector::ByteVector;
 use crate::factors::ThreeFactors;
+use crate::shuffle_changes::change_all;
 use crate::shuffle_rows::{
-    add_row, add_row_to_bytes, add_row_to_two, add_two_rows, mul_chunks, one_layer,
-    one_layer_written, two_layers, two_layers_written,
+    add_row, add_row_to_two, add_two_rows, mul_chunks, one_layer, one_layer_written, two_layers,
+    two_layers_written,
 };
 use crate::shuffle_tables::ShuffleTables;
-use crate::word_lanes::{Adding, Replacing};
+use crate::word_lanes::{AddWords, ReplaceWords};
 use rs_field::engine::kernel::{FourRows, Kernel, ThreeLogarithms};
 use rs_field::engine::lent_tables::LentTables;
 use rs_field::engine::tables::{Multiply128lutT, Tables};
-use rs_field::engine::{GfElement, TwoLogarithms, Writing};
+use rs_field::engine::{Change, ChangeRows, GfElement, TwoLogarithms, Writing};
 use std::marker::PhantomData;
 use std::simd::prelude::*;
 
@@ -174,8 +175,8 @@ impl<V: ByteVector, T: ShuffleTables> Kernel for ByShuffles<V, T> {
         let products = self.tables.products(log_m);
         let factor = factor_of(products.lend(), log_m);
         match writing {
-            Writing::Replacing => one_layer_written::<V, Backward, Replacing>(x, y0, y1, factor),
-            Writing::Adding => one_layer_written::<V, Backward, Adding>(x, y0, y1, factor),
+            Writing::Replacing => one_layer_written::<V, Backward, ReplaceWords>(x, y0, y1, factor),
+            Writing::Adding => one_layer_written::<V, Backward, AddWords>(x, y0, y1, factor),
         }
         true
     }
@@ -192,8 +193,8 @@ impl<V: ByteVector, T: ShuffleTables> Kernel for ByShuffles<V, T> {
         let p23 = self.tables.products(logs.log_m23);
         let factors = three_factors(p02.lend(), p01.lend(), p23.lend(), logs);
         match writing {
-            Writing::Replacing => two_layers_written::<V, Backward, Replacing>(x, y, factors),
-            Writing::Adding => two_layers_written::<V, Backward, Adding>(x, y, factors),
+            Writing::Replacing => two_layers_written::<V, Backward, ReplaceWords>(x, y, factors),
+            Writing::Adding => two_layers_written::<V, Backward, AddWords>(x, y, factors),
         }
         true
     }
@@ -236,8 +237,13 @@ impl<V: ByteVector, T: ShuffleTables> Kernel for ByShuffles<V, T> {
         add_row_to_two::<V>(x0, x1, y, f0, f1);
     }
 
-    fn mul_add_bytes(&self, x: &mut [u8], y: &[[u8; 64]], log_m: GfElement) {
-        let products = self.tables.products(log_m);
-        add_row_to_bytes::<V>(x, y, factor_of(products.lend(), log_m));
+    fn add_change<R: ChangeRows>(
+        &self,
+        rows: &mut R,
+        change: Change<'_>,
+        logs: &[GfElement],
+    ) -> bool {
+        change_all::<V, T, R>(&self.tables, rows, change, logs);
+        true
     }
 }

@@ -11,6 +11,8 @@ pub mod engine_default;
 pub mod engine_nosimd;
 pub mod engine_shuffle;
 pub mod factors;
+mod row_factors;
+mod shuffle_changes;
 mod shuffle_chunks;
 pub mod shuffle_rows;
 pub mod shuffle_tables;

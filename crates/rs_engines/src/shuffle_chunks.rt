@@ -252,8 +252,8 @@ pub fn four_chunks<V: ByteVector, D: Butterflies, F02: Factor, F01: Factor, F23:
     }
 }
 
-// Writes to as many symbols of two chunks as a vector has lanes, from symbol `at` on, what a butterfly makes of two other
-// chunks.
+// Writes to as many symbols of two chunks as a vector has lanes, from symbol `at` on, what a butterfly makes of two
+// other chunks.
 #[inline(always)]
 fn lanes_of_two_written<V: ByteVector, D: Butterflies, W: WriteWords, F: Factor>(
     c0: &mut [u8; 64],

@@ -95,35 +95,6 @@ fn add_chunks_to_two<V: ByteVector, F: Factor>(
     }
 }
 
-// Adds to each symbol of the bytes of a chunk the product of the same symbol of another chunk with a factor of class F.
-#[inline(always)]
-fn add_to_chunk_bytes<V: ByteVector, F: Factor>(x: &mut [u8], y: &[u8; 64], factor: F)
-    requires { length x.old ≡ 64 }
-    ensures length { length x.new ≡ 64 }
-    ensures sums { (s : ℕ) → s < 32
-        → symbol x.new s ≡ bit_xor (symbol x.old s) (times_factor (F.log factor) (symbol y.now s)) }
-{
-    let Some(chunk) = x.as_mut_array() else {
-        unreachable!()
-    };
-    add_chunk::<V, F>(chunk, y, factor);
-}
-
-// Adds to each symbol of the chunks of bytes the product of the same symbol of a row with a factor of class F.
-#[inline(always)]
-fn add_to_bytes<V: ByteVector, F: Factor>(x: &mut [u8], y: &[[u8; 64]], factor: F)
-    requires { length x.old ≡ length y.now * 64 }
-    ensures length { length x.new ≡ length x.old }
-    ensures sums { (k s : ℕ) → k < length y.now → s < 32
-        → byte_symbol x.new k s
-        ≡ bit_xor (byte_symbol x.old k s)
-        (times_factor (F.log factor) (symbol (chunk y.now k) s)) }
-{
-    for k in 0..y.len() {
-        add_to_chunk_bytes::<V, F>(&mut x[k * 64..k * 64 + 64], &y[k], factor);
-    }
-}
-
 // Computes a butterfly on two rows, with a factor of class F.
 #[inline(always)]
 fn two_rows<V: ByteVector, D: Butterflies, F: Factor>(
@@ -232,7 +203,7 @@ fn four_rows_written<
 // Returns a copy of the products of a factor. No chunk shares memory with the copy, so a loop over chunks can keep the
 // products in registers.
 #[inline(always)]
-fn copied(products: &Multiply128lutT) -> Multiply128lutT
+pub(crate) fn copied(products: &Multiply128lutT) -> Multiply128lutT
     ensures { result ≡ products.now }
 {
     Multiply128lutT {
@@ -243,7 +214,7 @@ fn copied(products: &Multiply128lutT) -> Multiply128lutT
 
 // Returns the same factor over a copy of its products.
 #[inline(always)]
-fn over<'t>(factor: Bytewise<'_>, copy: &'t Multiply128lutT) -> Bytewise<'t>
+pub(crate) fn over<'t>(factor: Bytewise<'_>, copy: &'t Multiply128lutT) -> Bytewise<'t>
     requires { copy.now ≡ factor.products.now }
     ensures { result.log_m ≡ factor.entry.log_m }
 {
@@ -402,30 +373,6 @@ fn add_to_two_bytewise<V: ByteVector>(
     add_chunks_to_two::<V, _>(x0, x1, y, over(f0, p0), over(f1, p1));
 }
 
-/// Adds to each symbol of the chunks of bytes the product of the same symbol of a row with a factor. There is a loop
-/// over chunks for each class of factors.
-#[inline(always)]
-pub fn add_row_to_bytes<V: ByteVector>(x: &mut [u8], y: &[[u8; 64]], factor: AnyFactor<'_>)
-    requires { length x.old ≡ length y.now * 64 }
-    ensures length { length x.new ≡ length x.old }
-    ensures sums { (k s : ℕ) → k < length y.now → s < 32
-        → byte_symbol x.new k s
-        ≡ bit_xor (byte_symbol x.old k s)
-        (times_factor (log_of factor.entry) (symbol (chunk y.now k) s)) }
-{
-    match factor {
-        AnyFactor::Zero(factor) => add_to_bytes::<V, _>(x, y, factor),
-        AnyFactor::Small(Small { log_m, products }) => {
-            let products = &copied(products);
-            add_to_bytes::<V, _>(x, y, Small { log_m, products })
-        }
-        AnyFactor::General(General { log_m, products }) => {
-            let products = &copied(products);
-            add_to_bytes::<V, _>(x, y, General { log_m, products })
-        }
-    }
-}
-
 /// Computes a butterfly on two rows. There is a loop over chunks for each class of factors.
 #[inline(always)]
 pub fn one_layer<V: ByteVector, D: Butterflies>(
@@ -492,8 +439,8 @@ pub fn two_layers<V: ByteVector, D: Butterflies>(
     }
 }
 
-/// Writes what a butterfly makes of two rows to the two rows that lie end to end in `x`. There is a loop over chunks for
-/// each class of factors.
+/// Writes what a butterfly makes of two rows to the two rows that lie end to end in `x`. There is a loop over chunks
+/// for each class of factors.
 #[inline(always)]
 pub fn one_layer_written<V: ByteVector, D: Butterflies, W: WriteWords>(
     x: &mut [[u8; 64]],

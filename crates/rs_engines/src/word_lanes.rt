@@ -135,9 +135,9 @@ pub trait WriteWords {
 }
 
 /// The words replace the symbols.
-pub struct Replacing;
+pub struct ReplaceWords;
 
-impl WriteWords for Replacing {
+impl WriteWords for ReplaceWords {
     ghost writing = { Writing.Replacing };
 
     #[inline(always)]
@@ -147,9 +147,9 @@ impl WriteWords for Replacing {
 }
 
 /// The words are added to the symbols.
-pub struct Adding;
+pub struct AddWords;
 
-impl WriteWords for Adding {
+impl WriteWords for AddWords {
     ghost writing = { Writing.Adding };
 
     #[inline(always)]

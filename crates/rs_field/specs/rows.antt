@@ -6,6 +6,7 @@ pub mod MarkedRows
 pub mod Pairs
 pub mod TwoLayers
 pub mod Written
+pub mod Changed
 pub mod Layers
 pub mod Directions
 pub mod Lending

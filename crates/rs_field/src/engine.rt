@@ -1,7 +1,9 @@
 //! What engines are made of, at its public paths.
+pub use crate::rows::changing::{Change, ChangeRows};
 pub use crate::rows::engine::Engine;
 pub use crate::rows::read_transform::ifft_of_rows;
 pub use crate::rows::reading::{ReadRows, Writing};
+pub use crate::rows::row_changes::change_rows;
 pub use crate::rows::sums::TwoLogarithms;
 pub use crate::rows::{
     Naive, ShardsRefMut, block, byte_chunks, derivative, engine_naive, kernel, layout, marked_rows,

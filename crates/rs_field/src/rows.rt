@@ -3,6 +3,7 @@
 pub mod block;
 pub mod byte_chunks;
 pub mod bytes;
+pub mod changing;
 pub mod derivative;
 pub mod engine;
 pub mod engine_naive;
@@ -13,6 +14,7 @@ pub mod layout;
 pub mod marked_rows;
 pub mod read_transform;
 pub mod reading;
+pub mod row_changes;
 pub mod rows;
 pub mod shards;
 pub mod sums;

@@ -24,8 +24,8 @@ const MUL: usize = 2;
 
 const LOCATOR: usize = 3;
 
-/// The plain engine without sums of its own, which counts its calls, and the entries of all locators that it computed. If
-/// it has no logarithms, its decoders never use direct sums.
+/// The plain engine without sums of its own, which counts its calls, and the entries of all locators that it computed.
+/// If it has no logarithms, its decoders never use direct sums.
 #[derive(Drop)]
 pub struct Counting<'t> {
     naive: Naive<'t>,

@@ -105,8 +105,8 @@ fn two_sums_call_their_engine_so_often(rt: HostRuntime) -> Result<(), Fail> {
 }
 
 // The shards have three strips. A decode of all originals transforms the rows of each strip, and a decode of one adds
-// rows. From syndromes, each of four pairs of sums adds eight rows in each strip, and the tails of the last strip to one
-// sum after the other.
+// rows. From syndromes, each of four pairs of sums adds eight rows in each strip, and the tails of the last strip to
+// one sum after the other.
 #[test]
 fn a_decode_computes_one_locator(rt: HostRuntime) -> Result<(), Fail> {
     let tables = Tables::new(rt.alloc())?;

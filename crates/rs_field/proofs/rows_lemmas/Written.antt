@@ -1,5 +1,6 @@
 -- The butterflies of two and of four words, as backward transforms, and rows that are written before their transform.
-use Rattle.std.proofs.Common.{◌≡◌, ℕ, zero, suc, ◌+◌, ◌-◌, ◌*◌, ◌%◌, ◌<◌, ◌≤◌, List, get_or, bit_xor, refl, sym, ap, ap₂, ◌∙◌, subst, arith}
+use Rattle.std.proofs.Common.{◌≡◌, ℕ, zero, suc, ◌+◌, ◌-◌, ◌*◌, ◌%◌, ◌<◌, ◌≤◌, List, get_or, bit_xor}
+use Rattle.std.proofs.Common.{refl, sym, ap, ap₂, ◌∙◌, subst, arith}
 use Rattle.std.specs.Int.Bits.{xor_comm}
 use Rattle.rs_field.specs.rows.Layers.{ArePartsOf}
 use Rattle.rs_field.specs.rows.Pairs.{IsForwardTwo, IsBackwardTwo, at_two_added}

@@ -31,7 +31,8 @@ IsForwardButterfly log_m x y x' y' = (s : ℕ) → s < 32 → at_two_symbols s (
 abbrev pub IsBackwardButterfly : ℕ → OnTwoChunks
 IsBackwardButterfly log_m x y x' y' = (s : ℕ) → s < 32 → at_two_symbols s (IsBackwardTwo log_m) x y x' y'
 
--- a relation of symbol s of two chunks x and y and of what was added to the words that two other chunks held
+-- a relation of symbol s of two chunks x and y, and of the words that were written to symbol s of the chunks a and b:
+-- base gives the word to which each was added
 abbrev pub at_two_added : ℕ → OnTwoWords → (ℕ → ℕ) → List ℕ → List ℕ → OnTwoChunks
-at_two_added s R held x y a b a' b' =
-    R (symbol x s) (symbol y s) (bit_xor (held (symbol a s)) (symbol a' s)) (bit_xor (held (symbol b s)) (symbol b' s))
+at_two_added s R base x y a b a' b' =
+    R (symbol x s) (symbol y s) (bit_xor (base (symbol a s)) (symbol a' s)) (bit_xor (base (symbol b s)) (symbol b' s))

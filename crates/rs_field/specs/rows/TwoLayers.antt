@@ -62,9 +62,10 @@ abbrev pub IsBackwardTwoLayers : ℕ → ℕ → ℕ → OnFourChunks
 IsBackwardTwoLayers log_m02 log_m01 log_m23 x0 x1 x2 x3 y0 y1 y2 y3 =
     (s : ℕ) → s < 32 → at_four_symbols s (IsBackwardFour log_m02 log_m01 log_m23) x0 x1 x2 x3 y0 y1 y2 y3
 
--- a relation of symbol s of four chunks x0 to x3 and of what was added to the words that four other chunks held
+-- a relation of symbol s of four chunks x0 to x3, and of the words that were written to symbol s of the chunks y0 to
+-- y3: base gives the word to which each was added
 abbrev pub at_four_added : ℕ → OnFourWords → (ℕ → ℕ) → List ℕ → List ℕ → List ℕ → List ℕ → OnFourChunks
-at_four_added s R held x0 x1 x2 x3 y0 y1 y2 y3 z0 z1 z2 z3 =
+at_four_added s R base x0 x1 x2 x3 y0 y1 y2 y3 z0 z1 z2 z3 =
     R (symbol x0 s) (symbol x1 s) (symbol x2 s) (symbol x3 s)
-    (bit_xor (held (symbol y0 s)) (symbol z0 s)) (bit_xor (held (symbol y1 s)) (symbol z1 s))
-    (bit_xor (held (symbol y2 s)) (symbol z2 s)) (bit_xor (held (symbol y3 s)) (symbol z3 s))
+    (bit_xor (base (symbol y0 s)) (symbol z0 s)) (bit_xor (base (symbol y1 s)) (symbol z1 s))
+    (bit_xor (base (symbol y2 s)) (symbol z2 s)) (bit_xor (base (symbol y3 s)) (symbol z3 s))

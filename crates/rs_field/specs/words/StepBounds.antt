@@ -63,6 +63,6 @@ RowSumCounts old new = CountsUpTo 3 0 0 old new
 abbrev pub TwoSumCounts : Steps → Steps → Type 0
 TwoSumCounts old new = CountsUpTo 6 0 0 old new
 
--- what the sum of bytes and a multiple of a row of n chunks may count
-abbrev pub ByteSumCounts : ℕ → Steps → Steps → Type 0
-ByteSumCounts n old new = CountsUpTo (3 * n) 0 0 old new
+-- what the change of n chunks, one after the other, may count
+abbrev pub ChangeCounts : ℕ → Steps → Steps → Type 0
+ChangeCounts n old new = CountsUpTo (3 * n) 0 0 old new

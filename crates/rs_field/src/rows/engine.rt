@@ -5,16 +5,17 @@ ghost use Rattle.rs_field.specs.words.Field.{product, power, log};
 ghost use Rattle.rs_field.specs.words.Tables.{times_factor};
 ghost use Rattle.rs_field.specs.rows.MarkedRows.{is_marked, OthersAreZero};
 ghost use Rattle.rs_field.specs.words.Transform.{forward};
-ghost use Rattle.rs_field.specs.rows.Rows.{byte_symbol, chunk, symbol};
+ghost use Rattle.rs_field.specs.rows.Changed.{AreChanged};
+ghost use Rattle.rs_field.specs.rows.Rows.{chunk, symbol};
 ghost use Rattle.rs_field.specs.rows.View.{word, Fits, SameExtent, SameRowsOutside, AreZero};
 ghost use Rattle.rs_field.specs.rows.Written.{AreWritten, written_steps};
 ghost use Rattle.rs_field.specs.words.Locator.{IsLocator, IsLocatorBelow};
 ghost use Rattle.rs_field.specs.words.StepBounds.{LocatorCounts, TransformCounts, RowProductCounts, RowSumCounts};
-ghost use Rattle.rs_field.specs.words.StepBounds.{ByteSumCounts, CountsUpTo, TwoSumCounts};
+ghost use Rattle.rs_field.specs.words.StepBounds.{ChangeCounts, CountsUpTo, TwoSumCounts};
 
 use super::ShardsRefMut;
-use super::byte_chunks::{chunk_at, put_chunk};
 use super::bytes::symbols_are_words;
+use super::changing::{Change, ChangeRows};
 use super::marked_rows::marked_end;
 use super::reading::{ReadRows, Writing};
 use super::sums::{TwoLogarithms, xor};
@@ -143,14 +144,16 @@ pub trait Engine: Drop {
     }
 
     /// Returns whether the engine has an [`ifft_of`](Engine::ifft_of) that is faster than a copy of the rows and
-    /// [`ifft`](Engine::ifft). An encoder then reads originals where they are. The default body returns false.
+    /// [`ifft`](Engine::ifft). If so, a call that encodes a whole message reads the originals where they are, for
+    /// counts and sizes for which it can. The default body returns false.
     fn reads_rows(&self) -> bool {
         false
     }
 
-    /// Writes the rows of which some rows, which are only read, are the forward transform at `skew_delta`, to the rows
-    /// that lie end to end in `x`, and returns true; or changes nothing and returns false, as the default body does.
-    /// The number of rows is a power of two, and `skew_delta` a multiple of it.
+    /// Writes the backward transform of `rows` at `skew_delta` to the rows that lie end to end in `x`, and returns
+    /// true. The result replaces the rows of `x` or is added to them, as `writing` says. Or changes nothing and
+    /// returns false, as the default body does. The number of rows is a power of two, and `skew_delta` a multiple of
+    /// it.
     fn ifft_of<R: ReadRows>(
         &self,
         steps: &mut Steps,
@@ -258,25 +261,28 @@ pub trait Engine: Drop {
         self.mul_add(steps, x1, y, logs.second);
     }
 
-    /// Adds `y` times the generator to the power `log_m` to the chunks of bytes `x`, symbol by symbol and in place.
-    /// 65535 represents the factor zero. The bytes are as many as those of `y`, at least one chunk.
-    ///
-    /// The default body adds one chunk after another with `mul_add`, which is at most three row steps for each chunk.
-    /// The engines of this library take one.
-    fn mul_add_bytes(&self, steps: &mut Steps, x: &mut [u8], y: &[[u8; 64]], log_m: GfElement)
-        requires same { length x.old ≡ length y.now * 64 }
-        requires some { 0 < length y.now }
-        ensures length { length x.new ≡ length x.old }
-        ensures sums { (k s : ℕ) → k < length y.now → s < 32
-            → byte_symbol x.new k s
-            ≡ bit_xor (byte_symbol x.old k s) (times_factor log_m (symbol (chunk y.now k) s)) }
-        ensures counts { ByteSumCounts (length y.now) steps.old steps.new }
+    /// Adds a change of at least one chunk to each row, times the generator to the power of the row's entry of `logs`,
+    /// and returns true. 65535 represents the factor zero. Each row has the chunks of the change. Or changes
+    /// nothing and returns false, as the default body does.
+    fn add_change<R: ChangeRows>(
+        &self,
+        steps: &mut Steps,
+        rows: &mut R,
+        change: Change<'_>,
+        logs: &[GfElement],
+    ) -> bool
+        requires has { (i k : ℕ) → i < length logs.now → k < length change.old.now
+            → R.has (R.kept rows.old) i k }
+        requires some { 0 < length change.old.now }
+        ensures changed { result ≡ true
+            → AreChanged change.entry logs.now (R.word rows.old) (R.word rows.new) }
+        ensures unchanged { result ≡ false → rows.new ≡ rows.old }
+        ensures kept { R.kept rows.new ≡ R.kept rows.old }
+        ensures counts { result ≡ true
+            → ChangeCounts (length logs.now * length change.entry.old.now) steps.old steps.new }
+        ensures uncounted { result ≡ false → CountsUpTo 0 0 0 steps.old steps.new }
     {
-        for k in 0..y.len() {
-            let mut row = [chunk_at(x, k)];
-            self.mul_add(steps, &mut row, &y[k..k + 1], log_m);
-            put_chunk(x, k, &row[0]);
-        }
+        false
     }
 
     /// Computes the locator of the marked points, at all points at once: entry x becomes, modulo 65535, the sum over

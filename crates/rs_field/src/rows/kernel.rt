@@ -2,13 +2,14 @@
 ghost use Rattle.std.specs.Prelude.{◌≡◌, ℕ, ◌+◌, ◌*◌, ◌<◌, true, false, length, bit_xor};
 ghost use Rattle.rs_field.specs.words.Field.{product, power};
 ghost use Rattle.rs_field.specs.words.Tables.{times_factor};
-ghost use Rattle.rs_field.specs.rows.Rows.{byte_symbol, chunk, symbol};
+ghost use Rattle.rs_field.specs.rows.Changed.{AreChanged};
+ghost use Rattle.rs_field.specs.rows.Rows.{chunk, symbol};
 ghost use Rattle.rs_field.specs.rows.Pairs.{IsBackwardTwo, at_two_added};
 ghost use Rattle.rs_field.specs.rows.TwoLayers.{IsForwardTwoLayers, IsBackwardTwoLayers};
 ghost use Rattle.rs_field.specs.rows.TwoLayers.{IsBackwardFour, at_four_added};
 ghost use Rattle.rs_field.specs.rows.Written.{held};
 
-use super::byte_chunks::{chunk_at, put_chunk};
+use super::changing::{Change, ChangeRows};
 use super::reading::Writing;
 use super::sums::TwoLogarithms;
 use crate::words::GfElement;
@@ -124,15 +125,15 @@ pub trait Kernel: Drop {
         self.ifft_butterfly(x1, x3, logs.log_m02);
     }
 
-    /// Returns whether the kernel has [`ifft_of_two`](Kernel::ifft_of_two) and [`ifft_of_four`](Kernel::ifft_of_four) of
-    /// its own, which spare a copy of rows that are only read. The default body returns false.
+    /// Returns whether the kernel has [`ifft_of_two`](Kernel::ifft_of_two) and [`ifft_of_four`](Kernel::ifft_of_four)
+    /// of its own, which spare a copy of rows that are only read. The default body returns false.
     fn reads_rows(&self) -> bool {
         false
     }
 
-    /// Writes what an `ifft_butterfly` would make of the rows `y0` and `y1`, which are only read, to the two rows that
-    /// lie end to end in `x`, and returns true; or changes nothing and returns false, as the default body does. All
-    /// four rows have the same number of chunks.
+    /// Writes the backward butterfly of the rows `y0` and `y1` to the two rows that lie end to end in `x`, and returns
+    /// true. The result replaces the rows of `x` or is added to them, as `writing` says. Or changes nothing and returns
+    /// false, as the default body does. All four rows have the same number of chunks.
     fn ifft_of_two(
         &self,
         x: &mut [[u8; 64]],
@@ -154,9 +155,9 @@ pub trait Kernel: Drop {
         false
     }
 
-    /// Writes what `ifft_two_layers` would make of the rows `y`, which are only read, to the four rows that lie end to
-    /// end in `x`, and returns true; or changes nothing and returns false, as the default body does. All eight rows have
-    /// the same number of chunks.
+    /// Writes the two backward layers of the rows `y` to the four rows that lie end to end in `x`, and returns true.
+    /// The result replaces the rows of `x` or is added to them, as `writing` says. Or changes nothing and returns
+    /// false, as the default body does. All eight rows have the same number of chunks.
     fn ifft_of_four(
         &self,
         x: &mut [[u8; 64]],
@@ -241,22 +242,22 @@ pub trait Kernel: Drop {
         self.mul_add_row(x1, y, logs.second);
     }
 
-    /// Adds `y` times the factor of a butterfly to the chunks of bytes `x`; 65535 represents the factor zero. The bytes
-    /// are as many as those of `y`.
-    ///
-    /// The default body adds one chunk after another with `mul_add_row`. An engine can have a body of its own that does
-    /// not look up the factor for each chunk.
-    fn mul_add_bytes(&self, x: &mut [u8], y: &[[u8; 64]], log_m: GfElement)
-        requires { length x.old ≡ length y.now * 64 }
-        ensures length { length x.new ≡ length x.old }
-        ensures sums { (k s : ℕ) → k < length y.now → s < 32
-            → byte_symbol x.new k s
-            ≡ bit_xor (byte_symbol x.old k s) (times_factor log_m (symbol (chunk y.now k) s)) }
+    /// Adds a change to each row, times the factor of a butterfly of its own, and returns true. `logs` has the logarithm
+    /// of the factor for each row; 65535 represents the factor zero. Or changes nothing and returns false, as the
+    /// default body does.
+    fn add_change<R: ChangeRows>(
+        &self,
+        rows: &mut R,
+        change: Change<'_>,
+        logs: &[GfElement],
+    ) -> bool
+        requires has { (i k : ℕ) → i < length logs.now → k < length change.old.now
+            → R.has (R.kept rows.old) i k }
+        ensures changed { result ≡ true
+            → AreChanged change.entry logs.now (R.word rows.old) (R.word rows.new) }
+        ensures kept { R.kept rows.new ≡ R.kept rows.old }
+        ensures unchanged { result ≡ false → rows.new ≡ rows.old }
     {
-        for k in 0..y.len() {
-            let mut row = [chunk_at(x, k)];
-            self.mul_add_row(&mut row, &y[k..k + 1], log_m);
-            put_chunk(x, k, &row[0]);
-        }
+        false
     }
 }

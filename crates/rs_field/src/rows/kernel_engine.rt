@@ -8,6 +8,7 @@ ghost use Rattle.rs_field.specs.words.Locator.{IsLocatorBelow};
 use super::ShardsRefMut;
 use super::block::Block;
 use super::bytes::symbols_are_words;
+use super::changing::{Change, ChangeRows};
 use super::engine::Engine;
 use super::kernel::{FourRows, Kernel, ThreeLogarithms};
 use super::layers::Direction::{Backward, Forward};
@@ -126,9 +127,18 @@ impl<K: Kernel> Engine for K {
         Kernel::mul_add_to_two(self, x0, x1, y, logs);
     }
 
-    fn mul_add_bytes(&self, steps: &mut Steps, x: &mut [u8], y: &[[u8; 64]], log_m: GfElement) {
-        steps.row_step();
-        Kernel::mul_add_bytes(self, x, y, log_m);
+    fn add_change<R: ChangeRows>(
+        &self,
+        steps: &mut Steps,
+        rows: &mut R,
+        change: Change<'_>,
+        logs: &[GfElement],
+    ) -> bool {
+        let has_changed = Kernel::add_change(self, rows, change, logs);
+        if has_changed {
+            steps.row_steps(logs.len());
+        }
+        has_changed
     }
 
     fn eval_poly(&self, steps: &mut Steps, erasures: &mut [GfElement], truncated_size: usize) {

@@ -10,7 +10,8 @@ use super::engine::Engine;
 use super::reading::{ReadRows, Writing, write_rows};
 use crate::words::Steps;
 
-/// Writes the rows of which some rows are the forward transform at `skew_delta` to the rows that lie end to end in `x`.
+/// Writes the backward transform of `rows` at `skew_delta` to the rows that lie end to end in `x`. The result replaces
+/// the rows of `x` or is added to them, as `writing` says.
 ///
 /// If the engine has no loops of its own for this, the rows are written first and then transformed in place. To add the
 /// result to `x`, `x` is transformed forward before.

@@ -21,7 +21,7 @@ pub struct TwoLogarithms {
 
 // Adds y to x, byte by byte.
 #[inline(always)]
-fn xor_chunk(x: &mut [u8; 64], y: &[u8; 64])
+pub(crate) fn xor_chunk(x: &mut [u8; 64], y: &[u8; 64])
     ensures bytes { (i : ℕ) → i < 64
         → slice_index x.new i ≡ bit_xor (slice_index x.old i) (slice_index y.now i) }
     ensures symbols { (s : ℕ) → s < 32

@@ -30,11 +30,6 @@ with_shard-added s shard room same =
           (length shard) s.configuration.shard_bytes same,
     ) refl
 
--- An encoder accepts an original only if not all originals were added, and if it has the size.
-pub accepted-shard : (s : EncoderState) (shard : Shard) → answer_of (with_shard s shard) ≡ Ok tt
-    → (length s.given < s.configuration.original_count) × (length shard ≡ s.configuration.shard_bytes)
-accepted-shard s shard accepted = search rules
-
 -- If the size of chunks in bytes fits a `usize`, the outcome of allocating them is a success.
 pub memory_outcome-fits : (chunks : ℕ) → chunks * 64 < 2 ^ 64 → memory_outcome chunks ≡ Ok tt
 memory_outcome-fits chunks fits =

@@ -1,5 +1,5 @@
-//! An encoder of the default rate without an engine, for the strips of shards. It uses the engine that is passed to each
-//! call, so an encoder and a decoder can share it.
+//! An encoder of the default rate without an engine, for the strips of shards. It uses the engine that is passed to
+//! each call, so an encoder and a decoder can share it.
 ghost use Rattle.std.specs.Prelude.{◌≡◌, ◌≢◌, ℕ, ◌%◌, ◌<◌, ◌≤◌, true, All, Ok, length, vec_len, min};
 ghost use Rattle.std.specs.Prelude.{IfOk, IfErr, MatchOption};
 ghost use Rattle.rs_field.specs.code.Bounds.{EncodeCountsAt};
@@ -44,13 +44,13 @@ pub struct StripEncoder {
 impl StripEncoder {
     ghost use Rattle.rs_rate.specs.objects.StripView.{code_of, coded_shards};
 
-    /// Makes an encoder for strips of at most `strip_bytes` bytes of shards of this size. With this engine, it reads
-    /// originals where they are if that is faster, and if no strip has a tail.
+    /// Makes an encoder for strips of at most `strip_bytes` bytes of shards of this size. The smaller of these sizes is
+    /// even and not zero. With this engine, the encoder reads originals where they are if that is faster, and if no
+    /// strip has a tail.
     ///
     /// # Errors
     ///
-    /// - [`Error::InvalidShardSize`] if `shard_bytes` or `strip_bytes` is zero or odd.
-    /// - [`Error::OutOfMemory`] if the rows cannot be allocated, or if their bytes exceed `usize::MAX`.
+    /// [`Error::OutOfMemory`] if the rows cannot be allocated, or if their bytes exceed `usize::MAX`.
     pub fn new<E: Engine>(
         alloc: Global,
         counts: DefaultRateCounts,
@@ -83,8 +83,9 @@ impl StripEncoder {
         })
     }
 
-    /// Encodes a strip of a message, which has `bytes` bytes of each original. The recovery shards are then in the
-    /// encoder.
+    /// Encodes a strip of a message: `bytes` bytes of each original. The recovery shards are then in the encoder.
+    /// `bytes` is even and not zero, and at most the size of the strip before or of [`new`](StripEncoder::new). If the
+    /// encoder reads originals where they are, `bytes` is a multiple of 64.
     pub fn encode<E: Engine, M: StripMessage>(
         &mut self,
         engine: &E,

@@ -7,10 +7,8 @@ ghost use Rattle.rs_field.specs.code.Counts.{default_rate};
 ghost use Rattle.rs_field.specs.code.Frame.{original_row, recovery_row, row_count};
 ghost use Rattle.rs_field.specs.code.OneChange.{AreChangeFactors};
 ghost use Rattle.rs_field.specs.rows.MarkedRows.{is_marked};
-ghost use Rattle.rs_field.specs.rows.Rows.{byte_symbol, chunk, symbol};
 ghost use Rattle.rs_field.specs.words.DirectSum.{direct_factor};
 ghost use Rattle.rs_field.specs.words.Field.{product, power};
-ghost use Rattle.rs_field.specs.words.Tables.{times_factor};
 
 use crate::passes::sums::{
     BaseFactors, add_times, factor_of, finish_sum, locate_base, summed_piece,
@@ -85,50 +83,9 @@ fn recovery_factors(
     Ok(factors)
 }
 
-/// Adds a piece of a change, times a factor, to the same piece of a recovery shard, in place. Both pieces have the same
-/// even number of bytes. `log_m` is the logarithm of the factor, below 65535.
-pub fn add_change<E: Engine>(
-    engine: &E,
-    steps: &mut Steps,
-    piece: &mut [u8],
-    change: &[u8],
-    log_m: GfElement,
-)
-    requires same { length change.now ≡ length piece.old }
-    requires even { length piece.old % 2 ≡ 0 }
-    requires factor { log_m < 65535 }
-    ensures length { length piece.new ≡ length piece.old }
-    ensures words { (j : ℕ) → j < length piece.old / 2
-        → column j piece.new
-        ≡ bit_xor (column j piece.old) (product (column j change.now) (power log_m)) }
-{
-    let (chunks, rest) = change.as_chunks::<64>();
-    let (whole, tail) = piece.split_at_mut(chunks.len() * 64);
-    add_to_chunks(engine, steps, whole, chunks, log_m);
-    add_to_tail(engine, steps, tail, rest, log_m);
-}
-
-// Adds the chunks of a change, times a factor, to the same chunks of a recovery shard, in place.
-fn add_to_chunks<E: Engine>(
-    engine: &E,
-    steps: &mut Steps,
-    whole: &mut [u8],
-    chunks: &[[u8; 64]],
-    log_m: GfElement,
-)
-    requires same { length whole.old ≡ length chunks.now * 64 }
-    ensures length { length whole.new ≡ length whole.old }
-    ensures sums { (k s : ℕ) → k < length chunks.now → s < 32
-        → byte_symbol whole.new k s
-        ≡ bit_xor (byte_symbol whole.old k s) (times_factor log_m (symbol (chunk chunks.now k) s)) }
-{
-    if !chunks.is_empty() {
-        engine.mul_add_bytes(steps, whole, chunks, log_m);
-    }
-}
-
-// Adds the tail of a change, which is less than a chunk, times a factor, to the tail of a recovery shard.
-fn add_to_tail<E: Engine>(
+/// Adds the tail of a change, which is less than a chunk, times a factor, to the tail of a recovery shard, in place. Both
+/// tails have the same even number of bytes. `log_m` is the logarithm of the factor, below 65535.
+pub fn add_to_tail<E: Engine>(
     engine: &E,
     steps: &mut Steps,
     tail: &mut [u8],

@@ -19,8 +19,8 @@ use crate::rows::shard_rows::{insert_at, move_tails, rows_are_bytes};
 use crate::values::configuration::Configuration;
 use rs_field::engine::{Engine, Steps};
 
-/// Computes the recovery shards of a message in the first rows. The originals are read where they are, or copied into
-/// rows.
+/// Computes the recovery shards of a message in the first rows. If `reads` is set, the originals are read where they
+/// are, and there are rows for one block only. Otherwise they are copied into rows.
 pub(crate) fn encode_message<E: Engine, M: StripMessage>(
     engine: &E,
     steps: &mut Steps,
@@ -74,22 +74,26 @@ fn code_message<E: Engine, M: StripMessage>(
     if reads {
         code_read(engine, steps, chunks, configuration, message);
     } else {
-        put_message(chunks, configuration.shard_bytes, message);
+        put_message(chunks, configuration, message);
         code_chunks(engine, steps, chunks, configuration);
     }
 }
 
 // Copies each original of a message into its row.
-fn put_message<M: StripMessage>(chunks: &mut [[u8; 64]], shard_bytes: usize, message: &M)
-    requires even { shard_bytes % 2 ≡ 0 }
-    requires room { chunk_count (length (M.shards message.now)) shard_bytes ≤ length chunks.old }
-    requires sized { All (λ shard. length shard ≡ shard_bytes) (M.shards message.now) }
-    ensures { (i : ℕ) → i < length (M.shards message.now)
-        → shard_laid_out chunks.new shard_bytes i ≡ shard_at (M.shards message.now) i }
+fn put_message<M: StripMessage>(chunks: &mut [[u8; 64]], configuration: Configuration, message: &M)
+    requires configured { IsConfigured configuration }
+    requires room { chunk_count configuration.original_count configuration.shard_bytes
+        ≤ length chunks.old }
+    requires number { length (M.shards message.now) ≡ configuration.original_count }
+    requires sized { All (λ shard. length shard ≡ configuration.shard_bytes)
+        (M.shards message.now) }
+    ensures { (i : ℕ) → i < configuration.original_count
+        → shard_laid_out chunks.new configuration.shard_bytes i
+        ≡ shard_at (M.shards message.now) i }
 {
-    for index in 0..message.count() {
+    for index in 0..configuration.original_count {
         // With the size from here, the compiler computes the length of a row once for all shards.
-        let shard = &message.piece(index)[..shard_bytes];
+        let shard = &message.piece(index)[..configuration.shard_bytes];
         insert_at(chunks, shard, index);
     }
 }

@@ -1,6 +1,6 @@
-//! The coding of the high rate over originals that are read where they are, for blocks of two or four rows. Each block
-//! of originals is transformed backward and added to the same rows, so no original is copied, and there are rows for one
-//! block only.
+//! The coding of the high rate over originals that are read where they are, for blocks of two or four rows. There are
+//! rows for one block only: the backward transform of the first block of originals replaces them, and that of each
+//! further block is added to them.
 ghost use Rattle.std.specs.Prelude.{◌≡◌, ℕ, ◌+◌, ◌*◌, ◌%◌, ◌<◌, ◌≤◌, true, All, length};
 ghost use Rattle.rs_field.specs.code.Counts.{high_rate};
 ghost use Rattle.rs_field.specs.rows.Layout.{row_len};

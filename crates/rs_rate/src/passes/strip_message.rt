@@ -8,10 +8,6 @@ pub trait StripMessage {
     /// The piece of each original.
     ghost shards: { Self → List Shard };
 
-    /// Returns the number of originals.
-    fn count(&self) -> usize
-        ensures { result ≡ length (shards self.now) };
-
     /// Returns the piece of an original.
     fn piece(&self, index: usize) -> &[u8]
         requires { index < length (shards self.now) }

@@ -16,7 +16,8 @@ returns-then-LANES-lt32 g c s h =
           (c.lanes_of_two_written.ensures.written s s (omega arith) (omega arith))
       | inr high ↦
           let past = c.lanes_of_two_written.ensures in
-          two_kept_after butterfly _ _ _ _ _ _ (added_before _ _ _ (ap (held g.W.WriteWords.writing) (past.kept_0 s h (inr (omega arith)))))
+          two_kept_after butterfly _ _ _ _ _ _
+          (added_before _ _ _ (ap (held g.W.WriteWords.writing) (past.kept_0 s h (inr (omega arith)))))
           (added_before _ _ _ (ap (held g.W.WriteWords.writing) (past.kept_1 s h (inr (omega arith)))))
           (c.lanes_of_two_written-then-LANES-lt32.ensures.written (s - 16) s (omega arith) (omega arith))
     ]

@@ -38,5 +38,6 @@ returns-clause-second g c =
     c.counts.ensures.recovery in
     subst (λ (f : Frame). HasSums c.args.self.now.base
     (λ j x. column j (shard_at (coded_shards c.args.self.now.encoder) (x - f.recovery_from)))
-    (c.args.end - c.args.start) c.args.rows.1 (shard_in_order c.make_two.new.second (c.args.end - c.args.start) 0)) frame
+    (c.args.end - c.args.start) c.args.rows.1
+    (shard_in_order c.make_two.new.second (c.args.end - c.args.start) 0)) frame
     c.make_two.ensures.second

@@ -10,14 +10,16 @@ use Rattle.rs_field.proofs.rows.read_transform.prepare_rows.Goals as goal
 pub returns-in-Replacing-clause-values : goal.returns-in-Replacing-clause-values
 unfolding held
 returns-in-Replacing-clause-values g c k s i inside symbols few =
-    subst (λ (w : Writing). forward c.args.count c.args.skew_delta (λ q. held w (word_in c.args.x.now c.args.len k s q)) i
+    subst (λ (w : Writing).
+    forward c.args.count c.args.skew_delta (λ q. held w (word_in c.args.x.now c.args.len k s q)) i
     ≡ held w (word_in c.args.x.now c.args.len k s i)) (sym c.in-Replacing.is)
     (forward-zero c.args.count c.args.skew_delta _ i (λ q few. refl))
 
 pub returns-in-Adding-clause-values : goal.returns-in-Adding-clause-values
 unfolding held
 returns-in-Adding-clause-values g c k s i inside symbols few =
-    subst (λ (w : Writing). forward c.args.count c.args.skew_delta (λ q. held w (word_in c.args.x.now c.args.len k s q)) i
+    subst (λ (w : Writing).
+    forward c.args.count c.args.skew_delta (λ q. held w (word_in c.args.x.now c.args.len k s q)) i
     ≡ held w (word_in c.transform_forward.new.x c.args.len k s i)) (sym c.in-Adding.is)
     (sym (c.transform_forward.ensures.values k s i inside symbols few))
 

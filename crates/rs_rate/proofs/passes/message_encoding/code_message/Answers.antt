@@ -16,8 +16,7 @@ put_message-requires-clause-room g c =
     let room : chunk_count (rows_to_encode own) own.shard_bytes ≤ length c.args.chunks.now =
     subst (λ (reads : Bool). chunk_count (strip_rows reads own) own.shard_bytes ≤ length c.args.chunks.now)
     c.if-reads.false c.requires.room in
-    let more = chunk_count-more (length (g.M.StripMessage.shards c.args.message.now)) (rows_to_encode own) own.shard_bytes
-    (omega (arith, c.requires.number, c.requires.configured.originals)) in
+    let more = chunk_count-more own.original_count (rows_to_encode own) own.shard_bytes c.requires.configured.originals in
     omega (arith, more, room)
 
 pub returns-then-reads-clause-words : goal.returns-then-reads-clause-words
@@ -28,7 +27,8 @@ returns-then-reads-clause-words g c j inside =
     words-read (rate_of own) own.original_count own.recovery_count (message_word shards (j / 32) (j % 32))
     (word_in c.code_read.new.chunks n (j / 32) (j % 32)) (λ i. column j (shard_at shards i))
     (word_in c.code_read.new.chunks n (j / 32) (j % 32))
-    (λ i few. ap (λ (v : ℕ). column v (shard_at shards i)) (let place : j ≡ j / 32 * 32 + j % 32 = omega arith in place))
+    (λ i few. ap (λ (v : ℕ). column v (shard_at shards i))
+    (let place : j ≡ j / 32 * 32 + j % 32 = omega arith in place))
     (λ i few. refl)
     (subst (λ (low : Bool). CodesWords (low_or_high low) own.original_count own.recovery_count
     (message_word shards (j / 32) (j % 32)) (word_in c.code_read.new.chunks n (j / 32) (j % 32)))
@@ -44,7 +44,7 @@ returns-else-reads-clause-words g c j inside =
     words-read (rate_of own) own.original_count own.recovery_count
     (word_in put n (j / 32) (j % 32)) (word_in c.code_chunks.new.chunks n (j / 32) (j % 32))
     (λ i. column j (shard_at shards i)) (word_in c.code_chunks.new.chunks n (j / 32) (j % 32))
-    (λ i few. ap (column j) (sym (c.put_message.ensures i (omega (arith, few, c.requires.number))))
+    (λ i few. ap (column j) (sym (c.put_message.ensures i few))
     ∙ column-put put own.shard_bytes i j c.requires.configured.even inside)
     (λ i few. refl)
     (c.code_chunks.ensures.words (j / 32) (j % 32) (omega (arith, inside)) (omega arith))

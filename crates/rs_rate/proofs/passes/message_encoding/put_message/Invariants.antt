@@ -7,5 +7,5 @@ abbrev pub invariant-loop-index : goal.invariant-loop-index
 invariant-loop-index g l = record {
   length : length l.chunks ≡ length l.initial.chunks;
   laid : (i : ℕ) → i < l.index
-      → shard_laid_out l.chunks l.shard_bytes i ≡ shard_at (g.M.StripMessage.shards l.message) i;
+      → shard_laid_out l.chunks l.configuration.shard_bytes i ≡ shard_at (g.M.StripMessage.shards l.message) i;
 }

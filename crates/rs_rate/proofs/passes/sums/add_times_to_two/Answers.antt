@@ -16,8 +16,8 @@ returns-then-not-is_empty g c =
       first_words = λ j inside.
           piece-added n m c.args.logs.first c.args.piece.now c.as_chunks.result.1.now c.as_chunks.result.0.now
           c.args.first.now c.mul_add_to_two.new.x0 c.add_tail_times.new.sum
-          c.split_at_mut-first_chunks.result.0.now c.split_at_mut-first_chunks.result.1.now c.requires.first_factor within
-          (search rules) (search rules) first (search rules) (search rules) (search rules)
+          c.split_at_mut-first_chunks.result.0.now c.split_at_mut-first_chunks.result.1.now
+          c.requires.first_factor within (search rules) (search rules) first (search rules) (search rules) (search rules)
           (λ i h. c.mul_add_to_two.ensures.first_sums (i / 32) (i % 32) (search rules) (omega arith))
           c.add_tail_times.ensures.words j (omega (arith, inside, count, c.as_chunks.ensures.back_len));
       second_words = λ j inside.

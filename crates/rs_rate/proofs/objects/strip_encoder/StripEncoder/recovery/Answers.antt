@@ -28,6 +28,7 @@ returns c =
     let f = shard_in_order own.chunks.items own.configuration.shard_bytes in
     let count = length-up_to own.configuration.recovery_count f in (
       omega (arith, count, c.if-index-self.false),
-      c.shard_at.ensures ∙ ap (λ xs. shard_in_order xs own.configuration.shard_bytes c.args.index) c.as_slice.ensures.value
+      c.shard_at.ensures
+          ∙ ap (λ xs. shard_in_order xs own.configuration.shard_bytes c.args.index) c.as_slice.ensures.value
           ∙ sym (get-up_to own.configuration.recovery_count f c.args.index [] c.if-index-self.false),
     )

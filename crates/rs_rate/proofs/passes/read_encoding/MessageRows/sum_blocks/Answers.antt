@@ -41,7 +41,8 @@ loop-start-init g c =
       sums = λ k s inside symbols.
           let words = message_word (g.M.StripMessage.shards own.message.now) k s in
           let sums = word_in c.write_block.new.sums own.len k s in
-          subst (λ (n : ℕ). SumsBlocks c.args.self.now.block (n / c.args.self.now.block) c.args.self.now.count words sums)
+          subst (λ (n : ℕ).
+          SumsBlocks c.args.self.now.block (n / c.args.self.now.block) c.args.self.now.count words sums)
           (zero-add own.block)
           (sums-added own.block 0 own.count words (λ q. 0) sums (omega (arith, own.some)) (zero-mod own.block)
           (c.write_block.ensures.written k s inside symbols) (sums-none own.block own.count _ _ (λ q few. refl)));
