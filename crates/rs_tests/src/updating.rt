@@ -6,12 +6,12 @@ use reed_solomon_simd::engine::{
     DefaultEngine, Engine, EngineKind, GfElement, ShardsRefMut, Ssse3, Steps, TwoLogarithms,
 };
 use reed_solomon_simd::{Error, encode_into, update_into};
-use rs_field::engine::{ReadRows, Writing};
+use rs_field::engine::{Change, ChangeRows, ReadRows, Writing};
 use std::alloc::Global;
 use std::cell::Cell;
 use std::process::Abort;
 
-/// The engine with vectors of 16 bytes, which counts the calls that add rows, transform
+/// The engine with vectors of 16 bytes, which counts the calls that add rows, add a change to rows in place, transform
 /// rows that are only read, or compute a locator.
 #[derive(Drop)]
 pub struct Additions<'t> {
@@ -19,7 +19,8 @@ pub struct Additions<'t> {
     calls: &'t Cell<AddCalls>,
 }
 
-/// How often an engine adds rows, transforms rows that are only read, and computes a locator.
+/// How often an engine adds rows, adds a change to rows in place, transforms rows that are only read, and computes a
+/// locator.
 #[derive(Clone, Copy, Debug, Default, PartialEq, Eq)]
 pub struct AddCalls {
     /// The number of calls that add one row.
@@ -28,7 +29,7 @@ pub struct AddCalls {
     pub two: u32,
     /// The number of calls that add one row to two.
     pub to_two: u32,
-    /// The number of calls that add a row to a shard in place.
+    /// The number of calls that add a change to rows in place.
     pub in_place: u32,
     /// The number of calls that transform rows that are only read.
     pub read: u32,
@@ -135,11 +136,17 @@ impl Engine for Additions<'_> {
         Engine::mul_add_to_two(&self.inner, steps, x0, x1, y, logs);
     }
 
-    fn mul_add_bytes(&self, steps: &mut Steps, x: &mut [u8], y: &[[u8; 64]], log_m: GfElement) {
+    fn add_change<R: ChangeRows>(
+        &self,
+        steps: &mut Steps,
+        rows: &mut R,
+        change: Change<'_>,
+        logs: &[GfElement],
+    ) -> bool {
         let calls = self.calls.get();
         let in_place = calls.in_place.saturating_add(1);
         self.calls.set(AddCalls { in_place, ..calls });
-        Engine::mul_add_bytes(&self.inner, steps, x, y, log_m);
+        Engine::add_change(&self.inner, steps, rows, change, logs)
     }
 
     fn logarithms(&self, logs: &mut [GfElement]) -> bool {
@@ -160,35 +167,57 @@ pub fn lent(alloc: Global, shards: &mut [Vec<u8>]) -> Result<Vec<&mut [u8]>, Err
     Ok(rooms)
 }
 
-// Changes original 1 of three originals, and returns how often the update of three recovery shards calls its engine.
-fn calls_of_update(rt: &impl Abort, alloc: Global, tables: &Tables, size: usize) -> AddCalls {
+// Changes original 1 of three originals, and returns how often the update of this number of recovery shards calls its
+// engine.
+fn calls_of_update(
+    rt: &impl Abort,
+    alloc: Global,
+    tables: &Tables,
+    recovery_count: usize,
+    size: usize,
+) -> AddCalls {
     let calls = Cell::new(AddCalls::default());
     let engine = Additions::new(tables, &calls);
     let shards = drawn(alloc, 2, size).expect(rt, "shards");
-    let mut recovery = drawn(alloc, 3, size).expect(rt, "recovery shards");
+    let mut recovery = drawn(alloc, recovery_count, size).expect(rt, "recovery shards");
     let mut rooms = lent(alloc, &mut recovery).expect(rt, "rooms");
     let before = shards.get(0).expect(rt, "an original");
     let after = shards.get(1).expect(rt, "an original");
-    update_into(alloc, 3, 3, 1, before, after, &mut rooms, engine).expect(rt, "an update");
+    update_into(
+        alloc,
+        3,
+        recovery_count,
+        1,
+        before,
+        after,
+        &mut rooms,
+        engine,
+    )
+    .expect(rt, "an update");
     drop(rooms);
     calls.get()
 }
 
-// Each strip with a whole chunk is added to each recovery shard in place.
+// One call adds all whole chunks of the change to all recovery shards in place. A tail is added to each recovery shard
+// by two calls: one for its chunks, which are none, and one for its last bytes.
 #[test]
 fn an_update_calls_its_engine_so_often(rt: HostRuntime) {
     let tables = Tables::new(rt.alloc()).expect(&rt, "tables");
-    for (size, strips) in [
-        (2, 0),
-        (62, 0),
-        (64, 1),
-        (66, 1),
-        (2048, 1),
-        (2050, 1),
-        (4226, 3),
-    ] {
-        let calls = calls_of_update(&rt, rt.alloc(), &tables, size);
-        assert_eq!(rt; (size, calls.in_place), (size, 3 * strips));
+    for (recovery_count, for_tails) in [(1, 2), (3, 6), (5, 10)] {
+        for (size, in_place, has_tail) in [
+            (2, 0, true),
+            (62, 0, true),
+            (64, 1, false),
+            (66, 1, true),
+            (2048, 1, false),
+            (2050, 1, true),
+            (4226, 1, true),
+        ] {
+            let one = if has_tail { for_tails } else { 0 };
+            let calls = calls_of_update(&rt, rt.alloc(), &tables, recovery_count, size);
+            let asked = (recovery_count, size);
+            assert_eq!(rt; (asked, calls.in_place, calls.one), (asked, in_place, one));
+        }
     }
 }
 
