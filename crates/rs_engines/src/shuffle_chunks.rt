@@ -297,7 +297,7 @@ pub fn two_chunks_written<V: ByteVector, D: Butterflies, W: WriteWords, F: Facto
 }
 
 /// Four chunks that are only read.
-#[derive(Clone, Copy)]
+#[derive(Clone, Copy, Debug)]
 pub struct FourChunks<'a> {
     /// The first chunk.
     pub chunk_0: &'a [u8; 64],

@@ -28,7 +28,7 @@ pub struct ThreeLogarithms {
 }
 
 /// Four rows that are only read.
-#[derive(Clone, Copy)]
+#[derive(Clone, Copy, Debug)]
 pub struct FourRows<'a> {
     /// The first row.
     pub row_0: &'a [[u8; 64]],
