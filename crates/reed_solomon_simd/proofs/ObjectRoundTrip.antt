@@ -1,27 +1,26 @@
 -- The round trip with an encoder and a decoder: shards are added one after another, some are lost, and exactly the lost
 -- originals are restored.
 use Rattle.std.proofs.Common.{rules, ◌≡◌, ℕ, ◌+◌, ◌≤◌, ◌&&◌, ◌++◌, ◌∷◌, [], Bool, cond, List, All, length, refl, sym}
-use Rattle.std.proofs.Common.{ap, subst, ◌∙◌, nat_lt, Some, None, Result, Ok, Err, IfOk, inl, arith, append_assoc}
+use Rattle.std.proofs.Common.{ap, subst, ◌∙◌, nat_lt, Some, None, Result, Ok, Err, IfOk, arith, append_assoc}
 use Rattle.std.proofs.Common.{append-nil, length-append}
 use Rattle.std.specs.List.{AllByRecursion}
 use Rattle.std.proofs.lemmas.Bool.{lt-leb, eq-eqb}
 use Rattle.std.proofs.lemmas.List.Elements.{recursion_from_All}
 use Rattle.std.proofs.Math.Path.{fun_ext}
 use Rattle.rs_field.specs.declared.code.error.Error.{Error}
-use Rattle.rs_field.specs.declared.code.error.Error.TheVariants.{OutOfMemory}
 use Rattle.rs_field.specs.code.Code.{AreRecovery}
 use Rattle.rs_field.specs.code.Column.{Shard, AreShards, shard_at}
 use Rattle.rs_field.specs.code.Counts.{Rate}
 use Rattle.rs_field.specs.code.Configuration.{Configuration, start_outcome}
 use Rattle.rs_field.specs.code.Decoder.{DecoderState, fresh_decoder, DecodeAnswers}
-use Rattle.rs_field.specs.code.Encoder.{EncoderState, IsEncoder, fresh_encoder, with_shard, EncodeAnswers, after_encode}
+use Rattle.rs_field.specs.code.Encoder.{EncoderState, IsEncoder, fresh_encoder, with_shard, EncodeAnswers}
 use Rattle.rs_field.specs.code.Given.{Shards, Lists}
 use Rattle.rs_field.specs.code.OneCall.{Items, with_shards, with_originals, with_recoveries}
 use Rattle.rs_field.specs.code.Outcome.{result_and_then}
 use Rattle.rs_field.specs.code.RoundTrip.{GivesBack}
 use Rattle.rs_rate.specs.objects.Giving.{Reaches}
 use Rattle.rs_rate.proofs.objects_lemmas.Giving.{reached-err}
-use Rattle.rs_field.proofs.code_lemmas.Left.{kept_of, kept-left, just-lost, enough-left}
+use Rattle.rs_field.proofs.code_lemmas.Left.{kept_of, kept-left, just-lost}
 use Rattle.rs_field.proofs.code_lemmas.OneRoundTrip.{encoded_all, all_taken, taken_gives_back}
 
 -- If a fresh encoder took all shards and encoded them, the shards are a message and the result is its recovery shards.
@@ -97,11 +96,6 @@ module _ (c : Configuration) (shards : List Shard) (new_encoder : EncoderState) 
       → EncodeAnswers encoder (Err e) → ⊥
   encodes encoder e given answers = search (rules, takes-message)
 
-  -- After a round, the encoder has the state that it had before the message was added.
-  pub round-ends : (encoder : EncoderState) → with_shards new_encoder shards ≡ Ok encoder
-      → after_encode encoder ≡ new_encoder
-  round-ends encoder given = search (rules, takes-message)
-
 module _ (c : Configuration) (shards recovery : List Shard) (lost recovery_lost : ℕ → Bool) (new_decoder : DecoderState)
     (fresh : new_decoder ≡ fresh_decoder c)
     (all : AreShards c.original_count c.shard_bytes shards × AreRecovery c shards recovery) where
@@ -128,9 +122,3 @@ module _ (c : Configuration) (shards recovery : List Shard) (lost recovery_lost 
       ∙ all_taken c shards recovery (kept_of shards lost) (kept_of recovery recovery_lost) all.0 all.1
       (kept-left shards lost) (kept-left recovery recovery_lost) in
       cc
-
--- If as many shards are left as there are originals, restoring fails only with `OutOfMemory`.
-pub restores : (shards : List Shard) (kept received : Items) (e : Error) → GivesBack shards kept received (Err e)
-    → length shards ≤ length kept + length received → e ≡ OutOfMemory
-restores shards kept received e back many =
-    enough-left shards kept received (Err e) (record { answer = inl back.answer; restored = tt }) many

@@ -184,7 +184,8 @@ pub fn restore_into<E: Engine>(
 fn can_be_written(received: &ReceivedShards<'_>, rooms: &[&mut [u8]]) -> bool
     requires { enough_given (received_state received.now) ≡ Ok tt }
     ensures exact { result ≡ true
-        → originals_given (received_state received.now) + recovery_given (received_state received.now)
+        → originals_given (received_state received.now)
+        + recovery_given (received_state received.now)
         ≡ received.now.counts.original_count }
     ensures number { result ≡ true
         → length rooms.now + originals_given (received_state received.now)

@@ -7,5 +7,6 @@ pub trait Store: Pieces + Rooms {
     ghost use Rattle.std.specs.Prelude.{◌≡◌};
 
     /// Received shards depend only on the places of the rooms, and not on the bytes in the rooms.
-    ghost kept: { (x y : Self) → Self.places x ≡ Self.places y → Self.received x ≡ Self.received y };
+    ghost kept: { (x y : Self) → Self.places x ≡ Self.places y
+        → Self.received x ≡ Self.received y };
 }

@@ -113,7 +113,8 @@ struct ReceivedStrip<'a, P: Pieces> {
 }
 
 impl<'a, P: Pieces> StripMessage for ReceivedStrip<'a, P> {
-    ghost shards = { λ x. own_message (state_of_pieces x.start x.end (P.received x.received.now)) nothing };
+    ghost shards = { λ x.
+        own_message (state_of_pieces x.start x.end (P.received x.received.now)) nothing };
 
     fn piece(&self, index: usize) -> &[u8] {
         received_piece(self.received, index, self.start, self.end)

@@ -27,6 +27,7 @@ use rs_rate::rate::sums::{SumBase, clear_sum, finish_sum, summed_piece};
 pub(crate) struct BaseSums<'a, 'b, E: Engine, B: BasePieces> {
     /// The engine that adds.
     pub(crate) engine: &'a E,
+    /// The base of the sums: its rows, and what the factors of their words are made of.
     pub(crate) base: &'a SumBase<'b>,
     /// The pieces of the base.
     pub(crate) pieces: &'a B,

@@ -265,7 +265,8 @@ fn lanes_of_two_written<V: ByteVector, D: Butterflies, W: WriteWords, F: Factor>
 )
     requires { at + V.LANES ≤ 32 }
     ensures written { (i s : ℕ) → i < V.LANES → s ≡ at + i
-        → at_two_added s (D.two (F.log factor)) (held W.writing) y0.now y1.now c0.old c1.old c0.new c1.new }
+        → at_two_added s (D.two (F.log factor)) (held W.writing) y0.now y1.now
+        c0.old c1.old c0.new c1.new }
     ensures kept_0 { (s : ℕ) → s < 32 → (s < at) ⊎ (at + V.LANES ≤ s)
         → symbol c0.new s ≡ symbol c0.old s }
     ensures kept_1 { (s : ℕ) → s < 32 → (s < at) ⊎ (at + V.LANES ≤ s)
@@ -288,7 +289,8 @@ pub fn two_chunks_written<V: ByteVector, D: Butterflies, W: WriteWords, F: Facto
     factor: F,
 )
     ensures { (s : ℕ) → s < 32
-        → at_two_added s (D.two (F.log factor)) (held W.writing) y0.now y1.now c0.old c1.old c0.new c1.new }
+        → at_two_added s (D.two (F.log factor)) (held W.writing) y0.now y1.now
+        c0.old c1.old c0.new c1.new }
 {
     lanes_of_two_written::<V, D, W, F>(c0, c1, y0, y1, 0, factor);
     if V::LANES < 32 {
@@ -297,7 +299,7 @@ pub fn two_chunks_written<V: ByteVector, D: Butterflies, W: WriteWords, F: Facto
 }
 
 /// Four chunks that are only read.
-#[derive(Clone, Copy)]
+#[derive(Clone, Copy, Debug)]
 pub struct FourChunks<'a> {
     /// The first chunk.
     pub chunk_0: &'a [u8; 64],

@@ -148,7 +148,8 @@ fn two_rows_written<V: ByteVector, D: Butterflies, W: WriteWords, F: Factor>(
     requires three { length x0.old ≡ length y1.now }
     ensures { (k s : ℕ) → k < length x0.old → s < 32
         → at_two_added s (D.two (F.log factor)) (held W.writing)
-        (chunk y0.now k) (chunk y1.now k) (chunk x0.old k) (chunk x1.old k) (chunk x0.new k) (chunk x1.new k) }
+        (chunk y0.now k) (chunk y1.now k)
+        (chunk x0.old k) (chunk x1.old k) (chunk x0.new k) (chunk x1.new k) }
 {
     for k in 0..x0.len() {
         two_chunks_written::<V, D, W, F>(&mut x0[k], &mut x1[k], &y0[k], &y1[k], factor);

@@ -14,5 +14,4 @@ pub mod DirectRows
 pub mod SumLemmas
 pub mod SplitSums
 pub mod ChangeLemmas
-pub mod InPlace
 pub mod Reading

@@ -4,7 +4,7 @@ ghost use Rattle.std.specs.Prelude.{◌≡◌, ℕ, ◌<◌, length};
 use super::sums::xor_chunk;
 
 /// The change of a row: what it was, and what it is now. Both have the same number of chunks.
-#[derive(Clone, Copy)]
+#[derive(Clone, Copy, Debug)]
 pub struct Change<'a> {
     /// The row before the change.
     pub old: &'a [[u8; 64]],

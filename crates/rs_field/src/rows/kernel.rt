@@ -28,7 +28,7 @@ pub struct ThreeLogarithms {
 }
 
 /// Four rows that are only read.
-#[derive(Clone, Copy)]
+#[derive(Clone, Copy, Debug)]
 pub struct FourRows<'a> {
     /// The first row.
     pub row_0: &'a [[u8; 64]],
@@ -176,7 +176,8 @@ pub trait Kernel: Drop {
             (held writing) (chunk y.entry.row_0.now k) (chunk y.entry.row_1.now k)
             (chunk y.entry.row_2.now k) (chunk y.entry.row_3.now k)
             (chunk x.old k) (chunk x.old (n + k))
-            (chunk x.old (2 * n + k)) (chunk x.old (3 * n + k)) (chunk x.new k) (chunk x.new (n + k))
+            (chunk x.old (2 * n + k)) (chunk x.old (3 * n + k))
+            (chunk x.new k) (chunk x.new (n + k))
             (chunk x.new (2 * n + k)) (chunk x.new (3 * n + k)) }
         ensures kept { result ≡ false → x.new ≡ x.old }
     {

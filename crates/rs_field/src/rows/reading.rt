@@ -8,7 +8,7 @@ use super::sums::xor;
 use crate::words::Steps;
 
 /// How rows are written to other rows.
-#[derive(Clone, Copy)]
+#[derive(Clone, Copy, Debug, PartialEq, Eq, Hash)]
 pub enum Writing {
     /// They replace the other rows, whatever these hold.
     Replacing,

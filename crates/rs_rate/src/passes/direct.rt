@@ -231,7 +231,8 @@ fn add_sum<E: Engine>(
     requires outside { is_marked base.now.marks.now y ≡ false }
     ensures sums { (k s : ℕ) → k < len → s < 32
         → word_in chunks.new len k s y
-        ≡ bit_xor (word_in chunks.old len k s y) (base_sum base.now (word_in chunks.old len k s) y) }
+        ≡ bit_xor (word_in chunks.old len k s y)
+        (base_sum base.now (word_in chunks.old len k s) y) }
     ensures others { SameOutside (y * len) (y * len + len) chunks.old chunks.new }
     ensures counts { CountsUpTo (3 * length base.now.rows.now) 0 0 steps.old steps.new }
 {

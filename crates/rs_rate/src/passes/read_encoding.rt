@@ -1,7 +1,7 @@
 //! The coding of the high rate over originals that are read where they are, for blocks of two or four rows. There are
 //! rows for one block only: the backward transform of the first block of originals replaces them, and that of each
 //! further block is added to them.
-ghost use Rattle.std.specs.Prelude.{◌≡◌, ℕ, ◌+◌, ◌*◌, ◌%◌, ◌<◌, ◌≤◌, true, All, length};
+ghost use Rattle.std.specs.Prelude.{◌≡◌, ℕ, ◌+◌, ◌*◌, ◌%◌, ◌<◌, ◌≤◌, ◌↔◌, All, length, IsTrue};
 ghost use Rattle.rs_field.specs.code.Counts.{high_rate};
 ghost use Rattle.rs_field.specs.rows.Layout.{row_len};
 ghost use Rattle.rs_field.specs.rows.Rows.{chunk, symbol, word_in};
@@ -23,7 +23,7 @@ static ZEROS: [[u8; 64]; 64] = [[0; 64]; 64];
 /// Returns whether [`code_read`] can encode with this configuration: at the high rate, with blocks of two or four rows,
 /// and with shards of at most 64 chunks and no tail.
 pub(crate) fn can_read(configuration: Configuration) -> bool
-    ensures { result ≡ true → CanRead configuration }
+    ensures { IsTrue result ↔ CanRead configuration }
 {
     let block = configuration.block_rows();
     !configuration.frame.is_low
@@ -78,6 +78,7 @@ fn zero_row(len: usize) -> &'static [[u8; 64]]
 /// The originals of a message as rows of chunks, in blocks of two or four.
 #[derive(Drop)]
 struct MessageRows<'a, M: StripMessage> {
+    /// The message whose originals are the rows.
     message: &'a M,
     /// The number of originals.
     count: usize,
@@ -87,13 +88,21 @@ struct MessageRows<'a, M: StripMessage> {
     len: usize,
     /// A row of zeros, which fills the last block up.
     zeros: &'a [[u8; 64]],
+    /// A block has more than one row.
     ghost some: { 1 < block },
+    /// A block has at most four rows.
     ghost few: { block ≤ 4 },
+    /// A block has an even number of rows.
     ghost even: { block % 2 ≡ 0 },
+    /// The message has `count` originals.
     ghost number: { length (M.shards message.now) ≡ count },
+    /// Each original has `len` chunks and no tail.
     ghost sized: { All (λ shard. length shard ≡ len * 64) (M.shards message.now) },
+    /// The row of zeros has `len` chunks, and each of its words is zero.
     ghost blank: { IsBlank len zeros.now },
+    /// There is an original.
     ghost originals: { 0 < count },
+    /// After each block with an original, there is another block of the 65536 points.
     ghost points: { (start : ℕ) → start % block ≡ 0 → start < count → start + 2 * block ≤ 65536 },
 }
 
@@ -164,9 +173,11 @@ impl<'a, M: StripMessage> MessageRows<'a, M> {
 /// A block of rows of a message.
 #[derive(Drop)]
 struct BlockRows<'a, M: StripMessage> {
+    /// The rows of all blocks.
     message: &'a MessageRows<'a, M>,
     /// The index of the first original of the block.
     start: usize,
+    /// The rows of the block are among the 65536 points.
     ghost points: { start + message.now.block ≤ 65536 },
 }
 

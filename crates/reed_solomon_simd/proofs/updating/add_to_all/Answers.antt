@@ -1,4 +1,4 @@
-use Rattle.std.proofs.Common.{◌≡◌, ℕ, ◌*◌, ◌/◌, ◌<◌, ◌⊎◌, length, refl, ap, ◌∙◌, subst, sym, inl, inr, arith}
+use Rattle.std.proofs.Common.{◌≡◌, ℕ, ◌*◌, ◌/◌, length, refl, ap, ◌∙◌, subst, sym, inl, inr, arith}
 use Rattle.std.specs.Prelude.{slice_index}
 use Rattle.rs_field.specs.code.Column.{shard_at}
 use Rattle.reed_solomon_simd.specs.Rooms.{bytes_in}

@@ -1,4 +1,4 @@
-use Rattle.std.proofs.Common.{rules, ℕ, ◌+◌, ◌*◌, ◌<◌, ◌≤◌, ◌≡◌, List, [], length, drop, get_or, MutBor, ap, ◌∙◌, sym, subst, arith}
+use Rattle.std.proofs.Common.{ℕ, ◌*◌, ◌<◌, ◌≡◌, List, [], length, drop, get_or, MutBor, ap, ◌∙◌, sym, arith}
 use Rattle.std.proofs.lemmas.List.{get_or-map, length-map}
 use Rattle.reed_solomon_simd.specs.Rooms.{bytes_in, loans_of, rests}
 use Rattle.reed_solomon_simd.proofs.updating.change_chunks.Goals as goal
