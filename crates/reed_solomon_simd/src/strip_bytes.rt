@@ -5,12 +5,12 @@
 /// The number of bytes of each shard that are encoded at a time.
 pub(crate) const ENCODE_STRIP_BYTES: usize = 4096;
 
-/// The number of bytes of each shard that are decoded at a time. If a decode also encodes, to rebuild recovery shards or
-/// to make syndromes, it encodes as many bytes at a time.
+/// The number of bytes of each shard that are decoded at a time. If a decode also encodes, to rebuild recovery shards
+/// or to make syndromes, it encodes as many bytes at a time.
 pub(crate) const DECODE_STRIP_BYTES: usize = 2048;
 
-/// The number of bytes of each shard that are added to direct sums at a time. Two sums are made at a time, in two arrays
-/// of this many bytes on the stack.
+/// The number of bytes of each shard that are added to direct sums at a time. Two sums are made at a time, in two
+/// arrays of this many bytes on the stack.
 pub(crate) const SUM_STRIP_BYTES: usize = 4096;
 
 /// The number of bytes of each of the two arrays on the stack if the strip is not longer than that. To clear the longer

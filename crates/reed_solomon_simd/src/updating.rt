@@ -98,8 +98,8 @@ fn check_change(
     Ok(())
 }
 
-// Adds the change from `old` to `new` to each recovery shard, times the factor of the shard: to its whole chunks, and then
-// to its tail. `factors` has the logarithms of the factors.
+// Adds the change from `old` to `new` to each recovery shard, times the factor of the shard: to its whole chunks, and
+// then to its tail. `factors` has the logarithms of the factors.
 fn add_to_all<E: Engine>(
     engine: &E,
     steps: &mut Steps,
@@ -130,7 +130,8 @@ fn add_to_all<E: Engine>(
     }
 }
 
-// Adds the whole chunks of the change from `old` to `new` to those of each recovery shard, times the factor of the shard.
+// Adds the whole chunks of the change from `old` to `new` to those of each recovery shard, times the factor of the
+// shard.
 fn add_to_chunks<E: Engine>(
     engine: &E,
     steps: &mut Steps,

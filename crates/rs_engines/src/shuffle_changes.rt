@@ -69,8 +69,8 @@ fn change_next<V: ByteVector, T: ShuffleTables, R: ChangeRows>(
     at + 1
 }
 
-// Adds a change to the four rows from row `at` on, and returns true. Or changes nothing and returns false, if the factor
-// of one of them needs more than four numbers.
+// Adds a change to the four rows from row `at` on, and returns true. Or changes nothing and returns false, if the
+// factor of one of them needs more than four numbers.
 #[inline(always)]
 fn change_four<V: ByteVector, T: ShuffleTables, R: ChangeRows>(
     tables: &T,

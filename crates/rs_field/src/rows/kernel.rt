@@ -243,9 +243,8 @@ pub trait Kernel: Drop {
         self.mul_add_row(x1, y, logs.second);
     }
 
-    /// Adds a change to each row, times the factor of a butterfly of its own, and returns true. `logs` has the logarithm
-    /// of the factor for each row; 65535 represents the factor zero. Or changes nothing and returns false, as the
-    /// default body does.
+    /// Adds a change to each row, times a factor for the row, and returns true. `logs` has the logarithm of each factor;
+    /// 65535 represents the factor zero. Or changes nothing and returns false, as the default body does.
     fn add_change<R: ChangeRows>(
         &self,
         rows: &mut R,

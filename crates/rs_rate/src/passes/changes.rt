@@ -83,8 +83,8 @@ fn recovery_factors(
     Ok(factors)
 }
 
-/// Adds the tail of a change, which is less than a chunk, times a factor, to the tail of a recovery shard, in place. Both
-/// tails have the same even number of bytes. `log_m` is the logarithm of the factor, below 65535.
+/// Adds the tail of a change, which is less than a chunk, times a factor, to the tail of a recovery shard, in place.
+/// Both tails have the same even number of bytes. `log_m` is the logarithm of the factor, below 65535.
 pub fn add_to_tail<E: Engine>(
     engine: &E,
     steps: &mut Steps,
