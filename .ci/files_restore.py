@@ -282,9 +282,10 @@ def named():
         run("verify", at("set.rsv"), "--only", "set/deep/b", "-q")
         # A damaged volume is written again only by a repair of all.
         write(at("set.rsv"), read(at("set.rsv")) + b"more")
-        run("repair", at("set.rsv"), "--only", "set/deep/b", "-q")
-        if not read(at("set.rsv")).endswith(b"more"):
-            wrong("repair --only writes a volume")
+        for name in ("set/deep/b", "set"):
+            run("repair", at("set.rsv"), "--only", name, "-q")
+            if not read(at("set.rsv")).endswith(b"more"):
+                wrong(f"repair --only {name} writes a volume")
         # Other files are not read if those with these names are whole.
         unreadable = preloaded("change_reads", READ_NAME="/set/a", READ_FROM=0, READ_TO=1000)
         if unreadable is not None:

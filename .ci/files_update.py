@@ -82,6 +82,32 @@ def updated():
             wrong("update with -q prints something, or -r has no effect")
 
 
+def updated_links():
+    """A set whose folder was given has symbolic links among its first names. `update` keeps them as links, also one that leads nowhere, and
+    follows a link that was given to `create`, as `create` does."""
+    with Folder() as at:
+        written(at)
+        os.symlink("a", at("set", "link"))
+        os.symlink("nowhere", at("set", "broken"))
+        run("create", at("set", "."), "-o", at("set.rsv"), "--block", "512", "-r", "100%", "-q")
+        edited(at("set", "b"), RANDOM.randbytes(3000))
+        changes = changes_in(run("update", at("set.rsv"), "--folder", at("set"), "--block", "512"))
+        if changes != ["edited: b"]:
+            wrong(f"update of a folder with links prints the changes {changes}")
+        for name in ("link", "broken"):
+            os.remove(at("set", name))
+        run("repair", at("set.rsv"), "--folder", at("set"), "-q")
+        if [os.readlink(at("set", name)) for name in ("link", "broken")] != ["a", "nowhere"]:
+            wrong("update does not keep links")
+        os.symlink(at("set", "a"), at("named"))
+        run("create", at("named"), "-o", at("named.rsv"), *CREATE)
+        run("update", at("named.rsv"), "--block", "512", "-q")
+        os.remove(at("named"))
+        run("repair", at("named.rsv"), "-q", "--folder", at(), "--search", at("set"))
+        if os.path.islink(at("named")) or read(at("named")) != read(at("set", "a")):
+            wrong("update does not follow a link that was given to create")
+
+
 def shares():
     """The share of recovery blocks is the same after `update`, and `create` and `update` make the same volume of the same files."""
     with Folder() as at:
@@ -662,5 +688,5 @@ def unwritten_volumes():
             run("verify", *paths, "--folder", at(), status=1)
 
 
-TESTS = (updated, shares, rotten, rotten_moved, rotten_copies, moved_whole, moved_first, taken_over, kept_blocks, accepted_names, nothing_there, edited_and_rotten, rotten_lengths,
+TESTS = (updated, updated_links, shares, rotten, rotten_moved, rotten_copies, moved_whole, moved_first, taken_over, kept_blocks, accepted_names, nothing_there, edited_and_rotten, rotten_lengths,
          refused_updates, repaired_volumes, kept_volumes, repaired_parts, parts_alone, foreign_bytes, failed_rewrites, unwritten_volumes)

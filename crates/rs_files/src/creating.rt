@@ -32,7 +32,7 @@ use std::io::ErrorKind;
 use std::rt::{Clock, Files, Runtime};
 use std::{fs, io};
 
-// The blocks have no digests and no sums yet.
+// Returns a description without the digests and the sums of the blocks, which are computed later.
 fn description_of(
     alloc: Global,
     entries: Vec<Entry>,
@@ -71,7 +71,7 @@ pub fn written(alloc: Global, description: &Description) -> Result<Vec<u8>> {
     }
 }
 
-// The files of a request, of which volumes are made.
+// The files of which volumes are made, and the description of their set.
 #[derive(Drop)]
 struct Making<'a, R: Files + Clock + Eprint> {
     rt: &'a R,
@@ -86,7 +86,8 @@ struct Making<'a, R: Files + Clock + Eprint> {
 }
 
 impl<'a, R: Files + Clock + Eprint> Making<'a, R> {
-    // Also counts the digests and sums that are not there yet. No reader reads a description of more than 1 GiB.
+    // Returns the number of bytes of the description, with the digests and sums that are computed later. Fails if this
+    // is more than 1 GiB, because the program does not read such a description.
     fn description_bytes(&self) -> Result<u64> {
         let originals = u64::from(self.description.original_count);
         let recovery = u64::from(self.description.recovery_count);
@@ -103,7 +104,7 @@ impl<'a, R: Files + Clock + Eprint> Making<'a, R> {
         Ok(bytes)
     }
 
-    // Each file is read for its own digest, unless this is known, and all blocks are read.
+    // Returns how many bytes are read: those of all blocks, and those of each file whose own digest is not known.
     fn bytes_to_read(&self) -> u64 {
         let blocks = u64::from(self.description.original_count);
         let mut total = blocks.saturating_mul(self.description.block_bytes);
@@ -126,7 +127,7 @@ impl<'a, R: Files + Clock + Eprint> Making<'a, R> {
         Ok(())
     }
 
-    // An entry that is no file has 32 zeros. A file without bytes is not opened.
+    // Returns the digest of an entry: 32 zeros if the entry is no file. A file without bytes is not opened.
     fn hash_file(
         &self,
         index: usize,
@@ -143,8 +144,8 @@ impl<'a, R: Files + Clock + Eprint> Making<'a, R> {
         if entry.size == 0 {
             return Ok(digest_of(&[]));
         }
-        // The file was compared with this digest after its length and its time were read, and `check_unchanged`
-        // compares these once more.
+        // This digest was computed from the file after its length and its time were read. `check_unchanged` compares
+        // the length and the time with these at the end.
         if let Some(known) = self.known.files.get(index).copied().flatten() {
             return Ok(known);
         }
@@ -165,7 +166,8 @@ impl<'a, R: Files + Clock + Eprint> Making<'a, R> {
         Ok(hasher.finish().bytes)
     }
 
-    // A set without blocks has no digests and no sums. Digests that are known from old volumes are not computed again.
+    // Codes and writes the blocks, and sets the digests and sums of the description. Digests that are known from old
+    // volumes are not computed again.
     fn code(&mut self, progress: Progress, sink: &mut Volumes<'_, R>) -> Result<()> {
         let shape = shape_of(&self.description);
         if shape.original_count == 0 {
@@ -208,6 +210,7 @@ impl<'a, R: Files + Clock + Eprint> Making<'a, R> {
         }
     }
 
+    // Fails if the length or the time of a file has changed since the file was found.
     fn check_unchanged(&self) -> Result<()> {
         for (path, entry) in self.paths.iter().zip(self.description.entries.as_slice()) {
             if entry.kind != Kind::File {
@@ -234,13 +237,14 @@ impl<'a, R: Files + Clock + Eprint> Making<'a, R> {
         self.code(progress, volumes)?;
         self.check_unchanged()?;
         let bytes = written(self.alloc, &self.description)?;
-        // No volume with an unsound description is written.
+        // A volume whose description cannot be read again would be of no use.
         rs_volumes::read_description(self.alloc, bytes.as_slice())?;
         volumes.describe(bytes.as_slice())?;
         volumes.finish(self.request.force)
     }
 }
 
+// If the disk is full, prints how many bytes of the volumes are not written.
 fn tell_full<R: Files + Eprint>(rt: &R, sink: &Volumes<'_, R>, error: &CodingError) {
     match error {
         CodingError::Write(_, error) if error.kind() == ErrorKind::StorageFull => {
@@ -253,16 +257,18 @@ fn tell_full<R: Files + Eprint>(rt: &R, sink: &Volumes<'_, R>, error: &CodingErr
     }
 }
 
-/// Which volumes are made of which files.
+/// The volumes to make, and the files to make them of.
 #[derive(Clone, Copy)]
 pub struct Task<'a> {
     /// The request of the command line.
     pub request: &'a Request,
-    /// The block size of the set that is made again, if it was given. It is kept if the request names none, and if the
-    /// files do not have too many blocks of this size.
+    /// The block size of the old set in bytes, if the user gave it with `--block`. The new set has the same block size,
+    /// unless the request gives another one or the files have too many blocks of this size.
     pub old_block: Option<u64>,
     /// The paths of the files and folders.
     pub files: &'a [String],
+    /// Marks of the paths that are symbolic links of the set, and are not followed.
+    pub kept: &'a [bool],
     /// The number of recovery blocks.
     pub recovery: Recovery,
     /// The paths of the volumes. One volume gets the recovery blocks. Several volumes get all blocks, which are dealt
@@ -273,7 +279,7 @@ pub struct Task<'a> {
 // What `create`, `split` or `update` made.
 #[derive(Drop)]
 struct Made {
-    // The numbers of entries.
+    // The numbers of files, links and folders.
     entries: Kinds,
     // The block size and the numbers of blocks.
     cut: Cut,
@@ -313,8 +319,8 @@ fn made_of(alloc: Global, task: Task<'_>, found: &Found) -> Result<Made> {
 /// The lists of the object that `create`, `split` and `update` print with `--json`.
 const LISTS: [&str; 6] = ["volumes", "left_out", "edited", "new", "removed", "rotten"];
 
-/// Makes volumes, and prints what was made. Returns the exit status. It is `STATUS_LOST` if old volumes must not be
-/// replaced, for a reason of [`may_replace`]. Then nothing is written.
+/// Makes volumes, and prints what was made. Returns the exit status. If [`may_replace`] finds a rotten file, the status
+/// is `STATUS_LOST`, and nothing is written.
 ///
 /// # Errors
 ///
@@ -330,7 +336,7 @@ const LISTS: [&str; 6] = ["volumes", "left_out", "edited", "new", "removed", "ro
 /// - if the description is larger than 1 GiB,
 /// - for each volume, for a reason of [`Volumes::begin`],
 /// - if a file cannot be read, a block cannot be written into its volume, or the code fails,
-/// - for each file, if its length or the time of its last change cannot be read, or is not the one from before,
+/// - for each file, if its length or the time of its last change cannot be read, or has changed since it was found,
 /// - if `read_description` does not accept the description,
 /// - for a reason of [`Volumes::describe`],
 /// - for a reason of [`Volumes::finish`],
@@ -364,7 +370,7 @@ pub fn make<R: Runtime>(rt: &R, alloc: Global, task: Task<'_>) -> Result<u8> {
     log.end(rt, made.status)
 }
 
-// Returns `None` if old volumes must not be replaced.
+// Returns `None` if old volumes must not be replaced, because a file is rotten.
 fn make_volumes<R: Runtime>(
     rt: &R,
     alloc: Global,
@@ -376,7 +382,7 @@ fn make_volumes<R: Runtime>(
     for output in task.outputs {
         check_output(rt, alloc, output.as_str(), request.force)?;
     }
-    let found = find(rt, alloc, task.files, task.outputs)?;
+    let found = find(rt, alloc, task.files, task.kept, task.outputs)?;
     tell_left_out(rt, &found, log)?;
     check_accepted(alloc, request, &found)?;
     let Some(known) = may_replace(rt, alloc, request, task.outputs, &found, log)? else {
@@ -411,7 +417,7 @@ fn make_volumes<R: Runtime>(
     Ok(Some(made))
 }
 
-// What is not UTF-8 was printed before.
+// Notes in the log what was left out, and prints it, except for names that are not UTF-8: `find` has printed these.
 fn tell_left_out<R: Print>(rt: &R, found: &Found, log: &mut Log) -> Result<()> {
     for left in found.unreadable.iter().chain(found.left_out.iter()) {
         let reason = Some(("reason", left.reason.as_bytes()));
@@ -431,7 +437,8 @@ fn tell_left_out<R: Print>(rt: &R, found: &Found, log: &mut Log) -> Result<()> {
 ///
 /// # Errors
 ///
-/// Fails if the name of the volume is not known. Then fails for a reason of [`make`].
+/// Fails if `-o` is not given and the files do not determine the name of the volume. Then fails for a reason of
+/// [`make`].
 pub fn create<R: Runtime>(rt: &R, alloc: Global, request: &Request) -> Result<u8> {
     let output = match (&request.output, front_of_volume(request.paths.as_slice())) {
         (Some(path), _) => path.clone()?,
@@ -443,12 +450,14 @@ pub fn create<R: Runtime>(rt: &R, alloc: Global, request: &Request) -> Result<u8
         request,
         old_block: None,
         files: request.paths.as_slice(),
+        kept: &[],
         recovery: request.recovery.unwrap_or(Recovery::Percent(10)),
         outputs: &outputs,
     };
     make(rt, alloc, task)
 }
 
+// Prints the numbers of entries and blocks. Warns if the largest file has more bytes than all recovery blocks together.
 fn tell<R: Print + Eprint>(rt: &R, task: Task<'_>, made: &Made) -> io::Result<()> {
     let (entries, cut) = (made.entries, made.cut);
     let [output] = task.outputs else {

@@ -1,4 +1,4 @@
-//! Looks for the blocks of a set as a request says.
+//! Looks for the blocks of the set of a request, in volumes and in folders.
 use crate::log::{Log, is_shown, tell_more};
 use crate::renamed::{Renamed, renaming_of, tops_of};
 use crate::settings::Request;
@@ -24,7 +24,7 @@ use std::{fs, io};
 pub struct Look {
     /// The entries and blocks that were found.
     pub scan: Scan,
-    /// The folder in which the files were looked for. It is empty if they were not.
+    /// The folder in which the files were looked for. It is empty if they were looked for in no folder.
     pub folder: String,
     /// For each entry, whether the request is about it.
     pub chosen: Vec<bool>,
@@ -34,14 +34,15 @@ pub struct Look {
     pub has_all: bool,
     /// Whether all entries that the request is about are whole.
     pub has_whole_files: bool,
-    /// What the places of the files say about the folder of the set.
+    /// Whether the folder of the set was renamed.
     pub renamed: Renamed,
-    // What was found in other files.
+    // The files and blocks that were found in other files.
     elsewhere: Elsewhere,
 }
 
 /// Returns the folder of the files of a set: the folder after `--folder`, or else the folder of the first volume. If
-/// this is a folder of the set itself, and no entry of the set is found from it on, returns the folder above it.
+/// this folder is itself a folder of the set, and no entry of the set is at its name in it, returns the folder above
+/// it.
 ///
 /// # Errors
 ///
@@ -65,12 +66,12 @@ pub fn folder_of<R: Files>(
     let own = identity_of(rt, folder);
     let path = trimmed(folder);
     for top in tops_of(alloc, set)? {
-        let above = if last_of(path) == top {
+        let above = if last_of(path) == top.name {
             String::from_str(alloc, folder_to_open(parent_of(path)))?
         } else {
             path_in(alloc, folder, "..")?
         };
-        let here = path_in(alloc, above.as_str(), top)?;
+        let here = path_in(alloc, above.as_str(), top.name)?;
         if own.is_some() && identity_of(rt, here.as_str()) == own {
             return Ok(above);
         }
@@ -79,7 +80,7 @@ pub fn folder_of<R: Files>(
 }
 
 /// Returns the folder in which `verify`, `repair` and `restore` look for the files of a set, as [`folder_of`] does.
-/// Volumes of `split` hold the files, so for these there is none without `--folder`.
+/// Returns `None` for volumes of `split` without `--folder`, because these volumes hold the files.
 ///
 /// # Errors
 ///
@@ -100,7 +101,7 @@ pub fn folder_for<R: Files>(
 ///
 /// # Errors
 ///
-/// Fails if a folder after `--folder` or `--search` is not there. Then fails for a reason of [`open_volumes`].
+/// Fails if a folder after `--folder` or `--search` does not exist. Then fails for a reason of [`open_volumes`].
 pub fn open_request<R: Files + Eprint>(
     rt: &R,
     alloc: Global,
@@ -138,7 +139,7 @@ pub fn chosen_of(alloc: Global, request: &Request, set: &Description) -> Result<
     Ok(chosen)
 }
 
-// Marks the entry with this name, and those in the folder with this name. Returns whether there are some.
+// Marks the entry with this name, and those in the folder with this name. Returns whether any entry was marked.
 fn choose(entries: &[Entry], name: &[u8], chosen: &mut [bool]) -> bool {
     let mut is_in_set = false;
     for (entry, is_chosen) in entries.iter().zip(chosen) {
@@ -153,9 +154,8 @@ fn choose(entries: &[Entry], name: &[u8], chosen: &mut [bool]) -> bool {
     is_in_set
 }
 
-/// Looks for all blocks of a set in its volumes, in its files below `folder`, if there is one, and if blocks are lost
-/// in other files. `volumes` are the volumes of the request. For each file that a run of the program has not finished,
-/// the function prints a warning.
+/// Looks for all blocks of a set: in its volumes, in its files below `folder`, if it is given, and, if blocks are lost,
+/// in other files. `volumes` are the volumes of the request. The function prints a warning for each unfinished file.
 ///
 /// # Errors
 ///
@@ -179,7 +179,7 @@ pub fn look_for<R: Runtime>(
     }
     let (to, is_told) = (&request.to, !request.quiet);
     let mut elsewhere = find_elsewhere(rt, alloc, folders.as_slice(), to, &mut scan, is_told)?;
-    // The order of the entries is that of their names.
+    // Entries are in order of their names, so this sorts the files by name.
     elsewhere.files.sort()?;
     let moved = elsewhere.files.as_slice();
     let renamed = renaming_of(rt, alloc, request, folder, &scan, moved)?;
@@ -205,8 +205,8 @@ fn broken_of(alloc: Global, scan: &Scan, chosen: &[bool]) -> Result<Vec<bool>, A
 }
 
 impl Look {
-    // Returns the name of a file that was renamed or moved, and the path at which it is now. `number` is its index
-    // among these files. Returns `None` if the request is not about the file.
+    // Returns the name of a file that was renamed or moved, and the path at which it is now. `number` is the index of
+    // the file in `elsewhere.files`. Returns `None` if the request is not about the file.
     fn moved(&self, number: usize) -> Option<(&[u8], &str)> {
         let index = self.elsewhere.files.get(number).copied()?;
         if !self.chosen.get(index).copied()? {
@@ -216,7 +216,7 @@ impl Look {
         Some((entry.name.as_slice(), self.scan.paths.get(index)?.as_str()))
     }
 
-    /// Adds the files of the request that were renamed or moved to a log.
+    /// Notes in a log which files of the request were renamed or moved.
     ///
     /// # Errors
     ///

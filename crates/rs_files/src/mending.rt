@@ -23,7 +23,7 @@ use std::rt::Runtime;
 /// The lists of the object that `repair` and `restore` print with `--json`.
 const LISTS: [&str; 6] = ["restored", "existing", "failed", "lost", "moved", "written"];
 
-// What is restored, and where.
+// A restore of the entries of a request.
 #[derive(Drop)]
 struct Job<'a, R: Runtime> {
     rt: &'a R,
@@ -34,7 +34,8 @@ struct Job<'a, R: Runtime> {
     goal: Goal<'a>,
 }
 
-// Files are restored into the folder after `--to`, or into their own one.
+// Returns the job of a request. Files are restored into the folder after `--to`, or, without this option, into the
+// folder in which they were looked for.
 fn job_of<'a, R: Runtime>(
     rt: &'a R,
     alloc: Global,
@@ -62,8 +63,10 @@ fn job_of<'a, R: Runtime>(
 
 /// Runs `repair`: restores the damaged and missing files of a set in their folder, and writes damaged volumes again.
 /// Volumes of `split` hold the files, so without `--folder` only these volumes are written again.
+///
 /// Returns the exit status. It is `STATUS_LOST` if not enough blocks are left for a file, and otherwise `STATUS_FAILED`
-/// if a file could not be restored for another reason. All other files are restored.
+/// if a file could not be restored for another reason. All other files are restored. It is `STATUS_DAMAGED` if only a
+/// damaged volume could not be written again.
 ///
 /// # Errors
 ///
@@ -72,7 +75,7 @@ fn job_of<'a, R: Runtime>(
 /// - no volume is named, or a folder of the request is not there,
 /// - no volume can be read, or volumes belong to different sets,
 /// - a name after `--only` is not in the set, or `--only` is given for volumes of `split` without `--folder`,
-/// - the folder is that of the set and was renamed,
+/// - the folder after `--folder` is the folder of the set, and was renamed,
 /// - a block that was found cannot be read or restored,
 /// - the result cannot be printed,
 /// - the damaged volumes cannot be written again, for a reason of [`rebuild`].
@@ -90,7 +93,7 @@ pub fn repair<R: Runtime>(rt: &R, alloc: Global, request: &Request) -> Result<u8
     }
     let job = job_of(rt, alloc, request, &found);
     let mut status = mend(&job, &mut log)?;
-    if status == STATUS_WHOLE && found.has_all && !found.scan.has_whole_volumes() {
+    if status == STATUS_WHOLE && request.only.is_empty() && !found.scan.has_whole_volumes() {
         let (paths, folder) = (request.paths.as_slice(), Some(found.folder.as_str()));
         // If the files were whole before, nothing is read.
         let mut scan = if found.has_whole_files {
@@ -104,7 +107,7 @@ pub fn repair<R: Runtime>(rt: &R, alloc: Global, request: &Request) -> Result<u8
     log.end(rt, status)
 }
 
-// The blocks are in the volumes, so no file of the set is read or written.
+// Writes damaged volumes of `split` again. The blocks are in the volumes, so no file of the set is read or written.
 fn mend_spread<R: Runtime>(
     rt: &R,
     alloc: Global,
@@ -131,13 +134,25 @@ fn mend_spread<R: Runtime>(
     rebuild(rt, alloc, request, &mut scan, log)
 }
 
-/// Runs `restore`: restores the files of a set into another folder. Volumes of `split` hold the files, so none are
-/// looked for unless `--folder` is given. With one volume, the files in their folder that are whole are not restored.
-/// Returns the exit status, as [`repair`] does.
+/// Runs `restore`: restores the files of a set into another folder. Files that are whole in the folder of the set are
+/// not restored. With volumes of `split`, which hold the files, no files are looked for unless `--folder` is given: all
+/// files are restored.
+///
+/// Returns the exit status. It is `STATUS_LOST` if not enough blocks are left for a file, and otherwise `STATUS_FAILED`
+/// if a file could not be restored for another reason. All other files are restored.
 ///
 /// # Errors
 ///
-/// Fails if `--to` is not given. Then fails for a reason of [`repair`], apart from the last one.
+/// In this order, fails if:
+///
+/// - `--to` is not given,
+/// - no volume is named, or a folder of the request is not there,
+/// - no volume can be read, or volumes belong to different sets,
+/// - a name after `--only` is not in the set,
+/// - a block that was found cannot be read or restored,
+/// - the result cannot be printed.
+///
+/// Every step fails if memory cannot be allocated.
 pub fn restore<R: Runtime>(rt: &R, alloc: Global, request: &Request) -> Result<u8> {
     if request.to.is_none() {
         return Err(Failure::of("say where the files go, as --to FOLDER"));
@@ -152,6 +167,7 @@ pub fn restore<R: Runtime>(rt: &R, alloc: Global, request: &Request) -> Result<u
     log.end(rt, status)
 }
 
+// Restores the entries of a job, and prints what was restored. Returns the exit status.
 fn mend<R: Runtime>(job: &Job<'_, R>, log: &mut Log) -> Result<u8> {
     let (rt, found) = (job.rt, job.found);
     found.note_moved(log)?;
@@ -180,7 +196,12 @@ fn mend<R: Runtime>(job: &Job<'_, R>, log: &mut Log) -> Result<u8> {
         }
         found.tell_moved(rt)?;
     }
-    let all = is_left || restore_entries(job, wanted, log)?;
+    let all = if is_left {
+        log.end_lists(rt)?;
+        true
+    } else {
+        restore_entries(job, wanted, log)?
+    };
     if loses {
         tell_beyond(rt, found, lost.as_slice(), is_nowhere && is_left, log)?;
         return Ok(STATUS_LOST);
@@ -188,7 +209,8 @@ fn mend<R: Runtime>(job: &Job<'_, R>, log: &mut Log) -> Result<u8> {
     Ok(if all { STATUS_WHOLE } else { STATUS_FAILED })
 }
 
-// The first list marks the entries that can be restored, and the second one those that cannot.
+// Returns marks of the entries of the request that are not whole. The first list marks those that can be restored, and
+// the second list marks those that cannot.
 fn divided(alloc: Global, found: &Look) -> Result<(Vec<bool>, Vec<bool>), AllocError> {
     let restorable = found.scan.restorable(alloc)?;
     let mut wanted = Vec::new(alloc);
@@ -200,8 +222,8 @@ fn divided(alloc: Global, found: &Look) -> Result<(Vec<bool>, Vec<bool>), AllocE
     Ok((wanted, lost))
 }
 
-// Unmarks the entries that are already there with the right bytes. Returns whether there are some. With `--force`, all
-// entries are written again.
+// Removes the marks of the entries that exist in the folder after `--to` with the right bytes. Returns whether there
+// are any. With `--force`, all marked entries are written again.
 fn leave_existing<R: Runtime>(
     job: &Job<'_, R>,
     wanted: &mut [bool],
@@ -239,7 +261,8 @@ fn tell_nothing<R: Runtime>(job: &Job<'_, R>, existing: bool, log: &Log) -> Resu
     Ok(())
 }
 
-// If `is_short` is set, the entries are not named.
+// Prints which entries cannot be restored, and how many more blocks are needed. If `is_short` is true, the entries are
+// not named.
 fn tell_beyond<R: Print + Eprint>(
     rt: &R,
     found: &Look,
@@ -265,7 +288,7 @@ fn tell_beyond<R: Print + Eprint>(
     Ok(())
 }
 
-// Returns whether all entries were restored. All files that do not have their final names are removed.
+// Restores the entries that `wanted` marks. Returns whether all of them were restored. Unfinished files are removed.
 fn restore_entries<R: Runtime>(job: &Job<'_, R>, wanted: Vec<bool>, log: &mut Log) -> Result<bool> {
     let (rt, scan) = (job.rt, &job.found.scan);
     let (memory, shown) = (job.request.memory, job.request.progress);
@@ -292,7 +315,7 @@ fn restore_entries<R: Runtime>(job: &Job<'_, R>, wanted: Vec<bool>, log: &mut Lo
     tell_outcomes(job, outcomes, log)
 }
 
-// Returns whether all entries were restored.
+// Prints which entries were restored, and which ones were not. Returns whether all of them were restored.
 fn tell_outcomes<R: Runtime>(
     job: &Job<'_, R>,
     outcomes: &[Outcome],

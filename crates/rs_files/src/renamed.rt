@@ -1,4 +1,4 @@
-//! The folders of a set, and whether the only one was renamed.
+//! The files and folders at the top of a set, and whether the folder of the set was renamed.
 use crate::settings::Request;
 use rs_file_sets::one_entry::has_time;
 use rs_file_sets::scanning::Scan;
@@ -9,29 +9,41 @@ use std::alloc::{AllocError, Global};
 use std::fs;
 use std::rt::Files;
 
-// Returns the first part of a name, and the rest, which is empty if the entry is in no folder.
+// Returns the first part of a name, and the rest after the slash. The rest is empty if the entry is in no folder. Both
+// are empty if the name is not UTF-8.
 fn parts_of(entry: &Entry) -> (&str, &str) {
     let name = text_of(entry.name.as_slice()).unwrap_or("");
     name.split_once('/').unwrap_or((name, ""))
 }
 
-/// Returns the first parts of all names of a set, each once.
+/// The first part of names of a set.
+#[derive(Clone, Copy)]
+pub struct Top<'a> {
+    /// The first part.
+    pub name: &'a str,
+    /// Whether it is the name of a symbolic link.
+    pub is_link: bool,
+}
+
+/// Returns the first parts of all names of a set, each once. Names that are not UTF-8 do not count.
 ///
 /// # Errors
 ///
 /// [`AllocError`] if memory cannot be allocated.
-pub fn tops_of(alloc: Global, set: &Description) -> Result<Vec<&str>, AllocError> {
-    let mut tops: Vec<&str> = Vec::new(alloc);
+pub fn tops_of(alloc: Global, set: &Description) -> Result<Vec<Top<'_>>, AllocError> {
+    let mut tops: Vec<Top<'_>> = Vec::new(alloc);
     for entry in &set.entries {
-        let (top, _) = parts_of(entry);
-        if !top.is_empty() && tops.last().copied() != Some(top) {
-            tops.push(top)?;
+        let (name, rest) = parts_of(entry);
+        let is_known = tops.last().is_some_and(|top| top.name == name);
+        if !name.is_empty() && !is_known {
+            let is_link = rest.is_empty() && entry.kind == Kind::Link;
+            tops.push(Top { name, is_link })?;
         }
     }
     Ok(tops)
 }
 
-/// What the places of files that were found say about the folder of their set.
+/// Whether the folder of a set was renamed, as far as the places of the files show it.
 #[derive(Clone, Copy)]
 pub enum Renamed {
     /// Nothing says that the folder was renamed.
@@ -39,7 +51,7 @@ pub enum Renamed {
     /// Perhaps the folder was renamed: nothing has its name any more, and a file of the set was found in another
     /// folder, with the same path below this folder.
     Perhaps,
-    /// The folder after `--folder` is the renamed one: it has all files of the set, so none of them is lost.
+    /// The folder after `--folder` is the renamed folder of the set: it has all files of the set, so no file is lost.
     Here,
 }
 
@@ -65,7 +77,7 @@ pub fn renaming_of<R: Files>(
     }
     let tops = tops_of(alloc, scan.description())?;
     for top in &tops {
-        let path = path_in(alloc, folder, *top)?;
+        let path = path_in(alloc, folder, top.name)?;
         if exists(rt, path.as_str()) {
             return Ok(Renamed::No);
         }
@@ -76,7 +88,8 @@ pub fn renaming_of<R: Files>(
     Ok(Renamed::Perhaps)
 }
 
-// Returns whether one of these entries was found in another folder, with the same path below this folder.
+// Returns whether one of the entries with the indexes `moved` was found in another folder, with the same path below
+// this folder.
 fn keeps_rest(scan: &Scan, moved: &[usize]) -> bool {
     for index in moved {
         let (entry, path) = (
@@ -95,8 +108,9 @@ fn keeps_rest(scan: &Scan, moved: &[usize]) -> bool {
     false
 }
 
-// Returns whether all files of a set that have bytes were found, at least two, and are in `folder` as they were in the
-// folder of the set. A file of which the bytes were found at a further place has the time of its entry there.
+// Returns whether the set has at least two files with bytes, and all of them were found and are in `folder` as they
+// were in the folder of the set. If the bytes of a file were found at another path, the file in `folder` counts if it
+// has the length and the time of the entry.
 fn has_all<R: Files>(
     rt: &R,
     alloc: Global,

@@ -12,6 +12,7 @@ use std::rt::Runtime;
 /// The largest number of volumes.
 const MOST_VOLUMES: u32 = 1000;
 
+// Returns the paths of volumes in a folder.
 fn outputs_in(alloc: Global, volumes: u32, folder: &str) -> Result<Vec<String>, AllocError> {
     let mut paths = Vec::new(alloc);
     for number in 0..volumes {
@@ -22,13 +23,13 @@ fn outputs_in(alloc: Global, volumes: u32, folder: &str) -> Result<Vec<String>, 
     Ok(paths)
 }
 
-/// Runs `split`: spreads all blocks of files over volumes. Returns the exit status. For each volume of an earlier run
-/// whose number the new volumes do not have, the function prints a warning.
+/// Runs `split`: spreads all blocks of files over volumes. Returns the exit status. The function prints a warning for
+/// each volume of an earlier run that has a higher number than the new volumes.
 ///
 /// # Errors
 ///
-/// Fails if `-o` is not given. Then fails for a reason of [`check_parts`], also for volumes of an earlier run that
-/// wrote more of them. Then fails for a reason of [`make`].
+/// Fails if `-o` is not given. Then fails for a reason of [`check_parts`], for all numbers that a volume can have: an
+/// earlier run can have written more volumes. Then fails for a reason of [`make`].
 pub fn split<R: Runtime>(rt: &R, alloc: Global, request: &Request) -> Result<u8> {
     let Some(folder) = &request.output else {
         return Err(Failure::of("say where the volumes go, as -o FOLDER"));
@@ -42,6 +43,7 @@ pub fn split<R: Runtime>(rt: &R, alloc: Global, request: &Request) -> Result<u8>
         request,
         old_block: None,
         files: request.paths.as_slice(),
+        kept: &[],
         recovery: Recovery::Spread { volumes, lose },
         outputs: outputs.as_slice(),
     };
@@ -49,7 +51,7 @@ pub fn split<R: Runtime>(rt: &R, alloc: Global, request: &Request) -> Result<u8>
     if status == STATUS_LOST {
         return Ok(status);
     }
-    // The new volumes do not have the numbers of these.
+    // An earlier run wrote more volumes.
     for path in all.get(volumes as usize..).unwrap_or(&[]) {
         if exists(rt, path.as_str()) {
             let reason =

@@ -12,24 +12,28 @@ use rs_volumes::description::{Description, Version};
 use std::alloc::{AllocError, Global};
 use std::rt::{Files, Runtime};
 
-// Takes the first parts of all names: the files and folders that are in the folder itself.
+// Returns the paths of the entries and folders of a set that are directly in `folder` and exist, and marks of those
+// that are symbolic links of the set.
 fn paths_in<R: Files>(
     rt: &R,
     alloc: Global,
     folder: &str,
     set: &Description,
-) -> Result<Vec<String>, AllocError> {
+) -> Result<(Vec<String>, Vec<bool>), AllocError> {
     let mut paths = Vec::new(alloc);
+    let mut links = Vec::new(alloc);
     for top in tops_of(alloc, set)? {
-        let path = path_in(alloc, folder, top)?;
+        let path = path_in(alloc, folder, top.name)?;
         if exists(rt, path.as_str()) {
             paths.push(path)?;
+            links.push(top.is_link)?;
         }
     }
-    Ok(paths)
+    Ok((paths, links))
 }
 
-// Returns `None` if the block size was chosen by default. Version 1 has other defaults, so there it counts as chosen.
+// Returns the block size of a set, or `None` if it is the default for the old files. Volumes of version 1 were made
+// with other defaults, so each block size of version 1 counts as a default.
 fn block_of(set: &Description) -> Option<u64> {
     if set.version == Version::First || set.original_count == 0 {
         return None;
@@ -43,8 +47,7 @@ fn block_of(set: &Description) -> Option<u64> {
 }
 
 /// Runs `update`: makes the volume of a set again, with the files as they are now. Returns the exit status. It is
-/// `STATUS_LOST` if the bytes of a file changed while its length and its time did not, and the file is not accepted:
-/// then the old volume stays.
+/// `STATUS_LOST` if a file is rotten and not accepted: then the old volume stays.
 ///
 /// # Errors
 ///
@@ -68,8 +71,8 @@ pub fn update<R: Runtime>(rt: &R, alloc: Global, request: &Request) -> Result<u8
     let share = recovery.div_ceil(u64::from(set.original_count).max(1));
     let share = Recovery::Percent(share.clamp(1, 10_000) as u32);
     let folder = folder_of(rt, alloc, request, set)?;
-    let tops = paths_in(rt, alloc, folder.as_str(), set)?;
-    if tops.is_empty() {
+    let (paths, links) = paths_in(rt, alloc, folder.as_str(), set)?;
+    if paths.is_empty() {
         let reason =
             "nothing of the set is in this folder: if its files are in another folder, name that with \
              --folder. If they were renamed, give them their old names, or use create NEW -o VOLUME --force, \
@@ -80,7 +83,8 @@ pub fn update<R: Runtime>(rt: &R, alloc: Global, request: &Request) -> Result<u8
     let task = Task {
         request,
         old_block: block_of(set),
-        files: tops.as_slice(),
+        files: paths.as_slice(),
+        kept: links.as_slice(),
         recovery: request.recovery.unwrap_or(share),
         outputs: &outputs,
     };

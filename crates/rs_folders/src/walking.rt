@@ -25,26 +25,27 @@ pub struct Found {
     pub entries: Vec<Entry>,
     /// For each entry, whether it is a file whose path is a symbolic link to it. Only a path that is named may be one.
     pub linked: Vec<bool>,
-    /// The folders with names, and the symbolic links with targets, that were left out because they are not UTF-8.
+    /// The folders in which names were left out because they are not UTF-8, and the symbolic links that were left out
+    /// because their targets are not UTF-8.
     pub unreadable: Vec<LeftOut>,
-    /// What else was left out.
+    /// Everything else that was left out.
     pub left_out: Vec<LeftOut>,
 }
 
 /// Something that was found and is not part of the set.
 #[derive(Drop)]
 pub struct LeftOut {
-    /// Its path.
+    /// The path at which it is.
     pub path: String,
-    /// Why it is not part of the set.
+    /// The reason why it is not part of the set.
     pub reason: String,
 }
 
-// An entry of the set.
+// An entry of the set that was found.
 #[derive(Drop)]
 struct FoundEntry {
     entry: Entry,
-    // Whether it is a file whose path is a symbolic link to it.
+    // Whether the entry is a file whose path is a symbolic link to it.
     is_linked: bool,
 }
 
@@ -52,13 +53,16 @@ struct FoundEntry {
 #[derive(Drop)]
 struct Waiting {
     path: String,
-    // The name in the set, which is empty for the folder of the set.
+    // The name in the set. It is empty for the folder of the set.
     name: String,
-    // Whether the path is one of those that are named. Only these may be symbolic links.
+    // Whether the user named this path.
     is_named: bool,
+    // Whether a symbolic link at this path is followed.
+    is_followed: bool,
 }
 
-// The name is empty if the path ends in `.` or `..`: then the path is the folder of the set.
+// Returns the name of a path in the set. It is empty if the path ends in `.` or `..`: then the path is the folder of
+// the set.
 fn name_in_set(path: &str) -> &str {
     match last_of(path) {
         "" | "." | ".." => "",
@@ -75,13 +79,17 @@ fn folder_of(path: &str) -> &str {
     }
 }
 
-/// Finds all regular files, symbolic links and empty folders at the paths and below them, in order of their names. A
-/// path that is a symbolic link is followed.
+/// Finds all regular files, symbolic links and empty folders at the paths and below them, in order of their names. If
+/// one of the paths is itself a symbolic link, the function follows it, unless `kept` marks it: then the link is an entry
+/// of the set. A path after the last mark has no mark.
 ///
-/// The files at `outputs` are old volumes, which new volumes replace. Below a path, they are left out. Names, and
-/// targets of symbolic links, that are not UTF-8 are left out as well, because this program cannot use them. For each
-/// folder with such names, and for each such link, the function prints a message. Files below a path that a run of this
-/// program has not finished are left out too.
+/// The function leaves out:
+///
+/// - names that are not UTF-8, and symbolic links whose targets are not UTF-8, because the program cannot use them. It
+///   prints a message for each folder with such names, and for each such link,
+/// - below the paths, the old volumes at `outputs`, which new volumes replace,
+/// - below the paths, unfinished files,
+/// - pipes, sockets and devices.
 ///
 /// # Errors
 ///
@@ -92,6 +100,7 @@ pub fn find<R: Files + Eprint + Alloc + Clone + Drop>(
     rt: &R,
     alloc: Global,
     paths: &[String],
+    kept: &[bool],
     outputs: &[String],
 ) -> Result<Found> {
     let Some(first) = paths.first() else {
@@ -107,8 +116,9 @@ pub fn find<R: Files + Eprint + Alloc + Clone + Drop>(
         unreadable: Vec::new(alloc),
         left_out: Vec::new(alloc),
     };
-    for path in paths {
-        walk.add_path(folder, trimmed(path.as_str()))?;
+    for (index, path) in paths.iter().enumerate() {
+        let is_followed = !kept.get(index).copied().unwrap_or(false);
+        walk.add_path(folder, trimmed(path.as_str()), is_followed)?;
     }
     let FolderWalk {
         mut found,
@@ -136,7 +146,8 @@ pub fn find<R: Files + Eprint + Alloc + Clone + Drop>(
     })
 }
 
-// Returns true if the first path leads to no folder: this is reported later.
+// Returns whether two paths lead to the same folder. Also returns true if the first path leads to no folder: a later
+// step reports this.
 fn is_same_folder<R: Files>(rt: &R, one: &str, other: &str) -> bool {
     if one == other {
         return true;
@@ -147,7 +158,7 @@ fn is_same_folder<R: Files>(rt: &R, one: &str, other: &str) -> bool {
     }
 }
 
-// The list must be sorted. An entry below another one counts as given twice.
+// Fails if an entry is given twice, or is below another one. The list must be in order of the names.
 fn check_apart(alloc: Global, found: &[FoundEntry]) -> Result<()> {
     let mut previous: &[u8] = b"";
     for FoundEntry { entry, .. } in found {
@@ -182,15 +193,16 @@ struct FolderWalk<'a, R: Files + Eprint + Alloc + Clone + Drop> {
     waiting: Vec<Waiting>,
     // The entries that were found.
     found: Vec<FoundEntry>,
-    // What was left out because it is not UTF-8.
+    // The folders in which names were left out because they are not UTF-8, and the symbolic links that were left out
+    // because their targets are not UTF-8.
     unreadable: Vec<LeftOut>,
-    // What else was left out.
+    // Everything else that was left out.
     left_out: Vec<LeftOut>,
 }
 
 impl<'a, R: Files + Eprint + Alloc + Clone + Drop> FolderWalk<'a, R> {
-    // Fails if the path is not in `folder`, or is that of an old volume.
-    fn add_path(&mut self, folder: &str, path: &str) -> Result<()> {
+    // Adds the entries at a path and below it. Fails if the path is not in `folder`, or is that of an old volume.
+    fn add_path(&mut self, folder: &str, path: &str, is_followed: bool) -> Result<()> {
         if !is_same_folder(self.rt, folder_of(path), folder) {
             let reason = "the files must be in one folder: give that folder, or the files in it";
             return Err(Failure::at(self.alloc, path, reason));
@@ -204,6 +216,7 @@ impl<'a, R: Files + Eprint + Alloc + Clone + Drop> FolderWalk<'a, R> {
             path: String::from_str(self.alloc, path)?,
             name: String::from_str(self.alloc, name_in_set(path))?,
             is_named: true,
+            is_followed,
         })?;
         for _ in 0..u64::MAX {
             match self.waiting.pop() {
@@ -214,11 +227,12 @@ impl<'a, R: Files + Eprint + Alloc + Clone + Drop> FolderWalk<'a, R> {
         Ok(())
     }
 
-    // Leaves out old volumes, pipes and the like. Unfinished files of a run are left out, too, unless they are named.
+    // Adds a file or a link, or lists a folder. Old volumes, pipes, sockets, devices and unfinished files are left out.
+    // An unfinished file that the user named is not left out.
     fn visit(&mut self, next: &Waiting) -> Result<()> {
         let path = next.path.as_str();
         let found = at_path(self.alloc, path, fs::symlink_metadata(self.rt, path))?;
-        let is_linked = next.is_named && found.is_symlink();
+        let is_linked = next.is_followed && found.is_symlink();
         let metadata = if is_linked {
             at_path(self.alloc, path, fs::metadata(self.rt, path))?
         } else {
@@ -245,7 +259,7 @@ impl<'a, R: Files + Eprint + Alloc + Clone + Drop> FolderWalk<'a, R> {
         Ok(())
     }
 
-    // This is for what is not UTF-8, and prints a warning at once.
+    // Leaves out what is not UTF-8, and prints a warning at once.
     fn leave_unread(&mut self, path: &str, reason: String) -> Result<()> {
         warn(self.rt, path, format_args!("{reason}"));
         self.unreadable
@@ -253,7 +267,7 @@ impl<'a, R: Files + Eprint + Alloc + Clone + Drop> FolderWalk<'a, R> {
         Ok(())
     }
 
-    // The entry has no target and no digest yet.
+    // Returns an entry without its target and its digest.
     fn entry(&self, next: &Waiting, kind: Kind, metadata: &Metadata) -> Result<Entry> {
         let nanoseconds = u32::try_from(metadata.mtime_nsec()).unwrap_or(0);
         Ok(Entry {
@@ -272,7 +286,7 @@ impl<'a, R: Files + Eprint + Alloc + Clone + Drop> FolderWalk<'a, R> {
         })
     }
 
-    // Fails if the name of the entry is not allowed.
+    // Adds an entry. Fails if its name is not allowed in a set.
     fn add(&mut self, path: &str, entry: Entry, is_linked: bool) -> Result<()> {
         if !is_name(entry.name.as_slice()) {
             let reason = "a file with this name cannot be part of a set";
@@ -282,7 +296,7 @@ impl<'a, R: Files + Eprint + Alloc + Clone + Drop> FolderWalk<'a, R> {
         Ok(())
     }
 
-    // A link whose target is not UTF-8 is left out.
+    // Adds a symbolic link, or leaves it out if its target is not UTF-8.
     fn add_link(&mut self, next: &Waiting, metadata: &Metadata) -> Result<()> {
         let path = next.path.as_str();
         let target = match fs::read_link(self.rt, path) {
@@ -297,7 +311,8 @@ impl<'a, R: Files + Eprint + Alloc + Clone + Drop> FolderWalk<'a, R> {
         self.add(path, entry, false)
     }
 
-    // Adds the folder itself if nothing is in it, unless it is the folder of the set.
+    // Lists a folder. If it is empty, or no name in it is UTF-8, it is added as an empty folder, unless it is the
+    // folder of the set.
     fn list(&mut self, folder: &Waiting, metadata: &Metadata) -> Result<()> {
         let path = folder_to_open(folder.path.as_str());
         let (mut count, mut left_out) = (0u64, 0u64);
@@ -332,6 +347,7 @@ impl<'a, R: Files + Eprint + Alloc + Clone + Drop> FolderWalk<'a, R> {
             path: path_in(self.alloc, folder.path.as_str(), name)?,
             name: path_in(self.alloc, folder.name.as_str(), name)?,
             is_named: false,
+            is_followed: false,
         })?;
         Ok(())
     }
