@@ -19,7 +19,7 @@ pub struct Stream<W: Write> {
 }
 
 impl<W: Write> Stream<W> {
-    /// Makes a stream from a writer. No write to the stream has failed.
+    /// Returns a stream that writes to a writer. No write to the stream has failed yet.
     pub fn new(writer: W) -> Stream<W>
         ensures writer { result.writer ≡ writer }
         ensures record { result.has_failed ≡ false }

@@ -194,7 +194,7 @@ none_in zero i past = refl
 none_in (suc n) zero past = absurd (omega arith)
 none_in (suc n) (suc i) past = none_in n i (omega arith)
 
--- the first k blocks are wanted, and no others
+-- the first k blocks are requested, and no others
 wanted_in : (k i : ℕ) → i < k → get_or (replicate k true) i false ≡ true
 wanted_in zero i inside = absurd (omega arith)
 wanted_in (suc k) zero inside = refl
@@ -349,7 +349,7 @@ module _ {shape : Shape} (plan : Plan) {originals : List Shard} (stored damaged 
   module _ (back : List Shard)
       (written : AreOriginals plan created.originals (blocks_in (replicate shape.original_count []))
       (blocks_in back)) where
-    -- A wanted block is the original that was created.
+    -- A requested block is the original from which the set was created.
     pub block_back : (i : ℕ) → get_or plan.wanted.items i false ≡ true
         → blocks_in back i ≡ Some (shard_at created.originals i)
     block_back i is =

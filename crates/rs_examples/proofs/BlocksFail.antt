@@ -1,4 +1,4 @@
--- Why a creation and a restore of known blocks in memory fail: only because memory is lacking.
+-- Why a creation and a restore of known blocks in memory fail: only because memory cannot be allocated.
 use Rattle.std.proofs.Common.{◌≡◌, ◌⊎◌, ℕ, ◌+◌, ◌-◌, ◌^◌, ◌<◌, ◌≤◌, true, false, List, [], length, get_or}
 use Rattle.std.proofs.Common.{Some, Ok, Err, refl, sym, ap, subst, ◌∙◌, inl, inr, arith}
 use Rattle.std.specs.Prelude.{Option}
@@ -31,14 +31,14 @@ use Rattle.rs_volumes.proofs.Originals.{pieces-left}
 use Rattle.rs_examples.specs.Blocks.{SaysNoMemory, read_lacks_memory, write_lacks_memory}
 use Rattle.rs_examples.proofs.BlocksBack.{strip-valid}
 
--- A block of which nothing was written at first only fails to be written if memory is lacking.
+-- A block of which nothing was written at first only fails to be written if memory cannot be allocated.
 unwritten : {first : Option Shard} {e : IoError} → first ≡ Some [] → FailsToWrite write_lacks_memory first e
     → error_kind e ≡ kinds.OutOfMemory
 unwritten none fails = let next = fails.next none in fails.fails next.0 next.1 next.2
 
 module _ (shape : Shape) (valid : validation_outcome
     (default_of shape.original_count shape.recovery_count shape.block_bytes) ≡ Ok tt) where
-  -- A creation from known blocks only fails if memory is lacking.
+  -- A creation from known blocks only fails if memory cannot be allocated.
   pub creating_lacks : (known before : Shards) (e : CodingError)
       → ((i : ℕ) → i < shape.original_count
       → (block : Shard) × (known i ≡ Some block) × (length block ≡ shape.block_bytes))
@@ -89,7 +89,7 @@ module _ (shape : Shape) (valid : validation_outcome
         let view : ℕ × Vec ℕ → ℕ × Shard = λ q. (q.0, q.1.items) in
         length-map ps view ∙ sym (length-map ps (λ (q : ℕ × Vec ℕ). q.0)) ∙ ap length read.numbers_are
 
-    -- The code only fails for lack of memory.
+    -- The code only fails if memory cannot be allocated.
     code_lacks : (e : Error) → FailsToDecode shape plan known e → e ≡ code.OutOfMemory
     code_lacks e fails =
         let k : ℕ = shape.original_count in
@@ -122,7 +122,7 @@ module _ (shape : Shape) (valid : validation_outcome
           | inr out ↦ cc
         ]
 
-    -- A restore from known blocks of a set, of which enough are read, only fails if memory is lacking.
+    -- A restore from known blocks of a set, of which enough are read, only fails if memory cannot be allocated.
     pub restoring_lacks : (e : CodingError)
         → ((i : ℕ) → get_or plan.wanted.items i false ≡ true → before i ≡ Some [])
         → (WritesAll (Err e) → (i : ℕ) → get_or plan.wanted.items i false ≡ true

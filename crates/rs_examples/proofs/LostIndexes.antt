@@ -48,7 +48,8 @@ pub named_at : (originals recovery : List Shard) (indexes : List ℕ)
 named_at originals recovery [] = refl
 named_at originals recovery (i ∷ indexes) = ap (λ xs. shard_at originals i ∷ xs) (named_at originals recovery indexes)
 
--- Names that differ from those before differ from one more name, if its index differs from theirs.
+-- If names differ from all names of a list, and their indexes differ from x, they also differ from the names of the
+-- list with original x before it.
 apart-next : (x : ℕ) (before : List ShardIndex) (xs : List ℕ) → AllByRecursion (λ i. nat_eq x i ≡ false) xs
     → AllByRecursion (λ i. list_any (is_same (Original i)) before ≡ false) xs
     → AllByRecursion (λ i. list_any (is_same (Original i)) (Original x ∷ before) ≡ false) xs

@@ -51,7 +51,7 @@ module _ {rate : Rate} {c : Configuration} {new_encoder encoder : EncoderState} 
           gives-back c originals recovery (is_lost lost) (is_lost recovery_lost) new_decoder half decoder result all
           decoder_fresh (reached-ok _ half kept) (reached-ok _ decoder received)
 
-      -- If enough shards are left, decoding can only fail because memory is short.
+      -- If enough shards are left, decoding can only fail because memory cannot be allocated.
       pub only-memory : (e : Error) → DecodeAnswers decoder (Err e)
           → c.original_count ≤ left_below c.original_count lost + left_below c.recovery_count recovery_lost
           → e ≡ OutOfMemory

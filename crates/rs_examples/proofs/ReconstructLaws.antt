@@ -103,7 +103,7 @@ module _ {k r : ℕ} {originals recovery : List Shard} {kept received : Items} (
           ∙ ap (result_and_then (λ (v : Unit {0}). Ok tt)) lost
 
   -- If enough shards are left and the wanted shards are not among them, reconstructing into vectors can only fail
-  -- because memory is short.
+  -- because memory cannot be allocated.
   pub lacks_memory : (e : ReconstructError) → wanted_outcome state [] wanted ≡ Ok tt → 0 < k
       → k ≤ length kept + length received → OneReconstructs k r kept received wanted (λ _. Ok tt) (Err e)
       → e ≡ Refused OutOfMemory
@@ -117,7 +117,7 @@ module _ {k r : ℕ} {originals recovery : List Shard} {kept received : Items} (
       ]
 
   -- If the shards that are left can be received, and the wanted ones can be made from them, reconstructing into vectors
-  -- can only fail because memory is short.
+  -- can only fail because memory cannot be allocated.
   pub only_memory : (s : DecoderState) (e : ReconstructError)
       → receiving_outcome k r (received_size kept received) kept received ≡ Ok s
       → wanted_outcome s [] wanted ≡ Ok tt → k ≤ length kept + length received
@@ -182,7 +182,7 @@ module _ {k r : ℕ} {originals recovery : List Shard} {lost : List ℕ} (recove
       (map (λ vector. vector.items) vectors) made
       ∙ ap (map (shard_named originals recovery)) named ∙ named_at originals recovery indexes) mapped
 
-  -- If enough shards are left, reconstructing the lost originals can only fail because memory is short.
+  -- If enough shards are left, reconstructing the lost originals can only fail because memory cannot be allocated.
   pub lost_refused : (e : ReconstructError) → k ≤ left_below k lost + left_below r recovery_lost
       → OneReconstructs k r kept received wanted (λ _. Ok tt) (Err e) → e ≡ Refused OutOfMemory
   lost_refused e many made =

@@ -50,7 +50,7 @@ module _ {k r : ℕ} {originals recovery : List Shard} {kept received : Items} (
             (by_result result says ∙ sym (ap (unless_few k (length kept) (length received)) few))
 
     -- If each shard that is left belongs to a codeword, `verify` succeeds, or fails because too few shards are left or
-    -- memory is short.
+    -- memory cannot be allocated.
     pub codeword_passes : OneVerifies k r kept received result
         → (result ≡ enough_left k kept received) ⊎ (result ≡ Err OutOfMemory)
     codeword_passes (inr lacks) = inr lacks.1

@@ -22,12 +22,12 @@ contents blocks = map (λ block. block.items) blocks.blocks.items
 abbrev pub blocks_in : List Shard → Shards
 blocks_in blocks i = slice_get blocks i
 
--- a block that has all bytes that are read only fails to be read if memory is lacking
+-- a block that has all bytes that are read only fails to be read if memory cannot be allocated
 abbrev pub read_lacks_memory : Option Shard → ℕ → Error → Type 0
 read_lacks_memory block end e =
     (bytes : Shard) → block ≡ Some bytes → end ≤ length bytes → error_kind e ≡ kinds.OutOfMemory
 
--- a piece that follows what was written of a block only fails to be written if memory is lacking
+-- a piece that follows what was written of a block only fails to be written if memory cannot be allocated
 abbrev pub write_lacks_memory : Option Shard → ℕ → Error → Type 0
 write_lacks_memory block start e =
     (bytes : Shard) → block ≡ Some bytes → start ≡ length bytes → error_kind e ≡ kinds.OutOfMemory

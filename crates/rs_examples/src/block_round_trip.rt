@@ -13,8 +13,8 @@ use rs_volumes::creating::{Shape, create};
 use rs_volumes::restoring::{Plan, restore};
 use std::alloc::{AllocError, Global};
 
-/// A block that is lost or damaged: its index, and the bytes that are in its place. The recovery blocks have the
-/// indexes k to k + r - 1.
+/// A block that is lost or damaged: its index, and the bytes that replace it. The recovery blocks have the indexes k to
+/// k + r - 1.
 pub type Damage = (usize, Vec<u8>);
 
 /// Creates the recovery blocks of original blocks, damages blocks, and restores the original blocks from the blocks
@@ -87,7 +87,8 @@ fn damage_blocks(stored: &mut Blocks, damage: &[Damage]) -> Result<(), AllocErro
     Ok(())
 }
 
-// `lost` names blocks by their index: block `number` has the index `first` + `number`.
+// Returns the numbers below `count` of the blocks that are not lost. Block number n has the index `first` + n. `lost`
+// are the indexes of the lost blocks.
 fn left_numbers(
     alloc: Global,
     first: usize,

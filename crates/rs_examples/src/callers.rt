@@ -65,8 +65,8 @@ pub fn encode_too_early<E: Engine, X: RateEncoder<E> + Drop>(
     Ok(())
 }
 
-/// Resets a decoder of the default rate from any configuration to one of the high rate. After an error, also after
-/// `OutOfMemory`, everything is as it was.
+/// Resets a decoder of the default rate from any configuration to one of the high rate. After an error, the decoder is
+/// as it was.
 ///
 /// # Errors
 ///
@@ -163,8 +163,8 @@ pub fn make_again<E: Engine, R: Rate<E>>(
     )
 }
 
-/// Resets an encoder to another configuration and back to its own. Its room never shrinks, so the second `reset` never
-/// fails. The contract states that this function never fails.
+/// Resets an encoder to another configuration and back to its own. Its memory never shrinks, so the second `reset`
+/// never fails. The contract states that this function never fails.
 pub fn reset_and_back<E: Engine, X: RateEncoder<E>>(
     encoder: &mut X,
     original_count: usize,

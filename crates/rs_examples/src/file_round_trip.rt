@@ -124,7 +124,8 @@ fn lay(alloc: Global, unit: u64, files: &[Vec<u8>]) -> Result<Vec<u8>, CodingErr
     Ok(row)
 }
 
-// Appends zeros up to the next multiple of `unit`, and then the bytes of a file. A file without bytes takes no room.
+// Appends zeros up to the next multiple of `unit`, and then the bytes of a file. Appends nothing if the file has no
+// bytes.
 fn append_file(row: &mut Vec<u8>, unit: u64, file: &[u8]) -> Result<(), CodingError>
     requires some { 0 < unit }
     requires fits { unit ≤ 2 ^ 62 }
@@ -144,7 +145,7 @@ fn append_file(row: &mut Vec<u8>, unit: u64, file: &[u8]) -> Result<(), CodingEr
     Ok(())
 }
 
-// Cuts bytes into `count` blocks of `size` bytes. What the bytes lack at the end is filled with zeros.
+// Cuts bytes into `count` blocks of `size` bytes. If there are too few bytes, zeros follow them.
 fn cut(alloc: Global, size: usize, count: usize, row: &[u8]) -> Result<Blocks, AllocError>
     ensures { IfOk result (λ made. contents made ≡ cut_blocks size count row.now) }
 {
@@ -158,7 +159,7 @@ fn cut(alloc: Global, size: usize, count: usize, row: &[u8]) -> Result<Blocks, A
     Ok(Blocks { alloc, blocks })
 }
 
-// Returns the bytes, and zeros after them, so that the block has `size` bytes.
+// Returns a block of `size` bytes: these bytes, and zeros after them.
 fn filled(alloc: Global, size: usize, front: &[u8]) -> Result<Vec<u8>, AllocError>
     requires { length front.now ≤ size }
     ensures { IfOk result (λ block. block.items ≡ take size (front.now ++ replicate size 0)) }

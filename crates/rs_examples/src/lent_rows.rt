@@ -6,7 +6,7 @@ ghost use Rattle.rs_examples.specs.SwappedRows.{AreSwapped, AreSwappedTwice};
 
 use reed_solomon_simd::engine::ShardsRefMut;
 
-/// Swaps rows `pos` and `pos + dist`. All other chunks stay.
+/// Swaps rows `pos` and `pos + dist`. All other chunks are unchanged.
 pub fn swap_rows(rows: &mut ShardsRefMut<'_>, pos: usize, dist: usize)
     requires fits { Fits rows.old }
     requires apart { 0 < dist }
@@ -26,7 +26,7 @@ fn swap_two<'a>(lent: (&'a mut [[u8; 64]], &'a mut [[u8; 64]]))
     x.swap_with_slice(y);
 }
 
-/// Swaps rows `pos` and `pos + dist`, and rows `pos + 2 * dist` and `pos + 3 * dist`. All other chunks stay.
+/// Swaps rows `pos` and `pos + dist`, and rows `pos + 2 * dist` and `pos + 3 * dist`. All other chunks are unchanged.
 pub fn swap_pairs(rows: &mut ShardsRefMut<'_>, pos: usize, dist: usize)
     requires fits { Fits rows.old }
     requires apart { 0 < dist }

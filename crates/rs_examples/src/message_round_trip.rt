@@ -85,6 +85,7 @@ pub fn reconstruction_of_a_message(
     Ok(back)
 }
 
+// Completes the originals that are not lost with the restored ones, and joins them to a message of `total` bytes.
 fn put_together(
     alloc: Global,
     originals: &[Vec<u8>],

@@ -50,6 +50,7 @@ pub fn round_trip_by_reconstruct(
     Ok(restored)
 }
 
+// Returns the shards that are not lost, with their indexes.
 pub(crate) fn left_shards<'a>(
     alloc: Global,
     shards: &'a [Vec<u8>],
@@ -66,7 +67,8 @@ pub(crate) fn left_shards<'a>(
         .collect(alloc)
 }
 
-// `lost` can name an index twice, or one that no original has. `reconstruct` accepts neither.
+// Returns the lost indexes below `count`, each once. `lost` can have an index twice, or one that no original has, and
+// `reconstruct` accepts neither.
 fn lost_indexes(alloc: Global, count: usize, lost: &[usize]) -> Result<Vec<usize>, AllocError>
     ensures { IfOk result (λ indexes. ListsLost count lost.now indexes.items) }
 {

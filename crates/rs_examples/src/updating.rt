@@ -49,7 +49,8 @@ pub fn encode_and_update(
 }
 
 /// Updates rooms after the original with this index has changed from `old` to `new`, as [`update_into`] does. Where a
-/// word of the original did not change, the words of the rooms at its place are as they were, whatever the rooms held.
+/// word of the original did not change, the words of the rooms at the same position are as they were, whatever the
+/// rooms held.
 ///
 /// # Errors
 ///

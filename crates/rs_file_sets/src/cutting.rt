@@ -6,7 +6,7 @@ use rs_volumes::checking::{allows_block, allows_counts};
 use rs_volumes::creating::Shape;
 use rs_volumes::description::Description;
 
-/// The largest number of blocks by default.
+/// The largest number of original blocks by default.
 const BLOCKS: u64 = 2000;
 
 /// The code supports fewer original blocks than this.
@@ -15,17 +15,17 @@ const MOST_BLOCKS: u64 = 65536;
 /// The default size of a block is a multiple of this number of bytes.
 const PAGE: u64 = 4096;
 
-/// The number of these multiples in the largest block, which has 2^40 bytes.
+/// The number of pages of [`PAGE`] bytes in the largest block, which has 2^40 bytes.
 const MOST_PAGES: u64 = 1 << 28;
 
-/// The number of recovery blocks that the user wants.
+/// The number of recovery blocks that a request asks for.
 #[derive(Clone, Copy)]
 pub enum Recovery {
     /// A percentage of the number of original blocks.
     Percent(u32),
-    /// This number of blocks.
+    /// A number of blocks.
     Count(u32),
-    /// The smallest number with which any `lose` of `volumes` volumes may be lost, if the blocks are dealt to the
+    /// As many blocks as are needed so that any `lose` of `volumes` volumes may be lost. The blocks are dealt to the
     /// volumes in turn.
     Spread {
         /// The number of volumes.
@@ -46,7 +46,8 @@ pub struct Cut {
     pub recovery_count: u32,
 }
 
-// Returns `None` if there are more than `wanted` blocks, or if the code does not support the numbers of blocks.
+// Cuts data into blocks of this size. Returns `None` if there are more than `wanted` blocks, or if the code does not
+// support the numbers of blocks.
 fn cut_into(data_bytes: u64, block_bytes: u64, wanted: u64, recovery: Recovery) -> Option<Cut> {
     if block_bytes == 0 || data_bytes.div_ceil(block_bytes) > wanted.min(MOST_BLOCKS) {
         return None;
@@ -64,8 +65,9 @@ fn cut_into(data_bytes: u64, block_bytes: u64, wanted: u64, recovery: Recovery) 
     }
 }
 
-// The block size is the smallest multiple of 4096 bytes that will do: if a size will do, each larger size will do.
-// Returns `None` if blocks of 2^40 bytes are too small.
+// Cuts data into blocks of the smallest size that `cut_into` accepts among the multiples of 4096 bytes. The search
+// halves the range in each step, because `cut_into` accepts each size that is larger than an accepted one. Returns
+// `None` if blocks of 2^40 bytes are too small.
 fn cut_small(data_bytes: u64, wanted: u64, recovery: Recovery) -> Option<Cut> {
     let mut low = 0u64;
     let mut high = MOST_PAGES;
@@ -131,6 +133,7 @@ pub fn cut_data(data_bytes: u64, block: Option<u64>, recovery: Recovery) -> Resu
     }
 }
 
+// Returns why no block size will do.
 fn too_much(data_bytes: u64, recovery: Recovery) -> Failure {
     if cut_small(data_bytes, MOST_BLOCKS, recovery).is_some() {
         return Failure::of(format_args!(
@@ -150,7 +153,8 @@ fn too_much(data_bytes: u64, recovery: Recovery) -> Failure {
     )
 }
 
-// A percentage gives at least 1 and at most 65536 blocks. A set without blocks has no recovery blocks.
+// Returns the number of recovery blocks for this number of original blocks. A percentage gives at least 1 and at most
+// 65536 recovery blocks. A set without blocks has no recovery blocks.
 fn recovery_count(blocks: u64, recovery: Recovery) -> u32
     requires { blocks < 2 ^ 32 }
 {

@@ -15,7 +15,7 @@ use std::rt::{Clock, Files};
 use std::{fs, io};
 
 /// Looks for the blocks of a set in its files, and returns the state of each entry. `paths` are the paths of the
-/// entries, and `places` are the places of the blocks in them.
+/// entries, and `places` are the places of the original blocks in the files.
 ///
 /// # Errors
 ///
@@ -48,11 +48,13 @@ pub fn scan_entries<'a, R: Files + Clock + Eprint>(
     Ok(states)
 }
 
-/// Looks what has the name of an entry, and reads no file. A file with its length may be whole.
+/// Returns the state of an entry as far as it can be known without reading a file. So a file with the right length
+/// counts as whole.
 ///
 /// # Errors
 ///
-/// Fails if the entry is missing. If something has its name, the error is not [`ErrorKind::NotFound`].
+/// Fails if the entry is missing. If something else has the name of the entry, the error is not
+/// [`ErrorKind::NotFound`].
 pub fn look<R: Files>(rt: &R, alloc: Global, entry: &Entry, path: &str) -> io::Result<State> {
     let found = match entry.kind {
         Kind::File => fs::metadata(rt, path)?,
@@ -87,10 +89,11 @@ pub fn look<R: Files>(rt: &R, alloc: Global, entry: &Entry, path: &str) -> io::R
 struct EntryScan<'a, R: Files + Clock + Eprint> {
     rt: &'a R,
     description: &'a Description,
-    // The path of each entry, and the state that is known.
+    // The path of each entry.
     paths: &'a [String],
+    // The state of each entry, as far as it is known.
     states: Vec<State>,
-    // Whether each file has bytes in a block with other files that is wrong or was not read.
+    // For each entry, whether it has bytes in a block that is wrong or was not read.
     suspects: Vec<bool>,
     // The file that was read last.
     opened: Option<Opened<R::File>>,
@@ -100,7 +103,7 @@ struct EntryScan<'a, R: Files + Clock + Eprint> {
 }
 
 impl<'a, R: Files + Clock + Eprint> EntryScan<'a, R> {
-    // No file is read.
+    // Sets the state of each entry without reading a file.
     fn look_at_all(&mut self, alloc: Global) -> Result<()> {
         let entries = self.description.entries.as_slice();
         for (index, entry) in entries.iter().enumerate() {
@@ -121,7 +124,8 @@ impl<'a, R: Files + Clock + Eprint> EntryScan<'a, R> {
         Ok(())
     }
 
-    // After an error the entry is missing, and the function prints why, unless nothing has its name.
+    // Returns the state of an entry. After an error, the entry is missing, and the function prints the reason, unless
+    // nothing has its name.
     fn known(&mut self, path: &str, outcome: io::Result<State>) -> State {
         match outcome {
             Ok(state) => state,
@@ -170,7 +174,8 @@ impl<'a, R: Files + Clock + Eprint> EntryScan<'a, R> {
         }
     }
 
-    // A file is known to be damaged only if no other file has bytes in the block.
+    // Notes that a block is wrong or was not read. `places` are its places. If only one file has bytes in the block,
+    // this file is damaged. Otherwise it is not known which of the files is damaged.
     fn doubt(&mut self, places: &[Place]) {
         if let [place] = places {
             if self.state(place.file) == State::Whole {
@@ -184,7 +189,8 @@ impl<'a, R: Files + Clock + Eprint> EntryScan<'a, R> {
         }
     }
 
-    // Bytes of the block that are in no file are zeros. Returns `None` if bytes of a file cannot be read.
+    // Returns the digest of a block, whose bytes outside of the files are zeros. Returns `None` if bytes of a file
+    // cannot be read.
     fn hash_block(&mut self, places: &[Place], size: u64) -> Option<ComputedDigest> {
         let mut hasher = ByteHasher::new();
         let mut next = 0;
@@ -203,8 +209,8 @@ impl<'a, R: Files + Clock + Eprint> EntryScan<'a, R> {
         Some(hasher.finish())
     }
 
-    // If the file is not the one that was read last, it is opened. A file that cannot be opened is missing, and the
-    // function prints why.
+    // Adds the bytes of a place to a hasher. If the file is not the one that was read last, the function opens it. A
+    // file that cannot be opened is missing, and the function prints the reason.
     fn add_place(&mut self, hasher: &mut ByteHasher, place: &Place) -> io::Result<()> {
         let is_open = match &self.opened {
             Some(opened) => opened.holder == place.file,
@@ -226,12 +232,12 @@ impl<'a, R: Files + Clock + Eprint> EntryScan<'a, R> {
                 opened.file.seek(SeekFrom::Start(place.offset))?;
                 add_bytes(hasher, &mut opened.file, place.bytes, &mut self.buffer)
             }
-            // The file cannot be opened, which was said before.
+            // The file could not be opened. The reason was printed above.
             None => Err(io::Error::from(ErrorKind::UnexpectedEof)),
         }
     }
 
-    // Prints how many blocks of the file cannot be read.
+    // Closes the open file, and prints how many of its blocks cannot be read.
     fn close(&mut self) {
         if let Some(opened) = self.opened.take() {
             let path = self.path(opened.holder);
@@ -239,8 +245,8 @@ impl<'a, R: Files + Clock + Eprint> EntryScan<'a, R> {
         }
     }
 
-    // A file may be whole although a block with its bytes is wrong, so it is read again. A file that cannot be read
-    // counts as damaged.
+    // Reads each file again that seems whole and has bytes in a wrong block, and compares it with its own digest: the
+    // wrong bytes can be those of another file. A file that cannot be read counts as damaged.
     fn check_suspects(&mut self) {
         let entries = self.description.entries.as_slice();
         for (index, entry) in entries.iter().enumerate() {

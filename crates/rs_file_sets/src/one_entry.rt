@@ -27,8 +27,8 @@ pub fn has_own_time(entry: &Entry, metadata: &Metadata, version: Version) -> boo
     seconds == entry.seconds && has_nanoseconds
 }
 
-/// Returns the state of an entry by the length and the time of a file, the target of a symbolic link, and the existence
-/// of a folder. No file is read.
+/// Returns the state of an entry without reading a file. The state depends only on the length and the time of a file,
+/// the target of a symbolic link, and the existence of a folder.
 pub fn state_by_time<R: Files>(
     rt: &R,
     alloc: Global,
@@ -48,7 +48,7 @@ pub fn state_by_time<R: Files>(
 }
 
 /// Returns whether an entry of a set of version 2 is whole. A file is read and compared with its own digest. `buffer`
-/// is memory for its bytes.
+/// is memory for the bytes of the file.
 pub fn is_whole<R: Files>(
     rt: &R,
     alloc: Global,
@@ -68,9 +68,9 @@ pub fn is_whole<R: Files>(
     }
 }
 
-/// Returns whether an entry of a set of version 2 is below a folder, under its name and with the right bytes, so that
-/// nothing has to be written. A file does not count if its name, or a folder of its name, is a symbolic link. `buffer`
-/// is memory for its bytes.
+/// Returns whether an entry of a set of version 2 exists below a folder, under its name and with the right bytes. Then
+/// a restore need not write it. A file does not count if its path, or a folder in its name, is a symbolic link.
+/// `buffer` is memory for the bytes of the file.
 ///
 /// # Errors
 ///

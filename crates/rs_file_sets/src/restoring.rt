@@ -24,16 +24,16 @@ use std::io;
 use std::io::{ErrorKind, Read, Seek, SeekFrom};
 use std::rt::{Clock, Files};
 
-/// The files that are being restored. This sink writes blocks into them.
+/// A sink that writes blocks into the files that are restored.
 #[derive(Drop)]
 struct FileSink<'a, 'b, 'c, R: Files + Eprint> {
     /// The files that are restored.
     targets: &'a mut Targets<'b, R>,
     /// Where the original blocks lie in the files.
     places: &'c [Place],
-    /// Whether the bytes of a block that are in no file must be zeros. Version 1 of the format does not say this.
+    /// Whether the bytes of a block that are in no file must be zeros. Version 1 of the format does not require this.
     is_padded: bool,
-    /// For each original block, whether such a byte that was written is not zero.
+    /// For each original block that was written, whether a byte outside of all files is not zero, although it must be.
     unpadded: Vec<bool>,
 }
 
@@ -73,8 +73,8 @@ impl<'a, 'b, 'c, R: Files + Eprint> BlockSink for FileSink<'a, 'b, 'c, R> {
     }
 }
 
-// If a wanted block is lost, all original blocks that were found are read, and the first recovery blocks that were
-// found, as many as original blocks are lost. Otherwise only the wanted blocks are read.
+// Returns the plan for requested original blocks. If all of them were found, only these are read. Otherwise, all
+// original blocks that were found are read, and as many recovery blocks as original blocks are lost.
 fn plan_for(alloc: Global, scan: &Scan, wanted: Vec<bool>) -> Result<Plan, AllocError> {
     let loses_wanted = loses(scan, &wanted);
     let count = if loses_wanted { scan.counts().lost } else { 0 };
@@ -96,6 +96,7 @@ fn plan_for(alloc: Global, scan: &Scan, wanted: Vec<bool>) -> Result<Plan, Alloc
     })
 }
 
+// Returns whether one of the requested blocks was not found.
 fn loses(scan: &Scan, wanted: &[bool]) -> bool {
     for (index, is_wanted) in wanted.iter().enumerate() {
         if *is_wanted && !scan.found.has(index) {
@@ -105,7 +106,7 @@ fn loses(scan: &Scan, wanted: &[bool]) -> bool {
     false
 }
 
-// A block must be written if one of its files has a part.
+// Returns marks of the original blocks that must be written: those with bytes of a file that has a part.
 fn wanted_blocks<R: Files>(
     alloc: Global,
     scan: &Scan,
@@ -122,8 +123,9 @@ fn wanted_blocks<R: Files>(
     Ok(wanted)
 }
 
-/// Writes the blocks of the files that have a part, and compares each block with its digest. If a block cannot be
-/// written into its file, or does not have its digest, the function gives up this file, and writes the other files.
+/// Writes the blocks of the files that have a part, and compares each block with its digest. The function gives up a
+/// file if its bytes cannot be written, if its restored bytes are wrong, or if its blocks have other bytes than zeros
+/// that are in no file. It still writes the other files.
 ///
 /// `memory` is the number of bytes that the function may use, approximately. `shown` says whether to show progress.
 ///
@@ -155,7 +157,7 @@ pub fn write_blocks<'a, R: Files + Clock + Eprint>(
 }
 
 /// Restores the lost original blocks of a scan, and writes them into a sink. At least as many recovery blocks must have
-/// been found. The parameters are those of [`write_blocks`].
+/// been found. `memory` and `shown` are those of [`write_blocks`].
 ///
 /// # Errors
 ///
@@ -184,7 +186,7 @@ pub fn restore_lost<'a, R: Files + Clock + Eprint, W: BlockSink>(
     }
 }
 
-// The progress counts the bytes of the blocks that the plan reads.
+// Returns the source of the blocks that a plan reads. The progress counts their bytes.
 fn source_of<'a, R: Files + Clock + Eprint>(
     rt: &'a R,
     alloc: Global,
@@ -198,7 +200,7 @@ fn source_of<'a, R: Files + Clock + Eprint>(
     FileBlocks::new(rt, alloc, holders, Progress::new(rt, shown, total))
 }
 
-// Returns whether all blocks have their digests.
+// Restores the blocks of a plan into a sink. Returns whether all restored blocks have their digests.
 fn restore_blocks<R: Files + Clock + Eprint, W: BlockSink>(
     alloc: Global,
     scan: &Scan,
@@ -216,12 +218,13 @@ fn restore_blocks<R: Files + Clock + Eprint, W: BlockSink>(
     source.end();
     match outcome {
         Ok(()) => Ok(true),
-        // The error names the first such block. There can be more of them.
+        // The error names only the first block without its digest.
         Err(CodingError::Digest(_)) => Ok(false),
         Err(error) => Err(failure_of(alloc, source.path_of(&error), "", error)),
     }
 }
 
+// Compares each restored file with its own digest, and gives up the files that do not have it.
 fn give_up_wrong<R: Files + Eprint>(
     rt: &R,
     alloc: Global,
@@ -258,7 +261,8 @@ fn check_bytes<R: Files>(
     Err(io::Error::new(ErrorKind::InvalidData, reason))
 }
 
-// A set of version 1 has no digests of files, so there the digests of the blocks are compared.
+// Returns whether a restored file has the right bytes. A set of version 1 has no digests of files, so for such a set
+// the digests of the blocks are compared.
 fn has_digests<F: Read + Seek>(
     handle: &mut F,
     scan: &Scan,

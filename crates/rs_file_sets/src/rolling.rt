@@ -1,4 +1,4 @@
-//! The sums of blocks, and a sum that moves over a file byte by byte.
+//! The sums of blocks, and sums of a window that moves over a file byte by byte.
 ghost use Rattle.rs_field.specs.code.Given.{nothing};
 
 use rs_folders::source::FileBlocks;
@@ -7,11 +7,11 @@ use std::alloc::{AllocError, Global};
 use std::io;
 use std::rt::{Clock, Files};
 
-/// The number of bytes of a filter of sums.
+/// The number of bytes of the filter of [`Sums`].
 const FILTER_BYTES: usize = 1 << 17;
 
-/// The sum of a window of bytes: the sum of the bytes, and the sum of the products of each byte and the number of bytes
-/// from it to the end of the window. Both are modulo 2^32.
+/// Two sums of a window of bytes, both modulo 2^32: the sum of the bytes, and the sum of each byte times the number of
+/// bytes from this byte to the end of the window.
 #[derive(Clone, Copy)]
 pub struct RollingSum {
     plain: u32,
@@ -21,7 +21,7 @@ pub struct RollingSum {
 }
 
 impl RollingSum {
-    /// Returns the sum of no bytes, for a window that will have `length` bytes.
+    /// Returns the sums of no bytes, for a window that will have `length` bytes.
     pub fn new(length: u64) -> RollingSum {
         RollingSum {
             plain: 0,
@@ -48,18 +48,18 @@ impl RollingSum {
             .wrapping_add(self.plain);
     }
 
-    /// Returns the sum as it is in a description, as a little-endian number.
+    /// Returns the two sums as the little-endian number that their 8 bytes in a description are.
     pub fn value(&self) -> u64 {
         u64::from(self.plain) | (u64::from(self.weighted) << 32)
     }
 }
 
-/// A source of blocks that also computes the sums of the original blocks, which are read piece by piece.
+/// A source of original blocks that also computes their sums. The pieces of a block must be read in order.
 #[derive(Drop)]
 pub struct SummedBlocks<'a, R: Files + Clock + Eprint> {
-    /// The source.
+    /// The source of the blocks.
     pub blocks: FileBlocks<'a, R>,
-    // The sum of each block.
+    // The sums of each block, as far as it was read.
     sums: Vec<RollingSum>,
 }
 
@@ -78,8 +78,8 @@ impl<'a, R: Files + Clock + Eprint> SummedBlocks<'a, R> {
         Ok(SummedBlocks { blocks, sums })
     }
 
-    /// Returns the sums of all blocks as they are in a description: of each block 4 bytes for the sum of its bytes, and
-    /// 4 bytes for the sum of the products of each byte and the number of bytes from it to the end of the block.
+    /// Returns the sums of all blocks as they are in a description: for each block 4 bytes for the sum of its bytes,
+    /// and 4 bytes for the sum of each byte times the number of bytes from this byte to the end of the block.
     ///
     /// # Errors
     ///
@@ -108,13 +108,13 @@ impl<'a, R: Files + Clock + Eprint> BlockSource for SummedBlocks<'a, R> {
 /// The sums of blocks that are looked for.
 #[derive(Drop)]
 pub struct Sums {
-    // The sums with the indexes of their blocks, in order.
+    // The sums and the index of each block, in order of the sums.
     sums: Vec<(u64, usize)>,
-    // A bit for each hash of a sum. A sum whose bit is not set is not one of them.
+    // A bit for each result of `bit_of`. If the bit of some sums is not set, no block has these sums.
     filter: Vec<u8>,
 }
 
-// Returns the number of the bit of a sum in the filter.
+// Returns the number of the bit of the sums of a block in the filter.
 fn bit_of(sum: u64) -> u32 {
     let plain = (sum & 0xFFFF_FFFF) as u32;
     let weighted = (sum >> 32) as u32;
@@ -122,7 +122,8 @@ fn bit_of(sum: u64) -> u32 {
 }
 
 impl Sums {
-    /// Collects the sums of blocks. `bytes` are the sums of all original blocks as they are in the description.
+    /// Returns the sums of the blocks with these indexes. `bytes` are the sums of all original blocks as they are in
+    /// the description.
     ///
     /// # Errors
     ///
@@ -146,14 +147,14 @@ impl Sums {
         Ok(Sums { sums, filter })
     }
 
-    /// Returns whether a sum is one of the sums.
+    /// Returns whether a block with these sums is looked for.
     pub fn has(&self, sum: &RollingSum) -> bool {
         let bit = bit_of(sum.value());
         let bits = self.filter.get((bit >> 3) as usize).copied().unwrap_or(0);
         (bits >> (bit & 7)) & 1 == 1 && !self.blocks_of(sum).is_empty()
     }
 
-    /// Returns the blocks with a sum.
+    /// Returns the blocks with these sums that are looked for, each as its sums and its index.
     pub fn blocks_of(&self, sum: &RollingSum) -> &[(u64, usize)] {
         let value = sum.value();
         let from = self.sums.partition_point(|(own, _)| *own < value);
@@ -161,7 +162,7 @@ impl Sums {
         self.sums.get(from..to).unwrap_or(&[])
     }
 
-    /// Takes blocks away, so that their sums are looked for no more.
+    /// Removes blocks that were found, because they need not be looked for again.
     ///
     /// # Errors
     ///
@@ -177,8 +178,8 @@ impl Sums {
         Ok(())
     }
 
-    /// Moves a window over bytes until its sum is one of the sums. `leaving` are the bytes that leave the window, and
-    /// `entering` those that enter it. Returns by how many bytes the window moved.
+    /// Moves a window over bytes until a block with its sum is looked for, or until the bytes end. `leaving` are the
+    /// bytes that leave the window, and `entering` those that enter it. Returns by how many bytes the window moved.
     pub fn roll(&self, sum: &mut RollingSum, leaving: &[u8], entering: &[u8]) -> usize {
         for (moved, (first, next)) in leaving.iter().zip(entering).enumerate() {
             if self.has(sum) {

@@ -1,4 +1,4 @@
-//! Looks for the blocks of a set, in its files and in volumes.
+//! Looks for the blocks of a set in its files and in its volumes.
 use crate::file_scan::scan_entries;
 use rs_folders::failure::{Failure, Result};
 use rs_folders::names::paths_of;
@@ -39,15 +39,15 @@ pub struct Scan {
 pub struct ScannedVolume {
     /// The path of the volume.
     pub path: String,
-    /// What is damaged in it.
+    /// What is damaged in the volume.
     pub damage: Damage,
 }
 
-/// Looks for all blocks of the set of `volumes`, in these and, if `folder` is given, in the files of the set below that
-/// folder. `shown` says whether to show progress.
+/// Looks for all blocks of the set of `volumes`: in these volumes and, if `folder` is given, in the files of the set
+/// below this folder. `shown` says whether to show progress.
 ///
-/// A block that cannot be read is not an error: it is not found. For each file and each volume with such blocks, the
-/// function prints a message. It also prints a message for each entry whose name something else has.
+/// A block that cannot be read counts as not found, and is not an error. The function prints a message for each file
+/// and each volume with such blocks, and for each entry whose name belongs to something else.
 ///
 /// # Errors
 ///
@@ -103,7 +103,7 @@ pub fn scan_opened<R: Files + Clock + Eprint>(
     })
 }
 
-// A scan reads at most this many bytes. It reads original blocks only if the files are searched.
+// Returns how many bytes a scan reads at most. It reads files only if there is a folder in which they are looked for.
 fn bytes_to_read<R: Files>(
     rt: &R,
     alloc: Global,
@@ -122,7 +122,7 @@ fn bytes_to_read<R: Files>(
     Ok(total)
 }
 
-// Appends the paths of the volumes to `paths`.
+// Looks for blocks in the volumes, and appends the paths of the volumes to `paths`.
 fn scan_volumes<R: Files + Clock + Eprint>(
     alloc: Global,
     scan: &mut VolumeScan<'_, R>,
@@ -232,7 +232,7 @@ impl Scan {
         Ok(restorable)
     }
 
-    /// Returns whether each volume can be read and is whole.
+    /// Returns whether all volumes can be read and are whole.
     pub fn has_whole_volumes(&self) -> bool {
         for volume in &self.volumes {
             if !volume.damage.is_none() {
@@ -242,8 +242,8 @@ impl Scan {
         self.unreadable.is_empty()
     }
 
-    /// Returns whether nothing of the set was found in the folder, and the volumes are those of `split`. A volume of
-    /// version 1 does not say this: then volumes with original blocks are those of `split`.
+    /// Returns whether the volumes are those of `split`, and no entry of the set was found. A volume of version 1 does
+    /// not say how it was made, so volumes of version 1 with original blocks count as those of `split`.
     pub fn is_spread(&self) -> bool {
         let description = self.description();
         if self.has_files() {

@@ -18,22 +18,24 @@ use std::io::{Read, Seek};
 use std::rt::Runtime;
 use std::{fs, io};
 
-/// A file is left after this many blocks that have the sum of a lost block, but not its digest, unless
-/// [`TRIED_TIMES`] allows more of them.
+/// The search at every byte leaves a file after it has hashed this many blocks in vain, unless [`TRIED_TIMES`] allows
+/// more of them. Such a block has the sums of a lost block, but not its digest. Without a limit, somebody could make a
+/// file whose search takes very long.
 const TRIES: u64 = 1000;
 
-/// These blocks may in any case have this many times the bytes of the file. So the search stays linear.
+/// The blocks that [`TRIES`] counts may in any case have this many times the bytes of the file.
 const TRIED_TIMES: u64 = 8;
 
-/// A search below folders with this many files, or at every byte of this many bytes, is announced.
+/// The number of files from which on a search prints a message.
 const MANY_FILES: usize = 10_000;
 
+/// The number of bytes from which on a search at every byte prints a message.
 const MANY_BYTES: u64 = 1 << 30;
 
-/// What was found elsewhere.
+/// The files and blocks that were found in other files or at other places.
 #[derive(Drop)]
 pub struct Elsewhere {
-    /// The files that were renamed or moved: for each, its index among the entries.
+    /// The indexes of the entries that were renamed or moved.
     pub files: Vec<usize>,
     /// The number of lost blocks that were found at another place.
     pub blocks: usize,
@@ -56,22 +58,27 @@ struct Search<'a, R: Runtime> {
     buffer: Vec<u8>,
     // The files below the folders that are searched, in order of their sizes.
     candidates: Vec<Candidate>,
-    // The indexes of the candidates that were hashed, by their digests. For each size, the first ones were.
+    // The indexes of the candidates that were hashed, by their digests.
     hashed: BTreeMap<[u8; 32], usize>,
-    // For a size, the index of the first candidate of this size that was not hashed.
+    // For each size, the index of the first candidate of this size that was not tried. Those before it were.
     next: BTreeMap<u64, usize>,
     // Whether a long search is announced.
     is_told: bool,
     found: Elsewhere,
 }
 
-/// Looks for the lost blocks of a set below the folders, and records in `scan` where they were found. Nothing is looked
-/// for below `to`, the folder into which files are restored, if there is one.
+/// Looks for the lost blocks of a set below the folders, and records in `scan` where they were found. `to` is the
+/// folder into which files are restored, if there is one. Files below this folder are left out.
 ///
-/// In this order, the function looks for files that have the length and the digest of a file that is not whole, for
-/// blocks with the digest of a lost block, and, if more blocks are lost than recovery blocks are left, for lost blocks
-/// at any byte of the files that are not whole files of the set. A block is believed only if it has its digest. If
-/// `is_told` is set, the function prints a message before it looks through many files.
+/// The function makes three searches, in this order:
+///
+/// - for files with the length and the digest of a file that is not whole,
+/// - for blocks of the set with the digest of a lost block,
+/// - if more blocks are lost than recovery blocks are left, for lost blocks at every byte of the files that are not
+///   whole files of the set.
+///
+/// A block counts as found only if it has its digest. If `is_told` is true, the function prints a message before a long
+/// search.
 ///
 /// # Errors
 ///
@@ -113,7 +120,7 @@ pub fn find_elsewhere<R: Runtime>(
     Ok(found)
 }
 
-// A file of the set that is not whole: its size, index and digest.
+// A file of the set that is not whole: its size, its index and its digest.
 type Sought = (u64, usize, [u8; 32]);
 
 impl<'a, R: Runtime> Search<'a, R> {
@@ -121,9 +128,9 @@ impl<'a, R: Runtime> Search<'a, R> {
         matches!(self.scan.states.get(index), Some(State::Whole))
     }
 
-    // No lost block is looked for in the whole files of the set, in the volumes, and in the folder into which files are
-    // restored. Links and empty folders of the set do not count: a file can have been moved into such a folder, or to
-    // the place to which such a link leads. The result is sorted.
+    // Returns the files and folders that are left out of the search, sorted. These are the whole files of the set, the
+    // volumes, and the folder into which files are restored. Links and empty folders of the set are not left out: a
+    // file can have been moved into such a folder, or to the place to which such a link leads.
     fn known(&self, to: &Option<String>) -> Result<Vec<Identity>, AllocError> {
         let mut known = Vec::new(self.alloc);
         if let Some(to) = to {
@@ -146,6 +153,7 @@ impl<'a, R: Runtime> Search<'a, R> {
         Ok(known)
     }
 
+    // Collects the candidates: all files below the folders that are not left out.
     fn collect(&mut self, folders: &[&str], to: &Option<String>) -> Result<()> {
         let known = self.known(to)?;
         let mut waiting = Vec::new(self.alloc);
@@ -212,8 +220,9 @@ impl<'a, R: Runtime> Search<'a, R> {
         Ok(())
     }
 
-    // Looks among the whole files of the set, and among the candidates with the same length. A file that is found
-    // becomes the source of the blocks. Returns whether one was found.
+    // Looks for each file that is not whole among the whole files of the set, and among the candidates with the same
+    // length. If a file with its bytes is found, the path of the entry is changed to that of this file. Returns whether
+    // any was found.
     fn find_files(&mut self) -> Result<bool> {
         let (whole, sought) = self.sorted_files()?;
         let mut has_found = false;
@@ -232,8 +241,9 @@ impl<'a, R: Runtime> Search<'a, R> {
         Ok(has_found)
     }
 
-    // Returns the files of the set that are whole: for each, its digest and index, in order of the digests. And those
-    // that are not, in order of the sizes.
+    // Returns two lists of files of the set: the whole ones, as digests and indexes in order of the digests, and those
+    // that are not whole, in order of their sizes. The second list has no files without bytes, and none of version 1,
+    // which has no digests of files.
     fn sorted_files(&self) -> Result<(Vec<([u8; 32], usize)>, Vec<Sought>), AllocError> {
         let (mut whole, mut sought) = (Vec::new(self.alloc), Vec::new(self.alloc));
         for (index, entry) in self.scan.description().entries.iter().enumerate() {
@@ -261,7 +271,8 @@ impl<'a, R: Runtime> Search<'a, R> {
         }
     }
 
-    // No candidate is hashed twice. `is_alone` says that no other file of this length is looked for.
+    // Returns the path of a candidate with this size and digest, and notes that the file `index` was moved. `is_alone`
+    // says that no other file of this size is looked for.
     fn file_with(
         &mut self,
         index: usize,
@@ -289,7 +300,8 @@ impl<'a, R: Runtime> Search<'a, R> {
         }
     }
 
-    // Hashes no candidate twice, and leaves out the file `own`.
+    // Hashes the candidates of this size until one has the digest. No candidate is hashed twice, and the file `own` is
+    // left out.
     fn hash_until(
         &mut self,
         size: u64,
@@ -321,7 +333,7 @@ impl<'a, R: Runtime> Search<'a, R> {
         Ok(())
     }
 
-    // Blocks that were lost can be in files that were found elsewhere.
+    // Looks for the lost blocks in the files of the set again, after files were found at other paths.
     fn check_blocks(&mut self) -> Result<()> {
         let k = self.scan.description().original_count as usize;
         let in_files = vec![in self.alloc; Some(Origin::Files); k]?;
@@ -361,7 +373,7 @@ impl<'a, R: Runtime> Search<'a, R> {
         digests.get(start..start.saturating_add(32)).unwrap_or(&[])
     }
 
-    // Returns `None` if the bytes of the block do not lie one after another in one file or volume.
+    // Returns where the bytes of a block lie, or `None` if they do not lie one after another in one file or volume.
     fn single_place(&self, block: usize) -> Option<Origin> {
         match self.scan.found.places.get(block).copied()?? {
             Origin::Files => match places_in(self.scan.places.as_slice(), block) {
@@ -377,7 +389,7 @@ impl<'a, R: Runtime> Search<'a, R> {
         }
     }
 
-    // A block with the digest of a lost block has its bytes.
+    // Looks for lost blocks whose digest another block has that was found: both blocks have the same bytes.
     fn find_equal_blocks(&mut self) -> Result<()> {
         let lost = self.scan.lost(self.alloc)?;
         if lost.is_empty() {
@@ -400,14 +412,15 @@ impl<'a, R: Runtime> Search<'a, R> {
         Ok(())
     }
 
-    // `found` is in order of the digests. The result may have another digest: `note_equal` compares the digests.
+    // Returns a block of `found` that may have the same digest as the block `block`, with its place. `found` is in
+    // order of the digests. `note_equal` compares the two digests.
     fn equal_block(&self, found: &[(usize, Origin)], block: usize) -> Option<(usize, Origin)> {
         let digest = self.digest(block);
         let at = found.partition_point(|(other, _)| self.digest(*other) < digest);
         found.get(at).copied()
     }
 
-    // Looks at each byte of the candidates, unless enough recovery blocks are left.
+    // Looks for lost blocks at every byte of the candidates, unless enough recovery blocks are left.
     fn find_anywhere(&mut self, folders: &[&str]) -> Result<()> {
         let counts = self.scan.counts();
         if counts.lost <= counts.recovery {
@@ -439,8 +452,9 @@ impl<'a, R: Runtime> Search<'a, R> {
         total
     }
 
-    // The search goes on one byte after a block: in data with many zeros, or if files are equal, other blocks can
-    // overlap with it. A block that was found is looked for no more, so a run of zeros is hashed once.
+    // Looks for lost blocks at every byte of a candidate. After a block was found, the search goes on at the next byte,
+    // and not after the block: in data with many zeros, or if files are equal, blocks can overlap. A block that was
+    // found is not looked for again, so a run of zeros is hashed once.
     fn find_in(&mut self, index: usize, sums: &mut Sums) -> Result<()> {
         let Some(candidate) = self.candidates.get(index) else {
             return Ok(());
@@ -474,7 +488,8 @@ impl<'a, R: Runtime> Search<'a, R> {
         Ok(())
     }
 
-    // Notes where the blocks are. `holder` is the index that the file gets in the list of paths.
+    // Returns the lost blocks that have the bytes of the window, and notes where they are. `holder` is the index that
+    // the file gets in the list of paths.
     fn blocks_in<F: Read + Seek + Drop>(
         &mut self,
         windows: &mut Windows<F>,
@@ -500,7 +515,7 @@ impl<'a, R: Runtime> Search<'a, R> {
     }
 }
 
-// `sought` is in order of the sizes. Returns whether no other file has the size of the one at `at`.
+// Returns whether no other file of `sought` has the size of the one at `at`. `sought` is in order of the sizes.
 fn is_alone(sought: &[Sought], at: usize) -> bool {
     let size = sought.get(at).copied().unwrap_or((0, 0, [0; 32])).0;
     for other in [at.wrapping_sub(1), at.saturating_add(1)] {
@@ -512,18 +527,20 @@ fn is_alone(sought: &[Sought], at: usize) -> bool {
     true
 }
 
-// The windows of a file that have as many bytes as a block, one at each byte.
+// A window that moves over a file byte by byte. It has as many bytes as a block.
 #[derive(Drop)]
 struct Windows<F: Drop> {
     file: F,
-    // The number of bytes of the file, and of a window.
+    // The number of bytes of the file.
     size: u64,
+    // The number of bytes of the window.
     length: u64,
-    // The first byte of the window, and its sum. `None` if the sum must be computed.
+    // The offset in bytes of the window in the file.
     at: u64,
+    // The sums of the window, if `is_summed` is true. Otherwise they must be computed.
     sum: RollingSum,
     is_summed: bool,
-    // The bytes that leave the window, and those that enter it.
+    // Memory for the bytes that leave the window, and for those that enter it.
     leaving: Vec<u8>,
     entering: Vec<u8>,
 }
@@ -542,7 +559,7 @@ impl<F: Read + Seek + Drop> Windows<F> {
         })
     }
 
-    // At the end of the file, or if it cannot be read, the window has no sum.
+    // Moves the window by one byte. At the end of the file, or if the file cannot be read, the window has no sums then.
     fn pass(&mut self) {
         if self.slide_one().is_err() {
             self.at = self.at.saturating_add(1);
@@ -563,6 +580,7 @@ impl<F: Read + Seek + Drop> Windows<F> {
         Ok(())
     }
 
+    // Computes the sums of the window.
     fn add_up(&mut self) -> io::Result<()> {
         self.sum = RollingSum::new(self.length);
         let mut start = 0u64;
@@ -582,7 +600,8 @@ impl<F: Read + Seek + Drop> Windows<F> {
         Ok(())
     }
 
-    // Returns false at the end of the file, or if the file cannot be read.
+    // Moves the window to the next place at which a block with its sums is looked for. Returns false if there is none
+    // before the end of the file, or if the file cannot be read.
     fn find(&mut self, sums: &Sums) -> bool {
         let last = match self.size.checked_sub(self.length) {
             Some(last) if self.length > 0 && self.at <= last => last,
@@ -603,7 +622,7 @@ impl<F: Read + Seek + Drop> Windows<F> {
         false
     }
 
-    // Moves the window by at most `left` bytes.
+    // Moves the window by at most `left` bytes, until a block with its sums is looked for.
     fn roll(&mut self, sums: &Sums, left: u64) -> io::Result<()> {
         let count = self.leaving.len().min(self.entering.len());
         let count = left.min(count as u64) as usize;

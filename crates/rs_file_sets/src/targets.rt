@@ -8,8 +8,8 @@ use std::io;
 use std::io::ErrorKind;
 use std::rt::Files;
 
-/// How many parts stay open. A process may open only a limited number of files, on most systems 1024. So the other
-/// parts are closed, and opened again when they are needed.
+/// The number of parts that stay open. A process may open only a limited number of files, on most systems 1024. So the
+/// other parts are closed, and opened again when they are needed.
 const MOST_OPEN: usize = 100;
 
 /// What a restore did with an entry.
@@ -17,7 +17,7 @@ const MOST_OPEN: usize = 100;
 pub enum Outcome {
     /// The entry was not to be restored.
     Left,
-    /// The entry was restored. If a damaged file had its name, this file has the path now.
+    /// The entry was restored. If a damaged file had the name of the entry, it was kept at this path.
     Restored(Option<String>),
     /// The entry could not be restored, for this reason.
     Failed(Failure),
@@ -30,16 +30,17 @@ pub struct Targets<'a, R: Files + Eprint> {
     pub parts: Vec<Option<Part<R>>>,
     /// What was done with each entry so far.
     pub outcomes: Vec<Outcome>,
-    /// The number of bytes of the files for which the disk has no room.
+    /// The number of bytes of the files that were given up because the disk is full.
     pub without_room: u64,
     rt: &'a R,
     alloc: Global,
-    // The entries of the set, and those that are to be restored.
+    // The entries of the set.
     entries: &'a [Entry],
+    // For each entry, whether it is to be restored.
     wanted: Vec<bool>,
     // The number of parts that stay open.
     open: usize,
-    // The file that was written last, by its index.
+    // The index of the file that was written last.
     last: usize,
     placing: Placing<'a, R>,
 }
@@ -72,7 +73,8 @@ impl<'a, R: Files + Eprint> Targets<'a, R> {
         })
     }
 
-    /// Begins a part for each file that is to be restored.
+    /// Begins a part for each file that is to be restored. If a part cannot be begun, the outcome of its file is a
+    /// failure.
     ///
     /// # Errors
     ///
@@ -113,7 +115,7 @@ impl<'a, R: Files + Eprint> Targets<'a, R> {
     }
 
     /// Writes bytes into the part of a file, from byte `offset` on. `file` is the index of the file in the description.
-    /// A file without a part is whole, or could not be written before. The function writes nothing then.
+    /// Nothing is written for a file without a part: it is not to be restored, or was given up.
     ///
     /// # Errors
     ///
@@ -166,7 +168,7 @@ impl<'a, R: Files + Eprint> Targets<'a, R> {
             };
             let finished = match (kind, part) {
                 (Kind::File, Some(part)) => self.placing.finish_file(part, entry),
-                // This file could not be written. The outcome says why.
+                // The file was given up before. Its outcome has the reason.
                 (Kind::File, None) => continue,
                 _ => self.placing.make_other(entry),
             };
@@ -178,7 +180,7 @@ impl<'a, R: Files + Eprint> Targets<'a, R> {
         }
     }
 
-    /// Removes all parts that are left, and the new folders in which nothing is.
+    /// Removes all parts that are left, and the new folders that are empty.
     pub fn remove(&mut self) {
         for part in self.parts.iter().flatten() {
             part.remove(self.rt);

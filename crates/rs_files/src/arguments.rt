@@ -20,9 +20,10 @@ pub fn bytes_of(text: &str) -> Option<u64> {
     }
 }
 
-/// Reads the number of recovery blocks that the user wants, as `5%` or `300`.
+/// Reads the value of `--recovery`: a percentage of the original blocks, as `5%`, or a number of blocks, as `300`.
 ///
-/// Returns `None` if the text has another form, if a percentage is above 10000, or if a number is 0, or 2^32 or larger.
+/// Returns `None` if the text has another form, if a percentage is above 10000, or if a number of blocks is 0, or 2^32
+/// or larger.
 pub fn recovery_of(text: &str) -> Option<Recovery> {
     if let Some(front) = text.strip_suffix('%') {
         return match front.parse::<u32>() {

@@ -13,11 +13,11 @@ use std::io;
 pub struct Checked<'a> {
     /// All entries of the set.
     pub entries: &'a [Entry],
-    /// Their states.
+    /// The state of each entry.
     pub states: &'a [State],
     /// For each entry, whether the request is about it.
     pub chosen: &'a [bool],
-    /// The words for the states whole, damaged and missing.
+    /// The words that are printed for the states whole, damaged and missing, in this order.
     pub words: [&'static str; 3],
 }
 
@@ -31,7 +31,8 @@ impl<'a> Checked<'a> {
         }
     }
 
-    /// Prints which entries are not whole. If none was found in `folder`, the function prints this instead.
+    /// Prints the entries of the request that are not whole. If no entry of the set was found in `folder`, the function
+    /// prints only this.
     ///
     /// # Errors
     ///
@@ -53,7 +54,7 @@ impl<'a> Checked<'a> {
         tell_more(rt, count, "")
     }
 
-    /// Returns the entries with their states as JSON.
+    /// Returns JSON for the entries of the request, with their states.
     ///
     /// # Errors
     ///

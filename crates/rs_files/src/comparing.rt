@@ -1,5 +1,5 @@
-//! Compares files with an old volume before a new one takes its place, so that no file is protected whose bytes changed
-//! by themselves.
+//! Compares files with an old volume before a new one replaces it. If the bytes of a file have changed, and the time of
+//! its last change has not, the disk has probably damaged the file. Such a file is *rotten*, and is not protected.
 use crate::log::Log;
 use crate::settings::Request;
 use rs_file_sets::one_entry::has_own_time;
@@ -23,33 +23,34 @@ use std::rt::{Files, Runtime};
 /// How an entry of an old set has changed.
 #[derive(Clone, Copy)]
 enum Change {
-    /// It has not changed.
+    /// The entry has not changed.
     None,
-    /// Its bytes have changed, but its length and the time of its last change have not. A file that was cut or got
-    /// longer is rotten, too, if its time has not changed and is not a whole second, which archives and builds give to
+    /// The bytes of the file have changed, and the time of its last change has not. If the length has changed as well,
+    /// the file is rotten only if its time is not a whole second: archives and builds give the same whole second to
     /// many files.
     Rotten,
-    /// Its bytes, its target or its kind have changed.
+    /// The bytes, the target or the kind of the entry have changed, and the entry is not rotten.
     Edited,
-    /// Nothing has its name.
+    /// Nothing has the name of the entry.
     Removed,
-    /// Another file of the old set was moved to its name, and is rotten.
+    /// Another file of the old set, which is rotten, was moved to the name of the entry.
     Replaced,
 }
 
-/// What is known from old volumes of the files as they are now.
+/// Digests of the present files and blocks that are known from old volumes, so that they need not be computed again.
 #[derive(Drop)]
 pub struct Known {
-    /// The digest of each file, if it is known. The list can be too short.
+    /// The digest of each entry of the new set, or `None` if it is not known. The digests of entries after the end of
+    /// this list are not known either.
     pub files: Vec<Option<[u8; 32]>>,
     /// The old set, if it was read.
     old: Option<Scan>,
 }
 
 impl Known {
-    /// Returns the original blocks of a new set whose digests are known: a block of the old set has the same bytes of
-    /// the same files, and has its digest. `places` are the places of the new blocks. For a file with a mark in
-    /// `linked`, nothing is known.
+    /// Returns the original blocks of a new set whose digests are known, because a block of the old set has the same
+    /// bytes of the same files. `places` are the places of the new set. If `linked` marks a file, the digests of the
+    /// blocks with its bytes are not known.
     ///
     /// # Errors
     ///
@@ -83,14 +84,14 @@ impl Known {
 /// The original blocks of a new set whose digests are known from an old set.
 #[derive(Drop)]
 pub struct KnownBlocks {
-    /// For each block, whether its digest is known. If the list is empty, no digest is known.
+    /// For each original block, whether its digest is known. If the list is empty, no digest is known.
     pub marks: Vec<bool>,
-    // The digest of each of these blocks, and 32 zeros for one whose digest is not known.
+    // The digest of each original block, or 32 zeros if it is not known.
     digests: Vec<[u8; 32]>,
 }
 
 impl KnownBlocks {
-    /// Puts the digests that are known into the list of the digests of all blocks.
+    /// Copies the digests that are known into `digests`, which has the digests of all blocks, 32 bytes each.
     pub fn take_over(&self, digests: &mut Vec<u8>) {
         let pairs = digests.chunks_exact_mut(32).zip(self.digests.as_slice());
         for ((is, was), is_known) in pairs.zip(self.marks.as_slice()) {
@@ -101,8 +102,9 @@ impl KnownBlocks {
     }
 }
 
-// The digest is known if a block of the old set has the same bytes of the same files, and was found in them. Its index
-// is another one if the data before it became longer or shorter.
+// Returns the digest of the old block that has the same bytes of the same files as a new block, and that was found in
+// these files. `places` are the places of the new block. The two blocks have different indexes if the data before them
+// became longer or shorter.
 fn old_digest(
     old: &Scan,
     new: &Description,
@@ -129,6 +131,7 @@ fn old_digest(
     }
 }
 
+// `were` are the places of an old block, and `are` those of a new one.
 fn are_same_places(
     old: &Description,
     were: &[Place],
@@ -185,7 +188,7 @@ fn is_accepted(request: &Request, name: &[u8]) -> bool {
     false
 }
 
-// Returns the number of rotten files that were not accepted.
+// Prints how the entries of an old set have changed. Returns the number of rotten files that were not accepted.
 fn tell_changes<R: Print + Eprint>(
     rt: &R,
     request: &Request,
@@ -211,8 +214,8 @@ fn tell_changes<R: Print + Eprint>(
     Ok(rotten)
 }
 
-// `origins` has for each entry the index of the old entry from which it was moved and whose bytes it does not have.
-// Returns the number of these entries that were not accepted.
+// Prints which files are new, and which moved files are rotten. `origins` is the result of `moved_rotten`. Returns the
+// number of rotten files that were not accepted.
 fn tell_new<R: Print + Eprint>(
     rt: &R,
     request: &Request,
@@ -251,8 +254,8 @@ fn index_in(set: &Description, name: &[u8]) -> Option<usize> {
     found.ok()
 }
 
-// The digest of a file is known if all blocks of the file that has its name in the old set are as they were. Version 1
-// has no digests of files.
+// Returns the digest of the file with the same name in the old set, if this file is whole and both have the same size.
+// Version 1 has no digests of files.
 fn digest_in(old: &Scan, entry: &Entry) -> Option<[u8; 32]> {
     let set = old.description();
     if set.version != Version::Second || entry.kind != Kind::File {
@@ -271,7 +274,7 @@ fn digest_in(old: &Scan, entry: &Entry) -> Option<[u8; 32]> {
 // The length of a file, and the seconds and nanoseconds of the time of its last change.
 type Stamp = (u64, u64, u32);
 
-// A file without bytes has no stamp.
+// Only files with bytes have a stamp.
 fn stamp_of(entry: &Entry) -> Option<Stamp> {
     if entry.kind == Kind::File && entry.size > 0 {
         Some((entry.size, entry.seconds, entry.nanoseconds))
@@ -285,15 +288,15 @@ fn stamp_of(entry: &Entry) -> Option<Stamp> {
 struct OldFile {
     stamp: Stamp,
     digest: [u8; 32],
-    // Its index in the old set.
+    // The index of the file in the old set.
     index: usize,
-    // Whether something still has its name, or a file with its bytes was found under another name.
+    // Whether something still has the name of the file, or a file with the same bytes was found under another name.
     is_found: bool,
 }
 
-// The result is in order of stamps and digests. Many files can have the same whole second, for example those from one
-// archive. So a file with such a time counts only if nothing has its name any more.
-// Version 1 has no digests of files and no nanoseconds, so there are none.
+// Returns the files of an old set that can have been moved or copied, in order of stamps and digests. Many files can
+// have the same whole second, for example those from one archive. So a file with such a time is in the result only if
+// nothing has its name any more. Version 1 has no digests of files and no nanoseconds, so for it the result is empty.
 fn old_files(
     alloc: Global,
     old: &Description,
@@ -318,7 +321,7 @@ fn old_files(
     Ok(files)
 }
 
-// The digests are sorted.
+// Returns the digests of all files of a set, in order.
 fn digests_of(alloc: Global, set: &Description) -> Result<Vec<[u8; 32]>, AllocError> {
     let mut digests = Vec::new(alloc);
     for entry in &set.entries {
@@ -330,9 +333,10 @@ fn digests_of(alloc: Global, set: &Description) -> Result<Vec<[u8; 32]>, AllocEr
     Ok(digests)
 }
 
-// A moved or copied file is rotten if its length and its time are those of an old file, and no file of the old set had
-// its bytes. The old file can be there again, because it was restored. Sets the digests of the files that are compared
-// in `known`. Returns for each entry the index of the old entry whose bytes it does not have.
+// Finds the moved and copied files that are rotten: files with the length and the time of an old file whose bytes no
+// file of the old set had. The old file can be there again, because it was restored. Returns for each entry of `found`
+// the index of the old file from which the entry was moved, if the entry is rotten. Writes the digests of the files
+// that the function reads into `known`.
 fn moved_rotten<R: Files>(
     rt: &R,
     alloc: Global,
@@ -369,9 +373,9 @@ fn moved_rotten<R: Files>(
     Ok(origins)
 }
 
-// Takes an old file with the same stamp that was not found. If all of these were found and the time is no whole second,
-// takes the first one of them, unless the file is one that `repair` kept: it has the name of one of them with
-// `.damaged`.
+// Returns the index of the old file from which a rotten file was moved: the first old file with the same stamp that was
+// not found. If all of them were found, returns the first one, or `None` in two cases: the time is a whole second, or
+// `repair` kept the file, which then has the name of one of them with `.damaged` after it.
 fn origin_of(old: &Description, files: &[OldFile], entry: &Entry) -> Option<usize> {
     let mut first = None;
     let mut is_left_out = entry.nanoseconds == 0;
@@ -388,8 +392,8 @@ fn origin_of(old: &Description, files: &[OldFile], entry: &Entry) -> Option<usiz
     if is_left_out { None } else { first }
 }
 
-// An entry is replaced if a rotten file was moved to its name. `origins` has for each entry that was found the old
-// entry from which it was moved.
+// Marks the entries of an old set to whose names rotten files were moved that are not accepted. `origins` is the result
+// of `moved_rotten`.
 fn mark_replaced(
     request: &Request,
     old: &Description,
@@ -410,7 +414,8 @@ fn mark_replaced(
     }
 }
 
-// `files` is in order of stamps and digests. Returns where those from one pair to another one are.
+// Returns the range of the files whose stamps and digests are from `from` to `to`. `files` is in order of stamps and
+// digests.
 fn range_of(files: &[OldFile], from: (Stamp, [u8; 32]), to: (Stamp, [u8; 32])) -> Range<usize> {
     let start = files.partition_point(|file| (file.stamp, file.digest) < from);
     let end = files.partition_point(|file| (file.stamp, file.digest) <= to);
@@ -425,6 +430,8 @@ fn with_stamp<'a>(files: &'a [OldFile], entry: &Entry) -> &'a [OldFile] {
     files.get(range).unwrap_or(&[])
 }
 
+// Returns whether an entry can be an old file that was moved or copied: its stamp is that of an old file, but not that
+// of the old entry with its name.
 fn is_moved(old: &Description, entry: &Entry, files: &[OldFile]) -> bool {
     if with_stamp(files, entry).is_empty() {
         return false;
@@ -438,6 +445,7 @@ fn is_moved(old: &Description, entry: &Entry, files: &[OldFile]) -> bool {
     }
 }
 
+// Marks the old files with the stamp of an entry and this digest as found.
 fn mark_found(files: &mut [OldFile], entry: &Entry, digest: &[u8; 32]) {
     let Some(stamp) = stamp_of(entry) else {
         return;
@@ -450,11 +458,11 @@ fn mark_found(files: &mut [OldFile], entry: &Entry, digest: &[u8; 32]) {
     }
 }
 
-/// Checks that each name after `--accept` is that of an entry.
+/// Checks that each name after `--accept` is the name of an entry.
 ///
 /// # Errors
 ///
-/// Fails for the first name that is not.
+/// Fails with the first name that no entry has.
 pub fn check_accepted(alloc: Global, request: &Request, found: &Found) -> Result<()> {
     for name in &request.accept {
         let bytes = name.as_str().as_bytes();
@@ -468,7 +476,8 @@ pub fn check_accepted(alloc: Global, request: &Request, found: &Found) -> Result
     Ok(())
 }
 
-// Returns `None` if there are no old volumes. If none can be read, the function prints why, and returns `None` too.
+// Looks for the blocks of the old set in its volumes and files. Returns `None` if no old volume exists. If the old
+// volumes cannot be used, the function prints the reason, and returns `None`, too.
 fn old_set<R: Runtime>(
     rt: &R,
     alloc: Global,
@@ -501,11 +510,11 @@ fn old_set<R: Runtime>(
 }
 
 /// Compares the files of a request with the old volumes at `outputs`, which new volumes replace, and prints what has
-/// changed. Returns `None` if the new volumes must not be made: the bytes of a file have changed while its length and
-/// its time have not, also if it was moved, and the request does not accept this. Otherwise returns what is known from
-/// the old volumes.
+/// changed. Returns `None` if the new volumes must not be made, because a file is rotten and the request does not
+/// accept this. A file that was moved can be rotten, too. Otherwise returns the digests that are known from the old
+/// volumes.
 ///
-/// If no old volume can be read, nothing is compared, and the function prints why.
+/// If the old volumes cannot be used, nothing is compared, and the function prints the reason.
 ///
 /// # Errors
 ///
@@ -522,7 +531,7 @@ pub fn may_replace<R: Runtime>(
     let Some(old) = old_set(rt, alloc, request, outputs, found)? else {
         return Ok(Some(Known { files, old: None }));
     };
-    // A file that was found by a symbolic link has no digest that is known.
+    // If the path of a file is a symbolic link, its digest counts as not known.
     for (entry, is_linked) in found.entries.iter().zip(found.linked.as_slice()) {
         files.push(if *is_linked {
             None

@@ -8,7 +8,7 @@ pub enum Takes {
     Nothing,
     /// A value with this name.
     One(&'static str),
-    /// A value with this name. The command needs the option.
+    /// A value with this name. The option must be given.
     Needed(&'static str),
     /// A value with this name. The option can be given several times.
     Many(&'static str),
@@ -26,15 +26,15 @@ pub struct Choice(
 /// A command.
 #[derive(Clone, Copy)]
 pub struct Form {
-    /// Its name.
+    /// The name of the command.
     pub name: &'static str,
-    /// The name of its paths and their help text.
+    /// The name and the help text of the paths that the command takes.
     pub paths: (&'static str, &'static str),
-    /// What it does.
+    /// What the command does, in one line.
     pub about: &'static str,
-    /// Examples, and what the exit statuses mean.
+    /// The end of the help text: what the exit statuses mean, and examples.
     pub after: &'static str,
-    /// Its options.
+    /// The options of the command.
     pub options: &'static [Choice],
 }
 

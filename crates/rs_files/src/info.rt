@@ -24,7 +24,8 @@ fn creator_of(description: &Description) -> Option<&[u8]> {
     None
 }
 
-// There can be many entries, so each of them is printed by itself.
+// There can be many entries, so the function prints each of them as soon as its JSON is made. `here` is the number of
+// blocks in the volume.
 fn tell_json<R: Print>(
     rt: &R,
     alloc: Global,
@@ -85,7 +86,7 @@ fn tell<R: Print>(rt: &R, path: &str, description: &Description, here: u64) -> i
     Ok(())
 }
 
-// The volume may be damaged, so its records are counted.
+// Returns the number of blocks in a volume. The records are counted, because a damaged volume can have lost some.
 fn blocks_in<R: Files>(rt: &R, alloc: Global, set: &Set, path: &str, form: Form) -> Result<u64> {
     if let Form::First(_, records) = form {
         return Ok(records.count);
@@ -104,8 +105,8 @@ fn blocks_in<R: Files>(rt: &R, alloc: Global, set: &Set, path: &str, form: Form)
     Ok(count)
 }
 
-/// Runs `info`: prints what each volume describes. Returns the exit status. If the program that reads this ends before,
-/// as `head` does, the function prints nothing more, and this is no error.
+/// Runs `info`: prints what each volume describes. Returns the exit status. It is no error if the program that reads
+/// the output stops reading, as `head` does: the function then prints nothing more.
 ///
 /// # Errors
 ///

@@ -7,27 +7,28 @@ use serde_json::{Map, Value, put};
 use std::alloc::{AllocError, Global};
 use std::io;
 
-/// The largest number of lines of one kind. A message says how many more there are.
+/// The largest number of lines that are printed of one kind. If there are more, a last line says how many.
 const MOST_LINES: usize = 20;
 
-/// What a command did and found so far. With `--json`, it is kept for one object, and nothing else is printed on
-/// standard output.
+/// A log of what a command did and found. With `--json`, the log collects one object, which [`Log::end`] prints, and
+/// prints nothing else on standard output. Otherwise, [`Log::note`] prints lines at once, unless `--quiet` is given.
 #[derive(Drop)]
 pub struct Log {
-    /// Whether lines are printed: neither `--quiet` nor `--json` is given.
+    /// Whether lines are printed, because neither `--quiet` nor `--json` is given.
     pub is_told: bool,
-    /// Whether the log is kept for a JSON object.
+    /// Whether the JSON object is collected, because `--json` is given.
     pub is_kept: bool,
     alloc: Global,
-    // The members of the object, and its lists.
+    // The members of the object that are no lists.
     object: Map<String, Value>,
+    // The lists of the object, each with its name.
     lists: Vec<(&'static str, Vec<Value>)>,
-    // The number of lines of each list that is printed.
+    // The names of lists, each with the number of its lines so far. This includes the lines that were left out.
     lines: Vec<(&'static str, usize)>,
 }
 
 impl Log {
-    /// Begins a log. With `--json`, the object has all these lists, which are empty so far.
+    /// Returns a new log for a request. `lists` are the names of the lists of the JSON object, which have no items yet.
     ///
     /// # Errors
     ///
@@ -51,7 +52,8 @@ impl Log {
         Ok(log)
     }
 
-    /// Appends an object to a list, with a text and perhaps another one. Each text has the name of its member.
+    /// Appends an object with one or two members to the list with the name `list`. `first` and `more` are the names and
+    /// the texts of these members. Without `--json`, the function does nothing.
     ///
     /// # Errors
     ///
@@ -90,7 +92,8 @@ impl Log {
         Ok(())
     }
 
-    /// Counts a line of a list. Returns whether it is printed: lines are printed, and it is one of the first ones.
+    /// Counts a line of a list. Returns whether the caller must print this line: lines are printed, and the line is one
+    /// of the first [`MOST_LINES`] of the list.
     ///
     /// # Errors
     ///
@@ -108,7 +111,7 @@ impl Log {
         Ok(true)
     }
 
-    /// Prints of each list how many lines were not printed, if there are some.
+    /// Prints for each list how many of its lines were left out, if there are any.
     ///
     /// # Errors
     ///
@@ -120,8 +123,9 @@ impl Log {
         Ok(())
     }
 
-    /// Appends an object with the name of an entry to a list, or prints the name after that of the list, if it is one
-    /// of the first ones.
+    /// Notes an entry in the list with the name `list`. With `--json`, the function appends an object with the name of
+    /// the entry to this list. Otherwise it prints a line with the names of the list and of the entry, if
+    /// [`Log::shows`] returns true.
     ///
     /// # Errors
     ///
@@ -144,7 +148,7 @@ impl Log {
         put(&mut self.object, self.alloc, name, value)
     }
 
-    /// Prints the object with the exit status, if `--json` is given. Returns the status.
+    /// Prints the object if `--json` is given. The object gets the exit status as a further member. Returns the status.
     ///
     /// # Errors
     ///
@@ -169,13 +173,14 @@ impl Log {
     }
 }
 
-/// Counts a line of one kind. Returns whether it is printed, because it is one of the first ones.
+/// Counts a line of one kind. Returns whether the line is one of the first [`MOST_LINES`], which are printed.
 pub fn is_shown(count: &mut usize) -> bool {
     *count = count.saturating_add(1);
     *count <= MOST_LINES
 }
 
-/// Prints how many of these lines were not printed, if there are some. `kind` is a word for them, or empty.
+/// Prints how many lines of one kind were left out, if there are any. `count` is the number of all lines of this kind,
+/// and `kind` is a word for them, or empty.
 ///
 /// # Errors
 ///

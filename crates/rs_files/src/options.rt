@@ -87,7 +87,8 @@ pub fn read_words<R: Env + Print + Eprint + AllocGlobal>(rt: &R, terminal: bool)
     }
 }
 
-/// Returns whether the words of the command line ask for JSON. They need not be right, nor UTF-8.
+/// Returns whether a word of the command line before `--` is `--json`. The command line may be wrong, and its words
+/// need not be UTF-8.
 pub fn wants_json<R: Env>(rt: &R) -> bool {
     let mut word = [0u8; 7];
     for index in 1..usize::MAX {
@@ -135,7 +136,7 @@ fn texts_of(
     Ok(copies)
 }
 
-// The options that are not read here have their defaults.
+// Returns a request in which the options that `set_values` reads have their defaults.
 fn plain_request(
     alloc: Global,
     name: &str,
@@ -175,6 +176,7 @@ fn plain_request(
     })
 }
 
+// Reads the options with numbers and `--progress`, and checks the request. The error says what is wrong.
 fn set_values(request: &mut Request, matches: &ArgMatches<'_>) -> Result<(), &'static str> {
     if let Some(text) = matches.get_str("recovery") {
         let fault =
@@ -213,7 +215,8 @@ fn set_values(request: &mut Request, matches: &ArgMatches<'_>) -> Result<(), &'s
     check(request)
 }
 
-// A variable of a shell that is not set gives an empty path.
+// Checks that the options fit each other, and that no path is empty. A shell gives an empty path if a variable is not
+// set.
 fn check(request: &Request) -> Result<(), &'static str> {
     if request.output.as_deref() == Some("") {
         return Err("--output: the path is empty");

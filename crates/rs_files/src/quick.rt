@@ -16,9 +16,9 @@ use std::alloc::Global;
 use std::io;
 use std::rt::Files;
 
-/// Compares the sizes and the times of the files of a request, the targets of its symbolic links and its empty folders
-/// with those of a set. No file is read. For each file that a run of the program has not finished, the function prints
-/// a warning. Returns the exit status.
+/// Compares the sizes and the times of files, the targets of symbolic links, and empty folders with the entries of a
+/// set, without reading any file. The result is about the entries of the request. The function prints a warning for
+/// each unfinished file. Returns the exit status.
 ///
 /// # Errors
 ///
@@ -92,7 +92,7 @@ fn tell_quick<R: Print>(rt: &R, same: Kinds, other: Kinds) -> io::Result<()> {
 
 /// Compares the files after `--only` with their own digests, and reads no other file and no block of a volume. If all
 /// these entries are whole, the function prints this, and returns the exit status. Returns `None` and prints nothing if
-/// one is not whole, or if the set has version 1, which has no digests of files.
+/// one of them is not whole, if `--only` is not given, or if the set has version 1, which has no digests of files.
 ///
 /// # Errors
 ///

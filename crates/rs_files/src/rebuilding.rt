@@ -25,7 +25,8 @@ use std::io;
 use std::io::ErrorKind;
 use std::rt::{Files, Runtime};
 
-// The index of a path is the number of its volume.
+// Returns the paths of the damaged volumes whose numbers are known. The index of a path is the number of its volume. Of
+// several damaged volumes with one number, the first one counts.
 fn damaged_paths(alloc: Global, found: &Scan) -> Result<Vec<Option<&str>>, AllocError> {
     let set = found.description();
     let deal = Deal::of(set.original_count, set.recovery_count, set.volumes);
@@ -52,10 +53,11 @@ pub fn can_rebuild(found: &Scan) -> bool {
     false
 }
 
-// The permission bits of a file with restored blocks: nobody else may read it.
+// The permission bits of the file into which lost blocks are restored: only the owner may read it.
 const LOST_MODE: u32 = 0o600;
 
-// The lost original blocks of a set, in order. They are written into a file, one after another.
+// A sink that writes the lost original blocks of a set into a file, one after another. `lost` are their indexes, in
+// order.
 #[derive(Drop)]
 struct LostBlocks<'a, R: Files> {
     rt: &'a R,
@@ -79,16 +81,16 @@ impl<'a, R: Files> BlockSink for LostBlocks<'a, R> {
     }
 }
 
-/// Writes the damaged volumes of a scan again, and keeps each damaged one as `NAME.damaged`. Original blocks that were
-/// not found are first restored into a file beside the first damaged volume, which is removed in the end. Nothing is
-/// written if too many blocks are lost, or if the volumes have version 1. Returns the exit status: `STATUS_WHOLE` if
-/// all volumes are whole now, and otherwise `STATUS_DAMAGED`.
+/// Writes the damaged volumes of a scan again, and keeps each damaged one as `NAME.damaged`. If original blocks were
+/// not found, the function first restores them into a file beside the first damaged volume, and removes this file in
+/// the end. Nothing is written if too many blocks are lost, or if the volumes have version 1. Returns the exit status:
+/// `STATUS_WHOLE` if all volumes are whole now, and otherwise `STATUS_DAMAGED`.
 ///
 /// # Errors
 ///
-/// Fails if a block cannot be read or restored, a volume cannot be written or get its name, or a block does not have
-/// its digest. Then nothing is left of the new volumes, apart from those that have their names, and the other damaged
-/// volumes have only their own names. Every step fails if memory cannot be allocated.
+/// Fails if a block cannot be read or restored, if a volume cannot be written or get its name, or if a block does not
+/// have its digest. New volumes that have their final names are then kept, and all others are removed. The damaged
+/// volumes that were not replaced have only their own names. Every step fails if memory cannot be allocated.
 pub fn rebuild<R: Runtime>(
     rt: &R,
     alloc: Global,
@@ -116,8 +118,8 @@ pub fn rebuild<R: Runtime>(
     outcome
 }
 
-// Restores the lost blocks into a file, one after another, and writes the volumes. The path of the file is added to
-// those of the scan.
+// Restores the lost blocks into a file, one after another, and writes the volumes. The function appends the path of
+// this file to the paths of the scan.
 fn rebuild_lost<R: Runtime>(
     rt: &R,
     alloc: Global,
@@ -147,7 +149,8 @@ fn rebuild_lost<R: Runtime>(
     rebuild_from(rt, alloc, request, found, origins.as_slice(), log)
 }
 
-// `origins` says where each original block is. Returns the exit status.
+// Writes the damaged volumes again, if all original blocks can be read. `origins` says where each of them is. Returns
+// the exit status.
 fn rebuild_from<R: Runtime>(
     rt: &R,
     alloc: Global,
@@ -223,7 +226,7 @@ fn begin<R: Runtime>(
     Ok(())
 }
 
-// Fails if a block does not have its digest.
+// Codes all blocks, and writes them into the volumes. Fails if a block does not have its digest.
 fn code<R: Runtime>(
     rt: &R,
     alloc: Global,

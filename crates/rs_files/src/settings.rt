@@ -1,22 +1,25 @@
 //! The request that the command line makes, and the exit statuses.
 use rs_file_sets::cutting::Recovery;
 
-/// The version of the product. Volumes say by which version they were made.
+/// The version of the program. A volume has the version of the program that made it.
 pub const VERSION: &str = "1.4.0";
 
 /// The exit status if all is well.
 pub const STATUS_WHOLE: u8 = 0;
 
-/// The exit status of `verify` if damage was found that can be repaired, or with `--quick` a file that has changed.
+/// The exit status if `verify` found damage that can be repaired, if `verify --quick` found a file that has changed or
+/// is missing, or if `repair` cannot write a damaged volume again.
 pub const STATUS_DAMAGED: u8 = 1;
 
 /// The exit status if the command line is wrong.
 pub const STATUS_USAGE: u8 = 2;
 
-/// The exit status if damage cannot be repaired, or if a rotten file must not be protected.
+/// The exit status if files cannot be restored because too many blocks are lost, or if old volumes were kept because a
+/// file is rotten.
 pub const STATUS_LOST: u8 = 3;
 
-/// The exit status after any other error, also if a file could not be protected or restored.
+/// The exit status after any other error. This includes names that could not be protected, and files that could not be
+/// restored for another reason than lost blocks.
 pub const STATUS_FAILED: u8 = 4;
 
 /// The message about a command line that does not name the volume of `create`.
@@ -58,7 +61,7 @@ pub struct Request {
     pub to: Option<String>,
     /// The folder in which the files of the set are.
     pub folder: Option<String>,
-    /// More folders in which lost files and blocks are looked for.
+    /// Further folders in which lost files and blocks are looked for.
     pub search: Vec<String>,
     /// The names of the entries that the command is about: of files, or of folders with all that is in them. An empty
     /// list means all entries.
@@ -83,7 +86,7 @@ pub struct Request {
     pub json: bool,
     /// Whether only errors are printed.
     pub quiet: bool,
-    /// Whether files that exist are overwritten.
+    /// Whether files that exist may be overwritten. `update` has no option for this, and may always replace its volume.
     pub force: bool,
     /// Whether progress is shown on standard error.
     pub progress: bool,

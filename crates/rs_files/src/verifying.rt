@@ -15,8 +15,8 @@ use std::alloc::{AllocError, Global};
 use std::io;
 use std::rt::Runtime;
 
-// All is whole if the entries are, or the volumes hold them. If the request is about all entries, all recovery blocks
-// and all volumes must be whole too.
+// Returns the exit status. It is `STATUS_WHOLE` if the entries of the request are whole, or volumes of `split` hold all
+// original blocks. If the request is about all entries, all recovery blocks and all volumes must be whole, too.
 fn status_of(alloc: Global, found: &Look) -> Result<u8, AllocError> {
     let (scan, counts) = (&found.scan, found.scan.counts());
     let are_held = counts.lost == 0 && scan.is_spread();
@@ -71,6 +71,7 @@ pub fn tell_volumes<R: Print>(rt: &R, scan: &Scan) -> io::Result<()> {
     Ok(())
 }
 
+// Prints the result for files in their folder, if they can be repaired or are whole.
 fn tell_blocks<R: Print>(rt: &R, found: &Look, counts: Counts) -> io::Result<()> {
     let scan = &found.scan;
     let whole = counts.recovery;
@@ -100,6 +101,7 @@ fn tell_blocks<R: Print>(rt: &R, found: &Look, counts: Counts) -> io::Result<()>
     }
 }
 
+// Prints the result for volumes of `split`, if enough blocks are left.
 fn tell_spread<R: Print>(rt: &R, scan: &Scan, counts: Counts) -> io::Result<()> {
     let k = scan.description().original_count;
     let (lost, left, r) = (counts.lost, counts.recovery, counts.recovery_count);
@@ -148,8 +150,8 @@ pub fn tell_lost<R: Eprint>(rt: &R, counts: Counts) -> io::Result<()> {
     )
 }
 
-/// Prints which files and volumes are damaged or missing, and what can be done, if lines are printed. If the files
-/// cannot be restored, this is an error, which is printed without `--json`.
+/// Prints which files and volumes are damaged or missing, and what can be done, unless `--quiet` or `--json` is given.
+/// If files cannot be restored, the function prints this on standard error, unless `--json` is given.
 ///
 /// # Errors
 ///
@@ -180,7 +182,7 @@ pub fn report<R: Print + Eprint>(rt: &R, found: &Look, log: &Log, status: u8) ->
     }
 }
 
-/// Adds the numbers of blocks that were found to a log.
+/// Sets the members of a log that are numbers of blocks.
 ///
 /// # Errors
 ///
@@ -192,7 +194,7 @@ pub fn add_counts(log: &mut Log, scan: &Scan) -> Result<(), AllocError> {
     log.set("whole_recovery_blocks", Value::from(counts.recovery))
 }
 
-// The volumes that can be read.
+// Returns JSON for the volumes that can be read.
 fn volumes_json(alloc: Global, scan: &Scan) -> Result<Vec<Value>, AllocError> {
     let mut volumes = Vec::new(alloc);
     for volume in &scan.volumes {
@@ -208,8 +210,8 @@ fn volumes_json(alloc: Global, scan: &Scan) -> Result<Vec<Value>, AllocError> {
     Ok(volumes)
 }
 
-/// Runs `verify`: looks for damage in the files of a set and in its volumes. Volumes of `split` hold the files, so none
-/// are looked for unless `--folder` is given, or only sizes and times are compared. Returns the exit status.
+/// Runs `verify`: looks for damage in the files of a set and in its volumes. Volumes of `split` hold the files, so with
+/// these no files are looked for unless `--folder` or `--quick` is given. Returns the exit status.
 ///
 /// # Errors
 ///

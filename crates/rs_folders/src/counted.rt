@@ -2,7 +2,7 @@
 use rs_volumes::description::Kind;
 use std::fmt;
 
-/// A number of things. It is shown with its noun, as `1 file` or `2 files`.
+/// A number of things with the noun for one of them. It is shown as `1 file` or `2 files`.
 #[derive(Clone, Copy)]
 pub struct Counted(pub u64, pub &'static str);
 
@@ -27,7 +27,7 @@ pub struct Kinds {
 }
 
 impl Kinds {
-    /// Returns the numbers for no entries.
+    /// Returns numbers that are all 0.
     pub fn none() -> Kinds {
         Kinds {
             files: 0,

@@ -5,8 +5,8 @@ use std::error::Error;
 use std::fmt;
 use std::fmt::{Display, InlineText};
 
-/// The largest number of bytes of a reason. Reasons hold numbers and texts of the program and of the system, and no
-/// paths and names, so they are all shorter.
+/// The largest number of bytes of a reason. All reasons are shorter, because they consist of numbers and of texts of
+/// the program and of the system, and have no paths or names.
 const REASON_BYTES: usize = 240;
 
 /// The reason why a command, or the restore of a file, fails. If the reason is about a file or a folder, its path is
@@ -29,7 +29,7 @@ impl Failure {
         }
     }
 
-    /// Returns a failure at a path. If memory for the path cannot be allocated, the failure has no path.
+    /// Returns a failure that is about a path. If memory for the path cannot be allocated, the failure has no path.
     pub fn at<D: Display + Drop>(alloc: Global, path: &str, reason: D) -> Failure {
         Failure {
             path: String::from_str(alloc, path).ok(),
@@ -37,7 +37,7 @@ impl Failure {
         }
     }
 
-    /// Returns the failure of the same reason at another path. If memory for the path cannot be allocated, the failure
+    /// Returns a failure with the same reason and another path. If memory for the path cannot be allocated, the failure
     /// has no path.
     pub fn moved_to(self, alloc: Global, path: &str) -> Failure {
         Failure {

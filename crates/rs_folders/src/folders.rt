@@ -1,4 +1,5 @@
-//! The folders in which files are made: they are made too, synced, and removed if nothing is in them.
+//! The folders in which a command makes files. It makes these folders, syncs them, and removes the new ones that stay
+//! empty.
 use crate::failure::{Failure, Result, warn};
 use crate::identity::exists;
 use crate::names::{folder_to_open, parent_of};
@@ -10,15 +11,15 @@ use std::{fs, io};
 
 /// The folders in which a command makes files.
 ///
-/// Until a folder is synced, a loss of power can undo the new names in it. Each folder is synced once, after all files
-/// in it have their names: a sync takes longer than everything else that a small file needs.
+/// Until a folder is synced, a loss of power can undo the new names in it. Each folder is synced only once, after all
+/// files in it have their names, because a sync takes longer than all other work for a small file.
 #[derive(Drop)]
 pub struct Folders {
-    // The folders in which something has got a new name, and which are not synced yet.
+    // The folders in which something has got a name since they were synced.
     changed: Vec<String>,
     // The folders that did not exist before.
     made: Vec<String>,
-    // The folders that cannot be synced, about which a warning was printed.
+    // The folders that could not be synced. A warning was printed for each of them.
     told: Vec<String>,
 }
 
@@ -32,13 +33,15 @@ impl Folders {
         }
     }
 
-    /// Notes that something has got its name at a path. If memory cannot be allocated, its folder is synced at once.
+    /// Notes that something has got its name at a path. If memory cannot be allocated, the function syncs its folder at
+    /// once.
     pub fn note<R: Files + Eprint>(&mut self, rt: &R, alloc: Global, path: &str) {
         if self.add(alloc, path).is_err() {
             let _ = sync_folder(rt, folder_to_open(parent_of(path)));
         }
     }
 
+    // Notes the folder of a path as changed.
     fn add(&mut self, alloc: Global, path: &str) -> Result<(), AllocError> {
         let folder = folder_to_open(parent_of(path));
         let is_last = self
@@ -51,7 +54,8 @@ impl Folders {
         Ok(())
     }
 
-    /// Makes the folder of a file, and the folders above it. A new folder has a new name too, in the folder above it.
+    /// Makes the folder of a file, and the folders above it. A new folder is itself a new name in the folder above it,
+    /// so this folder is noted, too.
     ///
     /// # Errors
     ///
@@ -71,7 +75,7 @@ impl Folders {
         }
     }
 
-    // `path` is the path of a folder. The folder above each missing one is noted as changed.
+    // Notes the folders that must be made for the folder at a path, and the folders above them as changed.
     fn add_missing<R: Files>(
         &mut self,
         rt: &R,
@@ -90,9 +94,9 @@ impl Folders {
         Ok(())
     }
 
-    /// Syncs all folders of the list, each of them once, and empties the list.
+    /// Syncs all changed folders, each of them once, and forgets that they changed.
     ///
-    /// Some file systems cannot sync a folder. Then the files in it are whole and have their names all the same, so the
+    /// Some file systems cannot sync a folder. The files in it are whole and have their names nevertheless, so the
     /// function only prints a warning, once for each folder.
     pub fn sync<R: Files + Eprint>(&mut self, rt: &R) {
         // If the list cannot be sorted, a folder can be synced twice.
@@ -115,18 +119,19 @@ impl Folders {
         self.changed.clear();
     }
 
-    /// Removes those of the folders that this list has made in which nothing is.
+    /// Removes the new folders that are empty.
     pub fn remove_empty<R: Files>(&mut self, rt: &R) {
-        // A folder comes before the folder in which it is. If the folders cannot be sorted, some can be left.
+        // Longer paths come first, so a folder is removed before the folder in which it is. If the paths cannot be
+        // sorted, some empty folders can be left.
         let _ = self.made.sort_by(|one, other| other.len().cmp(&one.len()));
         for folder in &self.made {
-            // A folder with files in it is not removed.
+            // This fails if the folder is not empty.
             let _ = fs::remove_dir(rt, folder.as_str());
         }
     }
 }
 
-// Prints a warning and returns false if the folder cannot be synced. A folder that is no longer there is left out.
+// Syncs a folder. If this fails, prints a warning and returns false. A folder that does not exist any more is no error.
 fn sync_folder<R: Files + Eprint>(rt: &R, folder: &str) -> bool {
     match sync_opened(rt, folder) {
         Err(error) if error.kind() != ErrorKind::NotFound => {

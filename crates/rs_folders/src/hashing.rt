@@ -5,14 +5,14 @@ use std::io;
 use std::io::{Read, Seek, SeekFrom};
 use std::rt::Files;
 
-/// How many bytes are read at a time.
+/// The number of bytes that are read at a time.
 pub const CHUNK: usize = 1 << 18;
 
-/// Reads `count` bytes of a file into a buffer, part by part, and adds them to a hasher.
+/// Reads the next `count` bytes of a file, and adds them to a hasher. The bytes are read into `buffer`, part by part.
 ///
 /// # Errors
 ///
-/// Any error of the system. [`std::io::ErrorKind::UnexpectedEof`] if the file ends before.
+/// Any error of the system. [`std::io::ErrorKind::UnexpectedEof`] if the file has fewer bytes.
 pub fn add_bytes<F: Read>(
     hasher: &mut ByteHasher,
     file: &mut F,

@@ -6,7 +6,7 @@ use std::os::unix::fs::MetadataExt;
 use std::rt::Files;
 use std::{fs, io};
 
-/// The device of a file and its number there, which identify it while it is open.
+/// The device of a file, and the number of the file on this device. They identify the file while it is open.
 #[derive(Clone, Copy, PartialEq, Eq, PartialOrd, Ord)]
 pub struct Identity {
     device: u64,
@@ -44,7 +44,7 @@ pub fn identity_at<R: Files>(rt: &R, path: &str) -> Option<Identity> {
         .map(|metadata| Identity::of(&metadata))
 }
 
-/// Returns the identities of the files at those of the paths at which there is a file.
+/// Returns the identities of the files at these paths. Paths without a file are left out.
 ///
 /// # Errors
 ///
@@ -71,7 +71,7 @@ pub fn is_one_of<R: Files>(rt: &R, path: &str, identities: &[Identity]) -> bool 
     identity_of(rt, path).is_some_and(|own| identities.contains(&own))
 }
 
-/// Returns the error for a file that has replaced the one that was found or made.
+/// Returns the error for a file that was found or made at a path, if another file is there now.
 pub fn replaced() -> io::Error {
     io::Error::new(ErrorKind::InvalidInput, "another file was put in its place")
 }

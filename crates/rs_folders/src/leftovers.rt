@@ -1,17 +1,16 @@
-//! Files that a run of the program has not finished.
+//! Unfinished files, which a run of the program is writing or has left.
 use crate::failure::{Result, warn};
 use crate::identity::exists;
 use crate::names::{PART, shortened};
 use std::alloc::Global;
 use std::rt::Files;
 
-/// What is said of such a file.
+/// The message about an unfinished file.
 pub const LEFT_PART: &str =
     "an rs_files that was killed left this file, or another one is writing it: if none is at work, \
      delete it. Only the parts of new volumes of split may be needed";
 
-/// Prints a warning for each file that a run of the program has not finished, and that would have got one of these
-/// paths.
+/// Prints a warning for each unfinished file that would have got one of these paths.
 ///
 /// # Errors
 ///
@@ -25,8 +24,8 @@ pub fn tell_leftovers<R: Files + Eprint>(rt: &R, alloc: Global, paths: &[String]
     Ok(())
 }
 
-// Warns about unfinished files that would have got the path `path`. A file with one of the paths `paths` is in the set,
-// so it is not one of them.
+// Prints a warning for each unfinished file that would have got the path `path`. A file at one of the paths `paths` is
+// left out, because it is a file of the set or a volume.
 fn tell_leftovers_of<R: Files + Eprint>(
     rt: &R,
     alloc: Global,

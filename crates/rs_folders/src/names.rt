@@ -6,16 +6,16 @@ use std::cmp::Ordering;
 use std::fmt;
 use std::fmt::Display;
 
-/// The largest number of bytes of a name to which the program adds an ending. Most file systems allow names of 255
-/// bytes, and some only names of 143 bytes.
+/// The largest number of bytes of a name to which the program adds an ending. Longer names are cut. Most file systems
+/// allow names of 255 bytes, and some only names of 143 bytes.
 const FRONT_BYTES: usize = 120;
 
-/// Returns the text of a name, or `None` if the name is not UTF-8. This program cannot use such a name as a path.
+/// Returns the text of a name, or `None` if the name is not UTF-8. The program cannot use such a name as a path.
 pub fn text_of(name: &[u8]) -> Option<&str> {
     std::str::from_utf8(name).ok()
 }
 
-/// Returns the order of two names in a set: that of their bytes, of which `/` counts as the smallest.
+/// Compares two names in the order of a set: the order of their bytes, where `/` counts as the smallest byte.
 pub fn order_of(one: &[u8], other: &[u8]) -> Ordering {
     if one == other {
         Ordering::Equal
@@ -45,8 +45,8 @@ impl<'a> Display for Name<'a> {
     }
 }
 
-/// A name or a path as messages show it: with control characters escaped, as `\n` or `\u{1b}`. So a name from the
-/// volume of a stranger cannot control the terminal.
+/// A name or a path as messages show it: with control characters escaped, as `\n` or `\u{1b}`. So a name in a volume
+/// from somebody else cannot control the terminal.
 #[derive(Clone, Copy)]
 pub struct Shown<'a>(pub &'a str);
 
@@ -97,12 +97,11 @@ pub fn last_of(path: &str) -> &str {
     path.rsplit_once('/').map_or(path, |(_, name)| name)
 }
 
-/// The ending of the name of a file that is being written. No other program gives a file such a name, so a file that
-/// has it was left by a run of this program that was killed, unless another run is at work.
+/// The ending of the name of an unfinished file. No other program gives a file a name of this form. So if no run of
+/// this program is at work, a killed run has left the file.
 pub const PART: &str = "rs_files.part";
 
-/// Returns whether a name is one that the program gives to a file while it is written: `NAME.rs_files.part`, or
-/// `NAME.rs_files.part2` and so on.
+/// Returns whether a name is that of an unfinished file: `NAME.rs_files.part`, or `NAME.rs_files.part2` and so on.
 pub fn is_part(name: &str) -> bool {
     match name.rsplit_once(PART) {
         Some((front, number)) => {
@@ -114,8 +113,8 @@ pub fn is_part(name: &str) -> bool {
     }
 }
 
-/// Returns a path that is short enough for an ending of up to 23 bytes. If the last part of the path has more than 120
-/// bytes, it is cut to at most 120 bytes.
+/// Returns a path to which an ending of up to 23 bytes can be added. If the last part of the path has more than 120
+/// bytes, the function cuts it to at most 120 bytes.
 pub fn shortened(path: &str) -> &str {
     let name = last_of(path);
     let cut = name
@@ -125,14 +124,15 @@ pub fn shortened(path: &str) -> &str {
     front.map_or(path, |(front, _)| front)
 }
 
-/// Returns a path without the slashes at its end. A path of slashes alone is not changed.
+/// Returns a path without the slashes at its end. A path that has only slashes is not changed.
 pub fn trimmed(path: &str) -> &str {
     let front = path.trim_end_matches('/');
     if front.is_empty() { path } else { front }
 }
 
-/// Returns the front of the path of the volume that `create` writes by default: the only FILE, without slashes at its
-/// end. Returns `None` if there are several FILEs, or if the only one ends in no name.
+/// Returns the path of the volume that `create` writes by default, without `.rsv`. This is the path of the only FILE,
+/// without slashes at its end. Returns `None` if there is no FILE or more than one, or if the path of the FILE ends in
+/// `.` or `..`, or has only slashes.
 pub fn front_of_volume(paths: &[String]) -> Option<&str> {
     let [path] = paths else {
         return None;

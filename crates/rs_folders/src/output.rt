@@ -1,4 +1,4 @@
-//! Files that appear under their final names only when they are whole.
+//! Unfinished files, which get their final names only when they are whole.
 use crate::failure::{Failure, Result};
 use crate::identity::{Identity, exists, identity_at, open_found, replaced};
 use crate::names::{order_of, path_in, shortened};
@@ -10,36 +10,36 @@ use std::os::unix::fs::{MetadataExt, OpenOptionsExt};
 use std::rt::Files;
 use std::{fs, io};
 
-/// The reason why a file cannot be written whose part exists.
+/// The reason of the failure if there is already an unfinished file for a path.
 const AT_WORK: &str =
     "another rs_files is writing this file, or was killed while it wrote it: if none is at work, \
      delete this file and run the command again";
 
-/// A file that is being written under another name: `NAME.rs_files.part`, or `NAME.rs_files.part2` and so on if that is
-/// in use. A long name is cut in these names.
+/// An unfinished file, which is called a *part*. Its name is `NAME.rs_files.part`, or `NAME.rs_files.part2` and so on.
+/// A long name is cut in these names.
 ///
 /// The file is written, synced and changed through the handle that made it. So if somebody puts another file or a
-/// symbolic link in its place, that file is not touched. Only a part that was closed is opened again by its path, and
-/// only if the same file is there.
+/// symbolic link in its place, this other file is not changed. Only a part that was closed is opened again by its path,
+/// and only if the same file is there.
 #[derive(Drop)]
 pub struct Part<R: Files> {
     /// The path of the finished file.
     pub path: String,
     /// The number of bytes of the finished file.
     pub size: u64,
-    // The path of the file while it is written.
+    // The path of the unfinished file.
     part: String,
-    // The open file. `None` if the file was closed.
+    // The open file, or `None` while it is closed.
     handle: Option<R::File>,
-    // The metadata of the file when it was closed. `None` if it stays open.
+    // The metadata of the file when `close` closed it. `None` if it stays open.
     closed: Option<Metadata>,
     // The permission bits with which the file was made.
     mode: u32,
 }
 
 /// Returns the path in `folder` of the first of the names `NAME.SUFFIX`, `NAME.SUFFIX2`, `NAME.SUFFIX3` and so on that
-/// is not in use: nothing exists at its path, and no entry or folder of the set has this name. If `name` is long, it is
-/// cut in these names, because a file system limits the length of a name.
+/// is not in use: nothing exists at its path, and no entry or folder of the set has this name. A long `name` is cut in
+/// these names, because file systems limit the length of a name.
 ///
 /// # Errors
 ///
@@ -68,7 +68,7 @@ pub fn free_path<R: Files>(
     Err(Failure::at(alloc, free.as_str(), "it exists"))
 }
 
-// An entry in a folder of this name counts as well.
+// Returns whether an entry of the set has this name, or is in a folder with this name.
 fn is_in_set(alloc: Global, set: &Description, name: &str) -> Result<bool> {
     let folder = format!(in alloc; "{name}/")?;
     let (name, folder) = (name.as_bytes(), folder.as_str().as_bytes());
@@ -82,16 +82,17 @@ fn is_in_set(alloc: Global, set: &Description, name: &str) -> Result<bool> {
     Ok(same.is_ok() || below.is_ok())
 }
 
+// Returns the first `count` bytes of the name of an entry.
 fn front_of(entry: &Entry, count: usize) -> &[u8] {
     let name = entry.name.as_slice();
     &name[..count.min(name.len())]
 }
 
-/// Returns the value of a call of the system. If the call failed, the failure has the path.
+/// Returns the value of a call of the system.
 ///
 /// # Errors
 ///
-/// Fails if the call failed.
+/// Fails if the call failed. The failure has the path.
 pub fn at_path<T>(alloc: Global, path: &str, outcome: io::Result<T>) -> Result<T> {
     match outcome {
         Ok(value) => Ok(value),
@@ -100,14 +101,14 @@ pub fn at_path<T>(alloc: Global, path: &str, outcome: io::Result<T>) -> Result<T
 }
 
 impl<R: Files> Part<R> {
-    /// Begins a file of `size` bytes at the path `part`, in a folder that exists. The file gets the permission bits of
-    /// `mode`, without those that the mask of the user takes away. No file is replaced: a file with the name of a part
-    /// can belong to another run of the program, or to the set.
+    /// Begins a part of `size` bytes at the path `part`, in a folder that exists. `path` is the path of the finished
+    /// file. The part gets the permission bits `mode`, without those that the mask of the user takes away. No file is
+    /// replaced: a file at the path `part` can belong to another run of the program, or to the set.
     ///
     /// # Errors
     ///
-    /// Fails if a file has the name of the part, if the file cannot be made, or if memory cannot be allocated. Then no
-    /// file is left.
+    /// Fails if something exists at the path `part`, if the part cannot be made, or if memory cannot be allocated. No
+    /// new file is left then.
     pub fn begin(
         rt: &R,
         alloc: Global,
@@ -143,8 +144,8 @@ impl<R: Files> Part<R> {
         }
     }
 
-    /// Removes the file, if it does not have its final name. Another file in its place is not removed. Nothing is
-    /// reported if the file cannot be removed, because the command has already failed for another reason.
+    /// Removes the part, unless it has its final name. Another file in its place is not removed. It is no error if the
+    /// part cannot be removed, because the command has already failed for another reason.
     pub fn remove(&self, rt: &R) {
         let part = self.part.as_str();
         if self.is_at(rt, part) {
@@ -152,7 +153,7 @@ impl<R: Files> Part<R> {
         }
     }
 
-    // A symbolic link to the file does not count.
+    // Returns whether the file is at a path. A symbolic link to the file does not count.
     fn is_at(&self, rt: &R, path: &str) -> bool {
         let Ok(found) = fs::symlink_metadata(rt, path) else {
             return false;
@@ -167,7 +168,7 @@ impl<R: Files> Part<R> {
         }
     }
 
-    /// Closes the file. The next write opens it again.
+    /// Closes the file. From now on, [`Part::open`] opens it and [`Part::close_again`] closes it.
     ///
     /// # Errors
     ///
@@ -180,7 +181,7 @@ impl<R: Files> Part<R> {
         Ok(())
     }
 
-    /// Closes the file, unless it stays open.
+    /// Closes the file again, if [`Part::close`] has closed it before. Otherwise it stays open.
     pub fn close_again(&mut self) {
         if self.closed.is_some() {
             self.handle = None;
@@ -191,7 +192,7 @@ impl<R: Files> Part<R> {
     ///
     /// # Errors
     ///
-    /// Any error of the system. [`ErrorKind::InvalidInput`] if another file is in its place.
+    /// Any error of the system. [`ErrorKind::InvalidInput`] if another file is in the place of the file.
     pub fn open(&mut self, rt: &R) -> io::Result<&mut R::File> {
         if self.handle.is_none() {
             let part = self.part.as_str();
@@ -227,15 +228,15 @@ impl<R: Files> Part<R> {
         at_path(alloc, self.path.as_str(), synced)
     }
 
-    /// Renames the file to its final name. A file with this name is replaced, so the caller checks first whether it may
-    /// be. The new name can be lost after a loss of power, until its folder is synced.
+    /// Renames the file to its final name. A file with this name is replaced, so the caller must check first whether
+    /// this is allowed. Until the folder is synced, a loss of power can undo the new name.
     ///
     /// # Errors
     ///
     /// In this order, fails if:
     ///
-    /// - another file has replaced this one,
-    /// - the file cannot be renamed,
+    /// - another file is in the place of the part,
+    /// - the part cannot be renamed,
     /// - another file has the final name afterwards.
     pub fn rename(&self, rt: &R, alloc: Global) -> Result<()> {
         let (part, path) = (self.part.as_str(), self.path.as_str());
@@ -251,7 +252,8 @@ impl<R: Files> Part<R> {
     }
 }
 
-// `mode` are the permission bits with which the part was made, and `closed` is its metadata when it was closed.
+// Opens a part that was closed. `mode` are the permission bits with which it was made, and `closed` is its metadata
+// when it was closed.
 fn open_again<R: Files>(
     rt: &R,
     part: &str,
@@ -270,11 +272,12 @@ fn open_again<R: Files>(
     }
 }
 
-// `mode` are the permission bits with which the part was made, and `closed` is its metadata when it was closed.
+// Returns whether `found` is the metadata of a part that was closed. `mode` are the permission bits with which the part
+// was made, and `closed` is its metadata when it was closed.
 //
 // A file system that does not keep permission bits, such as FAT, can also give a file another number after it was
-// closed. There the number is not compared. Everybody who may write into a folder there may also write into each file
-// of it, so nobody gains anything if another file has taken the place of the part.
+// closed. On such a file system, the number is not compared. There, everybody who may write into a folder may also
+// write into each file in it, so nobody gains anything by putting another file in the place of the part.
 fn is_same(found: &Metadata, closed: &Metadata, mode: u32) -> bool {
     let keeps_bits = closed.mode() & 0o777 == mode;
     (Identity::of(found) == Identity::of(closed) || !keeps_bits)

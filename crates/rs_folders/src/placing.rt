@@ -13,11 +13,11 @@ use std::rt::Files;
 use std::time::{Duration, UNIX_EPOCH};
 use std::{fs, io};
 
-/// The permission bits that a restored file gets. The other bits would let a program run as its owner or its group, and
-/// the owner is another one after a restore.
+/// The permission bits that a restored file can get. The other bits would let a program run as the owner or the group
+/// of the file, and these can be others after a restore.
 const RESTORED_BITS: u32 = 0o777;
 
-/// The permission bits of a file while it is written: nobody else may read it.
+/// The permission bits of a file while it is restored: only its owner may read it and write to it.
 const PART_MODE: u32 = 0o600;
 
 /// Where restored entries are written.
@@ -25,30 +25,31 @@ const PART_MODE: u32 = 0o600;
 pub struct Goal<'a> {
     /// The folder below which the entries are written.
     pub folder: &'a str,
-    /// Whether the entries were searched in this folder. Then a damaged file is kept as `NAME.damaged`.
+    /// Whether the files of the set were looked for in this folder. Then a damaged file is kept as `NAME.damaged`.
     pub in_place: bool,
-    /// Whether files that exist are overwritten, if the entries were not searched in this folder.
+    /// Whether files that exist are overwritten. This has no effect if `in_place` is true.
     pub force: bool,
     /// The description of the set.
     pub set: &'a Description,
 }
 
-// An entry that is restored, with its path.
+// An entry that is restored, with its name and its path.
 #[derive(Drop)]
 struct Target<'a> {
     entry: &'a Entry,
     name: &'a str,
-    // Its path below the folder of the goal.
+    // The path of the entry, below the folder of the goal.
     path: String,
 }
 
-/// A restore of entries.
+/// A restore of entries below a folder.
 #[derive(Drop)]
 pub struct Placing<'a, R: Files + Eprint> {
     rt: &'a R,
     alloc: Global,
     goal: Goal<'a>,
-    // The files and volumes that are read. No restored file may replace one of them.
+    // The files and volumes that are read. No restored file may replace one of them. The list is empty if no file at
+    // all may be replaced.
     inputs: Vec<Identity>,
     // The folders in which entries are restored.
     folders: Folders,
@@ -86,16 +87,16 @@ impl<'a, R: Files + Eprint> Placing<'a, R> {
         Part::begin(self.rt, self.alloc, path, part, entry.size, PART_MODE)
     }
 
-    /// Gives a restored file its permission bits, its time and its final name, and removes it if this fails. Returns
-    /// the path of the damaged file that was kept.
+    /// Gives a restored file its permission bits, its time and its final name. Returns the path of the damaged file
+    /// that was kept, if there was one.
     ///
     /// If the bits or the time cannot be set, the function only prints a warning: the contents of the file are right,
-    /// and some file systems let nobody set these.
+    /// and some file systems let nobody set them.
     ///
     /// # Errors
     ///
     /// Fails if the file cannot be opened again, synced or renamed, if it may not be written any more, or if the
-    /// damaged file cannot be kept.
+    /// damaged file cannot be kept. The function then removes the restored file.
     pub fn finish_file(&mut self, mut part: Part<R>, entry: &Entry) -> Result<Option<String>> {
         let outcome = self.name_file(&mut part, entry);
         if outcome.is_err() {
@@ -104,8 +105,8 @@ impl<'a, R: Files + Eprint> Placing<'a, R> {
         outcome
     }
 
-    /// Makes a folder or a symbolic link, with its permission bits and its time. Returns the path of the damaged file
-    /// that was kept.
+    /// Makes an empty folder with its permission bits and its time, or a symbolic link. Returns the path of the damaged
+    /// file that was kept, if there was one.
     ///
     /// # Errors
     ///
@@ -127,12 +128,12 @@ impl<'a, R: Files + Eprint> Placing<'a, R> {
         self.folders.sync(self.rt);
     }
 
-    /// Removes the new folders in which nothing is.
+    /// Removes the new folders that are empty.
     pub fn remove_empty(&mut self) {
         self.folders.remove_empty(self.rt);
     }
 
-    // Fails if the name of the entry is not UTF-8.
+    // Returns an entry with its path. Fails if its name is not UTF-8.
     fn target<'b>(&self, entry: &'b Entry) -> Result<Target<'b>> {
         let Some(name) = text_of(entry.name.as_slice()) else {
             let shown = format!(in self.alloc; "{}", Name(entry.name.as_slice()))?;
@@ -151,7 +152,8 @@ impl<'a, R: Files + Eprint> Placing<'a, R> {
         free_path(self.rt, self.alloc, folder, target.name, ending, Some(set))
     }
 
-    // An entry is not written through a symbolic link, and replaces only what may be replaced.
+    // Checks that an entry may be written: no folder of its name is a symbolic link, and what has its path may be
+    // replaced.
     fn check(&self, target: &Target<'_>) -> Result<()> {
         let path = target.path.as_str();
         if leads_away(self.rt, self.alloc, self.goal.folder, target.name)? {
@@ -171,7 +173,7 @@ impl<'a, R: Files + Eprint> Placing<'a, R> {
         }
     }
 
-    // Returns the path of the damaged file that was kept.
+    // Sets the attributes of a part, and gives it its final name. Returns the path of the damaged file that was kept.
     fn name_file(&mut self, part: &mut Part<R>, entry: &Entry) -> Result<Option<String>> {
         let outcome = match part.open(self.rt) {
             Ok(handle) => Ok(attributes_set(handle, entry)),
@@ -186,7 +188,8 @@ impl<'a, R: Files + Eprint> Placing<'a, R> {
         self.settle(&target, named, kept)
     }
 
-    // The link has another name first. Returns the path of the damaged file that was kept.
+    // Makes a symbolic link under the name of a part, and then renames it. Returns the path of the damaged file that
+    // was kept.
     fn make_link(&mut self, target: &Target<'_>) -> Result<Option<String>> {
         let (rt, path) = (self.rt, target.path.as_str());
         let Some(text) = text_of(target.entry.target.as_slice()) else {
@@ -210,7 +213,7 @@ impl<'a, R: Files + Eprint> Placing<'a, R> {
         outcome
     }
 
-    // Returns the path of the damaged file that was kept.
+    // Makes an empty folder, and sets its attributes. Returns the path of the damaged file that was kept.
     fn make_folder(&mut self, target: &Target<'_>) -> Result<Option<String>> {
         let (rt, path) = (self.rt, target.path.as_str());
         let kept = self.make_room(target)?;
@@ -222,7 +225,8 @@ impl<'a, R: Files + Eprint> Placing<'a, R> {
         Ok(kept)
     }
 
-    // Checks the path again, because something may have changed. Returns the path of the damaged file that was kept.
+    // Checks the path again, because something may have changed, and keeps a damaged file with this path. Returns the
+    // path at which it was kept.
     fn make_room(&self, target: &Target<'_>) -> Result<Option<String>> {
         self.check(target)?;
         if self.goal.in_place {
@@ -242,12 +246,12 @@ impl<'a, R: Files + Eprint> Placing<'a, R> {
         settle(self.rt, self.alloc, path, named, kept, &mut self.folders)
     }
 
-    // The second name is `NAME.damaged` or `NAME.damaged2` and so on. A folder that has the name of a folder is not
-    // damaged.
+    // Gives a damaged file the second name `NAME.damaged`, or `NAME.damaged2` and so on, and returns its path. Returns
+    // `None` if nothing has the path of the entry, or if the entry is a folder and a folder is there.
     //
-    // The file keeps its own name too, until the restored file takes it. So the program can be killed at any moment,
-    // and the next run finds the file. A file system without hard links gets the file renamed. A folder cannot take the
-    // name of a file, so then the file is renamed as well.
+    // The file keeps its own name, too, until the restored file takes this name. So the next run finds the file, even
+    // if this run is killed at any moment. On a file system without hard links, the file is renamed. It is also renamed
+    // if the entry is a folder, because a folder cannot take the name of a file.
     fn keep_damaged(&self, target: &Target<'_>) -> Result<Option<String>> {
         let (rt, path) = (self.rt, target.path.as_str());
         let is_folder = target.entry.kind == Kind::Folder;
@@ -265,7 +269,8 @@ impl<'a, R: Files + Eprint> Placing<'a, R> {
     }
 }
 
-// `is_folder` and `is_input` are about what exists, and `kind` is about the restored entry.
+// Returns why an entry of this kind may not replace what exists at its path, or `None` if it may. `is_folder` says
+// whether a folder exists there, and `is_input` says whether a file exists there that is read.
 fn obstacle(goal: Goal<'_>, kind: Kind, is_folder: bool, is_input: bool) -> Option<&'static str> {
     match kind {
         Kind::Folder if is_folder => return None,
@@ -293,7 +298,7 @@ fn obstacle(goal: Goal<'_>, kind: Kind, is_folder: bool, is_input: bool) -> Opti
     }
 }
 
-/// Returns whether a folder of a name is a symbolic link. The name is relative to `folder`, which may itself be a
+/// Returns whether a folder in a name is a symbolic link. The name is relative to `folder`, which may itself be a
 /// symbolic link.
 ///
 /// # Errors
@@ -314,7 +319,7 @@ fn is_link<R: Files>(rt: &R, path: &str) -> bool {
     fs::symlink_metadata(rt, path).is_ok_and(|found| found.is_symlink())
 }
 
-// What became of the permission bits and of the time of an entry.
+// The results of setting the permission bits and the time of an entry.
 type Attributes = (io::Result<()>, io::Result<()>);
 
 fn attributes_set<F: OpenFile>(handle: &F, entry: &Entry) -> Attributes {
@@ -322,7 +327,7 @@ fn attributes_set<F: OpenFile>(handle: &F, entry: &Entry) -> Attributes {
     (mode, set_time(handle, entry))
 }
 
-// A time before 1970 is not set.
+// Sets the time of an entry, unless it is before 1970.
 fn set_time<F: OpenFile>(handle: &F, entry: &Entry) -> io::Result<()> {
     let seconds = i64::from_le_bytes(entry.seconds.to_le_bytes());
     if let Ok(seconds) = u64::try_from(seconds) {
@@ -348,7 +353,8 @@ fn warn_unset<R: Eprint>(rt: &R, path: &str, attributes: Attributes) {
     }
 }
 
-// `own` is the identity that the link had when it was made.
+// Renames a symbolic link. `own` is the identity that the link had when it was made. Fails if something else is at one
+// of the paths.
 fn rename_link<R: Files>(rt: &R, part: &str, path: &str, own: Option<Identity>) -> io::Result<()> {
     if own.is_none() || identity_at(rt, part) != own {
         return Err(replaced());
@@ -361,7 +367,8 @@ fn rename_link<R: Files>(rt: &R, part: &str, path: &str, own: Option<Identity>) 
     }
 }
 
-// `found` is what was at the path before. Fails if something else is there now.
+// Sets the attributes of a folder. `found` is the metadata of what was at the path before. Fails if something else is
+// there now.
 fn folder_set<R: Files>(
     rt: &R,
     path: &str,
@@ -374,12 +381,13 @@ fn folder_set<R: Files>(
     Ok(attributes_set(&handle, entry))
 }
 
-/// Notes that the folder of a restored entry that has got its name must be synced, and returns the path of the damaged
-/// file that was kept. If the entry could not get its name, the damaged file has only its own name again.
+/// Ends a restore of one file. `named` is the result of giving the file its final name `path`, and `kept` is the path
+/// of the damaged file that had this name. If the file got its name, the function notes in `folders` that its folder
+/// must be synced, and returns `kept`.
 ///
 /// # Errors
 ///
-/// Fails if the entry could not get its name.
+/// Fails if the file did not get its name. The damaged file then gets back its own name, and loses the other one.
 pub fn settle<R: Files + Eprint>(
     rt: &R,
     alloc: Global,
@@ -401,12 +409,12 @@ pub fn settle<R: Files + Eprint>(
     }
 }
 
-// A symbolic link to a folder does not count.
+// Returns whether a folder is at a path. A symbolic link to a folder does not count.
 fn is_real_folder<R: Files>(rt: &R, path: &str) -> bool {
     fs::symlink_metadata(rt, path).is_ok_and(|found| found.is_dir())
 }
 
-/// Gives a file a second name, or another name if it cannot have two.
+/// Gives the file at a path the second name `name`. If the file cannot have two names, it is renamed.
 ///
 /// # Errors
 ///
@@ -418,8 +426,8 @@ pub fn link_or_rename<R: Files>(rt: &R, path: &str, name: &str) -> io::Result<()
     fs::rename(rt, path, name)
 }
 
-// After this, the damaged file has only its own name. Prints the name `kept` if another file has that name by now, or
-// if this fails.
+// Gives a damaged file back its own name `path`, and removes its other name `kept`. If this fails, or if another file
+// has the name `path` by now, prints where the damaged file is.
 fn take_back<R: Files + Eprint>(rt: &R, path: &str, kept: &str) {
     let undone = match identity_at(rt, path) {
         Some(own) if identity_at(rt, kept) == Some(own) => fs::remove_file(rt, kept).is_ok(),

@@ -13,7 +13,7 @@ pub struct Progress {
 }
 
 impl Progress {
-    /// Begins to count up to `total` bytes. Nothing is printed if `shown` is false.
+    /// Returns a progress of 0 of `total` bytes. If `shown` is false, nothing is printed.
     pub fn new<R: Clock>(rt: &R, shown: bool, total: u64) -> Progress {
         let start = if shown { Instant::now(rt).ok() } else { None };
         Progress {
@@ -25,7 +25,7 @@ impl Progress {
         }
     }
 
-    /// Takes bytes away from the total, because they will not be read.
+    /// Subtracts bytes from the total, because they will not be read.
     pub fn skip(&mut self, bytes: u64) {
         self.total = self.total.saturating_sub(bytes);
     }
@@ -57,7 +57,7 @@ impl Progress {
         let _ = eprint!(rt; "\r{percent}%, {rate} MB/s, {left} s left   ");
     }
 
-    /// Ends the line on standard error, if one was printed.
+    /// Prints a line end on standard error, if the percentage was printed.
     pub fn end<R: Eprint>(&self, rt: &R) {
         if self.shown && self.percent > 0 {
             let _ = eprintln!(rt; "");

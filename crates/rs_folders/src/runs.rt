@@ -1,7 +1,7 @@
 //! Which bytes of a block lie in which file.
 use rs_volumes::placement::Place;
 
-/// Bytes of a piece of a block that lie in a file.
+/// A run of bytes of a piece of a block that lie in one file.
 #[derive(Clone, Copy)]
 pub struct Run {
     /// The index of the file in the description.
@@ -10,11 +10,11 @@ pub struct Run {
     pub offset: u64,
     /// The index of the first byte of the run in the piece.
     pub from: usize,
-    /// The index in the piece after the last byte of the run.
+    /// The index after the last byte of the run in the piece.
     pub to: usize,
 }
 
-/// Returns the places of the block with this index. `places` are all places of a set, in order of the data.
+/// Returns the places of the block with the index `block`. `places` are all places of a set, in order of the data.
 pub fn places_in(places: &[Place], block: usize) -> &[Place] {
     let from = places.partition_point(|place| place.block < block);
     let to = places.partition_point(|place| place.block <= block);
@@ -30,8 +30,8 @@ pub fn places_of_piece(places: &[Place], start: u64, length: usize) -> &[Place] 
     places.get(from..to).unwrap_or(&[])
 }
 
-/// Returns the bytes of a place that are in a piece of its block. The piece begins at byte `start` of the block and has
-/// `length` bytes. Returns `None` if there are none.
+/// Returns the bytes of a place that are in a piece of its block, or `None` if there are none. The piece begins at byte
+/// `start` of the block and has `length` bytes.
 pub fn run_of(place: &Place, start: u64, length: usize) -> Option<Run> {
     let end = start.saturating_add(length as u64);
     let from = place.at.max(start);
@@ -62,7 +62,7 @@ pub fn is_padded(places: &[Place], start: u64, piece: &[u8]) -> bool {
     are_zeros(piece.get(next..))
 }
 
-// Returns true if there are no bytes.
+// Returns whether all of these bytes are zeros. This is true if there are no bytes.
 fn are_zeros(bytes: Option<&[u8]>) -> bool {
     bytes.is_none_or(|bytes| bytes.iter().all(|byte| *byte == 0))
 }

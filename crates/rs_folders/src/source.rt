@@ -16,13 +16,13 @@ use std::rt::{Clock, Files};
 /// Where a block was found.
 #[derive(Clone, Copy)]
 pub enum Origin {
-    /// In the files of the set, at its places there.
+    /// In the files of the set, at the places of the block.
     Files,
-    /// In a volume.
+    /// In a volume or in another file, in which all bytes of the block follow one another.
     Volume {
-        /// The volume, by its index in a list of paths.
+        /// The index of the volume or file in a list of paths.
         holder: usize,
-        /// The offset in bytes of the block in the volume.
+        /// The offset in bytes of the block in the volume or file.
         offset: u64,
     },
 }
@@ -30,9 +30,10 @@ pub enum Origin {
 /// The files and volumes from which blocks are read.
 #[derive(Clone, Copy)]
 pub struct Holders<'a> {
-    /// The paths of the entries of the set, and then of the volumes.
+    /// The paths of the entries of the set, then those of the volumes, and then those of other files.
     pub paths: &'a [String],
-    /// For each path, whether a symbolic link there is followed. After the end of this list, links are followed.
+    /// For each path, whether a symbolic link there is followed. If the list is too short, the links at the other paths
+    /// are followed.
     pub follows: &'a [bool],
     /// Where the original blocks lie in the files, in order of the data.
     pub places: &'a [Place],
@@ -45,7 +46,7 @@ impl<'a> Holders<'a> {
     ///
     /// # Errors
     ///
-    /// Fails for a reason of [`open_regular`]. [`ErrorKind::NotFound`] if there is no such path.
+    /// Fails for a reason of [`open_regular`]. [`ErrorKind::NotFound`] if the list has no path with this index.
     pub fn open<R: Files>(&self, rt: &R, holder: usize) -> io::Result<R::File> {
         let follows = self.follows.get(holder).copied().unwrap_or(true);
         match self.paths.get(holder) {
@@ -54,7 +55,8 @@ impl<'a> Holders<'a> {
         }
     }
 
-    /// Returns the index of the path that holds a block, or the first one of a block that lies in several files.
+    /// Returns the index of the path of the file with a block. If the block lies in several files, returns the first
+    /// one.
     fn holder_of(&self, block: usize) -> Option<usize> {
         match self.origins.get(block).copied()?? {
             Origin::Volume { holder, .. } => Some(holder),
@@ -72,7 +74,7 @@ pub struct Opened<F: Drop> {
     pub file: F,
 }
 
-/// The blocks in files and volumes. This source reads them.
+/// A source that reads blocks from files and volumes.
 #[derive(Drop)]
 pub struct FileBlocks<'a, R: Files + Clock + Eprint> {
     rt: &'a R,
@@ -86,7 +88,7 @@ pub struct FileBlocks<'a, R: Files + Clock + Eprint> {
 }
 
 impl<'a, R: Files + Clock + Eprint> FileBlocks<'a, R> {
-    /// Makes a source of blocks. The source counts every byte that it reads in `progress`.
+    /// Returns a source of blocks. The source counts every byte that it reads in `progress`.
     pub fn new(
         rt: &'a R,
         alloc: Global,
@@ -120,7 +122,7 @@ impl<'a, R: Files + Clock + Eprint> FileBlocks<'a, R> {
         }
     }
 
-    // Bytes that no file holds stay as they are.
+    // Reads a piece of a block. Bytes of `piece` that are in no file stay as they are.
     fn read(&mut self, index: usize, start: u64, piece: &mut [u8]) -> io::Result<()> {
         match self.holders.origins.get(index).copied() {
             Some(Some(Origin::Files)) => self.read_files(index, start, piece),
@@ -143,7 +145,7 @@ impl<'a, R: Files + Clock + Eprint> FileBlocks<'a, R> {
         Ok(())
     }
 
-    // `holder` is the index of the file in the list of paths.
+    // Fills a piece from the file with the index `holder` in the list of paths. Notes the file if this fails.
     fn fill(&mut self, holder: usize, offset: u64, piece: &mut [u8]) -> io::Result<()> {
         let outcome = self.read_from(holder, offset, piece);
         if outcome.is_err() {
@@ -180,7 +182,7 @@ impl<'a, R: Files + Clock + Eprint> BlockSource for FileBlocks<'a, R> {
 ///
 /// # Errors
 ///
-/// Any error of the system. [`ErrorKind::UnexpectedEof`] if the file ends before.
+/// Any error of the system. [`ErrorKind::UnexpectedEof`] if the file has fewer bytes.
 pub fn read_at<F: Read + Seek>(file: &mut F, offset: u64, bytes: &mut [u8]) -> io::Result<()> {
     file.seek(SeekFrom::Start(offset))?;
     file.read_exact(bytes)

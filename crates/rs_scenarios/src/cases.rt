@@ -1,6 +1,6 @@
 //! The cases of a data file, as values.
 
-/// A value, after the word that names it in data files.
+/// A value with its name in data files. The name comes first.
 pub type Named<T> = (&'static str, T);
 
 /// The form in which a call takes and returns shards.
@@ -37,7 +37,7 @@ pub enum LevelName {
     Default,
 }
 
-/// All levels, in the order in which a case is run by them.
+/// All levels, in the order in which they run a case.
 pub static LEVELS: [Named<LevelName>; 12] = [
     ("call", LevelName::OneCall(Form::Iterators)),
     ("slices", LevelName::OneCall(Form::Slices)),
@@ -126,18 +126,18 @@ pub enum Rule {
     Counted,
     /// The bytes come from the generator ChaCha8, whose 32 seed bytes all have this value.
     Drawn(u8),
-    /// The originals are the words from this word on. Each word has its low byte first.
+    /// Each original has two bytes: original j is the word with this number plus j, with its low byte first.
     Points(usize),
 }
 
-/// An action: calls that are made with a level of use.
+/// An action: calls that a level of use makes.
 #[derive(Drop)]
 pub enum Action {
     /// Makes the object for a configuration.
     Start(Object, Configuration),
     /// Resets the object to a configuration.
     Reset(Object, Configuration),
-    /// Takes both objects apart. The next object that is made gets their memory.
+    /// Takes both objects apart. The next encoder and the next decoder that are made get their memory.
     TakeApart,
     /// Passes an empty work to the next object that is made.
     EmptyWorks,
@@ -148,7 +148,7 @@ pub enum Action {
     /// Gets an object in the way in which the case is run, does the round twice, and then gives the first shards once
     /// more.
     Rounds(Object, Configuration, Vec<Given>),
-    /// Forgets the results of all following actions of the case, and does not drop them.
+    /// From now on, the case forgets the results of its calls (`mem::forget`) instead of dropping them.
     Forget,
     /// Makes a message by a rule, and encodes it.
     Make(Configuration, Rule),
@@ -161,7 +161,7 @@ pub enum Action {
     Configure(Configuration),
 }
 
-/// The numbers of originals and of recovery shards that a call has not taken from its iterators.
+/// The number of originals and the number of recovery shards that a call did not take from its iterators.
 pub type Left = (usize, usize);
 
 /// The expected result of an action.

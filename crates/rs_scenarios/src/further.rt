@@ -1,4 +1,4 @@
-//! Calls of the further functions of one call, around an encode or a decode over slices.
+//! Calls of `update_into`, `split`, `reconstruct`, `complete` and `join`, around an encode or a decode over slices.
 use crate::lending::missing;
 use crate::rooms::lend;
 use crate::watch::Watch;
@@ -10,8 +10,8 @@ use reed_solomon_simd::{
 use std::alloc::Global;
 use std::collections::BTreeMap;
 
-/// Encodes the message in which the original in the middle is zero, and updates the recovery shards with `update_into`.
-/// Only the update is watched.
+/// Encodes the message in which the original in the middle consists of zeros, and updates the recovery shards with
+/// `update_into`. Returns the recovery shards of these originals. Only the update is watched.
 ///
 /// # Errors
 ///

@@ -23,8 +23,8 @@ pub enum Returned {
 ///
 /// # Errors
 ///
-/// The text of the error of the library, if a call fails. The action `configure` fails with this text if all of its
-/// calls fail with one error. Otherwise a text that says which call did something else than the action requires.
+/// Fails with the error of the library if a call fails. The action `configure` fails with this error if all its calls
+/// fail with the same error. Also fails if a call did something else than the action requires. The text then says what.
 pub fn act<C: Level>(level: &mut C, kept: &mut Kept, action: &Action) -> Result<Returned> {
     match action {
         Action::Start(object, configuration) => {
@@ -76,7 +76,7 @@ fn give_all<C: Level>(level: &mut C, kept: &Kept, given: &[Given]) -> Result<()>
     Ok(())
 }
 
-// Gives the shards of a word to the level. The indexes of a word are indexes of originals of the message, or of
+// Gives the shards of a word to the level. If the word has a range of indexes, it names originals of the message, or
 // recovery shards of the last result.
 fn give<C: Level>(level: &mut C, kept: &Kept, role: &Role, shards: &Shards) -> Result<()> {
     if matches!(shards, Shards::End) {
@@ -169,8 +169,8 @@ fn check_counts<C: Level>(
     Ok(())
 }
 
-// Checks that every call that takes a configuration fails with the same error, and fails with this error. The calls do
-// not change the objects.
+// Checks that every call that takes a configuration fails with the same error. Then fails with this error itself. The
+// calls do not change the objects.
 fn configure<C: Level>(level: &mut C, configuration: Configuration) -> Result<()> {
     let answers = [
         level.obtain(Object::Encoder, configuration, Some(&mut Works::NONE)),

@@ -46,7 +46,7 @@ pub struct Kept {
 }
 
 impl Kept {
-    /// Makes an empty value for a case that is run in the given way.
+    /// Returns an empty value for a case that is run in this way.
     pub fn new(alloc: Global, way: &'static Named<Way>) -> Kept {
         Kept {
             alloc,

@@ -1,9 +1,9 @@
-//! The shards that calls over slices are given, and the indexes of the shards that are not among them.
+//! The shards that calls over slices take, and the indexes of the shards that are missing among them.
 use crate::cases::Shard;
 use std::alloc::{AllocError, Global};
 use std::collections::BTreeSet;
 
-/// The most shards of a message. No counts of more shards are supported.
+/// The largest number of shards of a message. No counts of more shards are supported.
 pub const MOST_SHARDS: usize = 65536;
 
 /// Returns the shards without the places at which an iterator ends.

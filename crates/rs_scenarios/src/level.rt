@@ -30,13 +30,13 @@ pub trait Level {
     /// The error of the library, or [`Error::OutOfMemory`] if a copy of the shard cannot be allocated.
     fn give(&mut self, role: &Role, shard: Option<&Shard>) -> Answer;
 
-    /// Encodes the originals that were given, and keeps the recovery shards. Or restores the missing originals, and
-    /// keeps them.
+    /// With an encoder, encodes the originals that were given, and keeps the recovery shards. With a decoder, restores
+    /// the missing originals, and keeps them.
     ///
     /// # Errors
     ///
-    /// The error of the library. Then the text of what is wrong: if memory for the results cannot be allocated, or if
-    /// the call did something else than its documentation says.
+    /// The error of the library. Also fails if memory for the results cannot be allocated, or if the call did something
+    /// else than its documentation says. The text then says what.
     fn run(&mut self, object: Object, kept: &mut Kept) -> anyhow::Result<()>;
 
     /// Takes both objects apart, and makes new objects for one original and one recovery shard. A level whose objects

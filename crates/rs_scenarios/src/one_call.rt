@@ -30,7 +30,7 @@ pub struct OneCall<'t> {
 }
 
 impl<'t> OneCall<'t> {
-    /// Makes a level that has not received a shard.
+    /// Returns a level to which no shard was given.
     pub fn new(alloc: Global, engine: DefaultEngine<'t>) -> OneCall<'t> {
         OneCall {
             alloc,

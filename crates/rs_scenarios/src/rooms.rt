@@ -1,4 +1,4 @@
-//! The one-call functions that write into rooms, which are memory of the caller.
+//! Calls of the one-call functions that write into rooms, which are output buffers of the caller.
 use crate::lending::{MOST_SHARDS, missing};
 use crate::watch::Watch;
 use anyhow::{Error, Result, ensure};
@@ -7,10 +7,10 @@ use reed_solomon_simd::{ShardIndex, decode_into, encode_into, reconstruct_into};
 use std::alloc::{AllocError, Global};
 use std::collections::BTreeMap;
 
-// The byte that every room holds before a call.
+// The value of each byte of a room before a call.
 const BEFORE: u8 = 9;
 
-// Makes rooms of the size of a shard, or of two bytes if there is no shard.
+// Returns `count` rooms of the size of this shard, or of two bytes if there is no shard.
 fn rooms_of(alloc: Global, count: usize, shard: Option<&[u8]>) -> Result<Vec<Vec<u8>>, AllocError> {
     let size = shard.map_or(2, |shard| shard.len());
     let mut rooms = Vec::new(alloc);
@@ -20,7 +20,7 @@ fn rooms_of(alloc: Global, count: usize, shard: Option<&[u8]>) -> Result<Vec<Vec
     Ok(rooms)
 }
 
-/// Lends rooms.
+/// Returns references to rooms, as the calls take them.
 ///
 /// # Errors
 ///
@@ -33,7 +33,7 @@ pub fn lend(alloc: Global, rooms: &mut [Vec<u8>]) -> Result<Vec<&mut [u8]>, Allo
     Ok(lent)
 }
 
-// Returns the error of a call. Fails with another text if the call has failed and changed the rooms.
+// Returns the result of a call. If the call failed and changed its rooms, the error says this instead.
 fn outcome<E: Into<Error> + Drop>(answer: Result<(), E>, rooms: &[Vec<u8>]) -> Result<()> {
     let mut bytes = rooms.iter().flatten();
     ensure!(
@@ -43,11 +43,12 @@ fn outcome<E: Into<Error> + Drop>(answer: Result<(), E>, rooms: &[Vec<u8>]) -> R
     answer.map_err(|error| error.into())
 }
 
-/// Encodes originals with `encode_into`, and returns the rooms.
+/// Encodes originals with `encode_into`. Returns the rooms, which hold the recovery shards.
 ///
 /// # Errors
 ///
-/// If the call fails, or if the rooms cannot be allocated.
+/// Fails if the call fails, or if the rooms cannot be allocated. If the call changes its rooms and fails, the error
+/// says this.
 pub fn encode(
     alloc: Global,
     (k, r): (usize, usize),
@@ -64,12 +65,13 @@ pub fn encode(
     Ok(rooms)
 }
 
-/// Decodes received shards with `decode_into`, or with `reconstruct_into` if the missing originals are to be named.
-/// Returns the rooms by the indexes of the missing originals.
+/// Decodes received shards with `decode_into`, or, if `is_named` is true, with `reconstruct_into` and the names of the
+/// missing originals. Returns the rooms, which hold the missing originals, by the indexes of these originals.
 ///
 /// # Errors
 ///
-/// If the call fails, or if the rooms cannot be allocated.
+/// Fails if the call fails, or if the rooms cannot be allocated. If the call changes its rooms and fails, the error
+/// says this.
 pub fn decode(
     alloc: Global,
     (k, r): (usize, usize),

@@ -2,8 +2,8 @@
 //! from other allocations.
 //!
 //! A watch begins and ends with an allocation of a size that no other allocation has. The library that `.ci/memory`
-//! loads before the program knows both sizes, and lets the allocations between them fail and lists them. If that
-//! library is not loaded, the two allocations have no effect.
+//! loads before the program knows both sizes. It lists the allocations between them, and can let each of them fail. If
+//! this library is not loaded, the two allocations have no effect.
 use std::alloc::Global;
 
 // The number of bytes of the allocation with which a watch begins.

@@ -1,22 +1,23 @@
-//! The words of a line, read as configurations, counts and shards.
+//! Reads the words of a line: configurations, counts and shards.
 use crate::cases::{Configuration, Given, Role, Shards};
 use anyhow::{Context, Result};
 use std::alloc::Global;
 
-/// Reads a configuration: two counts and a size in bytes.
+/// Reads a configuration: the number of originals, the number of recovery shards, and the size of a shard in bytes.
 ///
 /// # Errors
 ///
-/// If a word is not a number.
+/// Fails if a word is not a number.
 pub fn configuration(originals: &str, recoveries: &str, size: &str) -> Result<Configuration> {
     Ok((originals.parse()?, recoveries.parse()?, size.parse()?))
 }
 
-/// Reads pairs of counts K+R, as configurations for shards of 64 bytes.
+/// Reads pairs of counts, each of which is written K+R. The results are configurations. A pair has no size, so they get
+/// the size 64.
 ///
 /// # Errors
 ///
-/// If a word has no `+`, if a count is not a number, or if memory cannot be allocated.
+/// Fails if a word has no `+`, if a count is not a number, or if memory cannot be allocated.
 pub fn pairs(alloc: Global, words: &[&str]) -> Result<Vec<Configuration>> {
     let mut pairs = Vec::new(alloc);
     for word in words {
@@ -26,13 +27,13 @@ pub fn pairs(alloc: Global, words: &[&str]) -> Result<Vec<Configuration>> {
     Ok(pairs)
 }
 
-/// Reads the shards or the end of an iterator that each word names. A shard without an index has the number of its
-/// word, from 0, as its index.
+/// Reads words, each of which names shards, or a place at which an iterator ends. A shard that is written without an
+/// index gets the position of its word, counted from 0, as its index.
 ///
 /// # Errors
 ///
-/// If the bytes of a shard are not hexadecimal digits, if an index or a number of repetitions is not a number, or if
-/// memory cannot be allocated.
+/// Fails if the bytes of a shard are not hexadecimal digits, if an index or a number of repetitions is not a number, or
+/// if memory cannot be allocated.
 pub fn given(alloc: Global, words: &[&str]) -> Result<Vec<Given>> {
     let mut given = Vec::new(alloc);
     for (place, word) in words.iter().enumerate() {
@@ -41,8 +42,9 @@ pub fn given(alloc: Global, words: &[&str]) -> Result<Vec<Given>> {
     Ok(given)
 }
 
-// Reads one word. A word that begins with `o` gives originals to the decoder, a word that begins with `r` gives
-// recovery shards to the decoder, and every other word gives originals to the encoder, or has no role.
+// Reads one word, whose position is `place`. The first letter of the word is the role of the shards: `o` for originals
+// of the decoder, and `r` for recovery shards of the decoder. A word without such a letter names originals of the
+// encoder, or shards of an expected result.
 fn given_by(alloc: Global, word: &str, place: usize) -> Result<Given> {
     let (role, rest) = match word.split_at_checked(1) {
         Some(("o", rest)) => (Role::Original, rest),
@@ -52,7 +54,8 @@ fn given_by(alloc: Global, word: &str, place: usize) -> Result<Given> {
     Ok((role, shards(alloc, rest, place)?))
 }
 
-// Reads the shards of a word: `end`, `@A..B`, `I=SHARD` or `SHARD`. A shard without an index gets the index `place`.
+// Reads a word without the letter of its role: `end`, `@A..B` for the shards with the indexes from A up to, but not
+// including, B, `I=SHARD` for one shard with the index I, or `SHARD` for one shard with the index `place`.
 fn shards(alloc: Global, word: &str, place: usize) -> Result<Shards> {
     if word == "end" {
         return Ok(Shards::End);
@@ -68,8 +71,8 @@ fn shards(alloc: Global, word: &str, place: usize) -> Result<Shards> {
     Ok(Shards::Written((index, bytes_of(alloc, text)?)))
 }
 
-// Reads the bytes of a shard, whose pieces have `+` between them. A piece is HEX, or HEX*N for N times the bytes of
-// HEX.
+// Reads the bytes of a shard. They are written as pieces with `+` between them. A piece is HEX, or HEX*N for the bytes
+// of HEX repeated N times.
 fn bytes_of(alloc: Global, text: &str) -> Result<Vec<u8>> {
     let mut bytes = Vec::new(alloc);
     for piece in text.split('+') {

@@ -10,20 +10,22 @@ use std::collections::BTreeMap;
 /// The largest description that is written or read, in bytes.
 pub const LARGEST_DESCRIPTION: u64 = 1 << 30;
 
-/// About how many bytes a part takes in memory beside its own bytes.
+/// The number of bytes that a part takes in memory in addition to its own bytes, approximately.
 const PART_MEMORY: u64 = 200;
 
-/// How much memory descriptions may take in any case, in bytes. The program needs as much for everything else.
+/// The number of bytes of memory that descriptions may always take. The program needs about as much for everything
+/// else.
 const LEAST_MEMORY: u64 = 32 << 20;
 
-// Reads 4 bytes. Returns 0 if there are too few.
+// Returns the number in the 4 bytes from `offset` on, or 0 if there are fewer bytes.
 fn number_at(bytes: &[u8], offset: usize) -> u64 {
     let number = bytes.get(offset..).unwrap_or(&[]).first_chunk::<4>();
     number.map_or(0, |number| u64::from(u32::from_le_bytes(*number)))
 }
 
-// The result is an estimate in bytes, and `total` is the number of bytes of the description. In both versions, the
-// numbers of blocks and of entries are at the same places. An entry has at least 22 bytes, and a block at least 32.
+// Returns about how many bytes of memory a description of `total` bytes takes. `bytes` are its first bytes, which have
+// the numbers of blocks and of entries at the same places in both versions. Each entry has at least 22 bytes, and each
+// digest of a block has 32 bytes, so larger numbers are not believed.
 fn memory_for(total: u64, bytes: &[u8]) -> u64 {
     let blocks = number_at(bytes, 16)
         .saturating_add(number_at(bytes, 20))
@@ -35,11 +37,12 @@ fn memory_for(total: u64, bytes: &[u8]) -> u64 {
         .saturating_add(entries.saturating_mul(400))
 }
 
-/// Checks that `memory` bytes are enough for a description of `total` bytes that begins with these bytes.
+/// Checks that `memory` bytes of memory are enough for a description of `total` bytes that begins with `bytes`. 32 MiB
+/// are always allowed.
 ///
 /// # Errors
 ///
-/// Fails if they are not. Then the message says how much memory would do.
+/// Fails if the memory is not enough. The message says how much memory would do.
 pub fn check_memory(total: u64, bytes: &[u8], memory: u64) -> Result<()> {
     let needed = memory_for(total, bytes);
     if needed <= memory.max(LEAST_MEMORY) {
@@ -71,8 +74,8 @@ pub struct Part<'a> {
     pub bytes: &'a [u8],
 }
 
-/// Reads the part with this index from the body of its record. Returns `None` if the part does not have its own digest
-/// or has a wrong length.
+/// Reads a part from the body of its record, which has the index `index`. Returns `None` if the digest of the part is
+/// wrong, or if its length is not the one that follows from the index and the number of bytes of the description.
 pub fn read_part(index: u32, body: &[u8]) -> Option<Part<'_>> {
     let (digest, rest) = body.split_at_checked(32)?;
     if digest_of(rest).as_slice() != digest {
@@ -98,12 +101,13 @@ struct Parts {
 }
 
 impl Parts {
-    // Also counts the parts that are not found yet.
+    // Returns the number of parts of the whole description.
     fn count(&self) -> u64 {
         self.total.div_ceil(PART_BYTES)
     }
 
-    // Drops each part after its bytes are copied.
+    // Returns the bytes of all parts, one after another. Each part is dropped after its bytes were copied, to save
+    // memory.
     fn joined(&mut self, alloc: Global) -> Result<Vec<u8>, AllocError> {
         let mut bytes = Vec::new(alloc);
         for index in 0..u32::MAX {
@@ -116,7 +120,8 @@ impl Parts {
     }
 }
 
-/// Parts of the descriptions of several sets. Together they take at most about 1 GiB. Further parts are left out.
+/// Parts of the descriptions of several sets. Together they take at most about 1 GiB of memory. Further parts are left
+/// out.
 #[derive(Drop)]
 pub struct Assembly {
     alloc: Global,
@@ -174,7 +179,7 @@ impl Assembly {
         self.complete(set, &mut parts)
     }
 
-    // Returns `None` if the description does not have its digest.
+    // Returns the set whose parts are all there, or `None` if the description does not have its digest.
     fn complete(&self, set: &[u8; 32], parts: &mut Parts) -> Result<Option<Set>> {
         let bytes = parts.joined(self.alloc)?;
         if digest_of(bytes.as_slice()) != *set {

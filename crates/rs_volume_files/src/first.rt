@@ -16,10 +16,10 @@ pub const RECORD_OPENING_BYTES: u64 = 8;
 /// The number of bytes of a head.
 const HEAD: u64 = HEAD_BYTES as u64;
 
-/// How many bytes at most are hashed to put two damaged copies of a description together.
+/// The largest number of bytes that are hashed to put two damaged copies of a description together.
 const MOST_HASHED: u64 = 1 << 28;
 
-/// In how many runs of bytes the two copies of a description may differ at most, to be put together.
+/// Two copies of a description are put together only if they differ in at most this many runs of bytes.
 const MOST_RUNS: usize = 12;
 
 /// The records of a volume of version 1.
@@ -27,9 +27,9 @@ const MOST_RUNS: usize = 12;
 pub struct Records {
     /// The offset in bytes of the first record.
     pub at: u64,
-    /// The number of records. The heads do not determine it, because they have no digest: it is the number of records
-    /// that fit between the two copies of the description if a head confirms it, and otherwise the number of those that
-    /// fit into the volume after the first copy.
+    /// The number of records that are read. A head has no digest, so its number of records can be wrong. If a head has
+    /// the number of records that fit exactly between the two copies of the description, it is this number. Otherwise,
+    /// it is the number of records that fit into the volume after the first copy.
     pub count: u64,
     /// Whether both heads and both copies of the description are right, and the records fill the bytes between them.
     pub is_whole: bool,
@@ -54,12 +54,13 @@ struct Source<'a, F> {
     memory: u64,
 }
 
-/// Reads a volume that begins with a head and its description. `memory` is the number of bytes of memory that the
-/// description may take.
+/// Reads a volume by its first head and the first copy of its description. `size` is the number of bytes of the file,
+/// and `memory` the number of bytes of memory that the description may take.
 ///
 /// # Errors
 ///
-/// Fails if there is no head or no sound description, or if the file cannot be read.
+/// Fails if the head or the description breaks a rule, if the description does not have its digest or needs more
+/// memory, or if the file cannot be read.
 pub fn open_front<F: Read + Seek>(
     file: &mut F,
     size: u64,
@@ -80,12 +81,17 @@ pub fn open_front<F: Read + Seek>(
     source.volume(bytes.as_slice())
 }
 
-/// Reads a volume whose first head or first description is damaged: by one of its heads and the two copies of its
-/// description, or without a head.
+/// Reads a volume whose first head or whose first copy of the description is damaged. The function tries, in this
+/// order:
+///
+/// - the first head and the last one, each with the last copy of the description, or with both copies put together,
+/// - the two copies without a head, if they are equal.
+///
+/// `size` and `memory` are those of [`open_front`].
 ///
 /// # Errors
 ///
-/// Fails if the description is found in none of these ways, or if the file cannot be read.
+/// Fails if no way gives a description, or if the file cannot be read.
 pub fn open_damaged<F: Read + Seek>(
     file: &mut F,
     size: u64,
@@ -130,7 +136,8 @@ impl<'a, F: Read + Seek> Source<'a, F> {
         }
     }
 
-    // The first copy follows its head, and the last copy is before its head.
+    // Reads the copy of the description that belongs to the head at the offset `head`. The first copy follows its head,
+    // and the last copy is before its head.
     fn copy(&mut self, total: u64, head: u64) -> Result<Vec<u8>> {
         let offset = if head == 0 {
             HEAD
@@ -192,7 +199,8 @@ impl<'a, F: Read + Seek> Source<'a, F> {
         copy.is_ok_and(|bytes| digest_of(bytes.as_slice()) == set.digest)
     }
 
-    // If the last copy is damaged, both copies are put together.
+    // Reads the volume by the head at this offset. If the last copy of the description is damaged, both copies are put
+    // together.
     fn with_head(&mut self, offset: u64) -> Result<FirstVolume> {
         let head = self.head(offset)?;
         let mut first = self.copy(head.description_bytes, 0)?;
@@ -206,8 +214,8 @@ impl<'a, F: Read + Seek> Source<'a, F> {
         }
     }
 
-    // The description itself says how long it is. It is believed if its two copies are equal, and a block of the volume
-    // has its digest.
+    // Reads the volume without its heads. The description itself says how long it is. It is believed if its two copies
+    // are equal and a block of the volume has its digest.
     fn without_head(&mut self) -> Result<FirstVolume> {
         let room = self.size.saturating_sub(HEAD).min(LARGEST_DESCRIPTION);
         let mut count = room.min(1 << 16);
@@ -232,7 +240,7 @@ impl<'a, F: Read + Seek> Source<'a, F> {
         Err(Failure::of("it has neither a record nor a description that can be read"))
     }
 
-    // Fails if no block of the volume has its digest.
+    // Returns the volume, or fails if no block in it has the digest that the description says.
     fn believed(&mut self, volume: FirstVolume) -> Result<FirstVolume> {
         let mut buffer = vec![in self.alloc; 0u8; CHUNK]?;
         let block_bytes = volume.set.description.block_bytes;
@@ -259,7 +267,7 @@ pub fn record_at(records: &Records, block_bytes: u64, number: u64) -> u64 {
 ///
 /// # Errors
 ///
-/// Any error of the system.
+/// Any error of the system. [`io::ErrorKind::UnexpectedEof`] if the file ends before the block does.
 pub fn block_in<F: Read + Seek>(
     file: &mut F,
     at: u64,
@@ -283,13 +291,13 @@ fn begins_description(bytes: &[u8]) -> bool {
     bytes.starts_with(&[1, 0, 0, 0, 1, 0, 0, 0])
 }
 
-// Reads 4 bytes.
+// Returns the number in the 4 bytes from `index` on, or `None` if there are fewer bytes.
 fn number_at(bytes: &[u8], index: usize) -> Option<u64> {
     let bytes = bytes.get(index..)?.first_chunk::<4>()?;
     Some(u64::from(u32::from_le_bytes(*bytes)))
 }
 
-// Returns the length of the whole description, or `None` if the bytes end before its last file.
+// Returns the number of bytes of the whole description, or `None` if the bytes end before the last file in it.
 fn length_of(bytes: &[u8]) -> Option<u64> {
     let blocks = number_at(bytes, 16)?.saturating_add(number_at(bytes, 20)?);
     let mut at = 28usize;
@@ -302,8 +310,8 @@ fn length_of(bytes: &[u8]) -> Option<u64> {
     Some((at as u64).saturating_add(blocks.saturating_mul(32)))
 }
 
-// Returns the first byte of each run, and the byte after its last one. Runs with at most 16 equal bytes between them
-// count as one.
+// Returns the runs of bytes in which two copies differ, each as the index of its first byte and the index after its
+// last byte. Runs with at most 16 equal bytes between them count as one run.
 fn differing(alloc: Global, first: &[u8], last: &[u8]) -> Result<Vec<(usize, usize)>> {
     let mut runs: Vec<(usize, usize)> = Vec::new(alloc);
     for (index, (one, other)) in first.iter().zip(last).enumerate() {
@@ -324,7 +332,8 @@ fn differing(alloc: Global, first: &[u8], last: &[u8]) -> Result<Vec<(usize, usi
     Ok(runs)
 }
 
-// Exchanges the runs of bytes in which the copies differ, until `first` has the digest. Returns whether it has it.
+// Exchanges runs of bytes in which the copies differ, until `first` has the digest. Returns whether it has the digest
+// in the end. Copies that differ in too many runs are only compared with the digest as they are.
 fn combine(
     alloc: Global,
     first: &mut Vec<u8>,
@@ -342,7 +351,7 @@ fn combine(
         if digest_of(first.as_slice()) == *digest {
             return Ok(true);
         }
-        // In this order of turns, all choices of runs come, and one run is exchanged in each turn.
+        // Each turn exchanges one run, as in a Gray code. So after all turns, each choice of runs was tried once.
         if let Some((start, end)) = runs.get(turn.trailing_zeros() as usize).copied() {
             exchange(first, last, start, end);
         }

@@ -1,5 +1,5 @@
-//! Where the records of a volume of version 2 lie, as this program writes it. No reader needs this to find a record,
-//! but `verify` knows from it how many records a whole volume has.
+//! Where the records lie in a volume of version 2 that this program writes. A reader does not need this to find
+//! records, but `verify` uses it to know how many records a whole volume has.
 use rs_volumes::record::RECORD_HEAD_BYTES;
 use std::alloc::{AllocError, Global};
 
@@ -10,7 +10,7 @@ pub const LINE_BYTES: usize = 128;
 const LINE: &[u8] =
     b"Reed-Solomon volume of rs_files, format 2. FORMAT.md of rs_files describes it.";
 
-/// How many bytes of the description a part holds, except for the last part.
+/// The number of bytes of the description in each part but the last one, which can have fewer.
 pub const PART_BYTES: u64 = 4096;
 
 /// The number of bytes in the body of a part before the bytes of the description: 32 for a digest, and 8 for the number
@@ -29,31 +29,32 @@ pub fn first_line(alloc: Global) -> Result<Vec<u8>, AllocError> {
     Ok(line)
 }
 
-/// Returns whether a file that begins with these bytes begins as a volume of version 2 does.
+/// Returns whether these bytes begin with the text of the first line of a volume of version 2.
 pub fn begins_volume(bytes: &[u8]) -> bool {
     bytes.starts_with(LINE)
 }
 
-/// Returns the number of bytes of the description that the part with this index holds. `total` is the number of bytes
-/// of the description. There is no part if this number is 0.
+/// Returns the number of bytes of the description in the part with this index. `total` is the number of bytes of the
+/// whole description. If the result is 0, there is no part with this index.
 pub fn part_bytes(index: u32, total: u64) -> u64 {
     let start = u64::from(index) * PART_BYTES;
     total.saturating_sub(start).min(PART_BYTES)
 }
 
-/// How blocks are dealt to volumes. The blocks from the index `first` on are dealt to the volumes in turn.
+/// How blocks are dealt to volumes: the blocks from the index `first` on, in turn.
 #[derive(Clone, Copy)]
 pub struct Deal {
-    /// The index of the first block.
+    /// The index of the first block that is dealt.
     pub first: u64,
-    /// The number of blocks.
+    /// The number of blocks that are dealt.
     pub blocks: u64,
     /// The number of volumes.
     pub volumes: u64,
 }
 
 impl Deal {
-    /// Returns how the blocks of a set are dealt. One volume gets the recovery blocks. Several volumes get all blocks.
+    /// Returns how the blocks of a set are dealt. A single volume gets the recovery blocks, and several volumes get all
+    /// blocks.
     pub fn of(original_count: u32, recovery_count: u32, volumes: u32) -> Deal {
         let (originals, recovery) = (u64::from(original_count), u64::from(recovery_count));
         let (first, blocks) = if volumes <= 1 {
@@ -75,8 +76,8 @@ impl Deal {
         (self.blocks / volumes).saturating_add(more)
     }
 
-    /// Returns the number of the volume of a block, and the number of the record there. Returns `None` if no volume has
-    /// this block.
+    /// Returns the number of the volume to which a block is dealt, and the number of its record among the block records
+    /// of this volume. Returns `None` if no volume gets this block.
     pub fn record_of(&self, index: u64) -> Option<(u64, u64)> {
         let slot = index.checked_sub(self.first)?;
         if slot >= self.blocks {
@@ -86,7 +87,7 @@ impl Deal {
         Some((slot % volumes, slot / volumes))
     }
 
-    /// Returns the index of the block in a record of a volume.
+    /// Returns the index of the block that is dealt to this volume as its block record `record`.
     pub fn block_of(&self, volume: u64, record: u64) -> u64 {
         record
             .saturating_mul(self.volumes)
@@ -98,7 +99,7 @@ impl Deal {
 /// The places of the records of one volume.
 #[derive(Clone, Copy)]
 pub struct Layout {
-    /// The number of records of blocks.
+    /// The number of block records.
     pub blocks: u64,
     /// The number of bytes of a block.
     pub block_bytes: u64,
@@ -116,7 +117,7 @@ impl Layout {
         self.description_bytes.div_ceil(PART_BYTES)
     }
 
-    /// Returns the number of bytes of all parts of the description.
+    /// Returns the number of bytes of a copy of the description: of the records of all its parts.
     pub fn copy_bytes(&self) -> u64 {
         let opening = RECORD_HEAD_BYTES as u64 + PART_OPENING_BYTES as u64;
         self.parts()
@@ -124,9 +125,9 @@ impl Layout {
             .saturating_add(self.description_bytes)
     }
 
-    /// Returns how many copies of the description the volume has. It has more if it has many blocks and the copies take
-    /// at most 1 % of the bytes of the blocks. It has at least 5, or 3 if the description has more than 1 MiB, or if 5
-    /// copies take more than 64 KiB and more bytes than the blocks.
+    /// Returns the number of copies of the description in the volume: at least 5, and more if the volume has many
+    /// blocks and all copies together take at most 1 % of the bytes of the block records. The number can be 3 or 4 if
+    /// the description has more than 1 MiB, or if 5 copies take more than 64 KiB and more bytes than the block records.
     pub fn copies(&self) -> u64 {
         let (copy, records) = (
             self.copy_bytes().max(1),
@@ -139,11 +140,13 @@ impl Layout {
         many.min(fit).max(least)
     }
 
-    // The copies are spread evenly, the first one before all records, and the last one after them.
+    // Returns the number of block records before a copy. The copies are spread evenly: the first one is before all
+    // block records, and the last one is after them.
     fn blocks_before(&self, copy: u64) -> u64 {
         copy.saturating_mul(self.blocks) / self.copies().saturating_sub(1).max(1)
     }
 
+    // Returns the number of copies before the block record with this number.
     fn copies_before(&self, block: u64) -> u64 {
         let gaps = self.copies().saturating_sub(1);
         block
@@ -152,6 +155,7 @@ impl Layout {
             .div_ceil(self.blocks.max(1))
     }
 
+    // Returns the offset in bytes after the line of text and these numbers of copies and block records.
     fn offset_after(&self, copies: u64, blocks: u64) -> u64 {
         (LINE_BYTES as u64)
             .saturating_add(copies.saturating_mul(self.copy_bytes()))
@@ -163,7 +167,7 @@ impl Layout {
         self.offset_after(copy, self.blocks_before(copy))
     }
 
-    /// Returns the offset in bytes of the record of the block with this number in the volume.
+    /// Returns the offset in bytes of the block record with this number.
     pub fn record_at(&self, block: u64) -> u64 {
         self.offset_after(self.copies_before(block), block)
     }

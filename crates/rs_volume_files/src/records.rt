@@ -1,14 +1,14 @@
-//! Walks the records of a volume of version 2.
+//! A walk over the records of a volume of version 2.
 use rs_folders::source::read_at;
 use rs_volumes::record::{MAGIC, RECORD_HEAD_BYTES, RecordHead, read_record_head};
 use std::alloc::{AllocError, Global};
 use std::io;
 use std::io::{ErrorKind, Read, Seek, SeekFrom};
 
-/// How many bytes are searched at a time.
+/// The number of bytes that are searched at a time.
 const WINDOW: usize = 1 << 18;
 
-/// How many bytes are skipped at most if they cannot be read: the size of a sector.
+/// The largest number of bytes that are skipped at a time if they cannot be read: the size of a sector.
 const SECTOR: u64 = 4096;
 
 /// A record of a volume.
@@ -21,33 +21,34 @@ pub struct Record {
 }
 
 impl Record {
-    /// Returns the offset in bytes after the body.
+    /// Returns the offset in bytes of the end of the body.
     pub fn end(&self) -> u64 {
         self.at.saturating_add(self.head.body_bytes)
     }
 }
 
-/// A walk over the records of a file, in order of their offsets. It takes linear time, whatever the file holds.
+/// A walk over the records of a file, in order of their offsets. It takes linear time, whatever the file contains.
 #[derive(Drop)]
 pub struct Walk<F: Drop> {
     /// The file.
     pub file: F,
     /// The number of bytes of the file.
     pub size: u64,
-    /// The number of bytes between the records that were found.
+    /// The number of bytes outside of the records that were found.
     pub gap: u64,
-    /// The first error of the system.
+    /// The first error of the system, if there was one.
     pub error: Option<io::Error>,
     // The offset from which the next record is searched.
     position: u64,
-    // The head at this offset, if it is known.
+    // The head at `position`, if it is known.
     ahead: Option<RecordHead>,
-    // Bytes of the file that were read, and their offset.
+    // Bytes of the file that were read.
     window: Vec<u8>,
+    // The offset in the file of the first byte of `window`.
     window_at: u64,
-    // The offset after the last body that may be hashed, and the number of bytes of bodies that overlap others and may
-    // still be hashed.
+    // The end of the bodies that `may_hash` has allowed so far.
     reached: u64,
+    // The number of bytes of overlapping bodies that `may_hash` will still allow.
     effort: u64,
 }
 
@@ -66,7 +67,7 @@ fn find_head(bytes: &[u8]) -> Option<(usize, RecordHead)> {
     None
 }
 
-// Ends when the buffer is full, the file ends, or a read fails.
+// Reads bytes until the buffer is full, the file ends, or a read fails. Returns the number of bytes, and the error.
 fn read_some<F: Read>(file: &mut F, buffer: &mut [u8]) -> (usize, Option<io::Error>) {
     let mut filled = 0usize;
     for _ in 0..u64::MAX {
@@ -107,10 +108,10 @@ impl<F: Read + Seek + Drop> Walk<F> {
         })
     }
 
-    /// Returns the next record, or `None` if there is no more.
+    /// Returns the next record, or `None` if there is no further record.
     ///
-    /// The record after it is expected at its end, if the file ends there or a valid head is there. Otherwise it is
-    /// searched in its body.
+    /// If the file ends at the end of this record, or if a valid head is there, the walk goes on there. Otherwise the
+    /// next record is searched from the body of this record on.
     pub fn next(&mut self) -> Option<Record> {
         let known = self.ahead.take();
         let head = match known {
@@ -126,7 +127,8 @@ impl<F: Read + Seek + Drop> Walk<F> {
         Some(record)
     }
 
-    /// Goes on after a record whose body is right, so that its body is not searched.
+    /// Goes on at the end of a record. The caller found that the body of this record is right, so no record is searched
+    /// in it.
     pub fn pass(&mut self, record: &Record) {
         if self.position < record.end() {
             self.position = record.end();
@@ -134,8 +136,9 @@ impl<F: Read + Seek + Drop> Walk<F> {
         }
     }
 
-    /// Returns whether the body of a record may be hashed: all its bytes are there, and bodies that overlap others have
-    /// at most twice as many bytes as the file.
+    /// Returns whether the caller may hash the body of a record. The answer is no if the file ends before the body
+    /// does, or if the overlapping bodies that were hashed would have more than twice as many bytes as the file. So a
+    /// caller takes linear time.
     pub fn may_hash(&mut self, record: &Record) -> bool {
         if record.end() > self.size {
             return false;
@@ -150,6 +153,7 @@ impl<F: Read + Seek + Drop> Walk<F> {
         true
     }
 
+    // Goes on at the end of a record, if the file ends there or a valid head is there.
     fn step_to(&mut self, end: u64) {
         if end == self.size {
             self.position = end;
@@ -159,6 +163,7 @@ impl<F: Read + Seek + Drop> Walk<F> {
         }
     }
 
+    // Returns the valid head at an offset, or `None` if there is none.
     fn head_at(&mut self, offset: u64) -> Option<RecordHead> {
         if self.size.saturating_sub(offset) < RECORD_HEAD_BYTES as u64 {
             return None;
@@ -177,7 +182,7 @@ impl<F: Read + Seek + Drop> Walk<F> {
         }
     }
 
-    // Returns no bytes if those at this offset were not read before.
+    // Returns the bytes of the window from this offset on. There are none if the offset is outside of the window.
     fn held(&self, offset: u64) -> &[u8] {
         match offset.checked_sub(self.window_at) {
             Some(index) if index < self.window.len() as u64 => {
@@ -187,7 +192,7 @@ impl<F: Read + Seek + Drop> Walk<F> {
         }
     }
 
-    // Moves the position to the head that is found.
+    // Returns the next valid head from the position on, and moves the position there.
     fn search(&mut self) -> Option<RecordHead> {
         for _ in 0..u64::MAX {
             if self.position >= self.size {
@@ -208,7 +213,8 @@ impl<F: Read + Seek + Drop> Walk<F> {
         None
     }
 
-    // A head can begin in the last 63 bytes, which are skipped only at the end of the file, or if a read fails there.
+    // Returns how many bytes to skip if the window has no head. A head can begin in the last 63 bytes of the window. So
+    // these are skipped only if the file ends there or a read failed there.
     fn bytes_without_head(&self) -> u64 {
         let left = self.size - self.position.min(self.size);
         let held = (self.held(self.position).len() as u64).min(left);
@@ -224,7 +230,7 @@ impl<F: Read + Seek + Drop> Walk<F> {
         }
     }
 
-    // Reads nothing if a whole head or the rest of the file was read before.
+    // Fills the window with the bytes from the position on, unless it has a whole head or the rest of the file already.
     fn load(&mut self) {
         let left = self.size.saturating_sub(self.position);
         let held = self.held(self.position).len() as u64;
@@ -247,7 +253,7 @@ impl<F: Read + Seek + Drop> Walk<F> {
         }
     }
 
-    // The end of the file is no error of the system.
+    // Keeps the first error. The end of the file is no error of the system.
     fn note(&mut self, error: io::Error) {
         if self.error.is_none() && error.kind() != ErrorKind::UnexpectedEof {
             self.error = Some(error);

@@ -1,4 +1,4 @@
-//! What a scan of the files and volumes of a set has found so far.
+//! The blocks that a scan of the files and volumes of a set has found so far.
 use rs_folders::counted::Counted;
 use rs_folders::failure::warn;
 use rs_folders::hashing::CHUNK;
@@ -15,12 +15,13 @@ use std::io::ErrorKind;
 pub enum State {
     /// The file has its length and its bytes, the link has its target, or the folder exists.
     Whole,
-    /// Something has this name, but it is not whole.
+    /// Something has the name of the entry, but the entry is not whole.
     Damaged,
-    /// Nothing has this name, something else that cannot be replaced has it, or the file cannot be opened.
+    /// Nothing has the name of the entry, something that cannot be replaced has it, or the file cannot be opened.
     Missing,
 }
 
+// Returns the number of blocks of a set.
 fn blocks_of(description: &Description) -> usize {
     (u64::from(description.original_count) + u64::from(description.recovery_count)) as usize
 }
@@ -34,13 +35,14 @@ pub struct Scanner {
     pub buffer: Vec<u8>,
     /// The progress of the scan.
     pub progress: Progress,
-    // The number of blocks of the present file or volume that cannot be read, and the first error.
+    // The number of blocks of the present file or volume that cannot be read.
     unread: u64,
+    // The first error of the present file or volume.
     error: Option<io::Error>,
 }
 
 impl Scanner {
-    /// Begins a scan. No block has been found yet.
+    /// Returns a new scan, which has found no block.
     ///
     /// # Errors
     ///
@@ -68,7 +70,7 @@ impl Scanner {
         self.found.places.len()
     }
 
-    /// Notes that a block cannot be read. If the file ends before the block does, this is no error of the system.
+    /// Notes that a block cannot be read. Nothing is noted if the file just ends before the block does.
     pub fn note_unread(&mut self, error: io::Error) {
         if error.kind() == ErrorKind::UnexpectedEof {
             return;
@@ -79,14 +81,15 @@ impl Scanner {
         }
     }
 
-    /// Notes that other bytes of a volume cannot be read.
+    /// Notes that bytes of a volume outside of its blocks cannot be read.
     pub fn note_error(&mut self, error: io::Error) {
         if self.error.is_none() {
             self.error = Some(error);
         }
     }
 
-    /// Prints how many blocks of a file or a volume cannot be read, and the first error.
+    /// Prints how many blocks of the file or the volume at a path cannot be read, and the first error, if there is one.
+    /// After this, the scan goes on with another file or volume.
     pub fn tell_unread<R: Eprint>(&mut self, rt: &R, path: &str) {
         let blocks = Counted(self.unread, "block");
         match self.error.take() {
@@ -99,7 +102,7 @@ impl Scanner {
         self.unread = 0;
     }
 
-    /// Prints what is wrong at a path, on a line of its own.
+    /// Prints what is wrong at a path. Before that, the function ends the line that shows the progress.
     pub fn tell<R: Eprint, D: std::fmt::Display + Drop>(&self, rt: &R, path: &str, reason: D) {
         self.progress.end(rt);
         warn(rt, path, reason);

@@ -30,7 +30,7 @@ pub enum Form {
 pub struct Volume {
     /// The path of the volume.
     pub path: String,
-    /// How its blocks are found.
+    /// How the blocks of the volume are found.
     pub form: Form,
 }
 
@@ -45,7 +45,7 @@ pub struct Volumes {
     pub unreadable: Vec<String>,
 }
 
-/// Opens a file to read its blocks, and returns it with its number of bytes. A symbolic link is followed.
+/// Opens a regular file to read it, and returns it with its number of bytes. A symbolic link is followed.
 ///
 /// # Errors
 ///
@@ -56,8 +56,8 @@ pub fn open_sized<R: Files>(rt: &R, alloc: Global, path: &str) -> Result<(R::Fil
     Ok((file, size))
 }
 
-/// Reads the part of a description in a record. Returns `None` if it cannot be read, or is damaged. `body` is memory
-/// for the body of the record.
+/// Reads the part of a description in a record. Returns `None` if the part cannot be read, or is damaged. `body` is
+/// memory for the body of the record.
 pub fn part_in<'a, F: Read + Seek + Drop>(
     walk: &mut Walk<F>,
     record: &Record,
@@ -82,7 +82,7 @@ struct Finder {
     memory: u64,
     // The first set whose description is whole.
     set: Option<Set>,
-    // The parts of descriptions that were found before.
+    // The parts of descriptions that were found so far.
     assembly: Assembly,
     // Why a description whose parts are all there cannot be used.
     fault: Option<Failure>,
@@ -108,7 +108,7 @@ impl Finder {
         }
     }
 
-    // Also looks for the set in the file. Fails if the file is no volume.
+    // Opens a volume, and looks for a whole description in it, unless the set is known. Fails if the file is no volume.
     fn open<R: Files>(&mut self, rt: &R, path: &str) -> Result<Form> {
         let (mut file, size) = open_sized(rt, self.alloc, path)?;
         if let Ok(volume) = first::open_front(&mut file, size, self.alloc, self.memory) {
@@ -130,7 +130,7 @@ impl Finder {
         form
     }
 
-    // Also looks for a whole description in the records, unless the set is known.
+    // Returns whether a file has a record. Also looks for a whole description in the records, unless the set is known.
     fn has_records<F: Read + Seek + Drop>(&mut self, walk: &mut Walk<F>) -> bool {
         let mut has_some = false;
         for _ in 0..u64::MAX {
@@ -146,6 +146,7 @@ impl Finder {
         has_some
     }
 
+    // Adds the part of a description in a record to the assembly.
     fn add<F: Read + Seek + Drop>(&mut self, walk: &mut Walk<F>, record: &Record) {
         if record.head.kind != PART {
             return;
@@ -234,6 +235,7 @@ pub fn open_volumes<R: Files + Eprint>(
     }
 }
 
+// Fails for the first volume that does not belong to the set.
 fn check_set<R: Files>(rt: &R, alloc: Global, set: &Set, volumes: &[Volume]) -> Result<()> {
     for volume in volumes {
         let belongs = match &volume.form {
@@ -251,7 +253,7 @@ fn check_set<R: Files>(rt: &R, alloc: Global, set: &Set, volumes: &[Volume]) -> 
     Ok(())
 }
 
-// The volume is one of version 2.
+// Returns whether a volume of version 2 has a record of the set.
 fn has_record_of<R: Files>(rt: &R, alloc: Global, set: &Set, path: &str) -> Result<bool> {
     let (file, size) = open_sized(rt, alloc, path)?;
     let mut walk = Walk::new(alloc, file, size)?;
@@ -266,6 +268,7 @@ fn has_record_of<R: Files>(rt: &R, alloc: Global, set: &Set, path: &str) -> Resu
     Ok(false)
 }
 
+// Prints for each volume why its description cannot be used, and returns the failure of the command.
 fn without_set<R: Eprint>(
     rt: &R,
     alloc: Global,
@@ -279,9 +282,14 @@ fn without_set<R: Eprint>(
     Failure::of("no volume can be read")
 }
 
-/// Returns whether a file is a volume, which may be damaged: a regular file that begins as a volume of version 2, or at
-/// least half of whose bytes are in records, or a file of version 1 with a head at its beginning or its end, or whose
-/// description can be read without a head. An empty file also counts as one, because nothing is lost with it.
+/// Returns whether the file at a path counts as a volume, even as a damaged one. A regular file does if one of these is
+/// true:
+///
+/// - It is empty. Nothing is lost with such a file.
+/// - It begins with the line of text of a volume.
+/// - At least half of its bytes are in records.
+/// - Its first 8 bytes, or the first 8 of its last 64 bytes, are the magic number of version 1.
+/// - Its description of version 1 can be read.
 ///
 /// # Errors
 ///

@@ -19,14 +19,15 @@ use std::rt::{Clock, Files};
 /// What is damaged in a volume.
 #[derive(Clone, Copy)]
 pub struct Damage {
-    /// The number of records of blocks that are damaged, missing, or cannot be read.
+    /// The number of block records that are damaged, missing, or cannot be read.
     pub blocks: u64,
-    /// The number of parts of its description, in all copies, that are damaged or missing.
+    /// The number of parts of the description that are damaged or missing, counted in all copies.
     pub parts: u64,
-    /// Whether something else is wrong: the line of text at its beginning, or bytes that belong to no record. In a
-    /// volume of version 1: a head, a copy of the description, or the length.
+    /// Whether something else is wrong. In version 2, this is the line of text, a record of another set, or bytes
+    /// outside of all records. In version 1, it is a head, a copy of the description, or the length.
     pub has_more: bool,
-    /// The number of the volume among those of its set. `None` if it is not known, and in version 1.
+    /// The number of the volume among the volumes of its set, from 0. It is `None` in version 1, and if it is not
+    /// known.
     pub number: Option<u64>,
 }
 
@@ -55,18 +56,20 @@ pub struct VolumeScan<'a, R: Files + Clock + Eprint> {
 // What was found in a volume of version 2.
 #[derive(Drop)]
 struct Found {
-    // The volume, by its index in the list of paths.
+    // The index of the volume in the list of paths.
     holder: usize,
-    // The number of the volume, if it has a record of a block: the blocks are dealt to the volumes in turn.
+    // The number of the volume. The index of any of its blocks determines it, because the blocks are dealt to the
+    // volumes in turn. `None` if the volume has no block record.
     number: Option<u64>,
     // For each block of the set, whether the volume has it.
     blocks: Vec<bool>,
     // The number of parts that are right.
     parts: u64,
-    // The numbers of records of blocks and of parts whose bodies are not right.
+    // The number of block records whose bodies are wrong.
     wrong_blocks: u64,
+    // The number of records of parts whose bodies are wrong.
     wrong_parts: u64,
-    // Whether there are records of other sets.
+    // Whether the volume has records of other sets.
     has_others: bool,
     // Memory for the body of a part.
     body: Vec<u8>,
@@ -87,9 +90,9 @@ impl<'a, R: Files + Clock + Eprint> VolumeScan<'a, R> {
         }
     }
 
-    // If a volume of version 1 is damaged, records are also read in its last bytes. Damage is not counted there,
-    // because these bytes are the second copy of the description and the head. This copy is as long as the first one,
-    // which ends at the first record.
+    // Looks for the blocks of a volume of version 1. If the volume is damaged, `records` can include bytes of the
+    // second copy of the description and of the last head. These have as many bytes as there are before the first
+    // record, so a wrong record that reaches into the last bytes does not count as damage.
     fn scan_first<F: Read + Seek>(
         &mut self,
         file: &mut F,
@@ -215,7 +218,8 @@ impl<'a, R: Files + Clock + Eprint> VolumeScan<'a, R> {
         found.wrong_blocks = found.wrong_blocks.saturating_add(1);
     }
 
-    // Notes where the block is, if `own` is its digest.
+    // Returns whether `own` is the digest of the block with this index. If it is, the function notes where the block
+    // is.
     fn is_block(&mut self, index: usize, own: &ComputedDigest, holder: usize, offset: u64) -> bool {
         let origin = Origin::Volume { holder, offset };
         self.scanner.found.note(index, own, origin)
@@ -235,7 +239,7 @@ impl<'a, R: Files + Clock + Eprint> VolumeScan<'a, R> {
             && (record.head.index as usize) < self.scanner.block_count()
     }
 
-    // Returns `None` if a byte of the block that is in no file is not zero.
+    // Returns the digest of the block in a record, or `None` if a byte of the block that is in no file is not zero.
     fn hash_block<F: Read + Seek>(
         &mut self,
         file: &mut F,
@@ -265,10 +269,10 @@ impl<'a, R: Files + Clock + Eprint> VolumeScan<'a, R> {
         Ok(Some(hasher.finish()))
     }
 
-    // Compares with a whole volume that this program writes.
+    // Returns the damage of a volume, compared with the whole volume that this program writes.
     fn damage_of(&self, found: &Found) -> Damage {
         let deal = self.deal();
-        // A volume without a record of a block is the last one, which has the fewest.
+        // A volume without a block record counts as the last volume of the set, which has the fewest blocks.
         let number = found.number.unwrap_or(deal.volumes.saturating_sub(1));
         let layout = Layout {
             blocks: deal.blocks_in(number),

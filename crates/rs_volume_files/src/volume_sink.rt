@@ -1,4 +1,4 @@
-//! Volumes that are being written.
+//! New volumes, which are written block by block and get their names when they are whole.
 ghost use Rattle.rs_field.specs.code.Given.{nothing};
 
 use crate::layout::{Deal, Layout, PART_BYTES, first_line, part_bytes};
@@ -22,12 +22,12 @@ use std::rt::Files;
 /// The permission bits of a volume, before the system takes away those of the user's mask.
 const VOLUME_MODE: u32 = 0o666;
 
-/// Checks that a volume can be written at a path: nothing exists there, or `force` is set and an old volume is there.
+/// Checks that a volume may be written at a path: nothing exists there, or `force` is true and an old volume is there.
 ///
 /// # Errors
 ///
-/// If something exists at the path, fails if `force` is not set, if it cannot be read, or if it is no volume. Every
-/// step fails if memory cannot be allocated.
+/// If something exists at the path, fails if `force` is false, if the file there cannot be read, or if it is no volume.
+/// Every step fails if memory cannot be allocated.
 pub fn check_output<R: Files>(rt: &R, alloc: Global, path: &str, force: bool) -> Result<()> {
     if !exists(rt, path) {
         return Ok(());
@@ -46,8 +46,9 @@ pub fn check_output<R: Files>(rt: &R, alloc: Global, path: &str, force: bool) ->
     }
 }
 
-/// Returns the path under which a new volume is written until it is whole. It has only one such path, so no two runs
-/// of the program write it at once, and a part of a killed run is not taken for one of a later run.
+/// Returns the path of a new volume while it is written. There is only one such path for each volume. So two runs of
+/// the program never write one volume at once, and an unfinished volume of a killed run does not seem to belong to a
+/// later run.
 ///
 /// # Errors
 ///
@@ -57,8 +58,9 @@ pub fn part_of(alloc: Global, path: &str) -> Result<String, AllocError> {
     format!(in alloc; "{front}.{PART_ENDING}")
 }
 
-/// Returns the path of another file that is written for a volume: with the number 2 that of a damaged volume that is
-/// written again. It differs from that of a new volume: such a part says nothing about the other volumes of the set.
+/// Returns the path of an unfinished file that [`check_parts`] does not look for. `repair` uses the number 2 for a
+/// damaged volume that it writes again, and the number 3 for restored blocks. These files say nothing about the other
+/// volumes of the set.
 ///
 /// # Errors
 ///
@@ -106,25 +108,25 @@ pub fn check_parts<R: Files>(rt: &R, alloc: Global, paths: &[String]) -> Result<
     Err(Failure::at(alloc, left.as_str(), reason))
 }
 
-/// The volumes that a command writes. This sink writes blocks into them.
+/// The volumes that a command writes. This type is also a sink, which writes blocks into these volumes.
 #[derive(Drop)]
 pub struct Volumes<'a, R: Files + Eprint> {
     rt: &'a R,
     alloc: Global,
-    // The file of each volume, which is open and does not have its final name yet. `None` if the volume is not written.
+    // The unfinished file of each volume, which is open. `None` if the volume is not written.
     parts: Vec<Option<Part<R>>>,
     // How the blocks are dealt to the volumes.
     deal: Deal,
     block_bytes: u64,
     description_bytes: u64,
-    // The number of bytes that were written so far.
+    // The number of bytes of all volumes that were written so far.
     written: u64,
     // The folders of the volumes.
     folders: Folders,
 }
 
 impl<'a, R: Files + Eprint> Volumes<'a, R> {
-    /// Makes the volumes of a set, of which none has begun yet. The description will have `description_bytes` bytes.
+    /// Returns the volumes of a set, of which none is begun. The description will have `description_bytes` bytes.
     pub fn new(
         rt: &'a R,
         alloc: Global,
@@ -151,12 +153,12 @@ impl<'a, R: Files + Eprint> Volumes<'a, R> {
         }
     }
 
-    /// Begins the next volume, with room for its records, and makes its folder. It is written at the path `part`, and
-    /// gets the path `path` when it is whole.
+    /// Begins the next volume, and makes its folder. The volume is written at the path `part`, and gets the path `path`
+    /// when it is whole.
     ///
     /// # Errors
     ///
-    /// Fails if its folder cannot be made, for a reason of [`Part::begin`], or if memory cannot be allocated.
+    /// Fails if the folder cannot be made, for a reason of [`Part::begin`], or if memory cannot be allocated.
     pub fn begin(&mut self, path: &str, part: String) -> Result<()> {
         let (rt, alloc) = (self.rt, self.alloc);
         let size = self.layout(self.parts.len() as u64).size();
@@ -173,7 +175,7 @@ impl<'a, R: Files + Eprint> Volumes<'a, R> {
         }
     }
 
-    /// Leaves out the next volume: nothing of it is written.
+    /// Leaves out the next volume: `put` and [`Volumes::describe`] write nothing for it.
     ///
     /// # Errors
     ///
@@ -182,13 +184,13 @@ impl<'a, R: Files + Eprint> Volumes<'a, R> {
         Ok(self.parts.push(None)?)
     }
 
-    /// Gives all volumes their final names. If `force` is set, old volumes with these names are replaced. All volumes
+    /// Gives all volumes their final names. If `force` is true, old volumes with these names are replaced. All volumes
     /// of a command are in one folder.
     ///
     /// No old volume is replaced before all new volumes and their folder are synced, and all names are checked. The
-    /// first volume is renamed and the folder is synced before the others are renamed: what [`check_parts`] says of
-    /// the parts that are left is then also true after a loss of power. If the first volume cannot be renamed, no
-    /// other one is. If a later one cannot be renamed, the others still get their names, so that as many volumes as
+    /// first volume is renamed and the folder is synced before the others are renamed. So [`check_parts`] is also right
+    /// about the files that are left after a loss of power. If the first volume cannot be renamed, no other volume is
+    /// renamed. If a later volume cannot be renamed, the others still get their names, so that as many volumes as
     /// possible belong together.
     ///
     /// # Errors
@@ -225,14 +227,15 @@ impl<'a, R: Files + Eprint> Volumes<'a, R> {
         outcome
     }
 
-    /// Gives all volumes their final names. The damaged volumes with these names are kept as `NAME.damaged`, and the
-    /// paths of these are appended to `kept`: one for each volume that has its final name. Nothing is checked of the
-    /// damaged volumes, because nothing of them gets lost.
+    /// Gives all volumes their final names. The damaged volumes with these names are kept as `NAME.damaged`. The
+    /// function appends their new paths to `kept`, one for each volume that got its final name. It does not check the
+    /// damaged volumes, because nothing of them is lost.
     ///
     /// # Errors
     ///
     /// Fails if a volume cannot be synced. Then, for each volume in turn, fails if the damaged one cannot be kept, or
-    /// if the new one cannot be renamed. Then this damaged volume and those after it have only their own names.
+    /// if the new one cannot be renamed. After such an error, this damaged volume and those after it have only their
+    /// own names.
     pub fn replace(&mut self, kept: &mut Vec<String>) -> Result<()> {
         self.sync()?;
         let mut outcome = Ok(());
@@ -245,7 +248,7 @@ impl<'a, R: Files + Eprint> Volumes<'a, R> {
         outcome
     }
 
-    // The folders above new folders are synced as well.
+    // Syncs the folders of the volumes, and the folders in which these were made.
     fn sync_folders(&mut self) {
         for part in self.parts.iter().flatten() {
             self.folders.note(self.rt, self.alloc, part.path.as_str());
@@ -260,7 +263,7 @@ impl<'a, R: Files + Eprint> Volumes<'a, R> {
         Ok(())
     }
 
-    // Something may have changed since the volumes were begun.
+    // Checks all final names again, because something may have changed since the volumes were begun.
     fn check(&self, force: bool) -> Result<()> {
         for part in self.parts.iter().flatten() {
             check_output(self.rt, self.alloc, part.path.as_str(), force)?;
@@ -268,7 +271,7 @@ impl<'a, R: Files + Eprint> Volumes<'a, R> {
         Ok(())
     }
 
-    // Does nothing if the volume is not written.
+    // Gives a volume its final name. Does nothing if the volume is not written.
     fn rename(&self, number: usize) -> Result<()> {
         match self.parts.get(number) {
             Some(Some(part)) => part.rename(self.rt, self.alloc),
@@ -276,14 +279,14 @@ impl<'a, R: Files + Eprint> Volumes<'a, R> {
         }
     }
 
-    /// Removes the files of all volumes that do not have their final names, the first one last: as long as it is there,
-    /// [`check_parts`] does not take the others for volumes that are whole.
+    /// Removes the unfinished files of all volumes, that of the first volume last: as long as this file exists,
+    /// [`check_parts`] knows that the others need not be whole.
     pub fn remove(&self) {
         for part in self.parts.iter().rev().flatten() {
             part.remove(self.rt);
         }
     }
-    /// Returns the path of the file into which a block could not be written. The path is empty after another error.
+    /// Returns the path of the volume into which a block could not be written. The path is empty after another error.
     pub fn path_of(&self, error: &CodingError) -> &str {
         let CodingError::Write(index, _) = error else {
             return "";
@@ -297,12 +300,13 @@ impl<'a, R: Files + Eprint> Volumes<'a, R> {
         }
     }
 
-    /// Writes the line of text, the description and the heads of all records of all volumes.
+    /// Writes everything but the blocks into all volumes: the line of text, the copies of the description, and the
+    /// heads of the block records.
     ///
     /// # Errors
     ///
-    /// Fails if the description has another length than the volumes have room for. Then, for each volume, fails if
-    /// memory cannot be allocated, or if the volume cannot be written.
+    /// Fails if the description does not have the length that was given to [`Volumes::new`]. Then, for each volume,
+    /// fails if memory cannot be allocated, or if the volume cannot be written.
     pub fn describe(&mut self, description: &[u8]) -> Result<()> {
         if description.len() as u64 != self.description_bytes {
             return Err(Failure::of("the description has another length than expected"));
@@ -321,7 +325,7 @@ impl<'a, R: Files + Eprint> Volumes<'a, R> {
         Ok(())
     }
 
-    /// Returns the number of bytes of the volumes that are not written yet.
+    /// Returns the number of bytes of all volumes that were not written yet.
     pub fn missing(&self) -> u64 {
         let mut total = 0u64;
         for part in self.parts.iter().flatten() {
@@ -358,7 +362,8 @@ impl<'a, R: Files + Eprint> Volumes<'a, R> {
     }
 }
 
-// Keeps the damaged volume with this name, and appends its path to `kept`.
+// Keeps the damaged volume that has the final name of a part, gives the part this name, and appends the path of the
+// damaged volume to `kept`.
 fn replace_one<R: Files + Eprint>(
     rt: &R,
     alloc: Global,
@@ -376,7 +381,7 @@ fn replace_one<R: Files + Eprint>(
     Ok(())
 }
 
-// A copy of a description consists of the records of all its parts.
+// Returns a copy of a description: the records of all its parts, one after another.
 fn copy_of(alloc: Global, description: &[u8], set: &[u8; 32]) -> Result<Vec<u8>, AllocError> {
     let total = description.len() as u64;
     let mut copy = Vec::new(alloc);
@@ -393,7 +398,8 @@ fn copy_of(alloc: Global, description: &[u8], set: &[u8; 32]) -> Result<Vec<u8>,
     Ok(copy)
 }
 
-// `total` is the number of bytes of the description.
+// Appends the record of a part to a copy. `bytes` are the bytes of the description in this part, and `total` is the
+// number of bytes of the whole description.
 fn put_part(
     alloc: Global,
     copy: &mut Vec<u8>,

@@ -122,7 +122,7 @@ bytes_of_each (f ∷ fs) (suc k) d lt =
     let others = bytes_of_each fs k d (omega (arith, lt)) in
     omega (arith, all, others)
 
--- If all fields have fewer than 2^32 bytes, each has.
+-- If all fields together have fewer than 2^32 bytes, each field has fewer.
 pub each_is_short : (fs : List Field) → length (flat_map field_spelling (fields_of fs)) < 2 ^ 32
     → All (λ field. length field.bytes.items < 2 ^ 32) fs
 each_is_short fs short k d lt = let h = bytes_of_each fs k d lt in omega (arith, h, short)

@@ -98,7 +98,7 @@ joined_block k r xs ys ps qs i a b c d lt =
 module _ {marks : List Bool} {shape : Shape} {start end : ℕ} {known before now after : Shards}
     {h h' r r' : List Sha256} where
   -- If the first `start` bytes of each block were read, coded, hashed and written, and then the piece from `start` to
-  -- `end`, this holds for the first `end` bytes.
+  -- `end`, the same is true of the first `end` bytes.
   pub created_more : IsStrip start end shape.block_bytes
       → IsCreatedTo marks shape start known before now h r → MakesPiece marks shape start end known now after h h' r r'
       → IsCreatedTo marks shape end known before after h' r'
@@ -128,7 +128,7 @@ module _ {marks : List Bool} {shape : Shape} {start end : ℕ} {known before now
 
 module _ {marks : List Bool} {shape : Shape} (reads writes : Option Shard → ℕ → Error → Type 0) {start end : ℕ}
     {known before now : Shards} {h r : List Sha256} where
-  -- If the next piece of each block fails, the creation fails so.
+  -- If the next piece of each block fails with an error, the creation may fail with this error.
   pub creating_fails : (e : CodingError) → start < end → IsStrip start end shape.block_bytes
       → IsCreatedTo marks shape start known before now h r → PieceFails shape reads writes start end known now e
       → CreatingFails shape reads writes known before e
@@ -201,7 +201,7 @@ created_whole {digests = digests} done =
       written = done.written;
     }
 
--- What follows of each value follows of the value of a result.
+-- If P implies Q for each value, and P is true of the value of a result, Q is true of this value.
 pub of_value : {T E : Type 0} {P Q : T → Type 0} (r : Result T E) → ((v : T) → P v → Q v) → IfOk r P → IfOk r Q
 of_value (Ok v) more is = more v is
 of_value (Err e) more is = tt

@@ -44,7 +44,7 @@ blocks_hold block size some =
     let h : size + (block - 1) < (size + (block - 1)) / block * block + block = lt-div-mul-add some in
     omega (arith, h, some)
 
--- Each of them but the last one is full.
+-- Each block but the last one is full.
 pub blocks_needed : (block size : ℕ) → 0 < block → blocks_of block size * block ≤ size + (block - 1)
 unfolding blocks_of
 blocks_needed block size some = div-mul-le_self (size + (block - 1)) block
@@ -59,7 +59,7 @@ round_up_least unit at some = blocks_hold unit at some
 
 -- ---- the end of files
 
--- A file without bytes takes no room.
+-- A file without bytes does not move the next file.
 pub end_after_none : (unit at size : ℕ) → size ≡ 0 → end_after unit at size ≡ at
 unfolding end_after
 end_after_none unit at size none = rw (eq-eqb size 0 none) refl

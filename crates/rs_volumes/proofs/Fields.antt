@@ -28,13 +28,13 @@ pub bind_ok : {A B : Type 0} {r : Result A Fault} {f : A → Result B Fault} {y 
 bind_ok {r = Ok x} e = (x, refl, e)
 bind_ok {r = Err d} e = absurd cc
 
--- If a step fails when a test holds, and goes on otherwise, and it succeeds, the test is false.
+-- If a step fails whenever a test is true, and the step succeeds, the test is false.
 pub guard_ok : {A : Type 0} {b : Bool} (d : Fault) {x : Result A Fault} {y : A} → cond b (Err d) x ≡ Ok y → (b ≡ false)
     × (x ≡ Ok y)
 guard_ok {b = true} d e = absurd cc
 guard_ok {b = false} d e = (refl, e)
 
--- If a step fails unless a test holds, and the step succeeds, the test is true.
+-- If a step fails whenever a test is false, and the step succeeds, the test is true.
 pub guard_passed : {A : Type 0} {b : Bool} (d : Fault) {x y : A} → cond b (Ok x) (Err d) ≡ Ok y → (b ≡ true) × (x ≡ y)
 guard_passed {b = true} d e = (refl, cc)
 guard_passed {b = false} d e = absurd cc
@@ -86,7 +86,7 @@ pub wide64 : IsWide w64 (2 ^ 64)
 wide64 = search (rules, le_bytes_8)
 
 module _ {w : Width} {limit : ℕ} (wide : IsWide w limit) where
-  -- A number that is read has the bytes that were taken as its spelling, and it fits its field.
+  -- The bytes from which a number is read are its spelling, and the number fits its field.
   number_takes : {bytes : List ℕ} {x : ℕ × List ℕ} → IsBytes bytes → number_at w bytes ≡ Ok x
       → Takes bytes (to_le_bytes w x.0) x.1 × (x.0 < limit)
   number_takes {bytes = bytes} fits e =
@@ -103,7 +103,7 @@ module _ {w : Width} {limit : ℕ} (wide : IsWide w limit) where
       )
 
   -- If reading a number and a further step succeed, the number was taken from the front, and the step succeeded with
-  -- it.
+  -- this number.
   pub number_first : {B : Type 0} {bytes : List ℕ} {f : ℕ × List ℕ → Result B Fault} {y : B} → IsBytes bytes
       → (number_at w bytes >>= f) ≡ Ok y
       → (x : ℕ × List ℕ) × Takes bytes (to_le_bytes w x.0) x.1 × (x.0 < limit) × (f x ≡ Ok y)
@@ -181,7 +181,7 @@ taken_again text rest count len =
 
 -- ---- names
 
--- A name that is read has the bytes that were taken as its spelling, and its length fits its field.
+-- The bytes from which a name is read are its spelling, and its length fits its field.
 pub name_takes : {bytes : List ℕ} {x : List ℕ × List ℕ} → IsBytes bytes → name_at bytes ≡ Ok x
     → Takes bytes (name_spelling x.0) x.1 × (length x.0 < 2 ^ 16)
 unfolding name_at
@@ -192,7 +192,8 @@ name_takes {bytes = bytes} {x = x} fits e =
     subst (λ (m : ℕ). Takes bytes (to_le_bytes w16 m ++ x.0) x.1) (sym t.1) (Takes-then n.1 t.0) in
     (whole, omega (arith, n.2, t.1))
 
--- If reading a name and a further step succeed, the name was taken from the front, and the step succeeded with it.
+-- If reading a name and a further step succeed, the name was taken from the front, and the step succeeded with this
+-- name.
 pub name_first : {B : Type 0} {bytes : List ℕ} {f : List ℕ × List ℕ → Result B Fault} {y : B} → IsBytes bytes
     → (name_at bytes >>= f) ≡ Ok y
     → (x : List ℕ × List ℕ) × Takes bytes (name_spelling x.0) x.1 × (length x.0 < 2 ^ 16) × (f x ≡ Ok y)

@@ -1,4 +1,5 @@
--- What is read in version 1 is sound and spelled so, and the bytes of a sound set are read.
+-- A description of version 1 that is read is sound, and its bytes are its spelling. A sound set is read from its
+-- spelling.
 use Rattle.std.proofs.Common.{rules, ◌≡◌, ℕ, ◌+◌, ◌*◌, List, ◌++◌, length, Result, Ok, Err, refl}
 use Rattle.std.proofs.Common.{ap, subst, ◌∙◌, append_assoc}
 use Rattle.std.specs.Prelude.{IfOk}
@@ -133,7 +134,7 @@ pub reading_again : (s : FileSet) → IsFirstSound s → first_reading (first_sp
 unfolding first_reading
 reading_again s sound = rw (description_again s sound.fits, sound.outcome) refl
 
--- A description that a function returns is sound, and the bytes spell it.
+-- A description that a function returns is sound, and the bytes are its spelling.
 pub is_found : (bytes : List ℕ) (r : Result Description ReadError) → IsBytes bytes
     → Gives set_of r (first_reading bytes)
     → IfOk r (λ d. IsFirstSound (set_of d) × (bytes ≡ first_spelling (set_of d)))

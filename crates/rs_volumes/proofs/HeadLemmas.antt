@@ -1,4 +1,4 @@
--- A head of version 1 that is read is spelled so, and a head that is spelled is read again.
+-- The bytes from which a head of version 1 is read are its spelling, and a head is read again from its spelling.
 use Rattle.std.proofs.Common.{◌≡◌, ℕ, List, ◌++◌, Result, Ok, Err, refl, subst, arith}
 use Rattle.std.specs.Prelude.{IfOk}
 use Rattle.std.specs.Int.{w32, w64, to_le_bytes}
@@ -40,7 +40,7 @@ head_again h fits =
       number_again wide64 fits.record_count h.digest,
     ) refl
 
--- A head that a function returns is the one that all bytes spell.
+-- The bytes from which a function reads a head are the spelling of this head.
 pub head_found : (bytes : List ℕ) (r : Result Head Fault) → IsBytes bytes → Reads head_of r (head_in bytes)
     → IfOk r (λ h. bytes ≡ head_spelling (head_of h))
 head_found bytes (Ok h) fits given = head_takes fits given

@@ -37,7 +37,7 @@ pub data-nil : (unit at : ℕ) → data_after unit at [] ≡ []
 unfolding data_after
 data-nil unit at = refl
 
--- A file without bytes takes no room.
+-- A file without bytes does not move the next file.
 pub data-empty : (unit at : ℕ) (x : Shard) → length x ≡ 0 → data_after unit at (x ∷ []) ≡ []
 data-empty unit at x none = data-none unit at x [] none ∙ data-nil unit at
 

@@ -79,7 +79,7 @@ one_end : (unit at : ℕ) (e : SetEntry) → end_of unit at (e ∷ []) ≡ end_a
 unfolding end_of
 one_end unit at e = refl
 
--- ---- they rise
+-- ---- the places rise
 
 pub set_rises : (unit size at index : ℕ) (es : List SetEntry) → 0 < unit → 0 < size
     → Rises size at (set_places unit size at index es)
@@ -106,7 +106,7 @@ set_rises unit size at index (e ∷ es) some_unit some =
           (set_places unit size (start + e.size) (suc index) es) up others))
     ]
 
--- ---- they cover the files
+-- ---- the places cover the files
 
 pub no_bytes : (x : Shard) → length x ≡ 0 → x ≡ []
 no_bytes [] e = refl
@@ -157,7 +157,7 @@ cover_from unit size at (e ∷ es) before (x ∷ xs) some same =
 pub places-cover : (unit size : ℕ) (es : List SetEntry) → 0 < size → Cover es (set_places unit size 0 0 es)
 places-cover unit size es some contents same = cover_from unit size 0 es [] contents some same
 
--- ---- each lies where it should
+-- ---- where each place lies
 
 unit_in_some : (version : Version) (block : ℕ) → 0 < block → 0 < unit_in version block
 unfolding unit_in
@@ -268,12 +268,12 @@ module _ (s : FileSet) (some : 0 < s.block_bytes) where
             (file_placed before e es all bytes) (rw (end, next) at others))
       ]
 
-  -- Each place of a set lies where it should.
+  -- Each place of a set lies in its file and in its block (`IsPlaced`).
   pub set_placed : All (IsPlaced s) (set_places unit s.block_bytes 0 0 s.entries)
   unfolding end_of
   set_placed = placed_from [] s.entries refl
 
--- The places of a set lie where they should.
+-- All places of a set lie in their files and in their blocks.
 pub placed_if : (s : FileSet) (places : List Place) → 0 < s.block_bytes
     → places ≡ set_places (unit_of s) s.block_bytes 0 0 s.entries → All (IsPlaced s) places
 placed_if s places some same = subst (λ (ps : List Place). All (IsPlaced s) ps) (sym same) (set_placed s some)

@@ -179,7 +179,7 @@ next previous e es ok =
     let apart = guard_ok Inside later.1 in
     record { later = not_false _ later.0; apart = apart.0; others = apart.1 }
 
--- A name is the one before some accepted entries, or before that one and no folder of it.
+-- The name a is the name `previous` before some accepted entries, or it is before `previous` and no folder of it.
 abbrev Precedes : List ℕ → List ℕ → Type 0
 Precedes a previous = ((is_before a previous ≡ true) × (is_folder_of a previous ≡ false)) ⊎ (a ≡ previous)
 
@@ -198,7 +198,7 @@ precedes_next a previous e es (inr same) n =
     subst (λ (p : List ℕ). (is_before p e.name ≡ true) × (is_folder_of p e.name ≡ false)) (sym same)
     (n.later, n.apart)
 
--- A name that precedes accepted entries is before each of them, and a folder of none.
+-- A name that precedes accepted entries is before the name of each of them, and is a folder of none of these names.
 precedes_all : (a previous : List ℕ) (es : List SetEntry) → entries_outcome previous es ≡ Ok tt → Precedes a previous
     → (j : ℕ) (d : SetEntry) → j < length es
     → (is_before a (get_or es j d).name ≡ true) × (is_folder_of a (get_or es j d).name ≡ false)

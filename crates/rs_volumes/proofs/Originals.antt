@@ -167,7 +167,7 @@ module _ {shape : Shape} {plan : Plan} {known : Shards} {originals recovery : Li
     (read : AreRead 0 plan.originals.items start end known ps)
     (received : AreRead shape.original_count plan.recovery.items start end known qs)
     (back : PutsBack shape plan.wanted.items (items_of ps) (items_of qs) held next) where
-  -- a wanted block of which the first bytes were written gets its next piece
+  -- a requested block of which the first bytes were written gets its next piece
   pub block_more : (i : ℕ) → get_or plan.wanted.items i false ≡ true
       → (list_any (nat_eq i) plan.originals.items ≡ true) ⊎ (0 < length plan.recovery.items)
       → held i ≡ take start (shard_at originals i) → next i ≡ take end (shard_at originals i)

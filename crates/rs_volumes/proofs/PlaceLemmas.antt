@@ -286,7 +286,7 @@ file_covers size file start end contents some order long =
     run_covers size file start end (start / size) contents (blocks_of size end - start / size) h
     ∙ rw (reach_all size start end some order) (take_all (end - start) (shard_at contents file) (omega (arith, long)))
 
--- ---- they rise
+-- ---- the places of one file rise
 
 position_is : (size file start end block : ℕ)
     → position size (place_in size file start end block) ≡ block * size + (place_in size file start end block).at
@@ -350,7 +350,7 @@ file_rises size file start end some order =
     (file_run size start end some order) in
     (h.rise, h.in_file)
 
--- ---- what holds of each place of a file
+-- ---- what is true of each place of a file
 
 run_all : (P : Place → Type 0) (size file start end first n : ℕ) → AreRun size start end first n
     → ((block : ℕ) → HasBytes size start end block → P (place_in size file start end block))
@@ -362,7 +362,7 @@ run_all P size file start end first (suc n) h each =
     (run_all P size file start end first n (fewer h) each)
     (All-cons P (place_in size file start end (first + n)) [] (each (first + n) (has_bytes h)) (All-nil P))
 
--- What holds of the place in each block with bytes of a file holds of all places of the file.
+-- If a statement is true of the place in each block with bytes of a file, it is true of all places of the file.
 pub file_all : (P : Place → Type 0) (size file start end : ℕ) → 0 < size → start < end
     → ((block : ℕ) → HasBytes size start end block → P (place_in size file start end block))
     → All P (file_places size file start end)

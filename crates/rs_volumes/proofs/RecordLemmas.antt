@@ -1,4 +1,4 @@
--- The head of a record that is read is spelled so, and a head that is spelled is read again.
+-- The bytes from which the head of a record is read are its spelling, and a head is read again from its spelling.
 use Rattle.std.proofs.Common.{◌≡◌, ℕ, List, ◌++◌, length, take, drop, true, Result, Ok, Err, refl, sym, ap, subst}
 use Rattle.std.proofs.Common.{◌∙◌, arith}
 use Rattle.std.specs.Prelude.{IfOk}
@@ -78,7 +78,7 @@ head_again h fits =
     (bytes_eq-Decides (check_of front) (check_of front)).1 refl in
     rw (take_at front (check_of front) 56 len, drop_at front (check_of front) 56 len, front_again h fits, same) refl
 
--- A head that a function returns is the one that all bytes spell.
+-- The bytes from which a function reads a head are the spelling of this head.
 pub head_found : (bytes : List ℕ) (r : Result RecordHead Fault) → IsBytes bytes → Reads head_of r (head_in bytes)
     → IfOk r (λ h. bytes ≡ head_spelling (head_of h))
 head_found bytes (Ok h) fits given = head_takes fits given

@@ -32,8 +32,8 @@ adds : (index : ℕ) (piece : Shard) (held : ℕ → Shard) → Adds index piece
 adds index piece held =
     record { here = rw (eq-eqb index index refl) refl; others = λ i other. rw (ne_eqb i index other) refl }
 
--- If the length of a block, its hasher and the sink take a piece, and all others are as they were, the outputs go on to
--- hold what was written.
+-- If a piece of a block was added to its length, to its hasher and to the sink, and all other blocks are as they were,
+-- the outputs still describe what was written.
 pub held_more : {old new : Outputs} {index : ℕ} (piece : Shard) {held : ℕ → Shard} {before now after : Shards}
     → index < length old.lengths.items
     → length new.lengths.items ≡ length old.lengths.items → length new.hashers.items ≡ length old.hashers.items
@@ -101,7 +101,7 @@ pub record AreRestoredTo (shape : Shape) (plan : Plan) (start : ℕ) (known : Sh
       → (list_any (nat_eq i) plan.originals.items ≡ true) ⊎ (0 < length plan.recovery.items)
       → held i ≡ take start (shard_at originals i)
 
--- If the hasher of each wanted block gives its digest, the wanted blocks were written with these digests.
+-- If the hasher of each requested block gives its digest, the requested blocks were written with these digests.
 restored : (hashers : List Sha256) {wanted : List Bool} {digests : List ℕ} {held : ℕ → Shard}
     {before after : Shards} → length wanted ≤ length hashers
     → ((i : ℕ) (d : Sha256) → i < length hashers → Holds256 (get_or hashers i d) (held i))
@@ -118,7 +118,7 @@ restored (h ∷ hs) {held = held} room hashed written compared =
 
 -- ---- errors
 
--- If the pieces of a strip are not written, the restore fails so.
+-- If the pieces of a strip are not written, the restore may fail with the same error.
 pub strip_fails : (shape : Shape) (plan : Plan) (digests : List ℕ) (reads writes : Option Shard → ℕ → Error → Type 0)
     (known before after : Shards) {start end : ℕ} {ps qs : List (ℕ × Vec ℕ)} (e : CodingError) → start < end
     → IsStrip start end shape.block_bytes → AreRead 0 plan.originals.items start end known ps
@@ -153,7 +153,7 @@ strip_fails shape plan digests reads writes known before after (errors.NotFound 
 strip_fails shape plan digests reads writes known before after (errors.Digest i) order strip read received fails =
     absurd fails
 
--- If a digest differs, the restore fails so.
+-- If a digest differs, the restore may fail with the error that names this block.
 digest_fails : (shape : Shape) (plan : Plan) (digests : List ℕ) (reads writes : Option Shard → ℕ → Error → Type 0)
     (known before after : Shards) (hashers : List Sha256) (held : ℕ → Shard) (e : CodingError)
     → length hashers ≡ length plan.wanted.items
@@ -186,7 +186,7 @@ digest_fails shape plan digests reads writes known before after (h ∷ hs) held 
 
 -- ---- the result of comparing the digests
 
--- If the digests were compared, the wanted blocks were written with their digests.
+-- If the digests were compared, the requested blocks were written with their digests.
 pub digests_back : (result : Result (Unit {0}) CodingError) (wanted : List Bool) (digests : List ℕ)
     (before after : Shards) (hashers : List Sha256) (held : ℕ → Shard) → length hashers ≡ length wanted
     → ((i : ℕ) (d : Sha256) → i < length hashers → Holds256 (get_or hashers i d) (held i))
@@ -198,7 +198,7 @@ digests_back (Ok done) wanted digests before after hashers held room hashed writ
     restored hashers (omega (arith, room)) hashed written compared
 digests_back (Err e) wanted digests before after hashers held room hashed written compared = tt
 
--- If a digest differs, the restore fails so.
+-- If a digest differs, the restore may fail with the error that names this block.
 pub fails_back : (result : Result (Unit {0}) CodingError) (shape : Shape) (plan : Plan) (digests : List ℕ)
     (reads writes : Option Shard → ℕ → Error → Type 0) (known before after : Shards) (hashers : List Sha256)
     (held : ℕ → Shard) → length hashers ≡ length plan.wanted.items

@@ -1,4 +1,4 @@
--- What is read is sound and spelled so, and the bytes of a sound set are read.
+-- A description that is read is sound, and its bytes are its spelling. A sound set is read from its spelling.
 use Rattle.std.proofs.Common.{◌≡◌, ℕ, ◌+◌, ◌*◌, ◌^◌, ◌<◌, ◌≤◌, List, ◌++◌, length, take, drop, Result, Ok, Err, refl}
 use Rattle.std.proofs.Common.{sym}
 use Rattle.std.proofs.Common.{subst, ◌∙◌, append_assoc, arith, false, ltb}
@@ -153,7 +153,7 @@ pub reading_again : (s : FileSet) → IsSound s → reading (spelling s) ≡ Ok 
 unfolding reading
 reading_again s sound = rw (description_again s sound.fits, sound.outcome) refl
 
--- A description that a function returns is sound, and the bytes spell it.
+-- A description that a function returns is sound, and the bytes are its spelling.
 pub is_found : (bytes : List ℕ) (r : Result Description ReadError) → IsBytes bytes → Gives set_of r (reading bytes)
     → IfOk r (λ d. IsSound (set_of d) × (bytes ≡ spelling (set_of d)))
 is_found bytes (Ok d) fits given = reading_takes fits given

@@ -49,7 +49,7 @@ module _ (wanted : List Bool) (items : Items) (item : ℕ × Shard) (held : ℕ 
             ∙ ap (λ (s : Shard). held i ++ s) (sym (more-other i items item other.1))
       ]
 
-  -- the next piece is not wanted
+  -- the block of the next piece is not requested
   pub gets_same : (get_or wanted item.0 false ≡ true → ⊥) → Gets wanted (λ i. piece_of i (items ++ item ∷ [])) held
       now
   gets_same unwanted i is =
@@ -68,7 +68,7 @@ pub gets_none : (wanted : List Bool) (held : ℕ → Shard) → Gets wanted (λ 
 unfolding piece_of
 gets_none wanted held i is = sym (append-nil (held i))
 
--- the wanted blocks below number n got their pieces, and the others got none
+-- the requested blocks below number n got their pieces, and the others got none
 pub record GetsBelow (n : ℕ) (wanted : List Bool) (piece held now : ℕ → Shard) : Type 0 where
   pub done : (i : ℕ) → i < n → get_or wanted i false ≡ true → now i ≡ held i ++ piece i
   pub rest : (i : ℕ) → n ≤ i → now i ≡ held i

@@ -14,7 +14,7 @@ unfoldable pub round_up : ℕ → ℕ → ℕ
 round_up unit at = blocks_of unit at * unit
 
 -- the end in the data of a file of this size, if the file before ends at `at`: the file begins at the next multiple of
--- the unit; a file without bytes takes no room
+-- the unit; a file without bytes does not move the next file
 unfoldable pub end_after : ℕ → ℕ → ℕ → ℕ
 end_after unit at size = if size == 0 then at else round_up unit at + size
 

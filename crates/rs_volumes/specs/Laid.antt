@@ -12,14 +12,14 @@ abbrev pub AreFilesOf : List SetEntry → List Shard → Type 0
 AreFilesOf entries files = map (λ bytes. length bytes) files ≡ map (λ entry. entry.size) entries
 
 -- the data of files from byte `at` on, where the file before them ends: each file begins at the next multiple of the
--- unit, and the bytes before it are zeros; a file without bytes takes no room
+-- unit, and the bytes before it are zeros; a file without bytes does not move the next file
 unfoldable pub data_after : ℕ → ℕ → List Shard → Shard
 data_after unit at [] = []
 data_after unit at (file ∷ files) =
     if length file == 0 then data_after unit at files
     else replicate (round_up unit at - at) 0 ++ (file ++ data_after unit (round_up unit at + length file) files)
 
--- data cut into n blocks of this size; what the data lacks at the end is filled with zeros
+-- data cut into n blocks of this size; if the data is too short, zeros follow it
 unfoldable pub cut_blocks : ℕ → ℕ → Shard → List Shard
 cut_blocks size zero bytes = []
 cut_blocks size (suc n) bytes = take size (bytes ++ replicate size 0) ∷ cut_blocks size n (drop size bytes)

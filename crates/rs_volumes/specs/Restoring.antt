@@ -28,7 +28,7 @@ use Rattle.rs_volumes.specs.Failing.{FailsToRead, FailsToWrite}
 abbrev pub HasDigest : List ℕ → ℕ → Shard → Type 0
 HasDigest digests i block = between (32 * i) (32 * i + 32) digests ≡ sha256 block
 
--- each wanted block was written, and what was written has the digest of the block
+-- each requested block was written, and what was written has the digest of the block
 pub record AreRestored (wanted : List Bool) (digests : List ℕ) (before after : Shards) : Type 0 where
   pub each : (i : ℕ) → i < length wanted → slice_index_or wanted i false ≡ true
       → (block : Shard) × HasDigest digests i block × (before i ≡ Some [] → after i ≡ Some block)
@@ -48,7 +48,7 @@ pub record ReadsSet (shape : Shape) (plan : Plan) (known : Shards) (originals re
   pub originals_known : AreKnown known 0 originals plan.originals.items
   pub recovery_known : AreKnown known shape.original_count recovery plan.recovery.items
 
--- each wanted block that is read, or can be restored since recovery blocks are read, was written as it was
+-- each requested block that is read, or can be restored since recovery blocks are read, was written as it was
 pub record AreOriginals (plan : Plan) (originals : List Shard) (before after : Shards) : Type 0 where
   pub each : (i : ℕ) → slice_index_or plan.wanted.items i false ≡ true
       → (list_any (nat_eq i) plan.originals.items ≡ true) ⊎ (0 < length plan.recovery.items)
@@ -78,11 +78,11 @@ unfoldable pub piece_of : ℕ → Items → Shard
 piece_of i [] = []
 piece_of i (item ∷ items) = (if i == item.0 then item.1 else []) ++ piece_of i items
 
--- `held i` was written of block i before, and `after i` afterwards: each wanted block got this piece
+-- `held i` was written of block i before, and `after i` afterwards: each requested block got this piece
 abbrev pub Gets : List Bool → (ℕ → Shard) → (ℕ → Shard) → (ℕ → Shard) → Type 0
 Gets wanted piece held after = (i : ℕ) → slice_index_or wanted i false ≡ true → after i ≡ held i ++ piece i
 
--- if the pieces that were read are pieces of a set, each wanted block that was read or can be restored got its piece
+-- if the pieces that were read are pieces of a set, each requested block that was read or can be restored got its piece
 abbrev pub PutsBack : Shape → List Bool → Items → Items → (ℕ → Shard) → (ℕ → Shard) → Type 0
 PutsBack shape wanted read received held after =
     (size : ℕ) (message all : List Shard) → AreShards shape.original_count size message
@@ -155,7 +155,7 @@ NumbersFail may_fail first numbers end known (errors.Missing n) =
 NumbersFail may_fail first numbers end known (errors.NotFound i) = ⊥
 NumbersFail may_fail first numbers end known (errors.Digest i) = ⊥
 
--- a piece of each wanted block was not written because of this error
+-- a piece of each requested block was not written because of this error
 abbrev pub StripFails : Shape → List Bool → Items → Items → (Option Shard → ℕ → Error → Type 0) → Shards
     → CodingError → Type 0
 StripFails shape wanted read received writes before errors.Memory = Unit {0}
@@ -169,7 +169,7 @@ StripFails shape wanted read received writes before (errors.Missing n) = ⊥
 StripFails shape wanted read received writes before (errors.NotFound i) = ⊥
 StripFails shape wanted read received writes before (errors.Digest i) = ⊥
 
--- the hasher of a wanted block does not give its digest
+-- the hasher of a requested block does not give its digest
 abbrev pub DigestFails : List Bool → List ℕ → List Sha256 → CodingError → Type 0
 DigestFails wanted digests hashers errors.Memory = ⊥
 DigestFails wanted digests hashers (errors.Read i e) = ⊥

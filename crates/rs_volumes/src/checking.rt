@@ -19,7 +19,7 @@ pub const UNIT: u64 = 64;
 /// The data of a set has fewer bytes than this.
 pub const LIMIT: u64 = 1 << 62;
 
-/// Returns the number of blocks of `size` bytes. A last block that is not full counts.
+/// Returns how many blocks of `block_bytes` bytes are needed for `size` bytes. A last block that is not full counts.
 ///
 /// # Examples
 ///
@@ -84,8 +84,8 @@ pub fn round_up(unit: u64, at: u64) -> u64
     block_count(unit, at) * unit
 }
 
-/// Returns the end in the data of a file with `size` bytes, if the end of the file before is `at`. Returns `None` if
-/// the end is 2^62 or more.
+/// Returns the end in the data of a file with `size` bytes, if the file before it ends at `at`. Returns `None` if the
+/// end is 2^62 or more.
 #[tactic(auto, using(crate::proofs::DataLemmas::ends_of_files))]
 pub fn end_after(unit: u64, at: u64, size: u64) -> Option<u64>
     requires some { 0 < unit }
@@ -105,7 +105,7 @@ pub fn end_after(unit: u64, at: u64, size: u64) -> Option<u64>
 }
 
 /// Returns the number of bytes of the data of entries, if each file begins at a multiple of `unit`. Returns `None` if
-/// they are 2^62 or more.
+/// this number is 2^62 or more.
 ///
 /// # Examples
 ///

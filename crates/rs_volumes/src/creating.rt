@@ -30,8 +30,8 @@ pub struct Shape {
 pub struct Work<'a> {
     /// The number of bytes of each block that are coded at a time.
     pub piece_bytes: usize,
-    /// For each original block, whether its digest is known, so that it is not computed. If the list is too short, the
-    /// digests of the other blocks are computed.
+    /// For each original block, whether its digest is known. Such a digest is not computed. If the list is too short,
+    /// the digests of the other blocks are computed.
     pub known: &'a [bool],
 }
 
@@ -87,8 +87,9 @@ pub fn create<S: BlockSource, W: BlockSink>(
     create_except(alloc, shape, work, engine, source, sink)
 }
 
-/// Does what [`create`] does, `work.piece_bytes` bytes of each block at a time, and does not compute the digests of the
-/// original blocks that `work.known` marks. Instead of each of these digests it returns the SHA-256 of no bytes.
+/// Does what [`create`] does, but does not compute the digests of the original blocks that `work.known` marks. Instead
+/// of each of these digests, the function returns the SHA-256 of no bytes. `work.piece_bytes` is the `piece_bytes` of
+/// [`create`].
 ///
 /// # Errors
 ///

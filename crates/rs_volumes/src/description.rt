@@ -57,7 +57,8 @@ pub struct Field {
 ///
 /// The bytes of the files lie one file after another in the data of the set. In version 2 each file begins at a
 /// multiple of 64 bytes, and in version 1 at a multiple of the block size. Between the files are zeros. A file without
-/// bytes takes no room. The data is cut into blocks of `block_bytes` bytes, and the last block is padded with zeros.
+/// bytes does not move the next file. The data is cut into blocks of `block_bytes` bytes, and the last block is padded
+/// with zeros.
 #[derive(Debug, Drop)]
 pub struct Description {
     /// The version of the format.

@@ -54,7 +54,7 @@ pub enum Fault {
     Order,
     /// The name of an entry is a folder of the next name.
     Inside,
-    /// The blocks are larger than the data of the files.
+    /// A block has more than 4096 bytes, and more bytes than the data of the files, rounded up to a multiple of 4096.
     LargeBlock,
     /// The number of blocks of the files is not the number of original blocks in the description.
     Blocks,

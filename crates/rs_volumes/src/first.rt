@@ -16,18 +16,18 @@ use crate::numbers::{digest_in, fixed_of, magic_of, name_of, u32_at, u64_at};
 use crate::opening::opening_of;
 use std::alloc::Global;
 
-/// The number of bytes of the head of a volume.
+/// The number of bytes of the head of a volume of version 1.
 pub const HEAD_BYTES: usize = 64;
 
-/// The first bytes of a volume.
+/// The first bytes of a head.
 pub const MAGIC: [u8; 8] = [0x89, 0x52, 0x53, 0x56, 0x0D, 0x0A, 0x1A, 0x0A];
 
-/// The head of a volume: 64 bytes, which are both its first and its last bytes.
+/// The head of a volume of version 1: 64 bytes, which are both the first and the last bytes of the volume.
 #[derive(Clone, Copy)]
 pub struct Head {
     /// The number of bytes of the description.
     pub description_bytes: u64,
-    /// The number of block records that follow the first description.
+    /// The number of block records between the two copies of the description.
     pub record_count: u64,
     /// The SHA-256 of the description.
     pub digest: [u8; 32],
@@ -192,7 +192,7 @@ fn check_files(files: &[Entry]) -> Result<(), Fault>
     Ok(())
 }
 
-// The loop counts down, so no sum can overflow.
+// Returns whether the files have `count` blocks. The loop counts down, so no sum can overflow.
 fn fills(block_bytes: u64, count: u64, files: &[Entry]) -> bool
     requires block { 0 < block_bytes }
     requires block_fits { block_bytes < 2 ^ 63 }

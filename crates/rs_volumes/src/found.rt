@@ -8,11 +8,10 @@ use crate::digest::is_digest;
 use crate::hasher::ComputedDigest;
 use std::alloc::{AllocError, Global};
 
-/// The blocks of a set that were found, with the place of each. `P` says what a place is.
+/// The blocks of a set that were found, with the place of each. `P` is the type of a place.
 ///
-/// A block that is not found is noted as found only by [`FoundBlocks::note`] and [`FoundBlocks::note_equal`], which
-/// compare digests. So each block that was found has its digest: the bytes that were read had the SHA-256 that the
-/// description of the set says.
+/// Only [`FoundBlocks::note`] and [`FoundBlocks::note_equal`] note a block as found, and both compare digests. So each
+/// block that was found has its digest: the bytes that were read have the SHA-256 that the description of the set says.
 #[derive(Drop)]
 pub struct FoundBlocks<P> {
     /// The digests of the blocks of the set, 32 bytes each.

@@ -9,7 +9,7 @@ ghost use Rattle.rs_volumes.specs.Hashing.{AreHashed, joined, emptied, empty_blo
 use sha2::{Digest, Sha256};
 use std::alloc::{AllocError, Global};
 
-/// Makes hashers for `count` blocks. No byte of a block has been added yet.
+/// Returns new hashers for `count` blocks, which have taken no bytes.
 ///
 /// # Errors
 ///
@@ -25,7 +25,7 @@ pub fn new_hashers(alloc: Global, count: usize) -> Result<Vec<Sha256>, AllocErro
 }
 
 /// Adds the next piece of each block to the hasher of this block. Nothing is added for the blocks that `marks` marks.
-/// If the list is too short, the other blocks are not marked.
+/// If `marks` is too short, the other blocks are not marked.
 pub fn absorb(hashers: &mut Vec<Sha256>, marks: &[bool], pieces: &[Vec<u8>])
     requires { length hashers.old.items ≡ length pieces.now }
     ensures hashed { (blocks : List Shard) → AreHashed hashers.old.items blocks

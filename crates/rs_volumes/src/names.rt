@@ -2,7 +2,8 @@
 ghost use Rattle.std.specs.Prelude.{◌≡◌, [], false};
 ghost use Rattle.rs_volumes.specs.Names.{is_part, has_parts, rank, is_before, is_folder_of};
 
-// The other parts could lead out of the folder into which files are restored.
+// Returns whether a part of a name is allowed: it is not empty, not `.` and not `..`. These three could lead out of the
+// folder into which files are restored.
 #[tactic(auto, unfolding(crate::specs::Names::is_part))]
 fn is_part(part: &[u8]) -> bool
     ensures { result ≡ is_part part.now }
@@ -30,7 +31,8 @@ pub fn has_parts(name: &[u8]) -> bool
     is_part(&name[start..])
 }
 
-// `/` is the smallest byte, so the entries of a folder come right after the folder.
+// Returns the place of a byte in the order of bytes. `/` is the smallest byte, so the names in a folder come directly
+// after the name of the folder.
 #[tactic(auto, unfolding(crate::specs::Names::rank))]
 fn rank(byte: u8) -> u16
     ensures { result ≡ rank byte }

@@ -14,13 +14,13 @@ use std::alloc::{AllocError, Global};
 /// What was written of each block.
 #[derive(Drop)]
 pub struct Outputs {
-    /// The number of bytes.
+    /// For each block, the number of bytes that were written.
     pub lengths: Vec<usize>,
-    /// A hasher that took these bytes.
+    /// For each block, a hasher that took these bytes.
     pub hashers: Vec<Sha256>,
 }
 
-/// Returns the outputs of `count` blocks. No byte of a block has been written yet.
+/// Returns the outputs of `count` blocks of which no byte was written.
 ///
 /// # Errors
 ///

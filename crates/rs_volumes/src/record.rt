@@ -12,7 +12,7 @@ use std::alloc::{AllocError, Global};
 /// The number of bytes of the head of a record.
 pub const RECORD_HEAD_BYTES: usize = 64;
 
-/// The first bytes of a record. If a transfer changed line ends, these bytes are changed as well.
+/// The first bytes of a record. They include line ends, so a transfer that changes line ends changes them, too.
 pub const MAGIC: [u8; 8] = [0x89, 0x52, 0x53, 0x56, 0x32, 0x0D, 0x0A, 0x1A];
 
 /// The kind of a record whose body is a block.

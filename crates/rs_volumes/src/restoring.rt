@@ -34,22 +34,22 @@ pub struct Plan {
     pub originals: Vec<usize>,
     /// The recovery blocks that are read, by their numbers from 0, each once.
     pub recovery: Vec<usize>,
-    /// For each of the k original blocks, whether the block is written.
+    /// For each of the k original blocks, whether the block is requested. Only requested blocks are written.
     pub wanted: Vec<bool>,
 }
 
-// The pieces that were read. Each piece is with the number of its original block or recovery block.
+// The pieces that were read, each with the number of its original block or recovery block.
 #[derive(Drop)]
 struct Pieces {
     originals: Vec<(usize, Vec<u8>)>,
     recovery: Vec<(usize, Vec<u8>)>,
 }
 
-/// Writes the wanted original blocks into the sink. If a wanted block is not read, it is restored from the blocks that
-/// are read.
+/// Writes the requested original blocks into the sink. A requested block that is not read is restored from the blocks
+/// that are read.
 ///
 /// The function reads `piece_bytes` bytes of each block at a time. After the last piece, it compares the digest of each
-/// wanted block with the digest in `digests`.
+/// requested block with the digest in `digests`.
 ///
 /// # Errors
 ///
@@ -57,17 +57,17 @@ struct Pieces {
 ///
 /// - [`CodingError::Missing`] if the index of a recovery block does not fit into a `usize`.
 /// - [`CodingError::Read`] if the source fails.
-/// - [`CodingError::Write`] if the sink fails for a wanted block that is read.
+/// - [`CodingError::Write`] if the sink fails for a requested block that is read.
 /// - [`CodingError::Code`] if the plan has recovery blocks, and the code fails. For example, the plan has too few
 ///   blocks.
 /// - [`CodingError::Write`] if the sink fails for a restored block.
 ///
-/// After the last piece, [`CodingError::Digest`] for the first wanted block whose written bytes do not have its digest.
-/// The function also fails with this error if a wanted block is neither read nor restored.
+/// After the last piece, [`CodingError::Digest`] for the first requested block whose written bytes do not have its
+/// digest. The function also fails with this error if a requested block is neither read nor restored.
 ///
 /// [`CodingError::Memory`] if memory cannot be allocated, before and between the pieces.
 ///
-/// After an error, the sink may hold the beginnings of wanted blocks. All other blocks are as they were.
+/// After an error, the sink may hold the beginnings of requested blocks. All other blocks are as they were.
 pub fn restore<S: BlockSource, W: BlockSink>(
     alloc: Global,
     shape: Shape,
@@ -80,7 +80,8 @@ pub fn restore<S: BlockSource, W: BlockSink>(
 ) -> Result<(), CodingError>
     requires some { 0 < piece_bytes }
     requires chunks { piece_bytes % 64 ≡ 0 }
-    // Each wanted block that was written has its digest.
+    // For each requested block, there are bytes with its digest. If the sink is known to have held nothing of the
+    // block, it holds these bytes.
     ensures digests { OnOk result
         (AreRestored plan.now.wanted.items digests.now (W.written sink.old)
         (W.written sink.new)) }
@@ -160,6 +161,8 @@ pub fn restore_found<P: Copy, S: BlockSource, W: BlockSink>(
     )
 }
 
+// Returns the error for the first of these blocks that was not found, or `None` if all of them were. Block number n has
+// the index `first` + n.
 fn first_lost<P: Copy>(
     numbers: &[usize],
     first: usize,
