@@ -1,0 +1,24 @@
+use Rattle.std.proofs.Common.{ℕ, ◌∙◌, arith}
+use Rattle.std.specs.Int.Bits.{xor_zero_l}
+use Rattle.std.specs.Prelude.{slice_index}
+use Rattle.rs_field.specs.rows.Written.{held}
+use Rattle.rs_rate.specs.passes.BaseSum.{base_sum}
+use Rattle.rs_rate.specs.values.ChunkCounts.{chunk_count}
+use Rattle.reed_solomon_simd.proofs.strip_sums.make_sums.Goals as goal
+
+pub finish_sums-requires-clause-room : goal.finish_sums-requires-clause-room
+unfolding chunk_count
+finish_sums-requires-clause-room g c = omega (arith, c.requires, c.write_base_sums.ensures.length)
+
+pub returns : goal.returns
+unfolding held
+returns g c d few =
+    let sums = c.args.sums.now in
+    let f : ℕ → ℕ → ℕ = g.B.BasePieces.word sums.pieces.now in
+    record {
+      is_shard = c.finish_sums.ensures.bytes d few;
+      words = λ j inside.
+          c.finish_sums.ensures.words d j few inside
+          ∙ c.write_base_sums.ensures.words d j few inside
+          ∙ xor_zero_l (base_sum sums.base.now (f j) (slice_index sums.rows.now d));
+    }
