@@ -9,15 +9,10 @@ pub(crate) const ENCODE_STRIP_BYTES: usize = 4096;
 /// or to make syndromes, it encodes as many bytes at a time.
 pub(crate) const DECODE_STRIP_BYTES: usize = 2048;
 
-/// The number of bytes of each shard that are added to several direct sums at a time. The sums lie end to end, and this
-/// is no multiple of 4096, because processors delay a load after a store that is a multiple of 4096 bytes away.
-pub(crate) const SUM_STRIP_BYTES: usize = 3072;
+/// The number of bytes of each shard that are added to direct sums at a time. Two sums are made at a time, in two
+/// arrays of this many bytes on the stack.
+pub(crate) const SUM_STRIP_BYTES: usize = 4096;
 
-/// The number of bytes of each shard that are added to one direct sum at a time.
-pub(crate) const ONE_SUM_STRIP_BYTES: usize = 4096;
-
-/// The number of chunks of the smallest array for direct sums.
-pub(crate) const FEW_SUM_CHUNKS: usize = 8;
-
-/// The number of chunks of the array for direct sums of short shards, and for one sum of any shards.
-pub(crate) const SOME_SUM_CHUNKS: usize = 64;
+/// The number of bytes of each of the two arrays on the stack if the strip is not longer than that. To clear the longer
+/// arrays would take longer than to add.
+pub(crate) const SHORT_STRIP_BYTES: usize = 512;

@@ -1,8 +1,7 @@
-use Rattle.std.proofs.Common.{rules, ◌≡◌, length, sym, ◌∙◌, subst, arith}
+use Rattle.std.proofs.Common.{rules, ◌≡◌, sym, ◌∙◌, subst}
 use Rattle.std.specs.Prelude.{Option, Some, ◌↔◌, IsTrue}
 use Rattle.rs_field.specs.code.Column.{Shard}
 use Rattle.rs_field.specs.code.PieceStates.{state_of_pieces}
-use Rattle.rs_rate.specs.values.ChunkCounts.{chunk_count}
 use Rattle.reed_solomon_simd.specs.Base.{IsBaseSum}
 use Rattle.reed_solomon_simd.proofs.BaseSums.{sums-same}
 use Rattle.reed_solomon_simd.proofs.strip_summer.Sums.agrees_in_row.Goals as goal
@@ -17,16 +16,10 @@ returns g c =
           let one : ◌≡◌ {A = Shard} c.in-Some.piece.now shard = cc same in
           subst (λ (p : Shard). IsBaseSum c.args.self.now.base.marks.now
           (state_of_pieces c.args.start c.args.end (g.P.Pieces.received c.args.received.now)) c.args.row p)
-          (sym c.summed_piece.ensures ∙ equal.0 is ∙ one) (c.sum_rows.ensures 0 (omega arith)),
+          (sym c.summed_piece.ensures ∙ equal.0 is ∙ one) c.sum_row.ensures,
       λ agrees.
           equal.1 (c.summed_piece.ensures
           ∙ sums-same (g.P.Pieces.received c.args.received.now) ready.set_up c.args.start c.args.end ready.strip
-          marks ready.based.marked c.args.row _ c.in-Some.piece.now (c.sum_rows.ensures 0 (omega arith))
+          marks ready.based.marked c.args.row _ c.in-Some.piece.now c.sum_row.ensures
           (agrees c.in-Some.piece.now (sym c.in-Some.ensures) c.requires.outside)),
     )
-
-pub summed_piece-requires : goal.summed_piece-requires
-unfolding chunk_count
-summed_piece-requires g c =
-    let same : length c.sum_rows.new.x ≡ length c.args.x.now = search rules in
-    omega (arith, same, c.requires.room)
