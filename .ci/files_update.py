@@ -83,8 +83,8 @@ def updated():
 
 
 def updated_links():
-    """A set whose folder was given has symbolic links among its first names. `update` keeps them as links, also one that leads nowhere, and
-    follows a link that was given to `create`, as `create` does."""
+    """After `create FOLDER/.`, `update` keeps the symbolic links that are directly in the folder, including one that leads nowhere. It follows a
+    link that was itself given to `create`."""
     with Folder() as at:
         written(at)
         os.symlink("a", at("set", "link"))
