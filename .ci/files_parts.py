@@ -14,8 +14,8 @@ from files_common import PROGRAM, RANDOM, Folder, as_nobody, info, preloaded, pr
 WRITING = ": another rs_files is writing this volume, or was killed before it was whole: if none is at work, delete this file and run the command again\n"
 REPLACING = ": another rs_files is writing new volumes, or was killed before they were whole. No old one was replaced: if none is at work, delete all files NAME.rs_files.part of them, this one first\n"
 RENAMING = ": another rs_files is giving new volumes their names, or was killed then. The new volumes are whole: if none is at work, rename each NAME.rs_files.part to NAME\n"
-LEFT = ("an rs_files that was killed left this file, or another one is writing it: if none is at work, delete it. Only the parts of"
-        " new volumes of split may be needed")
+LEFT = ("an rs_files that was killed left this file, or another one is writing it: if none is at work, delete it. Only unfinished volumes"
+        " of split may be needed")
 PART = ".rs_files.part"
 
 

@@ -44,7 +44,7 @@ pub fn identity_at<R: Files>(rt: &R, path: &str) -> Option<Identity> {
         .map(|metadata| Identity::of(&metadata))
 }
 
-/// Returns the identities of the files at these paths. Paths without a file are left out.
+/// Returns the identities of the files at these paths, in increasing order. Paths without a file are left out.
 ///
 /// # Errors
 ///
@@ -60,15 +60,17 @@ pub fn identities<R: Files>(
             found.push(own)?;
         }
     }
+    found.sort()?;
     Ok(found)
 }
 
-/// Returns whether a path leads to one of the files with these identities.
+/// Returns whether a path leads to one of the files with these identities, which must be in the order of
+/// [`identities`].
 pub fn is_one_of<R: Files>(rt: &R, path: &str, identities: &[Identity]) -> bool {
     if identities.is_empty() {
         return false;
     }
-    identity_of(rt, path).is_some_and(|own| identities.contains(&own))
+    identity_of(rt, path).is_some_and(|own| identities.binary_search(&own).is_ok())
 }
 
 /// Returns the error for a file that was found or made at a path, if another file is there now.

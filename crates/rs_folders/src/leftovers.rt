@@ -8,7 +8,7 @@ use std::rt::Files;
 /// The message about an unfinished file.
 pub const LEFT_PART: &str =
     "an rs_files that was killed left this file, or another one is writing it: if none is at work, \
-     delete it. Only the parts of new volumes of split may be needed";
+     delete it. Only unfinished volumes of split may be needed";
 
 /// Prints a warning for each unfinished file that would have got one of these paths.
 ///

@@ -192,7 +192,7 @@ impl<R: Files> Part<R> {
     ///
     /// # Errors
     ///
-    /// Any error of the system. [`ErrorKind::InvalidInput`] if another file is in the place of the file.
+    /// Any error of the system. [`ErrorKind::InvalidInput`] if another file is at the path of the file.
     pub fn open(&mut self, rt: &R) -> io::Result<&mut R::File> {
         if self.handle.is_none() {
             let part = self.part.as_str();
@@ -235,7 +235,7 @@ impl<R: Files> Part<R> {
     ///
     /// In this order, fails if:
     ///
-    /// - another file is in the place of the part,
+    /// - another file is at the path of the part,
     /// - the part cannot be renamed,
     /// - another file has the final name afterwards.
     pub fn rename(&self, rt: &R, alloc: Global) -> Result<()> {
@@ -277,7 +277,7 @@ fn open_again<R: Files>(
 //
 // A file system that does not keep permission bits, such as FAT, can also give a file another number after it was
 // closed. On such a file system, the number is not compared. There, everybody who may write into a folder may also
-// write into each file in it, so nobody gains anything by putting another file in the place of the part.
+// write into each file in it, so nobody gains anything by putting another file at the path of the part.
 fn is_same(found: &Metadata, closed: &Metadata, mode: u32) -> bool {
     let keeps_bits = closed.mode() & 0o777 == mode;
     (Identity::of(found) == Identity::of(closed) || !keeps_bits)

@@ -48,8 +48,8 @@ pub struct Placing<'a, R: Files + Eprint> {
     rt: &'a R,
     alloc: Global,
     goal: Goal<'a>,
-    // The files and volumes that are read. No restored file may replace one of them. The list is empty if no file at
-    // all may be replaced.
+    // The files and volumes that are read, in order. No restored file may replace one of them. The list is empty if no
+    // file at all may be replaced.
     inputs: Vec<Identity>,
     // The folders in which entries are restored.
     folders: Folders,

@@ -13,6 +13,9 @@ use std::io;
 use std::io::{ErrorKind, Read, Seek, SeekFrom};
 use std::rt::{Clock, Files};
 
+/// The largest number of bytes that are skipped at a time if they cannot be read: the size of a sector.
+pub const SECTOR: u64 = 4096;
+
 /// Where a block was found.
 #[derive(Clone, Copy)]
 pub enum Origin {
@@ -186,6 +189,32 @@ impl<'a, R: Files + Clock + Eprint> BlockSource for FileBlocks<'a, R> {
 pub fn read_at<F: Read + Seek>(file: &mut F, offset: u64, bytes: &mut [u8]) -> io::Result<()> {
     file.seek(SeekFrom::Start(offset))?;
     file.read_exact(bytes)
+}
+
+/// Fills `bytes` with the bytes of a file from byte `offset` of the file on, until the file ends or a read fails.
+/// Returns the number of bytes that were read before that, and the error.
+pub fn read_some<F: Read + Seek>(
+    file: &mut F,
+    offset: u64,
+    bytes: &mut [u8],
+) -> (usize, Option<io::Error>) {
+    if let Err(error) = file.seek(SeekFrom::Start(offset)) {
+        return (0, Some(error));
+    }
+    let mut filled = 0usize;
+    for _ in 0..u64::MAX {
+        let left = bytes.get_mut(filled..).unwrap_or(&mut []);
+        if left.is_empty() {
+            break;
+        }
+        match file.read(left) {
+            Ok(0) => break,
+            Ok(count) => filled = filled.saturating_add(count),
+            Err(error) if error.kind() == ErrorKind::Interrupted => {}
+            Err(error) => return (filled, Some(error)),
+        }
+    }
+    (filled, None)
 }
 
 /// Returns the failure for an error of coding. `read` is the path of the file that could not be read, and `written` the

@@ -80,8 +80,8 @@ fn folder_of(path: &str) -> &str {
 }
 
 /// Finds all regular files, symbolic links and empty folders at the paths and below them, in order of their names. If
-/// one of the paths is itself a symbolic link, the function follows it, unless `kept` marks it: then the link is an entry
-/// of the set. A path after the last mark has no mark.
+/// one of the paths is itself a symbolic link, the function follows it, unless `kept` marks it: then the link is an
+/// entry of the set. A path after the last mark has no mark.
 ///
 /// The function leaves out:
 ///
@@ -107,21 +107,13 @@ pub fn find<R: Files + Eprint + Alloc + Clone + Drop>(
         return Err(Failure::of("no file is given"));
     };
     let folder = folder_of(trimmed(first.as_str()));
-    let mut walk = FolderWalk {
-        rt,
-        alloc,
-        written: identities(rt, alloc, outputs)?,
-        waiting: Vec::new(alloc),
-        found: Vec::new(alloc),
-        unreadable: Vec::new(alloc),
-        left_out: Vec::new(alloc),
-    };
+    let mut walk = FolderWalk::new(rt, alloc, outputs)?;
     for (index, path) in paths.iter().enumerate() {
         let is_followed = !kept.get(index).copied().unwrap_or(false);
         walk.add_path(folder, trimmed(path.as_str()), is_followed)?;
     }
     let FolderWalk {
-        mut found,
+        found,
         unreadable,
         left_out,
         ..
@@ -129,14 +121,7 @@ pub fn find<R: Files + Eprint + Alloc + Clone + Drop>(
     if found.is_empty() {
         return Err(Failure::at(alloc, first.as_str(), "there is nothing to protect"));
     }
-    found.sort_by(|one, other| order_of(one.entry.name.as_slice(), other.entry.name.as_slice()))?;
-    check_apart(alloc, found.as_slice())?;
-    let mut entries = Vec::new(alloc);
-    let mut linked = Vec::new(alloc);
-    for FoundEntry { entry, is_linked } in found {
-        entries.push(entry)?;
-        linked.push(is_linked)?;
-    }
+    let (entries, linked) = in_order(alloc, found)?;
     Ok(Found {
         folder: String::from_str(alloc, folder_to_open(folder))?,
         entries,
@@ -144,6 +129,19 @@ pub fn find<R: Files + Eprint + Alloc + Clone + Drop>(
         unreadable,
         left_out,
     })
+}
+
+// Returns the entries that were found in order of their names, and marks of those whose paths are symbolic links. Fails
+// if an entry is given twice.
+fn in_order(alloc: Global, mut found: Vec<FoundEntry>) -> Result<(Vec<Entry>, Vec<bool>)> {
+    found.sort_by(|one, other| order_of(one.entry.name.as_slice(), other.entry.name.as_slice()))?;
+    check_apart(alloc, found.as_slice())?;
+    let (mut entries, mut linked) = (Vec::new(alloc), Vec::new(alloc));
+    for FoundEntry { entry, is_linked } in found {
+        entries.push(entry)?;
+        linked.push(is_linked)?;
+    }
+    Ok((entries, linked))
 }
 
 // Returns whether two paths lead to the same folder. Also returns true if the first path leads to no folder: a later
@@ -187,7 +185,7 @@ fn left_out(alloc: Global, path: &str, reason: &str) -> Result<LeftOut> {
 struct FolderWalk<'a, R: Files + Eprint + Alloc + Clone + Drop> {
     rt: &'a R,
     alloc: Global,
-    // The old volumes, which are left out.
+    // The old volumes, which are left out, in order.
     written: Vec<Identity>,
     // The files and folders that must still be visited.
     waiting: Vec<Waiting>,
@@ -201,6 +199,19 @@ struct FolderWalk<'a, R: Files + Eprint + Alloc + Clone + Drop> {
 }
 
 impl<'a, R: Files + Eprint + Alloc + Clone + Drop> FolderWalk<'a, R> {
+    // Returns a walk that has visited nothing. `outputs` are the paths of the old volumes.
+    fn new(rt: &'a R, alloc: Global, outputs: &[String]) -> Result<FolderWalk<'a, R>> {
+        Ok(FolderWalk {
+            rt,
+            alloc,
+            written: identities(rt, alloc, outputs)?,
+            waiting: Vec::new(alloc),
+            found: Vec::new(alloc),
+            unreadable: Vec::new(alloc),
+            left_out: Vec::new(alloc),
+        })
+    }
+
     // Adds the entries at a path and below it. Fails if the path is not in `folder`, or is that of an old volume.
     fn add_path(&mut self, folder: &str, path: &str, is_followed: bool) -> Result<()> {
         if !is_same_folder(self.rt, folder_of(path), folder) {
