@@ -43,7 +43,7 @@ def closed_streams():
 
 def old_volumes():
     """If a new volume cannot be synced, or the first one cannot get its name, `split --force` replaces no old volume. If a later one
-    cannot get its name, the others do."""
+    cannot get its name, the others do. If several cannot, each of them is named."""
     with Folder() as at:
         write(at("set", "a"), RANDOM.randbytes(50_000))
         split = ("split", at("set"), "-n", "3", "-o", at("v"), "-q")
@@ -64,6 +64,11 @@ def old_volumes():
         run("restore", at("v", "volume0001.rsv"), at("v", "volume0003.rsv"), "--to", at("new"), "-q")
         if tree(at("new", "set")) != tree(at("set")):
             wrong("the volumes that got their names do not restore the files")
+        # Each volume that does not get its name is named, in order.
+        text = run("split", at("set"), "-n", "12", "--lose", "3", "-o", at("w"), "-q", status=4, env=preloaded("fail_calls", FAIL_RENAME="2.rsv.rs_files.part"))
+        wanted = "".join(f"rs_files: {at('w', name)}: Input/output error (os error 5)\n" for name in ("volume0002.rsv", "volume0012.rsv"))
+        if text != wanted or len(os.listdir(at("w"))) != 10:
+            wrong(f"split without the new names of two volumes: {text}{sorted(os.listdir(at('w')))}")
 
 
 def killed_between():

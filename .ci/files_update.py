@@ -1,8 +1,10 @@
 """Tests of volumes that `rs_files` makes again after files were changed, and of damaged volumes that `repair` writes again. A file whose
 bytes changed while its length and its times did not is rotten: no new volume may protect its wrong bytes."""
+import hashlib
 import json
 import os
 import shutil
+import struct
 
 from files_common import RANDOM, Folder, info, preloaded, printed, read, run, spans, tree, write, wrong
 from files_writer import TEXT, Item, Made
@@ -629,6 +631,57 @@ def foreign_bytes():
             run("verify", at("set.rsv"), "-q")
 
 
+def made_record(volume, kind, index, body):
+    """Returns a record of the set of a volume."""
+    head = volume[128:136] + struct.pack("<IIQ", kind, index, len(body)) + volume[152:184]
+    return head + hashlib.sha256(head).digest()[:8] + body
+
+
+def extra_records():
+    """A volume that has a record twice, or a block of another volume, is damaged, and `repair` writes it again. A part of the description that
+    a volume has too often does not make up for a missing one. A record of a kind that the program does not know is no damage."""
+    with Folder() as at:
+        for number in range(150):
+            write(at("set", f"file {number}"), RANDOM.randbytes(60))
+        run("create", at("set"), "-o", at("set.rsv"), "--block", "512", "-r", "8", "-q")
+        volume = read(at("set.rsv"))
+        blocks, parts = ([volume[start:end] for kind, _, start, end in spans(volume) if kind == number] for number in (1, 2))
+        front, original = 128 + len(parts[0]), made_record(volume, 1, 0, read(at("set", "file 0")) + bytes(452))
+        later = [made_record(volume, 77 + i, 5, RANDOM.randbytes(200)) for i in range(3)]
+        if len(parts[1]) != len(parts[0]) or parts[1] == parts[0]:
+            wrong("the description of this test has too few parts")
+        both = volume.replace(blocks[1], blocks[1] + later[1], 1)
+        cases = [("a block twice", volume + blocks[2], "outside of its blocks"), ("a block twice in a row", volume.replace(blocks[0], 2 * blocks[0], 1), "outside of its blocks"),
+                 ("a part once more", volume + parts[0], "outside of its blocks"), ("an original block", volume + original, "outside of its blocks"),
+                 ("a part instead of another", volume[:front] + parts[0] + volume[front + len(parts[1]):], "1 damaged or missing part of its description"),
+                 ("a block twice and one less", volume.replace(blocks[0], blocks[1], 1), "1 damaged or missing block"),
+                 ("a later record and a damaged block", damaged(both, both.index(blocks[0]) + 100), "1 damaged or missing block")]
+        for what, bad, text in cases:
+            write(at("set.rsv"), bad)
+            out = run("verify", at("set.rsv"), status=1)
+            if f"{at('set.rsv')}: the volume " not in out or text not in out or "repair writes damaged volumes again" not in out:
+                wrong(f"verify of a volume with {what} says {out!r}")
+            if f"written again: {at('set.rsv')}\n" not in run("repair", at("set.rsv")) or (read(at("set.rsv")), read(at("set.rsv.damaged"))) != (volume, bad):
+                wrong(f"repair of a volume with {what}")
+            os.remove(at("set.rsv.damaged"))
+        for what, other in (("in front", volume[:128] + later[0] + volume[128:]), ("at the end", volume + later[0]), ("in the middle", both),
+                            ("everywhere", both[:128] + later[0] + both[128:] + later[2])):
+            write(at("set.rsv"), other)
+            if json.loads(run("verify", at("set.rsv"), "--json"))["volumes"][0]["state"] != "whole":
+                wrong(f"a record of an unknown kind {what} of a volume is damage")
+        run("split", at("set"), "-n", "3", "-o", at("v"), "--block", "512", "-q")
+        paths = [at("v", name) for name in sorted(os.listdir(at("v")))]
+        one, other = read(paths[0]), read(paths[1])
+        start, end = next((start, end) for kind, _, start, end in spans(other) if kind == 1)
+        write(paths[0], one + other[start:end])
+        found = json.loads(run("verify", *paths, "--json", status=1))
+        if [volume["state"] for volume in found["volumes"]] != ["damaged", "whole", "whole"]:
+            wrong(f"verify of a volume with a block of another one: {found}")
+        run("repair", *paths, "-q")
+        if read(paths[0]) != one:
+            wrong("repair of a volume with a block of another one")
+
+
 def failed_rewrites():
     """If a damaged volume cannot be written again, `repair` leaves nothing behind: no part, and no second name of the damaged volume. Volumes
     that have their names stay, and are named."""
@@ -689,4 +742,4 @@ def unwritten_volumes():
 
 
 TESTS = (updated, updated_links, shares, rotten, rotten_moved, rotten_copies, moved_whole, moved_first, taken_over, kept_blocks, accepted_names, nothing_there, edited_and_rotten, rotten_lengths,
-         refused_updates, repaired_volumes, kept_volumes, repaired_parts, parts_alone, foreign_bytes, failed_rewrites, unwritten_volumes)
+         refused_updates, repaired_volumes, kept_volumes, repaired_parts, parts_alone, foreign_bytes, extra_records, failed_rewrites, unwritten_volumes)

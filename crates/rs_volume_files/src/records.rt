@@ -1,15 +1,12 @@
 //! A walk over the records of a volume of version 2.
-use rs_folders::source::read_at;
+use rs_folders::source::{SECTOR, read_at, read_some};
 use rs_volumes::record::{MAGIC, RECORD_HEAD_BYTES, RecordHead, read_record_head};
 use std::alloc::{AllocError, Global};
 use std::io;
-use std::io::{ErrorKind, Read, Seek, SeekFrom};
+use std::io::{ErrorKind, Read, Seek};
 
 /// The number of bytes that are searched at a time.
 const WINDOW: usize = 1 << 18;
-
-/// The largest number of bytes that are skipped at a time if they cannot be read: the size of a sector.
-const SECTOR: u64 = 4096;
 
 /// A record of a volume.
 #[derive(Clone, Copy)]
@@ -65,24 +62,6 @@ fn find_head(bytes: &[u8]) -> Option<(usize, RecordHead)> {
         }
     }
     None
-}
-
-// Reads bytes until the buffer is full, the file ends, or a read fails. Returns the number of bytes, and the error.
-fn read_some<F: Read>(file: &mut F, buffer: &mut [u8]) -> (usize, Option<io::Error>) {
-    let mut filled = 0usize;
-    for _ in 0..u64::MAX {
-        let left = buffer.get_mut(filled..).unwrap_or(&mut []);
-        if left.is_empty() {
-            break;
-        }
-        match file.read(left) {
-            Ok(0) => break,
-            Ok(count) => filled = filled.saturating_add(count),
-            Err(error) if error.kind() == ErrorKind::Interrupted => {}
-            Err(error) => return (filled, Some(error)),
-        }
-    }
-    (filled, None)
 }
 
 impl<F: Read + Seek + Drop> Walk<F> {
@@ -243,10 +222,7 @@ impl<F: Read + Seek + Drop> Walk<F> {
         if self.window.resize(count, 0).is_err() {
             return;
         }
-        let (filled, error) = match self.file.seek(SeekFrom::Start(self.position)) {
-            Ok(_) => read_some(&mut self.file, &mut self.window),
-            Err(error) => (0, Some(error)),
-        };
+        let (filled, error) = read_some(&mut self.file, self.position, &mut self.window);
         self.window.truncate(filled);
         if let Some(error) = error {
             self.note(error);

@@ -10,7 +10,7 @@ use rs_folders::runs::{is_padded, places_in};
 use rs_folders::source::{Origin, read_at};
 use rs_volumes::hasher::{ByteHasher, ComputedDigest};
 use rs_volumes::placement::Place;
-use rs_volumes::record::{BLOCK, PART};
+use rs_volumes::record::{BLOCK, PART, RECORD_HEAD_BYTES};
 use std::alloc::Global;
 use std::io;
 use std::io::{Read, Seek, SeekFrom};
@@ -23,8 +23,9 @@ pub struct Damage {
     pub blocks: u64,
     /// The number of parts of the description that are damaged or missing, counted in all copies.
     pub parts: u64,
-    /// Whether something else is wrong. In version 2, this is the line of text, a record of another set, or bytes
-    /// outside of all records. In version 1, it is a head, a copy of the description, or the length.
+    /// Whether something else is wrong. In version 2, this is the line of text, a record of another set, a record that
+    /// the volume has more than once, a block of another volume of the set, or bytes outside of all records. In version
+    /// 1, it is a head, a copy of the description, or the length.
     pub has_more: bool,
     /// The number of the volume among the volumes of its set, from 0. It is `None` in version 1, and if it is not
     /// known.
@@ -63,13 +64,15 @@ struct Found {
     number: Option<u64>,
     // For each block of the set, whether the volume has it.
     blocks: Vec<bool>,
-    // The number of parts that are right.
-    parts: u64,
+    // For each part of the description, the number of its records that are right.
+    parts: Vec<u64>,
     // The number of block records whose bodies are wrong.
     wrong_blocks: u64,
     // The number of records of parts whose bodies are wrong.
     wrong_parts: u64,
-    // Whether the volume has records of other sets.
+    // The number of bytes of the records of kinds that this program does not know.
+    unknown: u64,
+    // Whether the volume has records of other sets, or bytes outside of all records, or another line of text.
     has_others: bool,
     // Memory for the body of a part.
     body: Vec<u8>,
@@ -134,9 +137,10 @@ impl<'a, R: Files + Clock + Eprint> VolumeScan<'a, R> {
             holder,
             number: None,
             blocks: vec![in self.alloc; false; self.scanner.block_count()]?,
-            parts: 0,
+            parts: vec![in self.alloc; 0; self.layout(0).parts() as usize]?,
             wrong_blocks: 0,
             wrong_parts: 0,
+            unknown: 0,
             has_others: false,
             body: Vec::new(self.alloc),
         };
@@ -155,10 +159,10 @@ impl<'a, R: Files + Clock + Eprint> VolumeScan<'a, R> {
         if let Some(error) = walk.error.take() {
             self.scanner.note_error(error);
         }
-        let has_line = self.has_line(&mut walk)?;
-        let mut damage = self.damage_of(&found);
-        damage.has_more = found.has_others || !has_line || walk.gap != LINE_BYTES as u64;
-        Ok(damage)
+        if !self.has_line(&mut walk)? || walk.gap != LINE_BYTES as u64 {
+            found.has_others = true;
+        }
+        Ok(self.damage_of(&found, walk.size))
     }
 
     fn has_line<F: Read + Seek + Drop>(&self, walk: &mut Walk<F>) -> Result<bool> {
@@ -178,12 +182,30 @@ impl<'a, R: Files + Clock + Eprint> VolumeScan<'a, R> {
         } else if record.head.kind == BLOCK {
             self.scan_block(walk, record, found);
         } else if record.head.kind == PART {
-            match part_in(walk, record, &mut found.body) {
-                Some(part) if part.total == self.set.description_bytes => {
-                    found.parts = found.parts.saturating_add(1);
-                }
-                _ => found.wrong_parts = found.wrong_parts.saturating_add(1),
-            }
+            self.scan_part(walk, record, found);
+        } else {
+            // A later version of the program can write records of other kinds, so these are not damage.
+            let bytes = record
+                .head
+                .body_bytes
+                .saturating_add(RECORD_HEAD_BYTES as u64);
+            found.unknown = found.unknown.saturating_add(bytes);
+        }
+    }
+
+    fn scan_part<F: Read + Seek + Drop>(
+        &mut self,
+        walk: &mut Walk<F>,
+        record: &Record,
+        found: &mut Found,
+    ) {
+        let is_right = match part_in(walk, record, &mut found.body) {
+            Some(part) => part.total == self.set.description_bytes,
+            None => false,
+        };
+        match found.parts.get_mut(record.head.index as usize) {
+            Some(count) if is_right => *count = count.saturating_add(1),
+            _ => found.wrong_parts = found.wrong_parts.saturating_add(1),
         }
     }
 
@@ -269,33 +291,57 @@ impl<'a, R: Files + Clock + Eprint> VolumeScan<'a, R> {
         Ok(Some(hasher.finish()))
     }
 
-    // Returns the damage of a volume, compared with the whole volume that this program writes.
-    fn damage_of(&self, found: &Found) -> Damage {
+    // Returns where the records are in the whole volume with this number that this program writes.
+    fn layout(&self, number: u64) -> Layout {
+        Layout {
+            blocks: self.deal().blocks_in(number),
+            block_bytes: self.set.description.block_bytes,
+            description_bytes: self.set.description_bytes,
+        }
+    }
+
+    // Returns the damage of a volume of `size` bytes, compared with the whole volume that this program writes. If it
+    // has more bytes than its records, apart from those of unknown kinds, it has a record twice, or a block of another
+    // volume.
+    fn damage_of(&self, found: &Found, size: u64) -> Damage {
         let deal = self.deal();
         // A volume without a block record counts as the last volume of the set, which has the fewest blocks.
         let number = found.number.unwrap_or(deal.volumes.saturating_sub(1));
-        let layout = Layout {
-            blocks: deal.blocks_in(number),
-            block_bytes: self.set.description.block_bytes,
-            description_bytes: self.set.description_bytes,
-        };
-        let mut blocks = 0u64;
-        for (index, here) in found.blocks.iter().enumerate() {
-            let record = deal.record_of(index as u64);
-            let is_expected = matches!(record, Some((volume, _)) if volume == number);
-            if is_expected && !*here {
-                blocks = blocks.saturating_add(1);
-            }
-        }
-        let parts = layout.copies().saturating_mul(layout.parts());
+        let layout = self.layout(number);
+        let blocks = missing_blocks(found.blocks.as_slice(), deal, number);
+        let parts = missing_parts(found.parts.as_slice(), layout.copies());
         Damage {
             blocks: blocks.max(found.wrong_blocks),
-            parts: parts.saturating_sub(found.parts).max(found.wrong_parts),
-            has_more: false,
+            parts: parts.max(found.wrong_parts),
+            has_more: found.has_others || size > layout.size().saturating_add(found.unknown),
             number: match deal.volumes {
                 1 => Some(0),
                 _ => found.number,
             },
         }
     }
+}
+
+// Returns how many blocks of the volume with this number are missing. `blocks` says for each block of the set whether
+// the volume has it.
+fn missing_blocks(blocks: &[bool], deal: Deal, number: u64) -> u64 {
+    let mut missing = 0u64;
+    for (index, here) in blocks.iter().enumerate() {
+        let record = deal.record_of(index as u64);
+        let is_expected = matches!(record, Some((volume, _)) if volume == number);
+        if is_expected && !*here {
+            missing = missing.saturating_add(1);
+        }
+    }
+    missing
+}
+
+// Returns how many parts are missing in a volume with this number of copies of the description. `parts` has the number
+// of right records of each part. A part that is there too often does not make up for another one.
+fn missing_parts(parts: &[u64], copies: u64) -> u64 {
+    let mut missing = 0u64;
+    for count in parts {
+        missing = missing.saturating_add(copies.saturating_sub(*count));
+    }
+    missing
 }

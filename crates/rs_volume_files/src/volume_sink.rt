@@ -17,6 +17,7 @@ use rs_volumes::record::{BLOCK, PART, RECORD_HEAD_BYTES, RecordHead, write_recor
 use std::alloc::{AllocError, Global};
 use std::io;
 use std::io::ErrorKind;
+use std::ops::Range;
 use std::rt::Files;
 
 /// The permission bits of a volume, before the system takes away those of the user's mask.
@@ -191,7 +192,8 @@ impl<'a, R: Files + Eprint> Volumes<'a, R> {
     /// first volume is renamed and the folder is synced before the others are renamed. So [`check_parts`] is also right
     /// about the files that are left after a loss of power. If the first volume cannot be renamed, no other volume is
     /// renamed. If a later volume cannot be renamed, the others still get their names, so that as many volumes as
-    /// possible belong together.
+    /// possible belong together. If several of these cannot be renamed, the function prints why for all of them but the
+    /// last one, and returns the last failure.
     ///
     /// # Errors
     ///
@@ -215,14 +217,24 @@ impl<'a, R: Files + Eprint> Volumes<'a, R> {
         }
         self.rename(first)?;
         self.sync_folders();
-        let mut outcome = Ok(());
-        for number in others {
-            if let Err(failure) = self.rename(number) {
-                outcome = Err(failure);
-            }
-        }
+        let outcome = self.rename_all(others);
         if has_others {
             self.sync_folders();
+        }
+        outcome
+    }
+
+    // Gives the volumes with these numbers their final names. After a failure, the function goes on with the next
+    // volume. It prints all failures but the last one, which it returns.
+    fn rename_all(&self, numbers: Range<usize>) -> Result<()> {
+        let mut outcome: Result<()> = Ok(());
+        for number in numbers {
+            if let Err(failure) = self.rename(number) {
+                if let Err(earlier) = outcome {
+                    earlier.tell(self.rt);
+                }
+                outcome = Err(failure);
+            }
         }
         outcome
     }
@@ -286,6 +298,7 @@ impl<'a, R: Files + Eprint> Volumes<'a, R> {
             part.remove(self.rt);
         }
     }
+
     /// Returns the path of the volume into which a block could not be written. The path is empty after another error.
     pub fn path_of(&self, error: &CodingError) -> &str {
         let CodingError::Write(index, _) = error else {
