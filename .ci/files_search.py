@@ -5,7 +5,7 @@ import json
 import os
 import shutil
 
-from files_common import RANDOM, Folder, printed, read, run, sparse, tree, write, wrong
+from files_common import RANDOM, Folder, preloaded, printed, read, run, sparse, tree, write, wrong
 from files_update import changes_in, damaged, rot
 from files_writer import TEXT, Item, Made, laid_out
 
@@ -514,6 +514,39 @@ def many_tries():
             wrong("the search at every byte ends before the right bytes")
 
 
+def unread_places():
+    """Bytes of a file that cannot be read do not end the search at every byte: the blocks before and after them are found, and a message
+    names the file. A file that cannot be read anywhere is left after some places, however long it is."""
+    if preloaded("change_reads") is None:
+        return
+    with Folder() as at:
+        data, block = RANDOM.randbytes(200 * 256), 256
+        write(at("set", "a"), data)
+        run("create", at("set"), "--block", str(block), "-r", "40", "-q")
+        os.remove(at("set", "a"))
+        write(at("set", "z"), b"shifted" + data)
+        verify = ("verify", at("set.rsv"), "--json")
+        told = "/set/z: warning: lost blocks are not looked for in the bytes that cannot be read: Input/output error (os error 5)\n"
+        # A sector, the first bytes, the last bytes, and two sectors with a block between them
+        for first, last in ((20480, 24576), (0, 100), (len(data) - 100, len(data) + 7), (16384, 24576)):
+            failing = preloaded("change_reads", READ_NAME="/set/z", READ_FROM=first, READ_TO=last)
+            first, last = first // 4096 * 4096, -(-last // 4096) * 4096
+            least = sum(7 + start + block > first and 7 + start < last for start in range(0, len(data), block))
+            out, error = printed(*verify, status=1, env=failing)
+            if not 0 < json.loads(out)["lost_blocks"] <= least or not error.endswith(told):
+                wrong(f"the search with bytes that cannot be read from {first} to {last}: {(out, error)}")
+            if printed(*verify, "-q", status=1, env=failing)[1]:
+                wrong("verify -q names bytes that cannot be read")
+        run("repair", at("set.rsv"), "-q", env=failing)
+        if read(at("set", "a")) != data:
+            wrong("repair with bytes that cannot be read in the file with the blocks")
+        os.remove(at("set", "a"))
+        sparse(at("set", "z"), 1 << 40)
+        failing = preloaded("change_reads", READ_NAME="/set/z", READ_FROM=0, READ_TO=1 << 50)
+        if told not in printed(*verify, status=3, env=failing, seconds=60)[1]:
+            wrong("verify does not name a file that cannot be read anywhere")
+
+
 def first_version_moved():
     """A volume of version 1 has neither digests of files nor sums: nothing is found elsewhere, and `verify` says what is missing."""
     with Folder() as at:
@@ -560,4 +593,4 @@ def first_version_updated():
         run("verify", at("set.rsv"))
 
 
-TESTS = (moved_files, moved_to_entries, renamed_set, own_folder, renamed_top, deleted_set, many_moved, announced, one_size, exchanged_files, shifted_blocks, shifted_far, overlapping_blocks, searched_folders, equal_blocks, wrong_digests, many_tries, first_version_moved, first_version_updated)
+TESTS = (moved_files, moved_to_entries, renamed_set, own_folder, renamed_top, deleted_set, many_moved, announced, one_size, exchanged_files, shifted_blocks, shifted_far, overlapping_blocks, searched_folders, equal_blocks, wrong_digests, many_tries, unread_places, first_version_moved, first_version_updated)

@@ -4,6 +4,7 @@ ghost use Rattle.rs_field.specs.code.Given.{nothing};
 use rs_folders::source::FileBlocks;
 use rs_volumes::pieces::BlockSource;
 use std::alloc::{AllocError, Global};
+use std::collections::BTreeMap;
 use std::io;
 use std::rt::{Clock, Files};
 
@@ -108,8 +109,8 @@ impl<'a, R: Files + Clock + Eprint> BlockSource for SummedBlocks<'a, R> {
 /// The sums of blocks that are looked for.
 #[derive(Drop)]
 pub struct Sums {
-    // The sums and the index of each block, in order of the sums.
-    sums: Vec<(u64, usize)>,
+    // The indexes of the blocks with the same sums, in increasing order, by these sums.
+    blocks: BTreeMap<u64, Vec<usize>>,
     // A bit for each result of `bit_of`. If the bit of some sums is not set, no block has these sums.
     filter: Vec<u8>,
 }
@@ -122,29 +123,36 @@ fn bit_of(sum: u64) -> u32 {
 }
 
 impl Sums {
-    /// Returns the sums of the blocks with these indexes. `bytes` are the sums of all original blocks as they are in
-    /// the description.
+    /// Returns the sums of the blocks with these indexes, which must be in increasing order. `bytes` are the sums of
+    /// all original blocks as they are in the description.
     ///
     /// # Errors
     ///
     /// [`AllocError`] if memory cannot be allocated.
     pub fn of(alloc: Global, bytes: &[u8], blocks: &[usize]) -> Result<Sums, AllocError> {
-        let mut sums = Vec::new(alloc);
-        let mut filter = vec![in alloc; 0u8; FILTER_BYTES]?;
+        let mut sums = Sums {
+            blocks: BTreeMap::new(alloc),
+            filter: vec![in alloc; 0u8; FILTER_BYTES]?,
+        };
         for block in blocks {
             let start = block.saturating_mul(8);
             let rest = bytes.get(start..).unwrap_or(&[]);
             if let Some(sum) = rest.first_chunk::<8>() {
-                let sum = u64::from_le_bytes(*sum);
-                let bit = bit_of(sum);
-                if let Some(bits) = filter.get_mut((bit >> 3) as usize) {
-                    *bits |= 1 << (bit & 7);
-                }
-                sums.push((sum, *block))?;
+                sums.add(alloc, u64::from_le_bytes(*sum), *block)?;
             }
         }
-        sums.sort()?;
-        Ok(Sums { sums, filter })
+        Ok(sums)
+    }
+
+    fn add(&mut self, alloc: Global, sum: u64, block: usize) -> Result<(), AllocError> {
+        let bit = bit_of(sum);
+        if let Some(bits) = self.filter.get_mut((bit >> 3) as usize) {
+            *bits |= 1 << (bit & 7);
+        }
+        let mut blocks = self.blocks.remove(&sum).unwrap_or(Vec::new(alloc));
+        blocks.push(block)?;
+        self.blocks.insert(sum, blocks)?;
+        Ok(())
     }
 
     /// Returns whether a block with these sums is looked for.
@@ -154,27 +162,37 @@ impl Sums {
         (bits >> (bit & 7)) & 1 == 1 && !self.blocks_of(sum).is_empty()
     }
 
-    /// Returns the blocks with these sums that are looked for, each as its sums and its index.
-    pub fn blocks_of(&self, sum: &RollingSum) -> &[(u64, usize)] {
-        let value = sum.value();
-        let from = self.sums.partition_point(|(own, _)| *own < value);
-        let to = self.sums.partition_point(|(own, _)| *own <= value);
-        self.sums.get(from..to).unwrap_or(&[])
+    /// Returns the indexes of the blocks with these sums that are looked for, in increasing order.
+    pub fn blocks_of(&self, sum: &RollingSum) -> &[usize] {
+        match self.blocks.get(&sum.value()) {
+            Some(blocks) => blocks.as_slice(),
+            None => &[],
+        }
     }
 
-    /// Removes blocks that were found, because they need not be looked for again.
+    /// Removes blocks with these sums that were found, because they need not be looked for again. Their indexes must be
+    /// in increasing order.
     ///
     /// # Errors
     ///
     /// [`AllocError`] if memory cannot be allocated.
-    pub fn take(&mut self, alloc: Global, blocks: &[usize]) -> Result<(), AllocError> {
+    pub fn take(
+        &mut self,
+        alloc: Global,
+        sum: &RollingSum,
+        found: &[usize],
+    ) -> Result<(), AllocError> {
         let mut left = Vec::new(alloc);
-        for (sum, block) in &self.sums {
-            if !blocks.contains(block) {
-                left.push((*sum, *block))?;
+        for block in self.blocks_of(sum) {
+            if found.binary_search(block).is_err() {
+                left.push(*block)?;
             }
         }
-        self.sums = left;
+        if left.is_empty() {
+            self.blocks.remove(&sum.value());
+        } else {
+            self.blocks.insert(sum.value(), left)?;
+        }
         Ok(())
     }
 

@@ -65,18 +65,8 @@ pub fn scan_opened<R: Files + Clock + Eprint>(
     }
     let total = bytes_to_read(rt, alloc, &volumes, folder.is_some())?;
     let mut scanner = Scanner::new(alloc, description, Progress::new(rt, shown, total))?;
-    let entries = description.entries.as_slice();
     let places = places_of(alloc, description)?;
-    let (mut paths, mut states) = (Vec::new(alloc), Vec::new(alloc));
-    if let Some(folder) = folder {
-        paths = paths_of(alloc, folder, entries)?;
-        states = scan_entries(rt, alloc, description, &paths, &places, &mut scanner)?;
-    } else {
-        for _ in entries {
-            paths.push(String::new(alloc))?;
-            states.push(State::Missing)?;
-        }
-    }
+    let (mut paths, states) = scan_files(rt, alloc, description, &places, folder, &mut scanner)?;
     let Volumes {
         set,
         read,
@@ -101,6 +91,29 @@ pub fn scan_opened<R: Files + Clock + Eprint>(
         volumes,
         unreadable,
     })
+}
+
+// Looks for blocks in the files of a set, and returns the path and the state of each entry. Without a folder, nothing
+// is looked for: the paths are empty, and all entries are missing.
+fn scan_files<R: Files + Clock + Eprint>(
+    rt: &R,
+    alloc: Global,
+    description: &Description,
+    places: &[Place],
+    folder: Option<&str>,
+    scanner: &mut Scanner,
+) -> Result<(Vec<String>, Vec<State>)> {
+    let entries = description.entries.as_slice();
+    if let Some(folder) = folder {
+        let paths = paths_of(alloc, folder, entries)?;
+        let states = scan_entries(rt, alloc, description, &paths, places, scanner)?;
+        return Ok((paths, states));
+    }
+    let mut paths = Vec::new(alloc);
+    for _ in entries {
+        paths.push(String::new(alloc))?;
+    }
+    Ok((paths, vec![in alloc; State::Missing; entries.len()]?))
 }
 
 // Returns how many bytes a scan reads at most. It reads files only if there is a folder in which they are looked for.

@@ -1,13 +1,13 @@
 //! Looks for lost files and blocks in other files: in files that were renamed or moved, and at any byte of a file.
 use crate::rolling::{RollingSum, Sums};
 use crate::scanning::Scan;
-use rs_folders::failure::Result;
+use rs_folders::failure::{Result, warn};
 use rs_folders::hashing::{CHUNK, hash_at, hash_path};
 use rs_folders::identity::{Identity, identity_of, open_regular};
 use rs_folders::names::{Shown, folder_to_open, path_in};
 use rs_folders::progress::Progress;
 use rs_folders::runs::places_in;
-use rs_folders::source::{FileBlocks, Origin, read_at};
+use rs_folders::source::{FileBlocks, Origin, SECTOR, read_at, read_some};
 use rs_volume_files::scanner::State;
 use rs_volumes::description::Kind;
 use rs_volumes::hasher::{ByteHasher, ComputedDigest};
@@ -25,6 +25,10 @@ const TRIES: u64 = 1000;
 
 /// The blocks that [`TRIES`] counts may in any case have this many times the bytes of the file.
 const TRIED_TIMES: u64 = 8;
+
+/// The search at every byte leaves a file after this many places that cannot be read. Each of them costs a read that
+/// fails, and a disk that fails can take seconds for it.
+const MOST_UNREAD: u64 = 1000;
 
 /// The number of files from which on a search prints a message.
 const MANY_FILES: usize = 10_000;
@@ -62,7 +66,7 @@ struct Search<'a, R: Runtime> {
     hashed: BTreeMap<[u8; 32], usize>,
     // For each size, the index of the first candidate of this size that was not tried. Those before it were.
     next: BTreeMap<u64, usize>,
-    // Whether a long search is announced.
+    // Whether a long search is announced, and bytes are named that cannot be read.
     is_told: bool,
     found: Elsewhere,
 }
@@ -78,7 +82,7 @@ struct Search<'a, R: Runtime> {
 ///   whole files of the set.
 ///
 /// A block counts as found only if it has its digest. If `is_told` is true, the function prints a message before a long
-/// search.
+/// search, and a warning for each file of which the search at every byte leaves out bytes that cannot be read.
 ///
 /// # Errors
 ///
@@ -452,44 +456,61 @@ impl<'a, R: Runtime> Search<'a, R> {
         total
     }
 
-    // Looks for lost blocks at every byte of a candidate. After a block was found, the search goes on at the next byte,
-    // and not after the block: in data with many zeros, or if files are equal, blocks can overlap. A block that was
-    // found is not looked for again, so a run of zeros is hashed once.
+    // Looks for lost blocks at every byte of a candidate that can be read.
     fn find_in(&mut self, index: usize, sums: &mut Sums) -> Result<()> {
         let Some(candidate) = self.candidates.get(index) else {
             return Ok(());
         };
-        let (size, holder) = (candidate.size, self.scan.paths.len());
-        let Ok(file) = open_regular(self.rt, candidate.path.as_str(), false) else {
+        let (size, path) = (candidate.size, candidate.path.clone()?);
+        let Ok(file) = open_regular(self.rt, path.as_str(), false) else {
             return Ok(());
         };
         let block_bytes = self.scan.description().block_bytes;
         let mut windows = Windows::new(self.alloc, file, size, block_bytes)?;
-        let mut tries = TRIES.max(size.saturating_mul(TRIED_TIMES) / block_bytes.max(1));
+        let has_found = self.find_blocks(&mut windows, sums)?;
+        if let Some(error) = windows.error.take() {
+            if self.is_told {
+                let reason =
+                    "warning: lost blocks are not looked for in the bytes that cannot be read";
+                warn(self.rt, path.as_str(), format_args!("{reason}: {error}"));
+            }
+        }
+        if has_found {
+            self.scan.paths.push(path)?;
+        }
+        Ok(())
+    }
+
+    // Looks for lost blocks at every byte of a file, and returns whether any was found. After a block was found, the
+    // search goes on at the next byte, and not after the block: in data with many zeros, or if files are equal, blocks
+    // can overlap. A block that was found is not looked for again, so a run of zeros is hashed once.
+    fn find_blocks<F: Read + Seek + Drop>(
+        &mut self,
+        windows: &mut Windows<F>,
+        sums: &mut Sums,
+    ) -> Result<bool, AllocError> {
+        let holder = self.scan.paths.len();
+        let most = windows.size.saturating_mul(TRIED_TIMES) / windows.length.max(1);
+        let mut tries = TRIES.max(most);
         let mut has_found = false;
         for _ in 0..u64::MAX {
             if tries == 0 || !windows.find(sums) {
                 break;
             }
-            let blocks = self.blocks_in(&mut windows, sums, holder)?;
+            let blocks = self.blocks_in(windows, sums, holder)?;
             if blocks.is_empty() {
                 tries -= 1;
             } else {
                 has_found = true;
-                sums.take(self.alloc, blocks.as_slice())?;
+                sums.take(self.alloc, &windows.sum, blocks.as_slice())?;
             }
             windows.pass();
         }
-        if has_found {
-            if let Some(candidate) = self.candidates.get(index) {
-                self.scan.paths.push(candidate.path.clone()?)?;
-            }
-        }
-        Ok(())
+        Ok(has_found)
     }
 
-    // Returns the lost blocks that have the bytes of the window, and notes where they are. `holder` is the index that
-    // the file gets in the list of paths.
+    // Returns the lost blocks that have the bytes of the window, in increasing order, and notes where they are.
+    // `holder` is the index that the file gets in the list of paths.
     fn blocks_in<F: Read + Seek + Drop>(
         &mut self,
         windows: &mut Windows<F>,
@@ -502,7 +523,7 @@ impl<'a, R: Runtime> Search<'a, R> {
         let Ok(own) = hash_at(&mut windows.file, offset, size, &mut self.buffer) else {
             return Ok(blocks);
         };
-        for (_, block) in sums.blocks_of(&windows.sum) {
+        for block in sums.blocks_of(&windows.sum) {
             if self
                 .scan
                 .found
@@ -540,6 +561,9 @@ struct Windows<F: Drop> {
     // The sums of the window, if `is_summed` is true. Otherwise they must be computed.
     sum: RollingSum,
     is_summed: bool,
+    // The number of places that could not be read, and the first error.
+    unread: u64,
+    error: Option<io::Error>,
     // Memory for the bytes that leave the window, and for those that enter it.
     leaving: Vec<u8>,
     entering: Vec<u8>,
@@ -554,6 +578,8 @@ impl<F: Read + Seek + Drop> Windows<F> {
             at: 0,
             sum: RollingSum::new(length),
             is_summed: false,
+            unread: 0,
+            error: None,
             leaving: vec![in alloc; 0u8; CHUNK]?,
             entering: vec![in alloc; 0u8; CHUNK]?,
         })
@@ -580,62 +606,85 @@ impl<F: Read + Seek + Drop> Windows<F> {
         Ok(())
     }
 
-    // Computes the sums of the window.
-    fn add_up(&mut self) -> io::Result<()> {
+    // Computes the sums of the window. If bytes of it cannot be read, moves the window after them, and returns false.
+    fn add_up(&mut self) -> bool {
         self.sum = RollingSum::new(self.length);
-        let mut start = 0u64;
+        let end = self.at.saturating_add(self.length);
+        let mut next = self.at;
         for _ in 0..u64::MAX {
-            let buffer = &mut self.leaving;
-            let left = self.length.saturating_sub(start);
-            let count = left.min(buffer.len() as u64) as usize;
+            let count = end.saturating_sub(next).min(self.leaving.len() as u64) as usize;
             if count == 0 {
                 break;
             }
-            let bytes = &mut buffer[..count];
-            read_at(&mut self.file, self.at.saturating_add(start), bytes)?;
-            self.sum.add(bytes);
-            start = start.saturating_add(count as u64);
+            let (read, error) = read_some(&mut self.file, next, &mut self.leaving[..count]);
+            if read == 0 {
+                self.skip(next, error);
+                return false;
+            }
+            self.sum.add(self.leaving.get(..read).unwrap_or(&[]));
+            next = next.saturating_add(read as u64);
         }
         self.is_summed = true;
-        Ok(())
+        true
+    }
+
+    // Moves the window after the sector with the byte `offset`, which could not be read. If there was no error, the
+    // file ends there, and the window moves to the end.
+    fn skip(&mut self, offset: u64, error: Option<io::Error>) {
+        self.is_summed = false;
+        self.at = match error {
+            Some(_) => offset.saturating_add(SECTOR - offset % SECTOR),
+            None => self.size,
+        };
+        self.unread = self.unread.saturating_add(1);
+        if self.error.is_none() {
+            self.error = error;
+        }
     }
 
     // Moves the window to the next place at which a block with its sums is looked for. Returns false if there is none
-    // before the end of the file, or if the file cannot be read.
+    // before the end of the file, or if too many places cannot be read.
     fn find(&mut self, sums: &Sums) -> bool {
-        let last = match self.size.checked_sub(self.length) {
-            Some(last) if self.length > 0 && self.at <= last => last,
-            _ => return false,
-        };
-        if !self.is_summed && self.add_up().is_err() {
-            return false;
-        }
         for _ in 0..u64::MAX {
+            let last = match self.size.checked_sub(self.length) {
+                Some(last) if self.length > 0 && self.at <= last => last,
+                _ => return false,
+            };
+            if self.unread >= MOST_UNREAD {
+                return false;
+            }
+            if !self.is_summed && !self.add_up() {
+                continue;
+            }
             if sums.has(&self.sum) {
                 return true;
             }
             let left = last.saturating_sub(self.at);
-            if left == 0 || self.roll(sums, left).is_err() {
+            if left == 0 {
                 return false;
             }
+            self.roll(sums, left);
         }
         false
     }
 
-    // Moves the window by at most `left` bytes, until a block with its sums is looked for.
-    fn roll(&mut self, sums: &Sums, left: u64) -> io::Result<()> {
+    // Moves the window by at most `left` bytes, until a block with its sums is looked for. Moves it after bytes that
+    // cannot be read, if one of the next two reads gives none.
+    fn roll(&mut self, sums: &Sums, left: u64) {
         let count = self.leaving.len().min(self.entering.len());
         let count = left.min(count as u64) as usize;
-        let leaving = &mut self.leaving[..count];
-        let entering = &mut self.entering[..count];
-        read_at(&mut self.file, self.at, leaving)?;
-        read_at(
-            &mut self.file,
-            self.at.saturating_add(self.length),
-            entering,
-        )?;
+        let end = self.at.saturating_add(self.length);
+        let (first, error) = read_some(&mut self.file, self.at, &mut self.leaving[..count]);
+        if first == 0 {
+            return self.skip(self.at, error);
+        }
+        let (next, error) = read_some(&mut self.file, end, &mut self.entering[..count]);
+        if next == 0 {
+            return self.skip(end, error);
+        }
+        let leaving = self.leaving.get(..first).unwrap_or(&[]);
+        let entering = self.entering.get(..next).unwrap_or(&[]);
         let moved = sums.roll(&mut self.sum, leaving, entering);
         self.at = self.at.saturating_add(moved as u64);
-        Ok(())
     }
 }
