@@ -547,6 +547,28 @@ def unread_places():
             wrong("verify does not name a file that cannot be read anywhere")
 
 
+def first_version_spread():
+    """`update` does not replace a volume of version 1 of `split`, whether it has original blocks or only some of the recovery blocks. It does
+    replace a damaged one of `create`."""
+    with Folder() as at:
+        for sizes, recovery, count in (((1000, 300), 2, 3), ((200,), 2, 3), ((200,), 3, 2)):
+            items = [Item(b"set/%d" % i, RANDOM.randbytes(size)) for i, size in enumerate(sizes)]
+            made = Made(items, 256, recovery, version=1)
+            for item in items:
+                write(at(item.name.decode()), item.data)
+            for number, volume in enumerate(made.volumes(count)):
+                write(at("set.rsv"), volume)
+                before = tree(at())
+                error = printed("update", at("set.rsv"), status=4)[1]
+                if error != f"rs_files: {at('set.rsv')}: this is one of several volumes: make them again with split --force\n" or tree(at()) != before:
+                    wrong(f"update of volume {number + 1} of {count} of version 1: {error!r}")
+            write(at("set.rsv"), damaged(made.volume(), 64 + len(made.description) + 20, 3))
+            run("update", at("set.rsv"), "-q")
+            if read(at("set.rsv"))[:len(TEXT)] != TEXT:
+                wrong("update does not replace a damaged volume of version 1")
+            shutil.rmtree(at("set"))
+
+
 def first_version_moved():
     """A volume of version 1 has neither digests of files nor sums: nothing is found elsewhere, and `verify` says what is missing."""
     with Folder() as at:
@@ -593,4 +615,4 @@ def first_version_updated():
         run("verify", at("set.rsv"))
 
 
-TESTS = (moved_files, moved_to_entries, renamed_set, own_folder, renamed_top, deleted_set, many_moved, announced, one_size, exchanged_files, shifted_blocks, shifted_far, overlapping_blocks, searched_folders, equal_blocks, wrong_digests, many_tries, unread_places, first_version_moved, first_version_updated)
+TESTS = (moved_files, moved_to_entries, renamed_set, own_folder, renamed_top, deleted_set, many_moved, announced, one_size, exchanged_files, shifted_blocks, shifted_far, overlapping_blocks, searched_folders, equal_blocks, wrong_digests, many_tries, unread_places, first_version_spread, first_version_moved, first_version_updated)

@@ -682,6 +682,23 @@ def extra_records():
             wrong("repair of a volume with a block of another one")
 
 
+def early_refusal():
+    """`repair --only` without --folder is refused for volumes of `split` before blocks are looked for: what cannot be read is not named, and
+    the name after --only is not looked up."""
+    with Folder() as at:
+        written(at)
+        run("split", at("set"), "-n", "3", "-o", at("v"), "--block", "512", "-q")
+        paths = [at("v", name) for name in sorted(os.listdir(at("v")))]
+        places = [start + 100 for kind, _, start, _ in spans(read(paths[1])) if kind == 1]
+        failing = preloaded("change_reads", READ_NAME="/volume0002.rsv", READ_FROM=places[1], READ_TO=places[1] + 1)
+        wanted = "rs_files: volumes of split hold the files: name the folder of the files with --folder, or use restore\n"
+        for name in ("set/a", "none"):
+            if printed("repair", *paths, "--only", name, "--progress", "always", status=4, env=failing) != ("", wanted):
+                wrong("repair --only of volumes of split looks for blocks before it is refused")
+        if printed("repair", *paths, "--folder", at(), "--only", "set/none", status=4)[1] == wanted:
+            wrong("repair --only of volumes of split is refused with --folder")
+
+
 def failed_rewrites():
     """If a damaged volume cannot be written again, `repair` leaves nothing behind: no part, and no second name of the damaged volume. Volumes
     that have their names stay, and are named."""
@@ -742,4 +759,4 @@ def unwritten_volumes():
 
 
 TESTS = (updated, updated_links, shares, rotten, rotten_moved, rotten_copies, moved_whole, moved_first, taken_over, kept_blocks, accepted_names, nothing_there, edited_and_rotten, rotten_lengths,
-         refused_updates, repaired_volumes, kept_volumes, repaired_parts, parts_alone, foreign_bytes, extra_records, failed_rewrites, unwritten_volumes)
+         refused_updates, repaired_volumes, kept_volumes, repaired_parts, parts_alone, foreign_bytes, extra_records, early_refusal, failed_rewrites, unwritten_volumes)

@@ -74,7 +74,7 @@ fn job_of<'a, R: Runtime>(
 ///
 /// - no volume is named, or a folder of the request is not there,
 /// - no volume can be read, or volumes belong to different sets,
-/// - a name after `--only` is not in the set, or `--only` is given for volumes of `split` without `--folder`,
+/// - `--only` is given for volumes of `split` without `--folder`, or a name after `--only` is not in the set,
 /// - the folder after `--folder` is the folder of the set, and was renamed,
 /// - a block that was found cannot be read or restored,
 /// - the result cannot be printed,
@@ -83,6 +83,10 @@ fn job_of<'a, R: Runtime>(
 /// Every step fails if memory cannot be allocated.
 pub fn repair<R: Runtime>(rt: &R, alloc: Global, request: &Request) -> Result<u8> {
     let volumes = open_request(rt, alloc, request)?;
+    // This needs no search for blocks. A volume of version 1 does not say how it was made, so `mend_spread` checks it.
+    if volumes.set.description.volumes > 1 {
+        check_only(request)?;
+    }
     let searched = folder_for(rt, alloc, request, &volumes.set.description)?;
     let found = look_for(rt, alloc, request, volumes, searched.as_deref())?;
     let mut log = Log::new(alloc, request, &LISTS)?;
@@ -107,6 +111,17 @@ pub fn repair<R: Runtime>(rt: &R, alloc: Global, request: &Request) -> Result<u8
     log.end(rt, status)
 }
 
+// Checks the options of a repair of volumes of `split`. Without the folder of the files, no file is restored, so none
+// can be named.
+fn check_only(request: &Request) -> Result<()> {
+    if request.folder.is_none() && !request.only.is_empty() {
+        return Err(Failure::of(
+            "volumes of split hold the files: name the folder of the files with --folder, or use restore",
+        ));
+    }
+    Ok(())
+}
+
 // Writes damaged volumes of `split` again. The blocks are in the volumes, so no file of the set is read or written.
 fn mend_spread<R: Runtime>(
     rt: &R,
@@ -115,11 +130,7 @@ fn mend_spread<R: Runtime>(
     found: Look,
     log: &mut Log,
 ) -> Result<u8> {
-    if !request.only.is_empty() {
-        return Err(Failure::of(
-            "volumes of split hold the files: name the folder of the files with --folder, or use restore",
-        ));
-    }
+    check_only(request)?;
     let counts = found.scan.counts();
     let status = if counts.lost > counts.recovery {
         STATUS_LOST

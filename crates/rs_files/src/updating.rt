@@ -4,9 +4,11 @@ use crate::looking::{folder_of, open_request};
 use crate::renamed::tops_of;
 use crate::settings::{ONE_VOLUME, Request};
 use rs_file_sets::cutting::{Recovery, cut_data};
+use rs_file_sets::scanning::scan_opened;
 use rs_folders::failure::{Failure, Result};
 use rs_folders::identity::exists;
 use rs_folders::names::path_in;
+use rs_volume_files::volume::open_volumes;
 use rs_volumes::checking::{UNIT, data_end};
 use rs_volumes::description::{Description, Version};
 use std::alloc::{AllocError, Global};
@@ -46,6 +48,24 @@ fn block_of(set: &Description) -> Option<u64> {
     }
 }
 
+// Returns whether the volume of a request is one of several volumes of `split`. A volume of version 1 does not say how
+// it was made, so the function reads its blocks: it is one of several if it has an original block, or if it is whole
+// and does not have all recovery blocks.
+fn is_of_split<R: Runtime>(
+    rt: &R,
+    alloc: Global,
+    request: &Request,
+    set: &Description,
+) -> Result<bool> {
+    if set.version == Version::Second {
+        return Ok(set.volumes > 1);
+    }
+    let volumes = open_volumes(rt, alloc, request.paths.as_slice(), request.memory)?;
+    let scan = scan_opened(rt, alloc, volumes, request.progress, None)?;
+    let counts = scan.counts();
+    Ok(scan.is_spread() || scan.has_whole_volumes() && counts.recovery < counts.recovery_count)
+}
+
 /// Runs `update`: makes the volume of a set again, with the files as they are now. Returns the exit status. It is
 /// `STATUS_LOST` if a file is rotten and not accepted: then the old volume stays.
 ///
@@ -54,7 +74,7 @@ fn block_of(set: &Description) -> Option<u64> {
 /// In this order, fails if:
 ///
 /// - not exactly one volume is named, the folder after `--folder` is not there, or the volume cannot be read,
-/// - it is one of several volumes of `split`,
+/// - it is one of several volumes of `split`, or the blocks of a volume of version 1 cannot be read to find this out,
 /// - nothing of the set is in its folder,
 /// - the new volume cannot be made, for a reason of [`make`].
 pub fn update<R: Runtime>(rt: &R, alloc: Global, request: &Request) -> Result<u8> {
@@ -63,7 +83,7 @@ pub fn update<R: Runtime>(rt: &R, alloc: Global, request: &Request) -> Result<u8
     };
     let old = open_request(rt, alloc, request)?;
     let set = &old.set.description;
-    if set.volumes > 1 {
+    if is_of_split(rt, alloc, request, set)? {
         let reason = "this is one of several volumes: make them again with split --force";
         return Err(Failure::at(alloc, volume.as_str(), reason));
     }
