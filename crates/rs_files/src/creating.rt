@@ -1,7 +1,9 @@
 //! `create`: makes a volume with the recovery blocks of files.
 use crate::comparing::{Known, check_accepted, may_replace};
 use crate::log::{Log, is_shown, tell_more};
-use crate::settings::{NO_OUTPUT, Request, STATUS_FAILED, STATUS_LOST, STATUS_WHOLE, VERSION};
+use crate::settings::{
+    MOST_VOLUMES, NO_OUTPUT, Request, STATUS_FAILED, STATUS_LOST, STATUS_WHOLE, VERSION,
+};
 use reed_solomon_simd::engine::tables::Tables;
 use reed_solomon_simd::engine::{DefaultEngine, EngineKind};
 use rs_file_sets::cutting::{Cut, Recovery, cut_data, piece_bytes, shape_of};
@@ -202,11 +204,7 @@ impl<'a, R: Files + Clock + Eprint> Making<'a, R> {
                 self.description.sums = source.sums(self.alloc)?;
                 Ok(())
             }
-            Err(error) => {
-                tell_full(self.rt, sink, &error);
-                let (read, written) = (source.blocks.path_of(&error), sink.path_of(&error));
-                Err(failure_of(self.alloc, read, written, error))
-            }
+            Err(error) => Err(coding_failure(self.rt, self.alloc, &source.blocks, sink, error)),
         }
     }
 
@@ -242,6 +240,20 @@ impl<'a, R: Files + Clock + Eprint> Making<'a, R> {
         volumes.describe(bytes.as_slice())?;
         volumes.finish(self.request.force)
     }
+}
+
+// Returns the failure for an error of coding, with the path of the file that cannot be read, or of the volume that
+// cannot be written. If the disk is full, prints how many bytes are missing.
+fn coding_failure<R: Files + Clock + Eprint>(
+    rt: &R,
+    alloc: Global,
+    blocks: &FileBlocks<'_, R>,
+    sink: &Volumes<'_, R>,
+    error: CodingError,
+) -> Failure {
+    tell_full(rt, sink, &error);
+    let (read, written) = (blocks.path_of(&error), sink.path_of(&error));
+    failure_of(alloc, read, written, error)
 }
 
 // If the disk is full, prints how many bytes of the volumes are not written.
@@ -389,32 +401,39 @@ fn make_volumes<R: Runtime>(
         return Ok(None);
     };
     let made = made_of(alloc, task, &found)?;
-    let Found {
-        folder,
-        entries,
-        linked,
-        ..
-    } = found;
-    let mut making = Making {
-        rt,
-        alloc,
-        request,
-        paths: paths_of(alloc, folder.as_str(), entries.as_slice())?,
-        description: description_of(
-            alloc,
-            entries,
-            made.cut,
-            task.outputs.len().min(1000) as u32,
-        )?,
-        linked,
-        known,
-    };
+    let mut making = making_of(rt, alloc, task, found, made.cut, known)?;
     let mut volumes = Volumes::new(rt, alloc, &making.description, making.description_bytes()?);
     if let Err(failure) = making.write(task.outputs, &mut volumes) {
         volumes.remove();
         return Err(failure);
     }
     Ok(Some(made))
+}
+
+fn making_of<'a, R: Files + Clock + Eprint>(
+    rt: &'a R,
+    alloc: Global,
+    task: Task<'a>,
+    found: Found,
+    cut: Cut,
+    known: Known,
+) -> Result<Making<'a, R>> {
+    let Found {
+        folder,
+        entries,
+        linked,
+        ..
+    } = found;
+    let volumes = task.outputs.len().min(MOST_VOLUMES as usize) as u32;
+    Ok(Making {
+        rt,
+        alloc,
+        request: task.request,
+        paths: paths_of(alloc, folder.as_str(), entries.as_slice())?,
+        description: description_of(alloc, entries, cut, volumes)?,
+        linked,
+        known,
+    })
 }
 
 // Notes in the log what was left out, and prints it, except for names that are not UTF-8: `find` has printed these.

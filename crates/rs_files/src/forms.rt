@@ -1,4 +1,5 @@
 //! The commands of the program, with their options and help texts.
+use crate::settings::VOLUMES_HELP;
 use Takes::{Many, Needed, Nothing, One};
 
 /// What an option takes.
@@ -152,12 +153,7 @@ const SPLIT: Form = Form {
             Needed("FOLDER"),
             "Write the volumes into this folder",
         ),
-        Choice(
-            "volumes",
-            Some('n'),
-            Needed("COUNT"),
-            "Make this many volumes, from 2 to 1000",
-        ),
+        Choice("volumes", Some('n'), Needed("COUNT"), VOLUMES_HELP),
         Choice(
             "lose",
             None,
@@ -246,8 +242,8 @@ const RESTORE: Form = Form {
     about: "Restore files into another folder",
     after: "Volumes of split give all files. A volume of create gives those that are damaged or missing.\n\
             Files that are already there, with the right bytes, are named and not written again.\n\n\
-            Status 0: all these files are there now. 3: blocks are lacking for some files. 4: another error, for example\n\
-            a file with other bytes is in the way. All other files are restored.\n\n\
+            Status 0: all these files are there now. 3: blocks are lacking for some files.\n\
+            4: another error, for example a file with other bytes is in the way. All other files are restored.\n\n\
             Examples:\n  rs_files restore parts/*.rsv --to restored\n  \
             rs_files restore photos.rsv --to restored --only photos/2024",
     options: &[

@@ -2,7 +2,8 @@
 use crate::arguments::{bytes_of, recovery_of};
 use crate::forms::{COMMANDS, Choice, Form, Takes};
 use crate::settings::{
-    Action, NO_OUTPUT, ONE_VOLUME, Request, STATUS_FAILED, STATUS_USAGE, STATUS_WHOLE, VERSION,
+    Action, MOST_VOLUMES, NO_OUTPUT, ONE_VOLUME, Request, STATUS_FAILED, STATUS_USAGE,
+    STATUS_WHOLE, VERSION, WRONG_VOLUMES,
 };
 use clap::error::ErrorKind;
 use clap::{Arg, ArgAction, ArgMatches, Command};
@@ -203,8 +204,8 @@ fn set_values(request: &mut Request, matches: &ArgMatches<'_>) -> Result<(), &'s
     }
     if let Some(text) = matches.get_str("volumes") {
         let count = text.parse::<u32>().unwrap_or(0);
-        if count < 2 || count > 1000 {
-            return Err("--volumes: write a number from 2 to 1000");
+        if count < 2 || count > MOST_VOLUMES {
+            return Err(WRONG_VOLUMES);
         }
         request.volumes = count;
     }

@@ -4,6 +4,15 @@ use rs_file_sets::cutting::Recovery;
 /// The version of the program. A volume has the version of the program that made it.
 pub const VERSION: &str = "1.4.0";
 
+/// The largest number of volumes of `split`.
+pub const MOST_VOLUMES: u32 = 1000;
+
+/// The message about another number of volumes than 2 to [`MOST_VOLUMES`].
+pub const WRONG_VOLUMES: &str = "--volumes: write a number from 2 to 1000";
+
+/// The help of the option with the number of volumes.
+pub const VOLUMES_HELP: &str = "Make this many volumes, from 2 to 1000";
+
 /// The exit status if all is well.
 pub const STATUS_WHOLE: u8 = 0;
 

@@ -1,6 +1,6 @@
 //! `split`: spreads files over volumes.
 use crate::creating::{Task, make};
-use crate::settings::{Request, STATUS_LOST};
+use crate::settings::{MOST_VOLUMES, Request, STATUS_LOST};
 use rs_file_sets::cutting::Recovery;
 use rs_folders::failure::{Failure, Result, warn};
 use rs_folders::identity::exists;
@@ -8,9 +8,6 @@ use rs_folders::names::path_in;
 use rs_volume_files::volume_sink::check_parts;
 use std::alloc::{AllocError, Global};
 use std::rt::Runtime;
-
-/// The largest number of volumes.
-const MOST_VOLUMES: u32 = 1000;
 
 // Returns the paths of volumes in a folder.
 fn outputs_in(alloc: Global, volumes: u32, folder: &str) -> Result<Vec<String>, AllocError> {
