@@ -1,8 +1,5 @@
 pub mod Kind
 pub mod Lanes
-pub mod SmallNumbers
 pub mod Factors
+pub mod Changes
 pub mod Additive
-pub mod Twisted
-pub mod StridedRows
-pub mod Sums

@@ -11,4 +11,3 @@ pub mod Layers
 pub mod Directions
 pub mod Lending
 pub mod Layout
-pub mod AddedRows

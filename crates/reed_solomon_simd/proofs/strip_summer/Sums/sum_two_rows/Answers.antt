@@ -1,0 +1,38 @@
+use Rattle.std.proofs.Common.{sym, ◌∙◌}
+use Rattle.rs_field.specs.code.PieceStates.{state_of_pieces}
+use Rattle.reed_solomon_simd.proofs.BaseLemmas.{base-pieces, some-pieces, sum-same}
+use Rattle.reed_solomon_simd.proofs.strip_summer.Sums.sum_two_rows.Goals as goal
+
+pub returns-clause-first : goal.returns-clause-first
+returns-clause-first g c =
+    let s = g.P.Pieces.received c.args.received.now in
+    let t = state_of_pieces c.args.start c.args.end s in
+    let based = c.requires.ready.based in
+    let base = c.args.self.now.base in
+    record {
+      is_shard = c.make_two.ensures.first.is_shard;
+      words = λ j inside.
+          c.make_two.ensures.first.words j inside
+          ∙ sum-same t base j c.args.rows.0 (record {
+            marked = base-pieces c.args.start c.args.end base.marks.now s based.marked;
+            exact = λ x inside. based.exact x inside ∙ sym (some-pieces c.args.start c.args.end s x);
+            located = based.located;
+          }) c.requires.first;
+    }
+
+pub returns-clause-second : goal.returns-clause-second
+returns-clause-second g c =
+    let s = g.P.Pieces.received c.args.received.now in
+    let t = state_of_pieces c.args.start c.args.end s in
+    let based = c.requires.ready.based in
+    let base = c.args.self.now.base in
+    record {
+      is_shard = c.make_two.ensures.second.is_shard;
+      words = λ j inside.
+          c.make_two.ensures.second.words j inside
+          ∙ sum-same t base j c.args.rows.1 (record {
+            marked = base-pieces c.args.start c.args.end base.marks.now s based.marked;
+            exact = λ x inside. based.exact x inside ∙ sym (some-pieces c.args.start c.args.end s x);
+            located = based.located;
+          }) c.requires.second;
+    }
