@@ -4,7 +4,7 @@ import shutil
 from pathlib import Path
 
 FUNCTION = re.compile(r'(\s*)(?:pub(?:\([a-z]+\))? )?(?:const |unsafe )*(?:extern "C" )?fn (\w+)')
-IMPL = re.compile(r"impl(?:<.*?>)? (?:(?:\w+::)*(\w+)(?:<((?:\w+::)*[A-Z]\w+)?.*>)? for )?(\w+)")
+IMPL = re.compile(r"impl(?:<.*?>)? (?:(?:\w+::)*(\w+)(?:<((?:\w+::)*[A-Z]\w+)?.*>)? for )?(\w+)(?:<([A-Z]\w+)>)?")
 TRAIT = re.compile(r"(?:pub(?:\([a-z]+\))? )?trait (\w+)")
 # A proof that is left open, which is called a hole. A check with holes treats the contract of the function as proved.
 HOLE = "use Rattle.{path}.Statement.{{statement}}\n\npub {name}_spec : {{M : Type 1}} → statement M\n{name}_spec = ?\n"
@@ -35,7 +35,8 @@ def owner_of(lines):
             break
         made = IMPL.match(line)
         if made:
-            return type_of([line]) + (made[1] or "") + "".join(part[:1].upper() + part[1:] for part in (made[2] or "").split("::"))
+            arguments = [made[4] if made[1] else None, made[1], *(made[2] or "").split("::")]
+            return type_of([line]) + "".join(part[:1].upper() + part[1:] for part in arguments if part)
     return type_of(lines)
 
 

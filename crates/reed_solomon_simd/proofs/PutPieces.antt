@@ -1,7 +1,7 @@
 -- Putting pieces into rooms, one after another.
-use Rattle.std.proofs.Common.{◌≡◌, ◌≢◌, ℕ, ◌+◌, ◌<◌, List, [], ◌++◌, length, take, drop, get_or, refl, sym, ap, ap₂}
-use Rattle.std.proofs.Common.{◌∙◌, inl, inr, arith}
-use Rattle.std.proofs.lemmas.Bool.{cases_eq}
+use Rattle.std.proofs.Common.{◌≡◌, ◌≢◌, ℕ, ◌+◌, ◌-◌, ◌<◌, ◌≤◌, List, [], ◌++◌, length, take, drop, get_or, refl, sym}
+use Rattle.std.proofs.Common.{ap, ap₂, ◌∙◌, inl, inr, arith}
+use Rattle.std.proofs.lemmas.Bool.{cases_eq, cases_lt}
 use Rattle.std.proofs.lemmas.List.{get_or-map}
 use Rattle.rs_field.specs.code.Column.{Shard}
 use Rattle.rs_field.specs.code.Decoder.{DecoderState, IsAgreeing, IsConsistent}
@@ -16,36 +16,55 @@ use Rattle.reed_solomon_simd.specs.declared.shard_index.ShardIndex.TheVariants.{
 use Rattle.reed_solomon_simd.specs.Making.{CanMake}
 use Rattle.reed_solomon_simd.specs.Reconstructed.{AreReconstructed}
 use Rattle.reed_solomon_simd.specs.ShardNames.{shard_named}
-use Rattle.reed_solomon_simd.specs.StripSums.{IsPieceOf, PutBelow}
+use Rattle.reed_solomon_simd.specs.StripSums.{IsPieceOf, PutBelow, ArePutFrom}
 use Rattle.reed_solomon_simd.proofs.ConsistentStrips.{even-strip}
 use Rattle.reed_solomon_simd.proofs.RebuiltStrips.{named_shards}
 
--- The next piece is put into its room.
-pub put-more : (start end n : ℕ) (pieces old now new : List Shard) (piece : Shard)
-    → PutBelow start end pieces old now n
+-- The next piece is written into its room.
+pub put-next : (start size a n : ℕ) (pieces : ℕ → Shard) (old now new : List Shard) (piece : Shard) → a ≤ n
+    → ArePutFrom a n start size pieces old now
     → get_or new n [] ≡ take start (get_or now n []) ++ (piece ++ drop (start + length piece) (get_or now n []))
     → ((i : ℕ) → i ≢ n → get_or new i [] ≡ get_or now i [])
-    → piece ≡ get_or pieces n [] → start + length piece ≡ end
-    → PutBelow start end pieces old new (n + 1)
-put-more start end n pieces old now new piece held here others is ends = record {
-  put = λ i h. elim (cases_eq i n) [
+    → piece ≡ pieces (n - a) → length piece ≡ size
+    → ArePutFrom a (n + 1) start size pieces old new
+put-next start size a n pieces old now new piece order held here others is long = record {
+  put = λ i from h. elim (cases_eq i n) [
     | inl same ↦
         ap (λ (m : ℕ). get_or new m []) same
         ∙ here
-        ∙ ap₂ (λ (room : Shard) (m : ℕ). take start room ++ (piece ++ drop m room)) (held.others n (omega arith)) ends
-        ∙ ap (λ (p : Shard). take start (get_or old n []) ++ (p ++ drop end (get_or old n []))) is
-        ∙ ap (λ (m : ℕ). take start (get_or old m []) ++ (get_or pieces m [] ++ drop end (get_or old m []))) (sym same)
-    | inr other ↦ others i other ∙ held.put i (omega (arith, h, other))
+        ∙ ap₂ (λ (room : Shard) (m : ℕ). take start room ++ (piece ++ drop (start + m) room))
+        (held.others n (inr (omega arith))) long
+        ∙ ap (λ (p : Shard). take start (get_or old n []) ++ (p ++ drop (start + size) (get_or old n []))) is
+        ∙ ap (λ (m : ℕ). take start (get_or old m []) ++ (pieces (m - a) ++ drop (start + size) (get_or old m [])))
+        (sym same)
+    | inr other ↦ others i other ∙ held.put i from (omega (arith, h, other))
   ];
-  others = λ i h. others i (λ same. let e : i ≡ n = same in omega (arith, h, e)) ∙ held.others i (omega (arith, h));
+  others = λ i apart. elim apart [
+    | inl before ↦
+        others i (λ same. let e : i ≡ n = same in omega (arith, before, order, e)) ∙ held.others i (inl before)
+    | inr after ↦
+        others i (λ same. let e : i ≡ n = same in omega (arith, after, e)) ∙ held.others i (inr (omega (arith, after)))
+  ];
+}
+
+-- Pieces that were written into the next rooms are put there.
+pub put-group : (start size end a b : ℕ) (made : ℕ → Shard) (pieces old now new : List Shard) → a ≤ b
+    → start + size ≡ end → PutBelow start end pieces old now a → ArePutFrom a b start size made now new
+    → ((i : ℕ) → a ≤ i → i < b → made (i - a) ≡ get_or pieces i [])
+    → PutBelow start end pieces old new b
+put-group start size end a b made pieces old now new order ends held from are = record {
+  put = λ i h. elim (cases_lt i a) [
+    | inl before ↦ from.others i (inl before) ∙ held.put i before
+    | inr past ↦
+        from.put i past h
+        ∙ ap₂ (λ (room : Shard) (m : ℕ). take start room ++ (made (i - a) ++ drop m room)) (held.others i past) ends
+        ∙ ap (λ (p : Shard). take start (get_or old i []) ++ (p ++ drop end (get_or old i []))) (are i past h)
+  ];
+  others = λ i h. from.others i (inr h) ∙ held.others i (omega (arith, order, h));
 }
 
 module _ (s : DecoderState) (start end : ℕ) (strip : IsStrip start end s.configuration.shard_bytes)
     (wanted : List ShardIndex) where
-  -- The piece of a wanted shard ends at the end of the strip.
-  pub piece-ends : (w : ShardIndex) (piece : Shard) → IsPieceOf s start end w piece → start + length piece ≡ end
-  piece-ends w piece of = let long = of.long in omega (arith, long, strip.order)
-
   -- The piece of a wanted shard has the place of its name.
   pub piece-named : (n : ℕ) (piece : Shard) → n < length wanted
       → IsPieceOf s start end (get_or wanted n (Original 0)) piece

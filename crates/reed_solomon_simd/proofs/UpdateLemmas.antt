@@ -28,7 +28,8 @@ use Rattle.reed_solomon_simd.specs.declared.room_error.RoomError.{RoomError}
 use Rattle.reed_solomon_simd.specs.declared.room_error.RoomError.TheVariants.{Refused}
 use Rattle.reed_solomon_simd.specs.Into.{rooms_fit}
 use Rattle.reed_solomon_simd.specs.Rooms.{bytes_in}
-use Rattle.reed_solomon_simd.specs.Updated.{AddsToStrip, IsChanged, IsChangedStrip, UpdatesShards, AddsChange, UpdatesInto}
+use Rattle.reed_solomon_simd.specs.Updated.{AddsToStrip, IsChanged, IsChangedStrip, UpdatesShards, AddsChange}
+use Rattle.reed_solomon_simd.specs.Updated.{UpdatesInto}
 use Rattle.reed_solomon_simd.specs.Updated.{change_outcome}
 use Rattle.reed_solomon_simd.specs.Updated.{update_outcome}
 use Rattle.reed_solomon_simd.proofs.ReconstructLemmas.{zeros}

@@ -1,6 +1,6 @@
 -- The base of direct sums: received shards in marked rows, over which the words of all other shards are summed.
-use Rattle.std.specs.Prelude.{◌≡◌, ℕ, ◌+◌, ◌/◌, ◌<◌, ◌≤◌, Bool, true, false, List, length, Some, None, is_some}
-use Rattle.std.specs.Prelude.{if◌then◌else◌}
+use Rattle.std.specs.Prelude.{◌≡◌, ◌≢◌, ℕ, ◌+◌, ◌/◌, ◌%◌, ◌<◌, ◌≤◌, Bool, true, false, List, length, Some, None}
+use Rattle.std.specs.Prelude.{is_some, if◌then◌else◌}
 use Rattle.rs_field.specs.declared.code.frame.Frame.{Frame}
 use Rattle.rs_field.specs.code.Column.{Shard, IsShard, column}
 use Rattle.rs_field.specs.code.Counts.{default_rate}
@@ -12,6 +12,7 @@ use Rattle.rs_field.specs.code.Pieces.{IsStrip}
 use Rattle.rs_field.specs.rows.MarkedRows.{is_marked}
 use Rattle.rs_rate.specs.declared.passes.sums.SumBase.{SumBase}
 use Rattle.rs_rate.specs.passes.Decoding.{IsLocatorOf}
+use Rattle.reed_solomon_simd.specs.StripSums.{chunks_of_sums}
 use Rattle.reed_solomon_simd.specs.declared.shard_index.ShardIndex.{ShardIndex}
 use Rattle.reed_solomon_simd.specs.declared.shard_index.ShardIndex.TheVariants.{Original, Recovery}
 
@@ -50,23 +51,28 @@ pub record IsBase (s : DecoderState) (base : SumBase) : Type 0 where
   pub exact : (x : ℕ) → x < length base.marks.now → is_marked base.marks.now x ≡ is_some (shard_in_row s x)
   pub located : IsLocatorOf (frame_at s.configuration) base.marks.now base.locator.now
 
--- the conditions of summing a strip of the received shards
-pub record CanSum (s : DecoderState) (base : SumBase) (start end : ℕ) : Type 0 where
+-- the conditions of summing a strip of the received shards, of which this number is not in the base
+pub record CanSum (s : DecoderState) (base : SumBase) (surplus start end : ℕ) : Type 0 where
   pub set_up : IsDecoder default_rate s
   pub based : IsBase s base
+  pub surplus_is : originals_given s + recovery_given s ≡ s.configuration.original_count + surplus
   pub strip : IsStrip start end s.configuration.shard_bytes
 
 -- a strip of a shard that was received in a row can be read
 pub record HasPiece (s : DecoderState) (start end x : ℕ) : Type 0 where
   pub set_up : IsDecoder default_rate s
-  pub strip : IsStrip start end s.configuration.shard_bytes
+  pub order : start ≤ end
+  pub inside : end ≤ s.configuration.shard_bytes
+  pub begins : start % 64 ≡ 0
+  pub ends : end % 64 ≢ 0 → end ≡ s.configuration.shard_bytes
   pub there : is_some (shard_in_row s x) ≡ true
 
--- a base of received shards, with the number of received shards that are not in it, for strips of n bytes
-pub record AreSumsReady (base : SumBase) (surplus : ℕ) (s : DecoderState) (n : ℕ) : Type 0 where
+-- a base of received shards, with the number of received shards that are not in it, and enough chunks to sum wanted
+-- shards for strips of n bytes
+pub record AreSumsReady (base : SumBase) (surplus wanted chunks : ℕ) (s : DecoderState) (n : ℕ) : Type 0 where
   pub based : IsBase s base
   pub surplus_is : originals_given s + recovery_given s ≡ s.configuration.original_count + surplus
-  pub few : n ≤ 4096
+  pub enough : chunks_of_sums wanted n ≤ chunks
 
 -- the direct sum over the base for word j of the shard in a row
 abbrev pub base_sum : List Bool → DecoderState → ℕ → ℕ → ℕ

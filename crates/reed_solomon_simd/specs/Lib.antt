@@ -57,3 +57,4 @@ pub use Rattle.rs_rate.specs.objects.Giving
 pub mod StripSums
 pub mod Base
 pub mod Syndromes
+pub mod Propositions

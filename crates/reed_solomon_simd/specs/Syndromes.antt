@@ -1,6 +1,5 @@
--- Syndromes: the received recovery shards of a strip, each XOR the recovery shard of the received originals with
--- zeros for
--- the missing ones.
+-- Syndromes: the received recovery shards of a strip, each XOR the recovery shard of the received originals with zeros
+-- for the missing ones.
 use Rattle.std.specs.Prelude.{◌≡◌, ℕ, ◌+◌, ◌-◌, ◌<◌, ◌≤◌, Bool, true, false, List, length, replicate, unwrap_or}
 use Rattle.std.specs.Prelude.{Some, is_some}
 use Rattle.rs_field.specs.code.Code.{AreRecovery}
@@ -23,7 +22,7 @@ use Rattle.reed_solomon_simd.specs.Making.{strip_configuration}
 use Rattle.reed_solomon_simd.specs.declared.shard_index.ShardIndex.{ShardIndex}
 use Rattle.reed_solomon_simd.specs.Reconstructed.{NamesMissing}
 use Rattle.reed_solomon_simd.specs.Rounds.{IsReadyToEncode}
-use Rattle.reed_solomon_simd.specs.StripSums.{HasSums}
+use Rattle.reed_solomon_simd.specs.StripSums.{HasSums, chunks_of_sums}
 
 -- the received originals, with zeros for the missing ones
 abbrev pub zeroed : DecoderState → List Shard
@@ -69,17 +68,21 @@ pub record IsSyndromeBase (s : DecoderState) (base : SumBase) : Type 0 where
       → recovery_row (frame_at s.configuration) i < length base.marks.now
       → is_marked base.marks.now (recovery_row (frame_at s.configuration) i) ≡ is_some (s.recovery i)
 
--- the syndromes of a strip are in an encoder, with a base for their sums
-pub record CanSumSyndromes (s : DecoderState) (base : SumBase) (encoder : StripEncoder) (start end : ℕ) : Type 0 where
-  pub set_up : IsDecoder default_rate s
-  pub based : IsSyndromeBase s base
-  pub strip : IsStrip start end s.configuration.shard_bytes
-  pub code : code_of encoder ≡ strip_configuration s (end - start)
-  pub made : AreSyndromes (state_of_pieces start end s) (coded_shards encoder)
+-- the syndromes of a strip are in an encoder, with a base for their sums, to which this number of received recovery
+-- shards does not belong
+pub record CanSumSyndromes (s : DecoderState) (base : SumBase) (surplus : ℕ) (encoder : StripEncoder) (start end : ℕ)
+    : Type 0
+  where
+    pub set_up : IsDecoder default_rate s
+    pub based : IsSyndromeBase s base
+    pub surplus_is : originals_given s + recovery_given s ≡ s.configuration.original_count + surplus
+    pub strip : IsStrip start end s.configuration.shard_bytes
+    pub code : code_of encoder ≡ strip_configuration s (end - start)
+    pub made : AreSyndromes (state_of_pieces start end s) (coded_shards encoder)
 
--- an encoder and a base for the syndromes of strips of n bytes, with the names of the missing originals and the number
--- of surplus shards
-pub record AreSyndromesReady (encoder : StripEncoder) (base : SumBase) (wanted : List ShardIndex) (surplus : ℕ)
+-- an encoder and a base for the syndromes of strips of n bytes, with the names of the missing originals, the number of
+-- surplus shards, and enough chunks for the sums
+pub record AreSyndromesReady (encoder : StripEncoder) (base : SumBase) (wanted : List ShardIndex) (surplus chunks : ℕ)
     (s : DecoderState) (n : ℕ) : Type 0
   where
     pub ready : IsReadyToEncode encoder s n
@@ -87,6 +90,7 @@ pub record AreSyndromesReady (encoder : StripEncoder) (base : SumBase) (wanted :
     pub names : NamesMissing s.configuration.original_count s wanted
     pub surplus_is : originals_given s + recovery_given s ≡ s.configuration.original_count + surplus
     pub few : n ≤ 2048
+    pub enough : chunks_of_sums (length wanted) n ≤ chunks
 
 -- word j of the syndrome in row x
 abbrev pub syndrome_word : DecoderState → List Shard → ℕ → ℕ → ℕ

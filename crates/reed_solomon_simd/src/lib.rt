@@ -231,8 +231,7 @@ pub mod engine {
     /// assert_eq!(rt; row[0][0], 11);
     /// ```
     pub use rs_field::engine::Naive;
-    /// The rows that an engine works on, the count of its steps, and the factors of two rows that it adds to a third
-    /// one.
+    /// The rows that an engine works on, and the count of its steps.
     ///
     /// # Examples
     ///
@@ -244,7 +243,7 @@ pub mod engine {
     /// ShardsRefMut::new(4, 1, &mut chunks).zero(1..3);
     /// assert_eq!(rt; chunks, [[1; 64], [0; 64], [0; 64], [4; 64], [5; 64]]);
     /// ```
-    pub use rs_field::engine::{ShardsRefMut, Steps, TwoLogarithms};
+    pub use rs_field::engine::{ShardsRefMut, Steps};
 
     /// The tables, which are made once and lent to engines.
     ///

@@ -9,10 +9,8 @@ pub(crate) const ENCODE_STRIP_BYTES: usize = 4096;
 /// or to make syndromes, it encodes as many bytes at a time.
 pub(crate) const DECODE_STRIP_BYTES: usize = 2048;
 
-/// The number of bytes of each shard that are added to direct sums at a time. Two sums are made at a time, in two
-/// arrays of this many bytes on the stack.
+/// The number of bytes of each shard that are added to direct sums at a time.
 pub(crate) const SUM_STRIP_BYTES: usize = 4096;
 
-/// The number of bytes of each of the two arrays on the stack if the strip is not longer than that. To clear the longer
-/// arrays would take longer than to add.
-pub(crate) const SHORT_STRIP_BYTES: usize = 512;
+/// The number of chunks in which up to four sums of syndromes are made.
+pub(crate) const SYNDROME_SUM_CHUNKS: usize = 144;

@@ -1,36 +1,36 @@
 //! Reconstructing few wanted shards strip by strip, by direct sums. As many received shards as there are originals are
 //! the base. Each word of a wanted shard is the sum of the words of the base, each times a factor.
-ghost use Rattle.std.specs.Prelude.{◌≡◌, ◌⊎◌, ◌↔◌, ◌+◌, ◌-◌, ◌^◌, ◌<◌, ◌≤◌, true, false};
-ghost use Rattle.std.specs.Prelude.{length, Ok, Some, None, MatchOption, IsTrue, IfOk, IfErr};
-ghost use Rattle.std.specs.Prelude.{option_copied};
+ghost use Rattle.std.specs.Prelude.{◌≡◌, ◌⊎◌, ◌↔◌, ℕ, ◌+◌, ◌-◌, ◌*◌, ◌%◌, ◌^◌, ◌<◌, ◌≤◌, false, All, length};
+ghost use Rattle.std.specs.Prelude.{min};
+ghost use Rattle.std.specs.Prelude.{Ok, Some, None, MatchOption, IsTrue, IfOk, IfErr};
+ghost use Rattle.std.specs.Prelude.{option_copied, slice_index, slice_index_or};
 ghost use Rattle.rs_field.specs.code.Counts.{default_rate};
-ghost use Rattle.rs_field.specs.code.Decoder.{IsDecoder, enough_given, IsConsistent};
+ghost use Rattle.rs_field.specs.code.Decoder.{IsDecoder, enough_given};
+ghost use Rattle.rs_field.specs.code.Decoder.{originals_given, recovery_given};
 ghost use Rattle.rs_field.specs.code.Frame.{row_count};
-ghost use Rattle.rs_field.specs.code.Pieces.{IsStrip};
 ghost use Rattle.rs_field.specs.code.PieceStates.{state_of_pieces};
-ghost use Rattle.rs_field.specs.rows.Layout.{row_len};
 ghost use Rattle.rs_field.specs.rows.MarkedRows.{is_marked};
-ghost use Rattle.rs_rate.specs.rows.ShardRows.{shard_in_order};
 ghost use Rattle.reed_solomon_simd.specs.Base.{row_of, MarksReceived, CanSum, HasPiece};
 ghost use Rattle.rs_field.specs.code.Frame.{frame_at};
 ghost use Rattle.rs_field.specs.code.DirectLaws.{shard_in_row};
-ghost use Rattle.reed_solomon_simd.specs.Base.{IsBaseSum, AgreesInRow, AreSumsReady};
-ghost use Rattle.reed_solomon_simd.specs.Making.{CanMake, AreRooms, Makes, MakesMissing, MakesStrip, missing_names};
-ghost use Rattle.reed_solomon_simd.specs.Reconstructed.{CanBeRebuilt, NamesMissing};
+ghost use Rattle.reed_solomon_simd.specs.Base.{IsBaseSum, AgreesInRow, AreSumsReady, IsBase};
+ghost use Rattle.reed_solomon_simd.specs.Making.{CanMake, AreRooms, Makes, MakesMissing, missing_names};
+ghost use Rattle.reed_solomon_simd.specs.Reconstructed.{NamesMissing};
+ghost use Rattle.reed_solomon_simd.specs.StripSums.{sum_stride, sum_at};
+ghost use Rattle.reed_solomon_simd.specs.declared.shard_index.ShardIndex.TheVariants.{Original};
 
-use crate::pieces::{Pieces, inconsistent, is_received, missing_count, surplus_count};
+use crate::pieces::{Pieces, is_received, missing_count, surplus_count};
 use crate::shard_index::ShardIndex;
 use crate::store::Store;
-use crate::strip_bytes::{SHORT_STRIP_BYTES, SUM_STRIP_BYTES};
-use crate::strip_sums::{BaseSums, StripSums, put_sums};
+use crate::strip_bytes::SUM_STRIP_BYTES;
+use crate::strip_sums::{MOST_SUMS, StripSums, make_sums, sum_at, sum_stride, sum_strip};
 use crate::strips::{Way, make_strips};
 use crate::wanted_shards::no_marks;
-use rs_field::engine::layout::row_len;
 use rs_field::engine::{Engine, Steps};
 use rs_field::error::Error;
 use rs_field::frame::Frame;
-use rs_rate::rate::base_sums::BasePieces;
-use rs_rate::rate::sums::{SumBase, list_base, locate_base, summed_piece};
+use rs_rate::rate::base_sums::{BasePieces, BaseSums};
+use rs_rate::rate::sums::{SumBase, list_base, locate_base};
 use std::alloc::Global;
 
 // Returns a mark for each row: whether a shard was received in it. Fails with `OutOfMemory`.
@@ -156,40 +156,94 @@ pub(crate) fn sum_listed<'a, E: Engine, S: Store>(
         locator: &factors.locator,
         logs: &factors.logs,
     };
-    let mut way = Sums {
+    let sums = Sums {
         engine,
         base,
-        wanted,
         surplus,
     };
-    make_strips(SUM_STRIP_BYTES, &mut way, store)
+    sum_strips(&sums, wanted, store)
 }
 
-/// Direct sums over a base of the received shards, which make listed shards.
+// Writes wanted shards by direct sums, strip by strip, in memory on the stack. The array has room for all sums that are
+// made at a time. A smaller array is used if it is enough: to clear the largest one would take longer than to add short
+// shards.
+fn sum_strips<'a, 'b, E: Engine, S: Store>(
+    sums: &'a Sums<'a, 'b, E>,
+    wanted: &'a [ShardIndex],
+    store: &mut S,
+) -> Result<(), Error>
+    requires based { IsBase (S.received store.old) sums.now.base }
+    requires surplus { originals_given (S.received store.old) + recovery_given (S.received store.old)
+        ≡ (S.received store.old).configuration.original_count + sums.now.surplus }
+    requires can { CanMake (S.received store.old) wanted.now }
+    requires rooms { AreRooms S.grows 0 (S.received store.old).configuration.shard_bytes
+        (length wanted.now) (S.held store.old) }
+    ensures made { Makes S.grows (S.received store.old) wanted.now (S.held store.old)
+        (S.held store.new) result }
+    ensures places { S.places store.new ≡ S.places store.old }
+    ensures loan { S.loan store.new ≡ S.loan store.old }
+{
+    let count = MOST_SUMS.min(wanted.len()).max(1);
+    match count * sum_stride(SUM_STRIP_BYTES.min(store.shard_bytes())) {
+        0..=4 => sum_in::<E, S, 4>(sums, wanted, store),
+        5..=8 => sum_in::<E, S, 8>(sums, wanted, store),
+        9..=16 => sum_in::<E, S, 16>(sums, wanted, store),
+        17..=80 => sum_in::<E, S, 80>(sums, wanted, store),
+        81..=136 => sum_in::<E, S, 136>(sums, wanted, store),
+        _ => sum_in::<E, S, 272>(sums, wanted, store),
+    }
+}
+
+// Writes wanted shards by direct sums, which are made in an array of N chunks on the stack.
+#[inline(never)]
+fn sum_in<'a, 'b, E: Engine, S: Store, const N: usize>(
+    sums: &'a Sums<'a, 'b, E>,
+    wanted: &'a [ShardIndex],
+    store: &mut S,
+) -> Result<(), Error>
+    requires small { N ≤ 272 }
+    requires ready { AreSumsReady sums.now.base sums.now.surplus (length wanted.now) N
+        (S.received store.old) (min 4096 (S.received store.old).configuration.shard_bytes) }
+    requires can { CanMake (S.received store.old) wanted.now }
+    requires rooms { AreRooms S.grows 0 (S.received store.old).configuration.shard_bytes
+        (length wanted.now) (S.held store.old) }
+    ensures made { Makes S.grows (S.received store.old) wanted.now (S.held store.old)
+        (S.held store.new) result }
+    ensures places { S.places store.new ≡ S.places store.old }
+    ensures loan { S.loan store.new ≡ S.loan store.old }
+{
+    let x = &mut [[0; 64]; N];
+    make_strips(SUM_STRIP_BYTES, &mut SumsWay { sums, wanted, x }, store)
+}
+
+/// Direct sums over a base of the received shards.
 #[derive(Drop)]
 struct Sums<'a, 'b, E: Engine> {
     engine: &'a E,
     base: SumBase<'b>,
-    wanted: &'a [ShardIndex],
+    /// The number of received shards that are not in the base.
     surplus: usize,
 }
 
-impl<'a, 'b, E: Engine> Way for Sums<'a, 'b, E> {
+/// The way of making wanted shards by direct sums.
+#[derive(Drop)]
+struct SumsWay<'a, 'b, 'c, E: Engine> {
+    sums: &'a Sums<'a, 'b, E>,
+    wanted: &'a [ShardIndex],
+    /// The chunks in which the sums are made.
+    x: &'c mut [[u8; 64]],
+}
+
+impl<'a, 'b, 'c, E: Engine> Way for SumsWay<'a, 'b, 'c, E> {
     ghost use Rattle.reed_solomon_simd.specs.Base.{AreSumsReady};
 
     ghost wanted = { λ x _. x.wanted.now };
 
-    ghost ready = { λ x s n. AreSumsReady x.base x.surplus s n };
+    ghost ready = { λ x s n.
+        AreSumsReady x.sums.now.base x.sums.now.surplus (length x.wanted.now) (length x.x.now) s n };
 
     fn strip<S: Store>(&mut self, start: usize, end: usize, store: &mut S) -> Result<(), Error> {
-        if end - start <= SHORT_STRIP_BYTES {
-            let mut first = [[0; 64]; SHORT_STRIP_BYTES / 64];
-            let mut second = [[0; 64]; SHORT_STRIP_BYTES / 64];
-            return self.make_strip(start, end, &mut first, &mut second, store);
-        }
-        let mut first = [[0; 64]; SUM_STRIP_BYTES / 64];
-        let mut second = [[0; 64]; SUM_STRIP_BYTES / 64];
-        self.make_strip(start, end, &mut first, &mut second, store)
+        sum_strip(self.sums, self.wanted, start, end, &mut *self.x, store)
     }
 }
 
@@ -197,90 +251,44 @@ impl<'a, 'b, E: Engine> StripSums for Sums<'a, 'b, E> {
     ghost use Rattle.reed_solomon_simd.specs.Base.{CanSum};
     ghost use Rattle.reed_solomon_simd.specs.Reconstructed.{CanBeRebuilt};
 
-    ghost ready = { λ x s start end. CanSum s x.base start end };
+    ghost ready = { λ x s start end. CanSum s x.base x.surplus start end };
 
     ghost can = { λ _ s wanted. CanBeRebuilt s wanted };
 
-    fn sum_piece<P: Pieces>(
-        &self,
-        received: &P,
-        wanted: ShardIndex,
-        start: usize,
-        end: usize,
-        sum: &mut [[u8; 64]],
-    ) {
-        let row = row_of(received.counts().frame, wanted);
-        self.sum_row(received, row, start, end, sum);
-    }
-
-    fn sum_two_pieces<P: Pieces>(
-        &self,
-        received: &P,
-        wanted: (ShardIndex, ShardIndex),
-        start: usize,
-        end: usize,
-        first: &mut [[u8; 64]],
-        second: &mut [[u8; 64]],
-    ) {
-        let frame = received.counts().frame;
-        let rows = (row_of(frame, wanted.0), row_of(frame, wanted.1));
-        self.sum_two_rows(received, rows, start, end, first, second);
-    }
-}
-
-impl<'a, 'b, E: Engine> Sums<'a, 'b, E> {
-    // Makes a strip of the wanted shards, with memory for two sums.
-    fn make_strip<S: Store>(
-        &self,
-        start: usize,
-        end: usize,
-        first: &mut [[u8; 64]],
-        second: &mut [[u8; 64]],
-        store: &mut S,
-    ) -> Result<(), Error>
-        requires ready { AreSumsReady self.now.base self.now.surplus (S.received store.old)
-            (end - start) }
-        requires can { CanMake (S.received store.old) self.now.wanted.now }
-        requires strip { IsStrip start end (S.received store.old).configuration.shard_bytes }
-        requires rooms { AreRooms S.grows start (S.received store.old).configuration.shard_bytes
-            (length self.now.wanted.now) (S.held store.old) }
-        requires first_room { row_len (end - start) ≤ length first.old }
-        requires second_room { row_len (end - start) ≤ length second.old }
-        ensures made { MakesStrip S.grows (S.received store.old) self.now.wanted.now start end
-            (S.held store.old) (S.held store.new) result }
-        ensures places { S.places store.new ≡ S.places store.old }
-        ensures loan { S.loan store.new ≡ S.loan store.old }
-    {
-        let len = row_len(end - start);
-        let (first, second) = (&mut first[..len], &mut second[..len]);
-        if self.surplus > 0 && !self.agree_in_strip(&*store, start, end, first) {
-            return Err(inconsistent(&*store));
-        }
-        put_sums(self, self.wanted, start, end, first, second, store)
-    }
-
-    // Returns whether some message agrees with a strip of all received shards: each shard outside of the base is the
-    // direct sum.
     fn agree_in_strip<P: Pieces>(
         &self,
         received: &P,
         start: usize,
         end: usize,
-        sum: &mut [[u8; 64]],
-    ) -> bool
-        requires ready { CanSum (P.received received.now) self.now.base start end }
-        requires room { length sum.old ≡ row_len (end - start) }
-        ensures { IsTrue result
-            ↔ IsConsistent (state_of_pieces start end (P.received received.now)) }
-    {
+        x: &mut [[u8; 64]],
+    ) -> bool {
+        if self.surplus == 0 {
+            return true;
+        }
         for row in self.base.marks.len()..self.base.locator.len() {
-            if !self.agrees_in_row(received, row, start, end, sum) {
+            if !self.agrees_in_row(received, row, start, end, x) {
                 return false;
             }
         }
         true
     }
 
+    fn sum_pieces<P: Pieces>(
+        &self,
+        received: &P,
+        wanted: &[ShardIndex],
+        start: usize,
+        end: usize,
+        x: &mut [[u8; 64]],
+    ) {
+        let mut rows = [0; MOST_SUMS];
+        let rows = &mut rows[..wanted.len()];
+        set_rows(rows, received.counts().frame, wanted);
+        self.sum_rows(received, rows, start, end, x);
+    }
+}
+
+impl<'a, 'b, E: Engine> Sums<'a, 'b, E> {
     // Returns whether the piece of the shard that was received in a row outside of the base, if there is one, is the
     // direct sum.
     fn agrees_in_row<P: Pieces>(
@@ -289,38 +297,41 @@ impl<'a, 'b, E: Engine> Sums<'a, 'b, E> {
         row: usize,
         start: usize,
         end: usize,
-        sum: &mut [[u8; 64]],
+        x: &mut [[u8; 64]],
     ) -> bool
-        requires ready { CanSum (P.received received.now) self.now.base start end }
+        requires ready { CanSum (P.received received.now) self.now.base self.now.surplus start end }
         requires row { row < row_count (frame_at (P.received received.now).configuration) }
         requires outside { is_marked self.now.base.marks.now row ≡ false }
-        requires room { length sum.old ≡ row_len (end - start) }
+        requires room { length x.old ≡ sum_stride (end - start) }
         ensures { IsTrue result ↔ AgreesInRow self.now.base.marks.now
             (state_of_pieces start end (P.received received.now)) row }
     {
         let Some(piece) = piece_in_row(received, row, start, end) else {
             return true;
         };
-        self.sum_row(received, row, start, end, sum);
-        summed_piece(sum, end - start) == piece
+        self.sum_rows(received, &[row], start, end, x);
+        sum_at(x, end - start, 0) == piece
     }
 
-    // Sets a sum to the direct sum over a strip of the base, for a row outside of the base.
-    fn sum_row<P: Pieces>(
+    // Makes the direct sums over a strip of the base, for rows outside of the base.
+    fn sum_rows<P: Pieces>(
         &self,
         received: &P,
-        row: usize,
+        rows: &[usize],
         start: usize,
         end: usize,
-        sum: &mut [[u8; 64]],
+        x: &mut [[u8; 64]],
     )
-        requires ready { CanSum (P.received received.now) self.now.base start end }
-        requires row { row < row_count (frame_at (P.received received.now).configuration) }
-        requires outside { is_marked self.now.base.marks.now row ≡ false }
-        requires room { length sum.old ≡ row_len (end - start) }
-        ensures { IsBaseSum self.now.base.marks.now
-            (state_of_pieces start end (P.received received.now)) row
-            (shard_in_order sum.new (end - start) 0) }
+        requires ready { CanSum (P.received received.now) self.now.base self.now.surplus start end }
+        requires inside { (d : ℕ) → d < length rows.now → slice_index rows.now d
+            < row_count (frame_at (P.received received.now).configuration) }
+        requires outside { (d : ℕ) → d < length rows.now
+            → is_marked self.now.base.marks.now (slice_index rows.now d) ≡ false }
+        requires room { length x.old ≡ length rows.now * sum_stride (end - start) }
+        ensures { (d : ℕ) → d < length rows.now
+            → IsBaseSum self.now.base.marks.now
+            (state_of_pieces start end (P.received received.now)) (slice_index rows.now d)
+            (sum_at x.new (end - start) d) }
     {
         let pieces = StripPieces {
             received,
@@ -328,50 +339,12 @@ impl<'a, 'b, E: Engine> Sums<'a, 'b, E> {
             end,
         };
         let sums = BaseSums {
-            engine: self.engine,
             base: &self.base,
             pieces: &pieces,
             piece_len: end - start,
+            rows,
         };
-        sums.make(row, sum);
-    }
-
-    // Sets two sums to the direct sums over a strip of the base, for two rows outside of the base.
-    fn sum_two_rows<P: Pieces>(
-        &self,
-        received: &P,
-        rows: (usize, usize),
-        start: usize,
-        end: usize,
-        first: &mut [[u8; 64]],
-        second: &mut [[u8; 64]],
-    )
-        requires ready { CanSum (P.received received.now) self.now.base start end }
-        requires first { rows.0 < row_count (frame_at (P.received received.now).configuration) }
-        requires second { rows.1 < row_count (frame_at (P.received received.now).configuration) }
-        requires first_outside { is_marked self.now.base.marks.now rows.0 ≡ false }
-        requires second_outside { is_marked self.now.base.marks.now rows.1 ≡ false }
-        requires first_room { length first.old ≡ row_len (end - start) }
-        requires second_room { length second.old ≡ row_len (end - start) }
-        ensures first { IsBaseSum self.now.base.marks.now
-            (state_of_pieces start end (P.received received.now)) rows.0
-            (shard_in_order first.new (end - start) 0) }
-        ensures second { IsBaseSum self.now.base.marks.now
-            (state_of_pieces start end (P.received received.now)) rows.1
-            (shard_in_order second.new (end - start) 0) }
-    {
-        let pieces = StripPieces {
-            received,
-            start,
-            end,
-        };
-        let sums = BaseSums {
-            engine: self.engine,
-            base: &self.base,
-            pieces: &pieces,
-            piece_len: end - start,
-        };
-        sums.make_two(rows, first, second);
+        make_sums(self.engine, &sums, x);
     }
 }
 
@@ -388,6 +361,9 @@ struct StripPieces<'a, P> {
 
 impl<'a, P: Pieces> BasePieces for StripPieces<'a, P> {
     ghost use Rattle.std.specs.Prelude.{◌-◌};
+    ghost use Rattle.std.proofs.Props.{props};
+    ghost use Rattle.std.proofs.Math.Bridge.{le_prop};
+    ghost use Rattle.reed_solomon_simd.specs.Propositions.{Rate-set};
     ghost use Rattle.rs_field.specs.code.DirectLaws.{word_of, shard_in_row};
     ghost use Rattle.rs_field.specs.code.PieceStates.{state_of_pieces};
     ghost use Rattle.reed_solomon_simd.specs.Base.{HasPiece};
@@ -398,6 +374,8 @@ impl<'a, P: Pieces> BasePieces for StripPieces<'a, P> {
         (state_of_pieces x.start x.end (P.received x.received.now)) row) };
 
     ghost has = { λ x row. HasPiece (P.received x.received.now) x.start x.end row };
+
+    ghost has_is_prop = { λ x row. Prim.hlevel (le_prop, Rate-set, props) };
 
     fn piece(&self, row: usize) -> &[u8] {
         piece_of_strip(self.received, row, self.start, self.end)
@@ -412,7 +390,19 @@ fn piece_of_strip<P: Pieces>(received: &P, row: usize, start: usize, end: usize)
     piece_in_row(received, row, start, end).unwrap_or(&[])
 }
 
-pub(crate) fn row_of(frame: Frame, shard: ShardIndex) -> usize
+// Sets each entry of `rows` to the row of the shard with its index in `wanted`.
+pub(crate) fn set_rows(rows: &mut [usize], frame: Frame, wanted: &[ShardIndex])
+    requires number { length rows.old ≡ length wanted.now }
+    requires small { All (λ shard. row_of frame shard < 2 ^ 64) wanted.now }
+    ensures { (d : ℕ) → d < length wanted.now
+        → slice_index rows.new d ≡ row_of frame (slice_index_or wanted.now d (Original 0)) }
+{
+    for index in 0..wanted.len() {
+        rows[index] = row_of(frame, wanted[index]);
+    }
+}
+
+fn row_of(frame: Frame, shard: ShardIndex) -> usize
     requires { row_of frame shard < 2 ^ 64 }
     ensures { result ≡ row_of frame shard }
 {

@@ -2,49 +2,48 @@
 //! are encoded, with zeros for the missing ones. The syndrome of a received recovery shard is its XOR with the encoded
 //! one. The missing originals are direct sums over the syndromes alone: the base of these sums has all received
 //! originals, but in their rows the received word and the encoded word are the same.
-ghost use Rattle.std.specs.Prelude.{◌≡◌, ◌↔◌, ℕ, ◌-◌, ◌<◌, ◌≤◌, true, false, length, vec_len, IsTrue};
-ghost use Rattle.std.specs.Prelude.{IfOk, IfErr, replicate, unwrap_or};
+ghost use Rattle.std.specs.Prelude.{◌≡◌, ◌↔◌, ℕ, ◌-◌, ◌*◌, ◌<◌, ◌≤◌, true, false, length, vec_len, IsTrue};
+ghost use Rattle.std.specs.Prelude.{IfOk, IfErr, replicate, slice_index, unwrap_or};
 ghost use Rattle.rs_field.specs.code.Code.{AreRecovery};
 ghost use Rattle.rs_field.specs.code.Column.{shard_at};
 ghost use Rattle.rs_field.specs.code.Counts.{default_rate};
-ghost use Rattle.rs_field.specs.code.Decoder.{IsDecoder, enough_given, IsConsistent};
+ghost use Rattle.rs_field.specs.code.Decoder.{IsDecoder, enough_given};
 ghost use Rattle.rs_field.specs.code.Frame.{frame_at, row_count};
 ghost use Rattle.rs_field.specs.code.Pieces.{IsStrip};
 ghost use Rattle.rs_field.specs.code.PieceStates.{state_of_pieces};
-ghost use Rattle.rs_field.specs.rows.Layout.{row_len};
 ghost use Rattle.rs_field.specs.rows.MarkedRows.{is_marked};
 ghost use Rattle.rs_rate.specs.objects.StripView.{code_of, coded_shards};
-ghost use Rattle.rs_rate.specs.rows.ShardRows.{shard_in_order};
+ghost use Rattle.reed_solomon_simd.specs.StripSums.{sum_stride, sum_at};
 ghost use Rattle.reed_solomon_simd.specs.Making.{AreRooms, MakesMissing, missing_names};
 ghost use Rattle.reed_solomon_simd.specs.Rounds.{IsReadyToEncode};
 ghost use Rattle.reed_solomon_simd.specs.Syndromes.{zeroed, AreSyndromes, MarksRecovery, AddsOriginals, AgreesAt};
 ghost use Rattle.reed_solomon_simd.specs.Syndromes.{CanSumSyndromes, IsSyndromeSum};
 
-use crate::pieces::{Pieces, inconsistent, is_received, surplus_count};
+use crate::pieces::{Pieces, is_received, surplus_count};
 use crate::shard_index::ShardIndex;
 use crate::store::Store;
-use crate::strip_bytes::DECODE_STRIP_BYTES;
-use crate::strip_summer::{missing_originals, row_of};
-use crate::strip_sums::{BaseSums, StripSums, put_sums};
+use crate::strip_bytes::{DECODE_STRIP_BYTES, SYNDROME_SUM_CHUNKS};
+use crate::strip_summer::{missing_originals, set_rows};
+use crate::strip_sums::{MOST_SUMS, StripSums, make_sums, sum_at, sum_strip};
 use crate::strips::{Way, make_strips};
 use crate::wanted_shards::no_marks;
-use rs_field::engine::layout::row_len;
 use rs_field::engine::{Engine, Steps};
 use rs_field::error::Error;
-use rs_rate::rate::base_sums::BasePieces;
+use rs_rate::rate::base_sums::{BasePieces, BaseSums};
 use rs_rate::rate::strip_encoder::StripEncoder;
 use rs_rate::rate::strip_message::StripMessage;
-use rs_rate::rate::sums::{SumBase, list_base, locate_base, summed_piece};
+use rs_rate::rate::sums::{SumBase, list_base, locate_base};
 use std::alloc::Global;
 
 /// Writes the missing originals into the rooms of a store, in order of index, by sums of syndromes. Enough shards were
-/// received.
+/// received. The function is not inlined: a decode that makes other sums would have its arrays on the stack, too.
 ///
 /// # Errors
 ///
 /// - [`Error::OutOfMemory`] if the work area or one of the lists cannot be allocated.
 /// - For each strip in order: [`Error::InconsistentShards`] if no message agrees with all received shards, and then
 ///   [`Error::OutOfMemory`] if a room cannot grow. The rooms may then hold some strips.
+#[inline(never)]
 pub(crate) fn restore_by_syndromes<E: Engine, S: Store>(
     alloc: Global,
     engine: &E,
@@ -76,14 +75,23 @@ pub(crate) fn restore_by_syndromes<E: Engine, S: Store>(
         locator: &factors.locator,
         logs: &factors.logs,
     };
-    let mut way = Syndromes {
+    let sums = Syndromes {
         engine,
         encoder,
         base,
-        wanted: wanted.as_slice(),
         surplus,
     };
-    make_strips(DECODE_STRIP_BYTES, &mut way, store)
+    let wanted = wanted.as_slice();
+    let mut x = [[0; 64]; SYNDROME_SUM_CHUNKS];
+    make_strips(
+        DECODE_STRIP_BYTES,
+        &mut SyndromesWay {
+            sums,
+            wanted,
+            x: &mut x,
+        },
+        store,
+    )
 }
 
 // Returns a mark for each row: whether a recovery shard was received in it. Fails with `OutOfMemory`.
@@ -140,35 +148,44 @@ fn widened(alloc: Global, marks: &[bool], count: usize) -> Result<Vec<bool>, Err
     Ok(all)
 }
 
-/// An encoder for the syndromes of a strip, and a base for their sums, which make the missing originals.
+/// An encoder for the syndromes of a strip, and a base for their sums.
 #[derive(Drop)]
 struct Syndromes<'a, 'b, E: Engine> {
     engine: &'a E,
     encoder: StripEncoder,
     /// The recovery rows of the base. The factors are those of a base to which all received originals belong, too.
     base: SumBase<'b>,
-    /// The names of the missing originals.
-    wanted: &'b [ShardIndex],
+    /// The number of received recovery shards that are not in the base.
     surplus: usize,
 }
 
-impl<'a, 'b, E: Engine> Way for Syndromes<'a, 'b, E> {
+/// The way of making the missing originals by sums of syndromes.
+#[derive(Drop)]
+struct SyndromesWay<'a, 'b, 'c, E: Engine> {
+    sums: Syndromes<'a, 'b, E>,
+    /// The names of the missing originals.
+    wanted: &'b [ShardIndex],
+    /// The chunks in which the sums are made.
+    x: &'c mut [[u8; 64]],
+}
+
+impl<'a, 'b, 'c, E: Engine> Way for SyndromesWay<'a, 'b, 'c, E> {
     ghost use Rattle.reed_solomon_simd.specs.Syndromes.{AreSyndromesReady};
 
     ghost wanted = { λ x _. x.wanted.now };
 
-    ghost ready = { λ x s n. AreSyndromesReady x.encoder x.base x.wanted.now x.surplus s n };
+    ghost ready = { λ x s n. AreSyndromesReady x.sums.encoder x.sums.base x.wanted.now x.sums.surplus
+        (length x.x.now) s n };
 
     fn strip<S: Store>(&mut self, start: usize, end: usize, store: &mut S) -> Result<(), Error> {
-        make_syndromes(self.engine, &mut self.encoder, &*store, start, end);
-        let len = row_len(end - start);
-        let mut first = [[0; 64]; DECODE_STRIP_BYTES / 64];
-        let mut second = [[0; 64]; DECODE_STRIP_BYTES / 64];
-        let (first, second) = (&mut first[..len], &mut second[..len]);
-        if self.surplus > 0 && !self.agree_in_strip(&*store, start, end, first) {
-            return Err(inconsistent(&*store));
-        }
-        put_sums(&*self, self.wanted, start, end, first, second, store)
+        make_syndromes(
+            self.sums.engine,
+            &mut self.sums.encoder,
+            &*store,
+            start,
+            end,
+        );
+        sum_strip(&self.sums, self.wanted, start, end, &mut *self.x, store)
     }
 }
 
@@ -176,34 +193,40 @@ impl<'a, 'b, E: Engine> StripSums for Syndromes<'a, 'b, E> {
     ghost use Rattle.reed_solomon_simd.specs.Reconstructed.{IsMissing};
     ghost use Rattle.reed_solomon_simd.specs.Syndromes.{CanSumSyndromes};
 
-    ghost ready = { λ x s start end. CanSumSyndromes s x.base x.encoder start end };
+    ghost ready = { λ x s start end. CanSumSyndromes s x.base x.surplus x.encoder start end };
 
     ghost can = { λ _ s wanted. IsMissing s wanted };
 
-    fn sum_piece<P: Pieces>(
+    fn agree_in_strip<P: Pieces>(
         &self,
         received: &P,
-        wanted: ShardIndex,
         start: usize,
         end: usize,
-        sum: &mut [[u8; 64]],
-    ) {
-        let row = row_of(received.counts().frame, wanted);
-        self.sum_row(received, row, start, end, sum);
+        x: &mut [[u8; 64]],
+    ) -> bool {
+        if self.surplus == 0 {
+            return true;
+        }
+        for index in 0..received.counts().recovery_count {
+            if !self.agrees(received, index, start, end, x) {
+                return false;
+            }
+        }
+        true
     }
 
-    fn sum_two_pieces<P: Pieces>(
+    fn sum_pieces<P: Pieces>(
         &self,
         received: &P,
-        wanted: (ShardIndex, ShardIndex),
+        wanted: &[ShardIndex],
         start: usize,
         end: usize,
-        first: &mut [[u8; 64]],
-        second: &mut [[u8; 64]],
+        x: &mut [[u8; 64]],
     ) {
-        let frame = received.counts().frame;
-        let rows = (row_of(frame, wanted.0), row_of(frame, wanted.1));
-        self.sum_two_rows(received, rows, start, end, first, second);
+        let mut rows = [0; MOST_SUMS];
+        let rows = &mut rows[..wanted.len()];
+        set_rows(rows, received.counts().frame, wanted);
+        self.sum_rows(received, rows, start, end, x);
     }
 }
 
@@ -303,29 +326,6 @@ fn add_received<P: Pieces>(encoder: &mut StripEncoder, received: &P, start: usiz
 }
 
 impl<'a, 'b, E: Engine> Syndromes<'a, 'b, E> {
-    // Returns whether some message agrees with a strip of all received shards: each syndrome outside of the base is the
-    // sum of those of the base.
-    fn agree_in_strip<P: Pieces>(
-        &self,
-        received: &P,
-        start: usize,
-        end: usize,
-        sum: &mut [[u8; 64]],
-    ) -> bool
-        requires ready { CanSumSyndromes (P.received received.now) self.now.base
-            self.now.encoder start end }
-        requires room { length sum.old ≡ row_len (end - start) }
-        ensures { IsTrue result
-            ↔ IsConsistent (state_of_pieces start end (P.received received.now)) }
-    {
-        for index in 0..received.counts().recovery_count {
-            if !self.agrees(received, index, start, end, sum) {
-                return false;
-            }
-        }
-        true
-    }
-
     // Returns whether the syndrome of a received recovery shard outside of the base is the sum of those of the base.
     fn agrees<P: Pieces>(
         &self,
@@ -333,12 +333,12 @@ impl<'a, 'b, E: Engine> Syndromes<'a, 'b, E> {
         index: usize,
         start: usize,
         end: usize,
-        sum: &mut [[u8; 64]],
+        x: &mut [[u8; 64]],
     ) -> bool
-        requires ready { CanSumSyndromes (P.received received.now) self.now.base
+        requires ready { CanSumSyndromes (P.received received.now) self.now.base self.now.surplus
             self.now.encoder start end }
         requires index { index < (P.received received.now).configuration.recovery_count }
-        requires room { length sum.old ≡ row_len (end - start) }
+        requires room { length x.old ≡ sum_stride (end - start) }
         ensures { IsTrue result ↔ AgreesAt (state_of_pieces start end (P.received received.now))
             self.now.base (coded_shards self.now.encoder) index }
     {
@@ -352,77 +352,42 @@ impl<'a, 'b, E: Engine> Syndromes<'a, 'b, E> {
         if row < self.base.marks.len() {
             return true;
         }
-        self.sum_row(received, row, start, end, sum);
-        summed_piece(sum, end - start) == syndrome_at(&self.encoder, index)
+        self.sum_rows(received, &[row], start, end, x);
+        sum_at(x, end - start, 0) == syndrome_at(&self.encoder, index)
     }
 
-    // Sets a sum to the sum of the syndromes of the base, for a row outside of the base.
-    fn sum_row<P: Pieces>(
+    // Makes the sums of the syndromes of the base, for rows outside of the base.
+    fn sum_rows<P: Pieces>(
         &self,
         received: &P,
-        row: usize,
+        rows: &[usize],
         start: usize,
         end: usize,
-        sum: &mut [[u8; 64]],
+        x: &mut [[u8; 64]],
     )
-        requires ready { CanSumSyndromes (P.received received.now) self.now.base
+        requires ready { CanSumSyndromes (P.received received.now) self.now.base self.now.surplus
             self.now.encoder start end }
-        requires row { row < row_count (frame_at (P.received received.now).configuration) }
-        requires outside { is_marked self.now.base.marks.now row ≡ false }
-        requires room { length sum.old ≡ row_len (end - start) }
-        ensures { IsSyndromeSum (state_of_pieces start end (P.received received.now))
-            self.now.base (coded_shards self.now.encoder) row
-            (shard_in_order sum.new (end - start) 0) }
+        requires inside { (d : ℕ) → d < length rows.now → slice_index rows.now d
+            < row_count (frame_at (P.received received.now).configuration) }
+        requires outside { (d : ℕ) → d < length rows.now
+            → is_marked self.now.base.marks.now (slice_index rows.now d) ≡ false }
+        requires room { length x.old ≡ length rows.now * sum_stride (end - start) }
+        ensures { (d : ℕ) → d < length rows.now
+            → IsSyndromeSum (state_of_pieces start end (P.received received.now))
+            self.now.base (coded_shards self.now.encoder) (slice_index rows.now d)
+            (sum_at x.new (end - start) d) }
     {
         let pieces = SyndromePieces {
             encoder: &self.encoder,
             recovery_from: received.counts().frame.recovery_from,
         };
         let sums = BaseSums {
-            engine: self.engine,
             base: &self.base,
             pieces: &pieces,
             piece_len: end - start,
+            rows,
         };
-        sums.make(row, sum);
-    }
-
-    // Sets two sums to the sums of the syndromes of the base, for two rows outside of the base.
-    fn sum_two_rows<P: Pieces>(
-        &self,
-        received: &P,
-        rows: (usize, usize),
-        start: usize,
-        end: usize,
-        first: &mut [[u8; 64]],
-        second: &mut [[u8; 64]],
-    )
-        requires ready { CanSumSyndromes (P.received received.now) self.now.base
-            self.now.encoder start end }
-        requires first { rows.0 < row_count (frame_at (P.received received.now).configuration) }
-        requires second { rows.1 < row_count (frame_at (P.received received.now).configuration) }
-        requires first_outside { is_marked self.now.base.marks.now rows.0 ≡ false }
-        requires second_outside { is_marked self.now.base.marks.now rows.1 ≡ false }
-        requires first_room { length first.old ≡ row_len (end - start) }
-        requires second_room { length second.old ≡ row_len (end - start) }
-        ensures first { IsSyndromeSum (state_of_pieces start end (P.received received.now))
-            self.now.base (coded_shards self.now.encoder) rows.0
-            (shard_in_order first.new (end - start) 0) }
-        ensures second { IsSyndromeSum (state_of_pieces start end (P.received received.now))
-            self.now.base (coded_shards self.now.encoder) rows.1
-            (shard_in_order second.new (end - start) 0) }
-    {
-        let pieces = SyndromePieces {
-            encoder: &self.encoder,
-            recovery_from: received.counts().frame.recovery_from,
-        };
-        let sums = BaseSums {
-            engine: self.engine,
-            base: &self.base,
-            pieces: &pieces,
-            piece_len: end - start,
-        };
-        sums.make_two(rows, first, second);
+        make_sums(self.engine, &sums, x);
     }
 }
 
@@ -437,6 +402,7 @@ struct SyndromePieces<'a> {
 
 impl<'a> BasePieces for SyndromePieces<'a> {
     ghost use Rattle.std.specs.Prelude.{◌-◌, ◌≤◌, ◌<◌, length};
+    ghost use Rattle.std.proofs.Math.Bridge.{le_prop};
     ghost use Rattle.rs_field.specs.code.Column.{column, shard_at};
     ghost use Rattle.rs_rate.specs.objects.StripView.{coded_shards};
 
@@ -447,6 +413,8 @@ impl<'a> BasePieces for SyndromePieces<'a> {
 
     ghost has = { λ x row. (x.recovery_from ≤ row)
         × (row - x.recovery_from < length (coded_shards x.encoder.now)) };
+
+    ghost has_is_prop = { λ x row. Prim.hlevel (le_prop) };
 
     fn piece(&self, row: usize) -> &[u8] {
         syndrome_at(self.encoder, row - self.recovery_from)

@@ -30,8 +30,8 @@ use rs_ffi::verifying::verify_arrays;
 use rs_rate::rate::DefaultRateCounts;
 use std::alloc::Global;
 
-/// Fills the tables and returns 0. If memory cannot be allocated, it returns 1, which is `RS_OUT_OF_MEMORY`, and leaves
-/// the tables as they were.
+/// Fills the tables and returns 0. If memory cannot be allocated, the call returns 1, which is `RS_OUT_OF_MEMORY`, and
+/// leaves the tables as they were.
 #[unsafe(no_mangle)]
 pub extern "C" fn rs_tables_make(alloc: Global, tables: &mut RsTables) -> u32
     ensures made { result ≡ 0 → AreTables tables.new }
@@ -232,7 +232,7 @@ pub extern "C" fn rs_decode_shards(
 
 /// Checks that the received shards belong to one message. The shards can be anywhere in memory. The shard size is that
 /// of the first recovery shard, or of the first original if there is no recovery shard. Fills `fault`, and returns its
-/// number, which is 0 if they do.
+/// number, which is 0 if the shards belong to one message.
 ///
 /// The call fails, in this order, if the tables were not made, and with the errors of `verify` for these shards.
 #[unsafe(no_mangle)]
@@ -359,7 +359,7 @@ pub extern "C" fn rs_update(
 }
 
 /// Writes the text of a fault into `text`, as much of it as fits, and returns the length of the whole text. If no fault
-/// has this number, it writes nothing and returns 0. It allocates nothing.
+/// has this number, the call writes nothing and returns 0. It allocates nothing.
 #[unsafe(no_mangle)]
 pub extern "C" fn rs_fault_text(fault: &RsFault, text: &mut [u8]) -> usize
     ensures { WritesText (text_with (fault_with fault.now)) text.old text.new result }

@@ -1,5 +1,5 @@
 //! Tests that call the functions as a program in C does. They show that the calls can allocate memory, which no
-//! contract states. The tables are larger than a stack, and only an optimised build copies them without room on the
+//! contract states. The tables are larger than a stack, and only an optimized build copies them without using the
 //! stack. So `rt test` runs these tests, and two of them fail in `rt try`.
 ghost use Rattle.std.specs.Prelude.{◌≡◌, length, IfOk};
 ghost use Rattle.rs_ffi.specs.Tables.{AreStamped, AreTables};

@@ -6,3 +6,5 @@ pub mod LookUp
 pub mod Kept
 pub mod Halves
 pub mod Groups
+pub mod TwistedWords
+pub mod StridedRows

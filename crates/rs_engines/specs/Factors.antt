@@ -1,5 +1,5 @@
 -- The logarithm of a factor, and the products with a factor.
-use Rattle.std.specs.Prelude.{◌≡◌, ℕ, List, slice_index}
+use Rattle.std.specs.Prelude.{◌≡◌, ℕ, slice_index}
 use Rattle.rs_field.specs.declared.words.table_types.Multiply128lutT.{Multiply128lutT}
 use Rattle.rs_engines.specs.declared.any_factor.AnyFactor.{AnyFactor}
 use Rattle.rs_engines.specs.declared.shuffle_tables.Products.{Products}
@@ -11,7 +11,7 @@ log_of (AnyFactor.Small factor) = factor.log_m
 log_of (AnyFactor.General factor) = factor.log_m
 
 -- the six look-ups of a small factor need only four numbers: the high bytes of the products of high bytes are the low
--- bytes of the products of low bytes; this is not asked of other factors
+-- bytes of the products of low bytes; no other factor needs so few
 abbrev pub NeedsFourNumbers : AnyFactor → Type 0
 NeedsFourNumbers (AnyFactor.Zero factor) = ⊥
 NeedsFourNumbers (AnyFactor.Small factor) =
@@ -23,12 +23,3 @@ NeedsFourNumbers (AnyFactor.General factor) = ⊥
 abbrev pub products_of : Products → Multiply128lutT
 products_of (Products.Lent products) = products.now
 products_of (Products.Held products) = products
-
--- the products with a factor are looked up in six numbers: low bytes have no high byte in their products, `low` has the
--- low bytes of all products, and the other two numbers have the high bytes of the products of high bytes
-pub record HasSmallNumbers (products : Multiply128lutT) (low : List ℕ) (third fourth : ℕ) : Type 0 where
-  pub no_low_nibbles : slice_index products.hi 0 ≡ 0
-  pub no_high_nibbles : slice_index products.hi 1 ≡ 0
-  pub low_bytes : products.lo ≡ low
-  pub low_nibbles : slice_index products.hi 2 ≡ third
-  pub high_nibbles : slice_index products.hi 3 ≡ fourth

@@ -1,5 +1,8 @@
 pub mod Kind
 pub mod Lanes
+pub mod SmallNumbers
 pub mod Factors
-pub mod Changes
 pub mod Additive
+pub mod Twisted
+pub mod StridedRows
+pub mod Sums

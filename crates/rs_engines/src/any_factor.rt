@@ -53,7 +53,7 @@ pub fn factor_of<'t>(products: &'t Multiply128lutT, log_m: GfElement) -> AnyFact
 
 /// Returns the factor if it is small and its six look-ups need only four numbers.
 #[inline(always)]
-pub fn bytewise<'t>(factor: AnyFactor<'t>) -> Option<Bytewise<'t>>
+pub fn bytewise(factor: AnyFactor<'_>) -> Option<Bytewise>
     ensures some { IfSome result (λ found. found.log_m ≡ log_of factor.entry) }
     ensures none { IfNone result (NeedsFourNumbers factor.entry → ⊥) }
 {
@@ -61,7 +61,10 @@ pub fn bytewise<'t>(factor: AnyFactor<'t>) -> Option<Bytewise<'t>>
         return None;
     };
     if products.hi[2] == products.lo[0] && products.hi[3] == products.lo[1] {
-        Some(Bytewise { log_m, products })
+        Some(Bytewise {
+            log_m,
+            numbers: products.lo,
+        })
     } else {
         None
     }

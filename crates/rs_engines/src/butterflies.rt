@@ -1,5 +1,5 @@
 //! Butterflies of words in lanes, forward and backward: one layer on two words, and two layers on four words.
-ghost use Rattle.std.specs.Prelude.{◌≡◌, ℕ, ◌<◌};
+ghost use Rattle.std.specs.Prelude.{ℕ, ◌<◌};
 ghost use Rattle.rs_field.specs.rows.Pairs.{OnTwoWords, IsForwardTwo, IsBackwardTwo};
 ghost use Rattle.rs_field.specs.rows.TwoLayers.{OnFourWords, IsForwardFour, IsBackwardFour};
 ghost use Rattle.rs_engines.specs.Lanes.{lane};

@@ -3,8 +3,7 @@ use crate::engine_nosimd::NoSimd;
 use crate::engine_shuffle::{Avx2, Ssse3};
 use rs_field::engine::tables::Tables;
 use rs_field::engine::{
-    Change, ChangeRows, Engine, GfElement, Naive, ReadRows, ShardsRefMut, Steps, TwoLogarithms,
-    Writing,
+    AddedRows, Change, ChangeRows, Engine, GfElement, Naive, ReadRows, ShardsRefMut, Steps, Writing,
 };
 use std::fmt;
 use std::str::FromStr;
@@ -328,35 +327,19 @@ impl Engine for DefaultEngine<'_> {
         }
     }
 
-    fn mul_add_two(
+    fn add_rows<A: AddedRows>(
         &self,
         steps: &mut Steps,
         x: &mut [[u8; 64]],
-        y0: &[[u8; 64]],
-        y1: &[[u8; 64]],
-        logs: TwoLogarithms,
-    ) {
+        stride: usize,
+        rows: &A,
+        writing: Writing,
+    ) -> bool {
         match self {
-            Self::Naive(engine) => Engine::mul_add_two(engine, steps, x, y0, y1, logs),
-            Self::NoSimd(engine) => Engine::mul_add_two(engine, steps, x, y0, y1, logs),
-            Self::Avx2(engine) => Engine::mul_add_two(engine, steps, x, y0, y1, logs),
-            Self::Ssse3(engine) => Engine::mul_add_two(engine, steps, x, y0, y1, logs),
-        }
-    }
-
-    fn mul_add_to_two(
-        &self,
-        steps: &mut Steps,
-        x0: &mut [[u8; 64]],
-        x1: &mut [[u8; 64]],
-        y: &[[u8; 64]],
-        logs: TwoLogarithms,
-    ) {
-        match self {
-            Self::Naive(engine) => Engine::mul_add_to_two(engine, steps, x0, x1, y, logs),
-            Self::NoSimd(engine) => Engine::mul_add_to_two(engine, steps, x0, x1, y, logs),
-            Self::Avx2(engine) => Engine::mul_add_to_two(engine, steps, x0, x1, y, logs),
-            Self::Ssse3(engine) => Engine::mul_add_to_two(engine, steps, x0, x1, y, logs),
+            Self::Naive(engine) => Engine::add_rows(engine, steps, x, stride, rows, writing),
+            Self::NoSimd(engine) => Engine::add_rows(engine, steps, x, stride, rows, writing),
+            Self::Avx2(engine) => Engine::add_rows(engine, steps, x, stride, rows, writing),
+            Self::Ssse3(engine) => Engine::add_rows(engine, steps, x, stride, rows, writing),
         }
     }
 

@@ -1,5 +1,6 @@
 //! The engines that look up products by shuffles. The words of a chunk are in the lanes of vectors, and a product takes
-//! eight look-ups of nibbles, or six if the factor is small.
+//! eight look-ups of nibbles, or six if the factor is small. In sums of several rows it takes four if the factors are
+//! small.
 ghost use Rattle.std.specs.Prelude.{◌≡◌, ℕ};
 ghost use Rattle.rs_field.specs.words.Field.{power};
 ghost use Rattle.rs_field.specs.words.Products.{IsNibbleBytes};
@@ -11,15 +12,15 @@ use crate::byte_vector::ByteVector;
 use crate::factors::ThreeFactors;
 use crate::shuffle_changes::change_all;
 use crate::shuffle_rows::{
-    add_row, add_row_to_two, add_two_rows, mul_chunks, one_layer, one_layer_written, two_layers,
-    two_layers_written,
+    add_row, mul_chunks, one_layer, one_layer_written, two_layers, two_layers_written,
 };
+use crate::shuffle_sums::sum_strided;
 use crate::shuffle_tables::ShuffleTables;
 use crate::word_lanes::{AddWords, ReplaceWords};
 use rs_field::engine::kernel::{FourRows, Kernel, ThreeLogarithms};
 use rs_field::engine::lent_tables::LentTables;
 use rs_field::engine::tables::{Multiply128lutT, Tables};
-use rs_field::engine::{Change, ChangeRows, GfElement, TwoLogarithms, Writing};
+use rs_field::engine::{AddedRows, Change, ChangeRows, GfElement, Writing};
 use std::marker::PhantomData;
 use std::simd::prelude::*;
 
@@ -209,32 +210,15 @@ impl<V: ByteVector, T: ShuffleTables> Kernel for ByShuffles<V, T> {
         add_row::<V>(x, y, factor_of(products.lend(), log_m));
     }
 
-    fn mul_add_two(
+    fn add_rows<A: AddedRows>(
         &self,
         x: &mut [[u8; 64]],
-        y0: &[[u8; 64]],
-        y1: &[[u8; 64]],
-        logs: TwoLogarithms,
-    ) {
-        let p0 = self.tables.products(logs.first);
-        let p1 = self.tables.products(logs.second);
-        let f0 = factor_of(p0.lend(), logs.first);
-        let f1 = factor_of(p1.lend(), logs.second);
-        add_two_rows::<V>(x, y0, y1, f0, f1);
-    }
-
-    fn mul_add_to_two(
-        &self,
-        x0: &mut [[u8; 64]],
-        x1: &mut [[u8; 64]],
-        y: &[[u8; 64]],
-        logs: TwoLogarithms,
-    ) {
-        let p0 = self.tables.products(logs.first);
-        let p1 = self.tables.products(logs.second);
-        let f0 = factor_of(p0.lend(), logs.first);
-        let f1 = factor_of(p1.lend(), logs.second);
-        add_row_to_two::<V>(x0, x1, y, f0, f1);
+        stride: usize,
+        rows: &A,
+        writing: Writing,
+    ) -> bool {
+        sum_strided::<V, T, A>(&self.tables, x, stride, rows, writing);
+        true
     }
 
     fn add_change<R: ChangeRows>(

@@ -9,6 +9,7 @@ ghost use Rattle.std.specs.Prelude.{◌≡◌, ◌≢◌, ℕ, ◌<◌, slice_in
 ghost use Rattle.rs_field.specs.words.Field.{power};
 ghost use Rattle.rs_field.specs.words.Tables.{times_factor};
 ghost use Rattle.rs_field.specs.words.Products.{IsNibbleBytes};
+ghost use Rattle.rs_engines.specs.SmallNumbers.{of_four_numbers};
 ghost use Rattle.rs_engines.specs.Lanes.{lane};
 
 use crate::byte_vector::ByteVector;
@@ -71,26 +72,22 @@ impl Factor for Small<'_> {
 /// A small factor whose six look-ups need four numbers. The products of the low and of the high nibble of a high byte
 /// have the same bytes, one place up, as those of a low byte.
 #[derive(Clone, Copy)]
-pub struct Bytewise<'t> {
+pub struct Bytewise {
     /// The logarithm of the factor.
     pub log_m: GfElement,
-    /// The products with the factor, as bytes.
-    pub products: &'t Multiply128lutT,
+    /// The low bytes of the products of the four nibbles of a word.
+    pub numbers: [u128; 4],
     pub ghost nonzero: { log_m ≢ 65535 },
-    pub ghost of_factor: { IsNibbleBytes (power log_m) products.now },
-    pub ghost first: { slice_index products.now.hi 0 ≡ 0 },
-    pub ghost second: { slice_index products.now.hi 1 ≡ 0 },
-    pub ghost third: { slice_index products.now.hi 2 ≡ slice_index products.now.lo 0 },
-    pub ghost fourth: { slice_index products.now.hi 3 ≡ slice_index products.now.lo 1 },
+    pub ghost of_factor: { IsNibbleBytes (power log_m) (of_four_numbers numbers) },
 }
 
-impl Factor for Bytewise<'_> {
+impl Factor for Bytewise {
     ghost log = { λ factor. factor.log_m };
 
     #[inline(always)]
     fn add_product<V: ByteVector>(self, x: Words<V>, y: Words<V>) -> Words<V> {
-        let low = &self.products.lo;
-        add(x, times_small(y, low, low[0], low[1]))
+        let low = self.numbers;
+        add(x, times_small(y, &low, low[0], low[1]))
     }
 }
 

@@ -109,54 +109,6 @@ pub fn add_two_chunks<V: ByteVector, F: Factor>(
     }
 }
 
-// Adds to as many symbols of each of two chunks as a vector has lanes, from symbol `at` on, the products of the same
-// symbols of another chunk with a factor of its own. Each symbol of `y` is loaded once.
-#[inline(always)]
-fn add_lanes_to_two<V: ByteVector, F: Factor>(
-    x0: &mut [u8; 64],
-    x1: &mut [u8; 64],
-    y: &[u8; 64],
-    at: usize,
-    f0: F,
-    f1: F,
-)
-    requires { at + V.LANES ≤ 32 }
-    ensures first_sums { (i s : ℕ) → i < V.LANES → s ≡ at + i
-        → symbol x0.new s ≡ bit_xor (symbol x0.old s) (times_factor (F.log f0) (symbol y.now s)) }
-    ensures second_sums { (i s : ℕ) → i < V.LANES → s ≡ at + i
-        → symbol x1.new s ≡ bit_xor (symbol x1.old s) (times_factor (F.log f1) (symbol y.now s)) }
-    ensures kept_0 { (s : ℕ) → s < 32 → (s < at) ⊎ (at + V.LANES ≤ s)
-        → symbol x0.new s ≡ symbol x0.old s }
-    ensures kept_1 { (s : ℕ) → s < 32 → (s < at) ⊎ (at + V.LANES ≤ s)
-        → symbol x1.new s ≡ symbol x1.old s }
-{
-    let words = words_at::<V>(y, at);
-    let sum0 = f0.add_product(words_at::<V>(x0, at), words);
-    let sum1 = f1.add_product(words_at::<V>(x1, at), words);
-    put_words(sum0, x0, at);
-    put_words(sum1, x1, at);
-}
-
-/// Adds to each symbol of two chunks the product of the same symbol of another chunk, each with a factor of its own.
-#[inline(always)]
-pub fn add_chunk_to_two<V: ByteVector, F: Factor>(
-    x0: &mut [u8; 64],
-    x1: &mut [u8; 64],
-    y: &[u8; 64],
-    f0: F,
-    f1: F,
-)
-    ensures first_sums { (s : ℕ) → s < 32
-        → symbol x0.new s ≡ bit_xor (symbol x0.old s) (times_factor (F.log f0) (symbol y.now s)) }
-    ensures second_sums { (s : ℕ) → s < 32
-        → symbol x1.new s ≡ bit_xor (symbol x1.old s) (times_factor (F.log f1) (symbol y.now s)) }
-{
-    add_lanes_to_two::<V, F>(x0, x1, y, 0, f0, f1);
-    if V::LANES < 32 {
-        add_lanes_to_two::<V, F>(x0, x1, y, 16, f0, f1);
-    }
-}
-
 // Computes a butterfly on as many symbols of two chunks as a vector has lanes, from symbol `at` on.
 #[inline(always)]
 fn lanes_of_two<V: ByteVector, D: Butterflies, F: Factor>(

@@ -1,28 +1,25 @@
 //! Products, butterflies and two layers of butterflies of rows by shuffles, chunk by chunk.
-ghost use Rattle.std.specs.Prelude.{◌≡◌, ℕ, ◌+◌, ◌*◌, ◌<◌, length, bit_xor, IfSome};
+ghost use Rattle.std.specs.Prelude.{◌≡◌, ℕ, ◌+◌, ◌*◌, ◌<◌, length, bit_xor};
+ghost use Rattle.rs_field.specs.rows.Rows.{chunk, symbol};
 ghost use Rattle.rs_field.specs.words.Tables.{times_factor};
 ghost use Rattle.rs_field.specs.words.Field.{product};
-ghost use Rattle.rs_field.specs.rows.Rows.{byte_symbol, chunk, symbol};
 ghost use Rattle.rs_field.specs.words.Products.{IsNibbleBytes};
 ghost use Rattle.rs_field.specs.rows.Pairs.{at_two_added, at_two_symbols};
 ghost use Rattle.rs_field.specs.rows.TwoLayers.{at_four_added, at_four_symbols};
 ghost use Rattle.rs_field.specs.rows.Written.{held};
 ghost use Rattle.rs_engines.specs.Factors.{log_of};
 
-use crate::any_factor::{AnyFactor, bytewise};
+use crate::any_factor::AnyFactor;
 use crate::butterflies::Butterflies;
 use crate::byte_vector::ByteVector;
-use crate::factors::{Bytewise, Factor, General, Small, ThreeFactors};
+use crate::factors::{Factor, General, Small, ThreeFactors};
 use crate::shuffle_chunks::{
-    FourChunks, add_chunk, add_chunk_to_two, add_two_chunks, four_chunks, four_chunks_written,
-    mul_chunk, two_chunks, two_chunks_written,
+    FourChunks, add_chunk, add_two_chunks, four_chunks, four_chunks_written, mul_chunk, two_chunks,
+    two_chunks_written,
 };
 use crate::word_lanes::WriteWords;
 use rs_field::engine::kernel::FourRows;
 use rs_field::engine::tables::Multiply128lutT;
-
-// Two sums of rows of at most this many chunks are made one after the other.
-const FEW_CHUNKS: usize = 8;
 
 /// Multiplies each symbol of a row by a factor.
 pub fn mul_chunks<V: ByteVector>(x: &mut [[u8; 64]], factor: &Multiply128lutT)
@@ -48,9 +45,9 @@ fn add_chunks<V: ByteVector, F: Factor>(x: &mut [[u8; 64]], y: &[[u8; 64]], fact
     }
 }
 
-// Adds to each symbol of a row the products of the same symbol of two other rows, each with a factor of class F.
+/// Adds to each symbol of a row the products of the same symbol of two other rows, each with a factor of class F.
 #[inline(always)]
-fn add_chunk_pairs<V: ByteVector, F: Factor>(
+pub fn add_chunk_pairs<V: ByteVector, F: Factor>(
     x: &mut [[u8; 64]],
     y0: &[[u8; 64]],
     y1: &[[u8; 64]],
@@ -67,31 +64,6 @@ fn add_chunk_pairs<V: ByteVector, F: Factor>(
 {
     for k in 0..x.len() {
         add_two_chunks::<V, F>(&mut x[k], &y0[k], &y1[k], f0, f1);
-    }
-}
-
-// Adds to each symbol of two rows the product of the same symbol of another row, each with a factor of class F.
-#[inline(always)]
-fn add_chunks_to_two<V: ByteVector, F: Factor>(
-    x0: &mut [[u8; 64]],
-    x1: &mut [[u8; 64]],
-    y: &[[u8; 64]],
-    f0: F,
-    f1: F,
-)
-    requires first { length x0.old ≡ length y.now }
-    requires second { length x1.old ≡ length y.now }
-    ensures first_sums { (k s : ℕ) → k < length x0.old → s < 32
-        → symbol (chunk x0.new k) s
-        ≡ bit_xor (symbol (chunk x0.old k) s)
-        (times_factor (F.log f0) (symbol (chunk y.now k) s)) }
-    ensures second_sums { (k s : ℕ) → k < length x1.old → s < 32
-        → symbol (chunk x1.new k) s
-        ≡ bit_xor (symbol (chunk x1.old k) s)
-        (times_factor (F.log f1) (symbol (chunk y.now k) s)) }
-{
-    for k in 0..y.len() {
-        add_chunk_to_two::<V, F>(&mut x0[k], &mut x1[k], &y[k], f0, f1);
     }
 }
 
@@ -213,18 +185,6 @@ pub(crate) fn copied(products: &Multiply128lutT) -> Multiply128lutT
     }
 }
 
-// Returns the same factor over a copy of its products.
-#[inline(always)]
-pub(crate) fn over<'t>(factor: Bytewise<'_>, copy: &'t Multiply128lutT) -> Bytewise<'t>
-    requires { copy.now ≡ factor.products.now }
-    ensures { result.log_m ≡ factor.entry.log_m }
-{
-    Bytewise {
-        log_m: factor.log_m,
-        products: copy,
-    }
-}
-
 /// Adds to each symbol of a row the product of the same symbol of another row with a factor. There is a loop over
 /// chunks for each class of factors.
 #[inline(always)]
@@ -246,132 +206,6 @@ pub fn add_row<V: ByteVector>(x: &mut [[u8; 64]], y: &[[u8; 64]], factor: AnyFac
             add_chunks::<V, _>(x, y, General { log_m, products })
         }
     }
-}
-
-// Returns both factors if each needs only four numbers and rows of `count` chunks are to be summed in one loop. If the
-// rows have few chunks, this does not pay, because it takes time to find out about the numbers.
-#[inline(always)]
-fn both_bytewise<'t>(
-    count: usize,
-    f0: AnyFactor<'t>,
-    f1: AnyFactor<'t>,
-) -> Option<(Bytewise<'t>, Bytewise<'t>)>
-    ensures { IfSome result (λ found. (found.0.log_m ≡ log_of f0.entry)
-        × (found.1.log_m ≡ log_of f1.entry)) }
-{
-    if count <= FEW_CHUNKS {
-        return None;
-    }
-    match (bytewise(f0), bytewise(f1)) {
-        (Some(f0), Some(f1)) => Some((f0, f1)),
-        _ => None,
-    }
-}
-
-/// Adds to each symbol of a row the products of the same symbol of two other rows, each with a factor of its own. If
-/// both factors need only four numbers, there is one loop over chunks for both. The rows are added one after the other
-/// if they have few chunks.
-#[inline(always)]
-pub fn add_two_rows<V: ByteVector>(
-    x: &mut [[u8; 64]],
-    y0: &[[u8; 64]],
-    y1: &[[u8; 64]],
-    f0: AnyFactor<'_>,
-    f1: AnyFactor<'_>,
-)
-    requires first { length x.old ≡ length y0.now }
-    requires second { length x.old ≡ length y1.now }
-    ensures { (k s : ℕ) → k < length x.old → s < 32
-        → symbol (chunk x.new k) s
-        ≡ bit_xor (bit_xor (symbol (chunk x.old k) s)
-        (times_factor (log_of f0.entry) (symbol (chunk y0.now k) s)))
-        (times_factor (log_of f1.entry) (symbol (chunk y1.now k) s)) }
-{
-    if let Some((f0, f1)) = both_bytewise(x.len(), f0, f1) {
-        add_two_bytewise::<V>(x, y0, y1, f0, f1);
-        return;
-    }
-    add_row::<V>(x, y0, f0);
-    add_row::<V>(x, y1, f1);
-}
-
-// Adds to each symbol of a row the products of the same symbol of two other rows, each with a factor that needs only
-// four numbers.
-#[inline(always)]
-fn add_two_bytewise<V: ByteVector>(
-    x: &mut [[u8; 64]],
-    y0: &[[u8; 64]],
-    y1: &[[u8; 64]],
-    f0: Bytewise<'_>,
-    f1: Bytewise<'_>,
-)
-    requires first { length x.old ≡ length y0.now }
-    requires second { length x.old ≡ length y1.now }
-    ensures { (k s : ℕ) → k < length x.old → s < 32
-        → symbol (chunk x.new k) s
-        ≡ bit_xor (bit_xor (symbol (chunk x.old k) s)
-        (times_factor f0.entry.log_m (symbol (chunk y0.now k) s)))
-        (times_factor f1.entry.log_m (symbol (chunk y1.now k) s)) }
-{
-    let p0 = &copied(f0.products);
-    let p1 = &copied(f1.products);
-    add_chunk_pairs::<V, _>(x, y0, y1, over(f0, p0), over(f1, p1));
-}
-
-/// Adds to each symbol of two rows the product of the same symbol of another row, each with a factor of its own. If
-/// both factors need only four numbers, there is one loop over chunks for both. The row is added first to one row and
-/// then to the other if it has few chunks.
-#[inline(always)]
-pub fn add_row_to_two<V: ByteVector>(
-    x0: &mut [[u8; 64]],
-    x1: &mut [[u8; 64]],
-    y: &[[u8; 64]],
-    f0: AnyFactor<'_>,
-    f1: AnyFactor<'_>,
-)
-    requires first { length x0.old ≡ length y.now }
-    requires second { length x1.old ≡ length y.now }
-    ensures first_sums { (k s : ℕ) → k < length x0.old → s < 32
-        → symbol (chunk x0.new k) s
-        ≡ bit_xor (symbol (chunk x0.old k) s)
-        (times_factor (log_of f0.entry) (symbol (chunk y.now k) s)) }
-    ensures second_sums { (k s : ℕ) → k < length x1.old → s < 32
-        → symbol (chunk x1.new k) s
-        ≡ bit_xor (symbol (chunk x1.old k) s)
-        (times_factor (log_of f1.entry) (symbol (chunk y.now k) s)) }
-{
-    if let Some((f0, f1)) = both_bytewise(y.len(), f0, f1) {
-        add_to_two_bytewise::<V>(x0, x1, y, f0, f1);
-        return;
-    }
-    add_row::<V>(x0, y, f0);
-    add_row::<V>(x1, y, f1);
-}
-
-// Adds to each symbol of two rows the product of the same symbol of another row, each with a factor that needs only
-// four numbers.
-#[inline(always)]
-fn add_to_two_bytewise<V: ByteVector>(
-    x0: &mut [[u8; 64]],
-    x1: &mut [[u8; 64]],
-    y: &[[u8; 64]],
-    f0: Bytewise<'_>,
-    f1: Bytewise<'_>,
-)
-    requires first { length x0.old ≡ length y.now }
-    requires second { length x1.old ≡ length y.now }
-    ensures first_sums { (k s : ℕ) → k < length x0.old → s < 32
-        → symbol (chunk x0.new k) s
-        ≡ bit_xor (symbol (chunk x0.old k) s)
-        (times_factor f0.entry.log_m (symbol (chunk y.now k) s)) }
-    ensures second_sums { (k s : ℕ) → k < length x1.old → s < 32
-        → symbol (chunk x1.new k) s
-        ≡ bit_xor (symbol (chunk x1.old k) s)
-        (times_factor f1.entry.log_m (symbol (chunk y.now k) s)) }
-{
-    let p0 = &copied(f0.products);
-    let p1 = &copied(f1.products);
-    add_chunks_to_two::<V, _>(x0, x1, y, over(f0, p0), over(f1, p1));
 }
 
 /// Computes a butterfly on two rows. There is a loop over chunks for each class of factors.

@@ -9,7 +9,7 @@ ghost use Rattle.rs_field.specs.declared.rows.reading.Writing.{Writing};
 ghost use Rattle.rs_field.specs.rows.Rows.{symbol};
 ghost use Rattle.rs_field.specs.rows.Written.{held};
 ghost use Rattle.rs_field.specs.words.Products.{AreLowNibbles, AreHighNibbles, IsNibbleBytes};
-ghost use Rattle.rs_engines.specs.Factors.{HasSmallNumbers};
+ghost use Rattle.rs_engines.specs.SmallNumbers.{HasSmallNumbers};
 ghost use Rattle.rs_engines.specs.Lanes.{lane};
 
 use crate::byte_vector::ByteVector;

@@ -157,7 +157,7 @@ module _ {k r size : ℕ} {own originals other recovery : List ℕ}
     leads = marked-led buffers some (Ok tt) made
 
     -- The result of restoring into rooms, if this is the outcome of the check that enough shards were given: the rooms
-    -- hold the restored originals, or no message agrees with the shards, or memory is short.
+    -- hold the restored originals, or no message agrees with the shards, or memory cannot be allocated.
     abbrev Restores : List Shard → Result (Unit {0}) Error → Result (Unit {0}) Error → Type 0
     Restores rooms o result =
         MatchResult o (λ _. MatchResult result (λ _. HoldRestored (state buffers) rooms)

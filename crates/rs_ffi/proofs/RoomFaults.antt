@@ -79,7 +79,7 @@ pub decodes-kept : (k r : ℕ) (originals recovery : Items) (old new : List (Lis
     → new ≡ old
 decodes-kept k r originals recovery old new e answer failed decodes = search rules
 
--- The check of rooms for nothing never fails because memory is lacking.
+-- The check of rooms for nothing never fails because memory cannot be allocated.
 pub nothing-memory : (rooms : List (List ℕ)) → fit_rooms [] rooms ≡ Err (refused OutOfMemory) → ⊥
 nothing-memory rooms is = search rules
 

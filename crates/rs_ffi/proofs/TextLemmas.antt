@@ -1,4 +1,4 @@
--- Lemmas about pieces of a text that are written into a room one after another.
+-- Lemmas about pieces of a text that are written into a buffer one after another.
 use Rattle.std.proofs.Common.{rules, ◌≡◌, ℕ, ◌+◌, ◌-◌, ◌<◌, ◌≤◌, min, List, [], ◌++◌, length, take, drop, sym, ap}
 use Rattle.std.proofs.Common.{subst, ◌∙◌, arith, append_assoc, append-nil}
 use Rattle.std.proofs.Math.Seq.{take-nil, take-append-add, take-append_seam, drop-append_seam}
@@ -6,16 +6,16 @@ use Rattle.std.proofs.lemmas.List.{take_all, drop_all, take-append-le, length-ap
 use Rattle.std.proofs.lemmas.List.{drop-drop}
 use Rattle.rs_ffi.specs.Texts.{text_over, WritesText}
 
--- If nothing was written, the room is unchanged.
+-- If nothing was written, the buffer is unchanged.
 pub over-nothing : (room : List ℕ) → text_over [] room ≡ room
 over-nothing room = ap (λ l. l ++ room) (take-nil (length room))
 
--- A piece that begins after the end of the room changes nothing.
+-- A piece that begins after the end of the buffer changes nothing.
 pub over-past : (text piece old : List ℕ) → length old ≤ length text
     → text_over (text ++ piece) old ≡ text_over text old
 over-past text piece old past = search (rules, take-append-le, drop_all, length-append)
 
--- A piece that begins inside the room is written as far as it fits.
+-- A piece that begins inside the buffer is written as far as it fits.
 module _ (text piece old room : List ℕ) (at fits : ℕ) (sized : length text ≡ at) (is : room ≡ text_over text old)
     (inside : at < length old)
     (fit : fits ≡ min (length piece) (length old - at)) where
@@ -59,6 +59,6 @@ pub ended-at : {I : Type 0} (text : I → List ℕ) (old : List ℕ) {given know
 ended-at text old {known = known} {new = new} {returned = returned} is writes =
     subst (λ i. WritesText (text i) old new returned) (sym is) (ended (text known) old writes)
 
--- Writing a text into a room does not change the length of the room.
+-- Writing a text into a buffer does not change the length of the buffer.
 pub length-over : (text old : List ℕ) → length (text_over text old) ≡ length old
 length-over text old = search (rules, length-take, length-drop, length-append)

@@ -9,8 +9,8 @@ use Rattle.rs_field.specs.code.OneCall.{Items, default_of}
 use Rattle.rs_ffi.specs.declared.fault.Fault.{Fault}
 use Rattle.rs_ffi.specs.declared.fault.Fault.TheVariants.{WrongLength}
 
--- the result of checking that a buffer has count * size bytes: a success, or a fault with the wanted length, the length
--- of the buffer, and the number that says which buffer it is. If the wanted length is 2^64 or more, the fault holds
+-- the result of checking that a buffer has count * size bytes: a success, or a fault with the right length, the length
+-- of the buffer, and the number that says which buffer it is. If the right length is 2^64 or more, the fault holds
 -- 2^64 - 1 instead
 abbrev pub length_outcome : ℕ → ℕ → ℕ → ℕ → Result (Unit {0}) Fault
 length_outcome place count size got =

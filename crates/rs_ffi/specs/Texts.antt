@@ -74,11 +74,11 @@ abbrev pub text_with : Option Fault → List ℕ
 text_with (Some fault) = text_of fault
 text_with None = []
 
--- the bytes of a room after a text was written into it from the first byte on, as much of the text as fits. The other
--- bytes of the room are unchanged
+-- the bytes of a buffer after a text was written into it from the first byte on, as much of the text as fits. The other
+-- bytes of the buffer are unchanged
 abbrev pub text_over : List ℕ → List ℕ → List ℕ
 text_over text room = take (length room) text ++ drop (length text) room
 
--- the call returns the length of the text, and the room holds as much of the text as fits
+-- the call returns the length of the text, and the buffer holds as much of the text as fits
 abbrev pub WritesText : List ℕ → List ℕ → List ℕ → ℕ → Type 0
 WritesText text old new returned = (returned ≡ length text) × (new ≡ text_over text old)

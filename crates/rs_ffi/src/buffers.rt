@@ -9,7 +9,7 @@ use crate::fault::Fault;
 /// # Errors
 ///
 /// [`Fault::WrongLength`] if the buffer has another length. If `count * size` exceeds `usize::MAX`, the fault holds
-/// `usize::MAX` as the wanted length.
+/// `usize::MAX` as the right length.
 pub fn check_length(place: usize, count: usize, size: usize, got: usize) -> Result<(), Fault>
     ensures { result ≡ length_outcome place count size got }
 {

@@ -102,6 +102,8 @@ pub fn placed_reconstruct_fault<T: Entry>(
     placed_fault(other, first, second, rooms)
 }
 
+// Returns the place of the first entry of two arrays that does not have this size. The places of the second array come
+// after those of the first one.
 fn find_in_both<T: Entry>(first: &[T], second: &[T], size: usize) -> usize
     requires few { length first.now + length second.now < 2 ^ 64 }
     ensures { result
@@ -114,6 +116,7 @@ fn find_in_both<T: Entry>(first: &[T], second: &[T], size: usize) -> usize
     place + find_other(second, size)
 }
 
+// Returns the place of the first entry that does not have this size, or the number of entries if all have it.
 fn find_other<T: Entry>(entries: &[T], size: usize) -> usize
     ensures place { result ≡ place_of_other size (map T.bytes entries.now) }
     ensures inside { result ≤ length entries.now }

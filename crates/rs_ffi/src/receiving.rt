@@ -33,6 +33,7 @@ pub fn received_in_arrays<'a>(
     received_of_size(alloc, counts, shard_bytes, lent_originals, lent_recovery)
 }
 
+// Returns the size of the first recovery shard, or of the first original if there is no recovery shard.
 fn size_in_arrays(originals: &[RsShard<'_>], recovery: &[RsShard<'_>]) -> Option<usize>
     ensures { result ≡ first_size (items_of recovery.now ++ items_of originals.now) }
 {

@@ -1,4 +1,4 @@
-//! The tables, in memory of the caller.
+//! The tables of an engine, in memory of the caller.
 ghost use Rattle.std.specs.Prelude.{◌≡◌, ℕ, ◌+◌, ◌*◌, ◌/◌, ◌%◌, ◌^◌, ◌<◌, length, OnOk, OnErr};
 ghost use Rattle.rs_field.specs.words.Products.{IsNibbleBytes, IsMul128};
 ghost use Rattle.rs_ffi.specs.Tables.{products_of, AreProducts, AreTables};
@@ -52,6 +52,7 @@ fn high(number: u128) -> u64
     (number >> 64) as u64
 }
 
+// Returns the eight numbers of the products with one factor as halves, the lower half of each number first.
 fn halves(products: &Multiply128lutT) -> [u64; 16]
     ensures { (f : ℕ) → IsNibbleBytes f products.now → IsNibbleBytes f (products_of result) }
 {

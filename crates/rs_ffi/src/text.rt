@@ -9,7 +9,8 @@ use crate::writing::{write_one, write_three, write_two, write_words};
 use reed_solomon_simd::ShardIndex;
 use rs_field::error::Error;
 
-// Writes the text of an error of the library, as much of it as fits, and returns the length of the whole text.
+// Writes the text of an error of the library into a buffer, as much of it as fits, and returns the length of the whole
+// text.
 fn write_refusal(error: Error, room: &mut [u8]) -> usize
     ensures { WritesText (refusal_text error) room.old room.new result }
 {
@@ -195,8 +196,8 @@ fn write_received(wanted: ShardIndex, room: &mut [u8]) -> usize
     }
 }
 
-/// Writes the text of the fault that has these numbers, as much of it as fits, and returns the length of the whole
-/// text. If no fault has this number, it writes nothing and returns 0.
+/// Writes the text of the fault with these numbers into a buffer, as much of it as fits, and returns the length of the
+/// whole text. If no fault has this number, the function writes nothing and returns 0.
 pub fn write_text(fault: RsFault, room: &mut [u8]) -> usize
     ensures { WritesText (text_with (fault_with fault)) room.old room.new result }
 {

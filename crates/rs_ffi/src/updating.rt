@@ -11,9 +11,8 @@ use std::alloc::Global;
 ///
 /// # Errors
 ///
-/// The errors of [`update_into`], as faults and in the same order. If `after` has another size, the place of the fault
-/// is
-/// 1. The fault of a room of another size says its place. After an error the rooms are unchanged.
+/// The errors of [`update_into`], as faults and in the same order. If `after` has another size than `before`, the fault
+/// has the place 1. The fault of a room of another size says its place. After an error the rooms are unchanged.
 pub fn update_arrays<E: Engine>(
     alloc: Global,
     engine: E,

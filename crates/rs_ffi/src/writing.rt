@@ -1,9 +1,9 @@
-//! Functions that write texts of words and decimal numbers into a room, as far as they fit. They allocate nothing.
+//! Functions that write texts of words and decimal numbers into a buffer, as far as they fit. They allocate nothing.
 ghost use Rattle.std.specs.Prelude.{◌≡◌, ℕ, ◌+◌, ◌≤◌, List, ◌++◌, length, decimal};
 ghost use Rattle.rs_ffi.specs.Texts.{text_over, WritesText};
 
-// Writes a piece of a text into a room, after the first `at` bytes of the text, as much of the piece as fits. Returns
-// the place in the text where the piece ends.
+// Writes a piece of a text into the buffer `room`, after the first `at` bytes of the text, as much of the piece as
+// fits. Returns the place in the text where the piece ends.
 fn put_bytes(room: &mut [u8], at: usize, piece: &[u8]) -> usize
     requires { at + length piece.now ≤ 65536 }
     ensures end { result ≡ at + length piece.now }
@@ -17,8 +17,8 @@ fn put_bytes(room: &mut [u8], at: usize, piece: &[u8]) -> usize
     at + piece.len()
 }
 
-// Writes words into a room, after the first `at` bytes of a text, as much as fits. Returns the place in the text where
-// the words end.
+// Writes words into the buffer `room`, after the first `at` bytes of a text, as much as fits. Returns the place in the
+// text where the words end.
 fn put(room: &mut [u8], at: usize, words: &str) -> usize
     requires { at + length words.now ≤ 65536 }
     ensures end { result ≡ at + length words.now }
@@ -28,8 +28,8 @@ fn put(room: &mut [u8], at: usize, words: &str) -> usize
     put_bytes(room, at, words.as_bytes())
 }
 
-// Writes the decimal digits of a number into a room, after the first `at` bytes of a text, as many as fit. Returns the
-// place in the text where the digits end. All digits but the last one are written by a call of this function itself.
+// Writes the decimal digits of a number into the buffer `room`, after the first `at` bytes of a text, as many as fit.
+// Returns the place in the text where the digits end. The function calls itself to write all digits but the last one.
 fn put_number(room: &mut [u8], at: usize, number: usize) -> usize
     requires { at ≤ 65000 }
     ensures end { (result ≡ at + length (decimal number)) × (result ≤ at + 20) }
@@ -44,7 +44,7 @@ fn put_number(room: &mut [u8], at: usize, number: usize) -> usize
     put_bytes(room, end, &[digit])
 }
 
-/// Writes words into a room, as much as fits, and returns the length of the words.
+/// Writes words into the buffer `room`, as much as fits, and returns the length of the words.
 pub fn write_words(room: &mut [u8], words: &str) -> usize
     requires { length words.now ≤ 100 }
     ensures { WritesText words.now room.old room.new result }
@@ -52,7 +52,7 @@ pub fn write_words(room: &mut [u8], words: &str) -> usize
     put(room, 0, words)
 }
 
-/// Writes words, a number and words into a room, as much as fits, and returns the length of the whole text.
+/// Writes words, a number and words into the buffer `room`, as much as fits, and returns the length of the whole text.
 pub fn write_one(room: &mut [u8], first: (&str, usize), end: &str) -> usize
     requires first { length first.0.now ≤ 100 }
     requires end { length end.now ≤ 100 }
@@ -64,7 +64,7 @@ pub fn write_one(room: &mut [u8], first: (&str, usize), end: &str) -> usize
     put(room, at, end)
 }
 
-/// Writes words with two numbers into a room, as much as fits, and returns the length of the whole text.
+/// Writes words with two numbers into the buffer `room`, as much as fits, and returns the length of the whole text.
 pub fn write_two(room: &mut [u8], first: (&str, usize), second: (&str, usize), end: &str) -> usize
     requires first { length first.0.now ≤ 100 }
     requires second { length second.0.now ≤ 100 }
@@ -81,7 +81,7 @@ pub fn write_two(room: &mut [u8], first: (&str, usize), second: (&str, usize), e
     put(room, at, end)
 }
 
-/// Writes words with three numbers into a room, as much as fits, and returns the length of the whole text.
+/// Writes words with three numbers into the buffer `room`, as much as fits, and returns the length of the whole text.
 pub fn write_three(
     room: &mut [u8],
     first: (&str, usize),

@@ -11,3 +11,4 @@ pub mod Layers
 pub mod Directions
 pub mod Lending
 pub mod Layout
+pub mod AddedRows

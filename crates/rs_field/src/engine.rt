@@ -1,10 +1,11 @@
 //! What engines are made of, at its public paths.
+pub use crate::rows::adding::AddedRows;
 pub use crate::rows::changing::{Change, ChangeRows};
 pub use crate::rows::engine::Engine;
 pub use crate::rows::read_transform::ifft_of_rows;
 pub use crate::rows::reading::{ReadRows, Writing};
 pub use crate::rows::row_changes::change_rows;
-pub use crate::rows::sums::TwoLogarithms;
+pub use crate::rows::row_sums::write_sums;
 pub use crate::rows::{
     Naive, ShardsRefMut, block, byte_chunks, derivative, engine_naive, kernel, layout, marked_rows,
     rows, shards, symbols, transform, vectors,
@@ -16,6 +17,7 @@ pub use crate::words::{
 
 /// Row functions and the locator, which engines share.
 pub mod utils {
+    pub use crate::rows::adding::{clear, prepare};
     pub use crate::rows::sums::{xor, xor_within};
     pub use crate::words::locating::{eval_poly, locate};
 }

@@ -1,5 +1,6 @@
 //! Rows of chunks: how they are lent, laid out, summed and transformed, the trait `Engine`, and the plain engine. Of
 //! this crate, these modules import only from `words`.
+pub mod adding;
 pub mod block;
 pub mod byte_chunks;
 pub mod bytes;
@@ -15,6 +16,7 @@ pub mod marked_rows;
 pub mod read_transform;
 pub mod reading;
 pub mod row_changes;
+pub mod row_sums;
 pub mod rows;
 pub mod shards;
 pub mod sums;

@@ -24,8 +24,8 @@ const MUL: usize = 2;
 
 const LOCATOR: usize = 3;
 
-/// The plain engine without sums of its own, which counts its calls, and the entries of all locators that it computed.
-/// If it has no logarithms, its decoders never use direct sums.
+/// The plain engine without its own sums. It counts its calls, and the entries of all locators that it computed. If it
+/// has no logarithms, its decoders never use direct sums.
 #[derive(Drop)]
 pub struct Counting<'t> {
     naive: Naive<'t>,
@@ -44,7 +44,7 @@ impl<'t> Counting<'t> {
         }
     }
 
-    // Counts a call of the method that has this place.
+    // Counts a call of the method with this index.
     fn count(&self, method: usize)
         requires { method < 4 }
     {
@@ -53,7 +53,7 @@ impl<'t> Counting<'t> {
         self.calls.set(calls);
     }
 
-    // Counts a locator of so many entries.
+    // Counts a call that computes a locator with this number of entries.
     fn count_locator(&self, entries: usize) {
         self.count(LOCATOR);
         self.entries.set(self.entries.get().saturating_add(entries));
@@ -216,8 +216,8 @@ fn each_rate_calls_its_engine_so_often(rt: HostRuntime) {
 type Zeros<'a> = ((usize, usize), &'a [Item], &'a [Item], [usize; 2]);
 
 // A transform of 16 rows has two layers of eight butterflies between its quarters, and four butterflies in each
-// quarter. At the low rate, the second quarter has no given row, and the last two quarters have no wanted row. At the
-// high rate, the last two quarters have no given row, and the first two have no wanted row.
+// quarter. At the low rate, the second quarter has no received row, and the last two quarters have no missing original.
+// At the high rate, the last two quarters have no received row, and the first two have no missing original.
 const OVER_SIXTEEN_ROWS: [Zeros<'static>; 2] = [
     (
         (8, 7),
@@ -250,7 +250,7 @@ const OVER_SIXTEEN_ROWS: [Zeros<'static>; 2] = [
     ),
 ];
 
-// A decode over 16 rows locates at 16 points.
+// A decode over 16 rows computes its locator at 16 points.
 #[test]
 fn a_decode_locates_its_own_rows(rt: HostRuntime) {
     let tables = Tables::new(rt.alloc()).expect(&rt, "tables");

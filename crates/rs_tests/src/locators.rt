@@ -1,5 +1,5 @@
-//! Tests of locators that are known by hand, for every engine. The contract fixes only the residue of an entry, and
-//! these tests show numbers.
+//! Tests of locators that are known by hand, for every engine. The contract states an entry only modulo 65535, and
+//! these tests show the numbers themselves.
 ghost use Rattle.std.specs.Prelude.{◌≡◌, ◌≤◌, length};
 
 use reed_solomon_simd::engine::tables::{Tables, get_exp_log};

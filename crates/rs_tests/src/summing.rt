@@ -1,5 +1,6 @@
 //! How a decode calls its engine if it restores originals by direct sums, or from syndromes, and how many locators it
-//! computes. Its contract states the bytes for each lawful engine. How often it calls its engine is in no contract.
+//! computes. The contract of a decode states the restored bytes for each lawful engine, but not how often the decode
+//! calls its engine.
 use super::counting::{FEW_LOST, after_decode};
 use super::shards::{drawn, from_index};
 use super::updating::{AddCalls, Additions, lent};
@@ -40,27 +41,26 @@ fn calls_of_decode(
     Ok(calls.get())
 }
 
-// In each strip of at most 4096 bytes, the pieces of ten originals are five pairs, and those of three originals are a
-// pair and one more piece. The tails of less than 64 bytes are added one by one.
+// In each strip of at most 4096 bytes, one call adds the whole chunks of all pieces of the base. The tails of less than
+// 64 bytes are added one by one.
 #[test]
 fn a_sum_calls_its_engine_so_often(rt: HostRuntime) -> Result<(), Fail> {
     let tables = Tables::new(rt.alloc())?;
-    for (original_count, size, two, one) in [
-        (10, 2, 5, 10),
-        (10, 64, 5, 0),
-        (10, 66, 5, 10),
-        (10, 4096, 5, 0),
-        (10, 4098, 10, 10),
-        (10, 8322, 15, 10),
-        (3, 64, 1, 1),
-        (3, 66, 1, 4),
-        (3, 8192, 2, 2),
+    for (original_count, size, sums, one) in [
+        (10, 2, 1, 10),
+        (10, 64, 1, 0),
+        (10, 66, 1, 10),
+        (10, 4096, 1, 0),
+        (10, 4098, 2, 10),
+        (10, 8322, 3, 10),
+        (3, 64, 1, 0),
+        (3, 66, 1, 3),
+        (3, 8192, 2, 0),
     ] {
         let calls = calls_of_decode(rt.alloc(), &tables, (original_count, 4, 1), size)?;
         let wanted = AddCalls {
             one,
-            two,
-            to_two: 0,
+            sums,
             in_place: 0,
             read: 0,
             locators: 1,
@@ -73,28 +73,28 @@ fn a_sum_calls_its_engine_so_often(rt: HostRuntime) -> Result<(), Fail> {
     Ok(())
 }
 
-// Two sums are made at a time, so each piece of the base is added to both by one call. If their number is odd, the last
-// sum adds two pieces at a time. Eight and nine lost originals of 60 are sums of as many syndromes, in strips of 2048
-// bytes.
+// In each strip, one call makes up to four sums, and the next call makes the next ones. The tails are added to one sum
+// after the other. Eight and nine lost originals of 60 are sums of as many syndromes, in strips of 2048 bytes.
 #[test]
-fn two_sums_call_their_engine_so_often(rt: HostRuntime) -> Result<(), Fail> {
+fn up_to_four_sums_call_their_engine_once(rt: HostRuntime) -> Result<(), Fail> {
     let tables = Tables::new(rt.alloc())?;
-    for (counts, size, to_two, two, one) in [
-        ((10, 4, 2), 64, 10, 0, 0),
-        ((10, 4, 2), 66, 10, 0, 20),
-        ((10, 4, 2), 4096, 10, 0, 0),
-        ((10, 4, 2), 8192, 20, 0, 0),
-        ((10, 4, 3), 64, 10, 5, 0),
-        ((10, 4, 4), 64, 20, 0, 0),
-        ((60, 12, 8), 2048, 32, 0, 0),
-        ((60, 12, 8), 4096, 64, 0, 0),
-        ((60, 12, 9), 2048, 36, 4, 1),
+    for (counts, size, sums, one) in [
+        ((10, 4, 2), 64, 1, 0),
+        ((10, 4, 2), 66, 1, 20),
+        ((10, 4, 2), 4096, 1, 0),
+        ((10, 4, 2), 8192, 2, 0),
+        ((10, 4, 3), 64, 1, 0),
+        ((10, 4, 4), 64, 1, 0),
+        ((10, 5, 5), 64, 2, 0),
+        ((10, 5, 5), 66, 2, 50),
+        ((60, 12, 8), 2048, 2, 0),
+        ((60, 12, 8), 4096, 4, 0),
+        ((60, 12, 9), 2048, 3, 0),
     ] {
         let calls = calls_of_decode(rt.alloc(), &tables, counts, size)?;
         let wanted = AddCalls {
             one,
-            two,
-            to_two,
+            sums,
             in_place: 0,
             read: 0,
             locators: 1,
@@ -105,21 +105,20 @@ fn two_sums_call_their_engine_so_often(rt: HostRuntime) -> Result<(), Fail> {
 }
 
 // The shards have three strips. A decode of all originals transforms the rows of each strip, and a decode of one adds
-// rows. From syndromes, each of four pairs of sums adds eight rows in each strip, and the tails of the last strip to
-// one sum after the other.
+// rows. From syndromes, two calls make four sums each in each strip, and the tails of eight rows are added to each of
+// the eight sums of the last strip.
 #[test]
 fn a_decode_computes_one_locator(rt: HostRuntime) -> Result<(), Fail> {
     let tables = Tables::new(rt.alloc())?;
     let by_transforms = calls_of_decode(rt.alloc(), &tables, (8, 8, 8), 4226)?;
-    assert_eq!(rt; (by_transforms.two, by_transforms.locators), (0, 1));
+    assert_eq!(rt; (by_transforms.sums, by_transforms.locators), (0, 1));
     let by_sums = calls_of_decode(rt.alloc(), &tables, (8, 8, 1), 4226)?;
     assert_eq!(rt; by_sums.locators, 1);
-    assert!(rt; by_sums.two > 0);
+    assert!(rt; by_sums.sums > 0);
     let by_syndromes = calls_of_decode(rt.alloc(), &tables, (60, 8, 8), 4226)?;
     let wanted = AddCalls {
         one: 8 * 8,
-        two: 0,
-        to_two: 4 * 8 * 3,
+        sums: 2 * 3,
         in_place: 0,
         read: 0,
         locators: 1,
@@ -128,9 +127,9 @@ fn a_decode_computes_one_locator(rt: HostRuntime) -> Result<(), Fail> {
     Ok(())
 }
 
-// An object adds its rows two at a time: two pairs for each sum over four rows.
+// An object makes each sum by one call, which adds four rows.
 #[test]
-fn an_object_adds_two_rows_at_a_time(rt: HostRuntime) {
+fn an_object_makes_each_sum_by_one_call(rt: HostRuntime) {
     let alloc = rt.alloc();
     let tables = Tables::new(alloc).expect(&rt, "tables");
     for (original, recovery, added, _) in FEW_LOST {
@@ -143,8 +142,7 @@ fn an_object_adds_two_rows_at_a_time(rt: HostRuntime) {
         drop(engine);
         let wanted = AddCalls {
             one: 0,
-            two: added / 2,
-            to_two: 0,
+            sums: added / 4,
             in_place: 0,
             read: 0,
             locators: 1,

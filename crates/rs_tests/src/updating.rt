@@ -3,32 +3,30 @@
 use super::shards::drawn;
 use reed_solomon_simd::engine::tables::Tables;
 use reed_solomon_simd::engine::{
-    DefaultEngine, Engine, EngineKind, GfElement, ShardsRefMut, Ssse3, Steps, TwoLogarithms,
+    DefaultEngine, Engine, EngineKind, GfElement, ShardsRefMut, Ssse3, Steps,
 };
 use reed_solomon_simd::{Error, encode_into, update_into};
-use rs_field::engine::{Change, ChangeRows, ReadRows, Writing};
+use rs_field::engine::{AddedRows, Change, ChangeRows, ReadRows, Writing};
 use std::alloc::Global;
 use std::cell::Cell;
 use std::process::Abort;
 
-/// The engine with vectors of 16 bytes, which counts the calls that add rows, add a change to rows in place, transform
-/// rows that are only read, or compute a locator.
+/// The engine with vectors of 16 bytes, which counts the calls that add a row, write sums of rows, add a change to rows
+/// in place, transform rows that are only read, or compute a locator.
 #[derive(Drop)]
 pub struct Additions<'t> {
     inner: Ssse3<'t>,
     calls: &'t Cell<AddCalls>,
 }
 
-/// How often an engine adds rows, adds a change to rows in place, transforms rows that are only read, and computes a
-/// locator.
+/// How often an engine adds a row, writes sums of rows, adds a change to rows in place, transforms rows that are only
+/// read, and computes a locator.
 #[derive(Clone, Copy, Debug, Default, PartialEq, Eq)]
 pub struct AddCalls {
     /// The number of calls that add one row.
     pub one: u32,
-    /// The number of calls that add two rows to one.
-    pub two: u32,
-    /// The number of calls that add one row to two.
-    pub to_two: u32,
+    /// The number of calls that write sums of rows.
+    pub sums: u32,
     /// The number of calls that add a change to rows in place.
     pub in_place: u32,
     /// The number of calls that transform rows that are only read.
@@ -108,32 +106,18 @@ impl Engine for Additions<'_> {
         self.inner.mul_add(steps, x, y, log_m);
     }
 
-    fn mul_add_two(
+    fn add_rows<A: AddedRows>(
         &self,
         steps: &mut Steps,
         x: &mut [[u8; 64]],
-        y0: &[[u8; 64]],
-        y1: &[[u8; 64]],
-        logs: TwoLogarithms,
-    ) {
+        stride: usize,
+        rows: &A,
+        writing: Writing,
+    ) -> bool {
         let calls = self.calls.get();
-        let two = calls.two.saturating_add(1);
-        self.calls.set(AddCalls { two, ..calls });
-        Engine::mul_add_two(&self.inner, steps, x, y0, y1, logs);
-    }
-
-    fn mul_add_to_two(
-        &self,
-        steps: &mut Steps,
-        x0: &mut [[u8; 64]],
-        x1: &mut [[u8; 64]],
-        y: &[[u8; 64]],
-        logs: TwoLogarithms,
-    ) {
-        let calls = self.calls.get();
-        let to_two = calls.to_two.saturating_add(1);
-        self.calls.set(AddCalls { to_two, ..calls });
-        Engine::mul_add_to_two(&self.inner, steps, x0, x1, y, logs);
+        let sums = calls.sums.saturating_add(1);
+        self.calls.set(AddCalls { sums, ..calls });
+        Engine::add_rows(&self.inner, steps, x, stride, rows, writing)
     }
 
     fn add_change<R: ChangeRows>(
@@ -198,12 +182,12 @@ fn calls_of_update(
     calls.get()
 }
 
-// One call adds all whole chunks of the change to all recovery shards in place. A tail is added to each recovery shard
-// by two calls: one for its chunks, which are none, and one for its last bytes.
+// One call adds all whole chunks of the change to all recovery shards in place. One call for each recovery shard adds
+// the tail of the change.
 #[test]
 fn an_update_calls_its_engine_so_often(rt: HostRuntime) {
     let tables = Tables::new(rt.alloc()).expect(&rt, "tables");
-    for (recovery_count, for_tails) in [(1, 2), (3, 6), (5, 10)] {
+    for (recovery_count, for_tails) in [(1, 1), (3, 3), (5, 5)] {
         for (size, in_place, has_tail) in [
             (2, 0, true),
             (62, 0, true),

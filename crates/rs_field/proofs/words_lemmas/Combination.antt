@@ -23,6 +23,14 @@ pub sum_below-suc : (n : ℕ) (f : ℕ → ℕ) → sum_below (suc n) f ≡ bit_
 unfolding sum_below
 sum_below-suc n f = refl
 
+-- One more term is added to a sum.
+pub sum_below-added : (f : ℕ → ℕ) (a sum n : ℕ) → sum ≡ bit_xor a (sum_below n f)
+    → bit_xor sum (f n) ≡ bit_xor a (sum_below (n + 1) f)
+sum_below-added f a sum n is =
+    let next : suc n ≡ n + 1 = omega arith in
+    ap (λ v. bit_xor v (f n)) is ∙ xor_assoc a (sum_below n f) (f n)
+    ∙ ap (bit_xor a) (sym (sum_below-suc n f) ∙ ap (λ m. sum_below m f) next)
+
 pub sum_below_lt : (n : ℕ) (f : ℕ → ℕ) → ((i : ℕ) → i < n → f i < 2 ^ 16) → sum_below n f < 2 ^ 16
 unfolding sum_below
 sum_below_lt zero f words = pow_pos 16

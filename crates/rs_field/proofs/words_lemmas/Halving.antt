@@ -246,10 +246,11 @@ module _ {q : ℕ} {old x0 x1 x2 x3 : List ℕ} (cut : AreQuarters q old x0 x1 x
       → WalshCounts (length old) a b
   walsh-quarter-counts small first = omega (arith, steps small, ap transform_steps cut.part0.size)
 
--- The pair sums of the transforms of 2, 64 and 128 entries.
-pub small_steps : (transform_steps 2 ≡ 1) × (transform_steps 64 ≡ 192) × (transform_steps 128 ≡ 448)
+-- The pair sums of the transforms of 2, 4, 8, 64 and 128 entries.
+pub small_steps : (transform_steps 2 ≡ 1) × (transform_steps 4 ≡ 4) × (transform_steps 8 ≡ 12)
+    × (transform_steps 64 ≡ 192) × (transform_steps 128 ≡ 448)
 unfolding transform_steps log2 first_below
-small_steps = (refl, refl, refl)
+small_steps = (refl, refl, refl, refl, refl)
 
 -- A transform that counts exactly the pair sums of its layers is within the bound.
 pub exact-counts : {n k m : ℕ} {a b : Steps} → n ≡ k → transform_steps k ≡ m → CountsPairs m a b → WalshCounts n a b

@@ -59,10 +59,6 @@ RowProductCounts old new = CountsUpTo 1 0 0 old new
 abbrev pub RowSumCounts : Steps → Steps → Type 0
 RowSumCounts old new = CountsUpTo 3 0 0 old new
 
--- what the sum of a row and multiples of two other rows may count
-abbrev pub TwoSumCounts : Steps → Steps → Type 0
-TwoSumCounts old new = CountsUpTo 6 0 0 old new
-
 -- what the change of n chunks, one after the other, may count
 abbrev pub ChangeCounts : ℕ → Steps → Steps → Type 0
 ChangeCounts n old new = CountsUpTo (3 * n) 0 0 old new

@@ -6,19 +6,21 @@ ghost use Rattle.rs_field.specs.words.Tables.{times_factor};
 ghost use Rattle.rs_field.specs.rows.MarkedRows.{is_marked, OthersAreZero};
 ghost use Rattle.rs_field.specs.words.Transform.{forward};
 ghost use Rattle.rs_field.specs.rows.Changed.{AreChanged};
-ghost use Rattle.rs_field.specs.rows.Rows.{chunk, symbol};
+ghost use Rattle.rs_field.specs.rows.AddedRows.{clear_steps, row_sum};
+ghost use Rattle.rs_field.specs.rows.Rows.{chunk, symbol, word_in};
 ghost use Rattle.rs_field.specs.rows.View.{word, Fits, SameExtent, SameRowsOutside, AreZero};
-ghost use Rattle.rs_field.specs.rows.Written.{AreWritten, written_steps};
+ghost use Rattle.rs_field.specs.rows.Written.{AreWritten, held, written_steps};
 ghost use Rattle.rs_field.specs.words.Locator.{IsLocator, IsLocatorBelow};
 ghost use Rattle.rs_field.specs.words.StepBounds.{LocatorCounts, TransformCounts, RowProductCounts, RowSumCounts};
-ghost use Rattle.rs_field.specs.words.StepBounds.{ChangeCounts, CountsUpTo, TwoSumCounts};
+ghost use Rattle.rs_field.specs.words.StepBounds.{ChangeCounts, CountsUpTo};
 
 use super::ShardsRefMut;
+use super::adding::AddedRows;
 use super::bytes::symbols_are_words;
 use super::changing::{Change, ChangeRows};
 use super::marked_rows::marked_end;
 use super::reading::{ReadRows, Writing};
-use super::sums::{TwoLogarithms, xor};
+use super::sums::xor;
 use crate::words::{GF_MODULUS, GF_ORDER, GfElement, Steps};
 
 /// An engine: the transforms of rows, the product of a row, and the locator that encoders and decoders need.
@@ -28,7 +30,7 @@ use crate::words::{GF_MODULUS, GF_ORDER, GfElement, Steps};
 /// separately for each symbol. The points of the values are `skew_delta`, `skew_delta + 1` and so on. Every call
 /// succeeds and allocates nothing.
 ///
-/// A type that provides `fft`, `ifft`, `mul` and `eval_poly` is an engine. The other ten calls have default bodies.
+/// A type that provides `fft`, `ifft`, `mul` and `eval_poly` is an engine. The other nine calls have default bodies.
 pub trait Engine: Drop {
     /// Transforms the `size` rows from `pos` on forward, at `skew_delta`.
     ///
@@ -205,60 +207,35 @@ pub trait Engine: Drop {
         }
     }
 
-    /// Adds two rows to `x`, each times a factor of its own, symbol by symbol. All three rows have the same number of
-    /// chunks.
-    ///
-    /// The default body calls `mul_add` twice. An engine can have a body of its own that loads and stores each symbol
-    /// of `x` once for both.
-    fn mul_add_two(
+    /// Writes the sums of `rows` to the first chunks of the rows that lie `stride` chunks apart in `x`, as
+    /// [`write_sums`](super::row_sums::write_sums) says, and returns true. Or changes nothing and returns false, as the
+    /// default body does.
+    fn add_rows<A: AddedRows>(
         &self,
         steps: &mut Steps,
         x: &mut [[u8; 64]],
-        y0: &[[u8; 64]],
-        y1: &[[u8; 64]],
-        logs: TwoLogarithms,
-    )
-        requires first { length x.old ≡ length y0.now }
-        requires second { length x.old ≡ length y1.now }
-        ensures sums { (k s : ℕ) → k < length x.old → s < 32
-            → symbol (chunk x.new k) s
-            ≡ bit_xor (bit_xor (symbol (chunk x.old k) s)
-            (times_factor logs.first (symbol (chunk y0.now k) s)))
-            (times_factor logs.second (symbol (chunk y1.now k) s)) }
-        ensures counts { TwoSumCounts steps.old steps.new }
+        stride: usize,
+        rows: &A,
+        writing: Writing,
+    ) -> bool
+        requires room { length x.old ≡ A.sum_count rows.now * stride }
+        requires fit { A.row_len rows.now ≤ stride }
+        ensures length { length x.new ≡ length x.old }
+        ensures sums { result ≡ true
+            → (k s d : ℕ) → k < A.row_len rows.now → s < 32 → d < A.sum_count rows.now
+            → word_in x.new stride k s d
+            ≡ bit_xor (held writing (word_in x.old stride k s d))
+            (row_sum (A.row_count rows.now) (λ i. A.log rows.now i d) (A.word rows.now k s)) }
+        ensures rest { (k s d : ℕ) → A.row_len rows.now ≤ k → k < stride → s < 32
+            → d < A.sum_count rows.now
+            → word_in x.new stride k s d ≡ word_in x.old stride k s d }
+        ensures kept { result ≡ false → x.new ≡ x.old }
+        ensures counts { result ≡ true
+            → CountsUpTo (A.sum_count rows.now
+            * (clear_steps writing + 3 * A.row_count rows.now)) 0 0 steps.old steps.new }
+        ensures uncounted { result ≡ false → CountsUpTo 0 0 0 steps.old steps.new }
     {
-        self.mul_add(steps, x, y0, logs.first);
-        self.mul_add(steps, x, y1, logs.second);
-    }
-
-    /// Adds `y` to each of two rows, times a factor of its own, symbol by symbol. `logs.first` is the logarithm of the
-    /// factor for `x0`, and `logs.second` that of the factor for `x1`. 65535 represents the factor zero. All three rows
-    /// have the same number of chunks.
-    ///
-    /// The default body calls `mul_add` twice. An engine can have a body of its own that loads each symbol of `y` once
-    /// for both.
-    fn mul_add_to_two(
-        &self,
-        steps: &mut Steps,
-        x0: &mut [[u8; 64]],
-        x1: &mut [[u8; 64]],
-        y: &[[u8; 64]],
-        logs: TwoLogarithms,
-    )
-        requires first { length x0.old ≡ length y.now }
-        requires second { length x1.old ≡ length y.now }
-        ensures first_sums { (k s : ℕ) → k < length x0.old → s < 32
-            → symbol (chunk x0.new k) s
-            ≡ bit_xor (symbol (chunk x0.old k) s)
-            (times_factor logs.first (symbol (chunk y.now k) s)) }
-        ensures second_sums { (k s : ℕ) → k < length x1.old → s < 32
-            → symbol (chunk x1.new k) s
-            ≡ bit_xor (symbol (chunk x1.old k) s)
-            (times_factor logs.second (symbol (chunk y.now k) s)) }
-        ensures counts { TwoSumCounts steps.old steps.new }
-    {
-        self.mul_add(steps, x0, y, logs.first);
-        self.mul_add(steps, x1, y, logs.second);
+        false
     }
 
     /// Adds a change of at least one chunk to each row, times the generator to the power of the row's entry of `logs`,

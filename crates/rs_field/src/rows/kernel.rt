@@ -1,17 +1,18 @@
 //! The parts of an engine that differ from engine to engine.
-ghost use Rattle.std.specs.Prelude.{◌≡◌, ℕ, ◌+◌, ◌*◌, ◌<◌, true, false, length, bit_xor};
+ghost use Rattle.std.specs.Prelude.{◌≡◌, ℕ, ◌+◌, ◌*◌, ◌<◌, ◌≤◌, true, false, length, bit_xor};
 ghost use Rattle.rs_field.specs.words.Field.{product, power};
 ghost use Rattle.rs_field.specs.words.Tables.{times_factor};
 ghost use Rattle.rs_field.specs.rows.Changed.{AreChanged};
-ghost use Rattle.rs_field.specs.rows.Rows.{chunk, symbol};
+ghost use Rattle.rs_field.specs.rows.AddedRows.{row_sum};
+ghost use Rattle.rs_field.specs.rows.Rows.{chunk, symbol, word_in};
 ghost use Rattle.rs_field.specs.rows.Pairs.{IsBackwardTwo, at_two_added};
 ghost use Rattle.rs_field.specs.rows.TwoLayers.{IsForwardTwoLayers, IsBackwardTwoLayers};
 ghost use Rattle.rs_field.specs.rows.TwoLayers.{IsBackwardFour, at_four_added};
 ghost use Rattle.rs_field.specs.rows.Written.{held};
 
+use super::adding::AddedRows;
 use super::changing::{Change, ChangeRows};
 use super::reading::Writing;
-use super::sums::TwoLogarithms;
 use crate::words::GfElement;
 use crate::words::lent_tables::LentTables;
 
@@ -197,54 +198,34 @@ pub trait Kernel: Drop {
             → symbol (chunk x.new k) s
             ≡ bit_xor (symbol (chunk x.old k) s) (times_factor log_m (symbol (chunk y.now k) s)) };
 
-    /// Adds two rows to `x`, each times the factor of a butterfly; 65535 represents the factor zero. All three rows
-    /// have the same number of chunks.
-    ///
-    /// The default body calls `mul_add_row` twice. An engine can have a body of its own that loads and stores each word
-    /// of `x` once for both.
-    fn mul_add_two(&self, x: &mut [[u8; 64]], y0: &[[u8; 64]], y1: &[[u8; 64]], logs: TwoLogarithms)
-        requires first { length x.old ≡ length y0.now }
-        requires second { length x.old ≡ length y1.now }
-        ensures { (k s : ℕ) → k < length x.old → s < 32
-            → symbol (chunk x.new k) s
-            ≡ bit_xor (bit_xor (symbol (chunk x.old k) s)
-            (times_factor logs.first (symbol (chunk y0.now k) s)))
-            (times_factor logs.second (symbol (chunk y1.now k) s)) }
-    {
-        self.mul_add_row(x, y0, logs.first);
-        self.mul_add_row(x, y1, logs.second);
-    }
-
-    /// Adds `y` to each of two rows, times the factor of a butterfly. `logs.first` is the logarithm of the factor for
-    /// `x0`, and `logs.second` that of the factor for `x1`. 65535 represents the factor zero. All three rows have the
-    /// same number of chunks.
-    ///
-    /// The default body calls `mul_add_row` twice. An engine can have a body of its own that loads each word of `y`
-    /// once for both.
-    fn mul_add_to_two(
+    /// Writes the sums of `rows` to the first chunks of the rows that lie `stride` chunks apart in `x`, as
+    /// [`write_sums`](super::row_sums::write_sums) says, and returns true. Or changes nothing and returns false, as the
+    /// default body does.
+    fn add_rows<A: AddedRows>(
         &self,
-        x0: &mut [[u8; 64]],
-        x1: &mut [[u8; 64]],
-        y: &[[u8; 64]],
-        logs: TwoLogarithms,
-    )
-        requires first { length x0.old ≡ length y.now }
-        requires second { length x1.old ≡ length y.now }
-        ensures first_sums { (k s : ℕ) → k < length x0.old → s < 32
-            → symbol (chunk x0.new k) s
-            ≡ bit_xor (symbol (chunk x0.old k) s)
-            (times_factor logs.first (symbol (chunk y.now k) s)) }
-        ensures second_sums { (k s : ℕ) → k < length x1.old → s < 32
-            → symbol (chunk x1.new k) s
-            ≡ bit_xor (symbol (chunk x1.old k) s)
-            (times_factor logs.second (symbol (chunk y.now k) s)) }
+        x: &mut [[u8; 64]],
+        stride: usize,
+        rows: &A,
+        writing: Writing,
+    ) -> bool
+        requires room { length x.old ≡ A.sum_count rows.now * stride }
+        requires fit { A.row_len rows.now ≤ stride }
+        ensures length { length x.new ≡ length x.old }
+        ensures sums { result ≡ true
+            → (k s d : ℕ) → k < A.row_len rows.now → s < 32 → d < A.sum_count rows.now
+            → word_in x.new stride k s d
+            ≡ bit_xor (held writing (word_in x.old stride k s d))
+            (row_sum (A.row_count rows.now) (λ i. A.log rows.now i d) (A.word rows.now k s)) }
+        ensures rest { (k s d : ℕ) → A.row_len rows.now ≤ k → k < stride → s < 32
+            → d < A.sum_count rows.now
+            → word_in x.new stride k s d ≡ word_in x.old stride k s d }
+        ensures kept { result ≡ false → x.new ≡ x.old }
     {
-        self.mul_add_row(x0, y, logs.first);
-        self.mul_add_row(x1, y, logs.second);
+        false
     }
 
-    /// Adds a change to each row, times a factor for the row, and returns true. `logs` has the logarithm of each factor;
-    /// 65535 represents the factor zero. Or changes nothing and returns false, as the default body does.
+    /// Adds a change to each row, times a factor for the row, and returns true. `logs` has the logarithm of each
+    /// factor; 65535 represents the factor zero. Or changes nothing and returns false, as the default body does.
     fn add_change<R: ChangeRows>(
         &self,
         rows: &mut R,

@@ -6,6 +6,7 @@ ghost use Rattle.rs_field.specs.words.Field.{power, log};
 ghost use Rattle.rs_field.specs.words.Locator.{IsLocatorBelow};
 
 use super::ShardsRefMut;
+use super::adding::{AddedRows, count_sums};
 use super::block::Block;
 use super::bytes::symbols_are_words;
 use super::changing::{Change, ChangeRows};
@@ -14,7 +15,6 @@ use super::kernel::{FourRows, Kernel, ThreeLogarithms};
 use super::layers::Direction::{Backward, Forward};
 use super::marked_rows::UsedRows;
 use super::reading::{ReadRows, Writing};
-use super::sums::TwoLogarithms;
 use super::transform::transform;
 use crate::words::logarithms::put_logarithms;
 use crate::words::{GfElement, Steps, locating};
@@ -103,28 +103,19 @@ impl<K: Kernel> Engine for K {
         self.mul_add_row(x, y, log_m);
     }
 
-    fn mul_add_two(
+    fn add_rows<A: AddedRows>(
         &self,
         steps: &mut Steps,
         x: &mut [[u8; 64]],
-        y0: &[[u8; 64]],
-        y1: &[[u8; 64]],
-        logs: TwoLogarithms,
-    ) {
-        steps.row_steps(2);
-        Kernel::mul_add_two(self, x, y0, y1, logs);
-    }
-
-    fn mul_add_to_two(
-        &self,
-        steps: &mut Steps,
-        x0: &mut [[u8; 64]],
-        x1: &mut [[u8; 64]],
-        y: &[[u8; 64]],
-        logs: TwoLogarithms,
-    ) {
-        steps.row_steps(2);
-        Kernel::mul_add_to_two(self, x0, x1, y, logs);
+        stride: usize,
+        rows: &A,
+        writing: Writing,
+    ) -> bool {
+        let has_added = Kernel::add_rows(self, x, stride, rows, writing);
+        if has_added {
+            count_sums(steps, rows.sums(), rows.count(), writing);
+        }
+        has_added
     }
 
     fn add_change<R: ChangeRows>(

@@ -1,5 +1,5 @@
 //! Changes of rows, by any engine.
-ghost use Rattle.std.specs.Prelude.{◌≡◌, ◌≢◌, ℕ, ◌*◌, ◌<◌, length, bit_xor};
+ghost use Rattle.std.specs.Prelude.{◌≡◌, ◌≢◌, ◌⊎◌, ℕ, ◌*◌, ◌<◌, ◌≤◌, length, bit_xor};
 ghost use Rattle.rs_field.specs.rows.Changed.{AreChanged, change_word};
 ghost use Rattle.rs_field.specs.words.StepBounds.{ChangeCounts};
 ghost use Rattle.rs_field.specs.words.Tables.{times_factor};
@@ -21,7 +21,7 @@ fn change_row<E: Engine, R: ChangeRows>(
     ensures here { (k s : ℕ) → k < length change.entry.old.now → s < 32
         → R.word rows.new k s row
         ≡ bit_xor (R.word rows.old k s row) (times_factor log_m (change_word change.entry k s)) }
-    ensures others { (k s i : ℕ) → s < 32 → i ≢ row
+    ensures others { (k s i : ℕ) → s < 32 → (length change.entry.old.now ≤ k) ⊎ (i ≢ row)
         → R.word rows.new k s i ≡ R.word rows.old k s i }
     ensures kept { R.kept rows.new ≡ R.kept rows.old }
     ensures counts { ChangeCounts (length change.entry.old.now) steps.old steps.new }

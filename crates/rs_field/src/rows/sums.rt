@@ -6,18 +6,8 @@ ghost use Rattle.rs_field.specs.words.StepBounds.{CountsRows};
 
 use super::ShardsRefMut;
 use super::vectors::sum;
-use crate::words::{GfElement, Steps};
+use crate::words::Steps;
 use std::simd::prelude::*;
-
-/// The logarithms of two factors: of two rows that are added to a third one, or of one row that is added to two others.
-/// 65535 represents the factor zero.
-#[derive(Clone, Copy, Debug, PartialEq, Eq, Hash)]
-pub struct TwoLogarithms {
-    /// The logarithm of the factor of the first of the two rows, or of the sum to it.
-    pub first: GfElement,
-    /// The logarithm of the factor of the second of the two rows, or of the sum to it.
-    pub second: GfElement,
-}
 
 // Adds y to x, byte by byte.
 #[inline(always)]

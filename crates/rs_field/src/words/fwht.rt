@@ -103,6 +103,30 @@ fn half_sums(steps: &mut Steps, x0: &mut [GfElement], x1: &mut [GfElement])
     }
 }
 
+// Transforms four entries. Their quarters are single entries, which are their own transforms.
+fn walsh_4(steps: &mut Steps, entries: &mut [GfElement])
+    requires { length entries.old ≡ 4 }
+    ensures values { IsWalsh 4 (λ y. slice_index entries.old y) (λ w. slice_index entries.new w) }
+    ensures counts { CountsPairs 4 steps.old steps.new }
+{
+    let (low, high) = entries.split_at_mut(2);
+    let (x0, x1) = low.split_at_mut(1);
+    let (x2, x3) = high.split_at_mut(1);
+    quarter_sums(steps, x0, x1, x2, x3);
+}
+
+// Transforms eight entries: both halves, and then one layer between them.
+fn walsh_8(steps: &mut Steps, entries: &mut [GfElement])
+    requires { length entries.old ≡ 8 }
+    ensures values { IsWalsh 8 (λ y. slice_index entries.old y) (λ w. slice_index entries.new w) }
+    ensures counts { CountsPairs 12 steps.old steps.new }
+{
+    let (low, high) = entries.split_at_mut(4);
+    walsh_4(steps, low);
+    walsh_4(steps, high);
+    half_sums(steps, low, high);
+}
+
 // Transforms 128 entries: both halves in lanes, and then one layer between the halves. For 512 entries the quarters
 // have 128 entries, so the transforms of 512, 2048, 8192 and 32768 entries end here.
 fn walsh_128(steps: &mut Steps, entries: &mut [GfElement])
@@ -121,7 +145,8 @@ fn walsh_128(steps: &mut Steps, entries: &mut [GfElement])
 ///
 /// The number n of entries is a power of two and at most 65536, and the entries from `truncated` on are 0. Only the
 /// residue of a new entry is fixed: 0 and 65535 both represent zero. At most n / 2 * log2(n) pair sums are counted. The
-/// transform is that of Leopard-RS, two layers at a time, quarter by quarter.
+/// transform is that of Leopard-RS, two layers at a time, quarter by quarter. Few entries are transformed without
+/// recursion, because a call would take longer than its sums.
 pub fn fwht(steps: &mut Steps, entries: &mut [GfElement], truncated: usize)
     requires power { (d : ℕ) × (length entries.old ≡ 2 ^ d) }
     requires size { length entries.old ≤ 65536 }
@@ -136,6 +161,10 @@ pub fn fwht(steps: &mut Steps, entries: &mut [GfElement], truncated: usize)
         walsh_64(steps, entries);
     } else if n == 128 {
         walsh_128(steps, entries);
+    } else if n == 8 {
+        walsh_8(steps, entries);
+    } else if n == 4 {
+        walsh_4(steps, entries);
     } else if n == 2 {
         let (sum, difference) = pair_sum(steps, entries[0], entries[1]);
         entries[0] = sum;

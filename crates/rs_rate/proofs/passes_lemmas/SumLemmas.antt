@@ -1,23 +1,24 @@
 -- Direct sums over a base: the list of its rows, the factors, and the words of a sum.
 use Rattle.std.proofs.Common.{rules, ◌≡◌, ℕ, ◌+◌, ◌-◌, ◌*◌, ◌/◌, ◌%◌, ◌<◌, ◌≤◌, Bool, true, false, cond, List, [], ◌∷◌}
-use Rattle.std.proofs.Common.{◌++◌, take, drop, replicate, length, bit_xor, sym, ap, ap₂, ◌∙◌, arith, inl, inr, add-one}
+use Rattle.std.proofs.Common.{◌++◌, take, drop, length, bit_xor, sym, ap, ap₂, ◌∙◌, arith, inl, inr, add-one}
 use Rattle.std.proofs.Common.{get_or, subst}
 use Rattle.std.proofs.lemmas.Nat.{xor_lt}
 use Rattle.std.specs.Prelude.{slice_index}
-use Rattle.std.specs.Int.Bits.{xor_assoc, xor_zero_r}
+use Rattle.std.specs.Int.Bits.{xor_zero_r}
 use Rattle.std.proofs.Math.Nat.{mod-eq_of_lt}
 use Rattle.std.proofs.Math.Seq.{get_or-append_seam, take-append_seam}
 use Rattle.std.proofs.lemmas.Bool.{cases_lt}
-use Rattle.std.proofs.lemmas.List.{get_or_append_left, get_or-append_right, length-append, get_or-replicate}
+use Rattle.std.proofs.lemmas.List.{get_or_append_left, length-append}
 use Rattle.std.proofs.lemmas.List.{get_or-take, get_or_past, length-take}
 use Rattle.rs_field.specs.code.DirectLaws.{locator_at}
 use Rattle.rs_field.specs.code.Frame.{row_count}
 use Rattle.rs_field.specs.code.Given.{Shards}
 use Rattle.rs_field.specs.declared.code.frame.Frame.{Frame}
+use Rattle.rs_field.specs.rows.AddedRows.{row_sum}
 use Rattle.rs_field.specs.rows.Layout.{row_len}
 use Rattle.rs_field.specs.code.Column.{Shard, column}
 use Rattle.rs_field.specs.rows.MarkedRows.{is_marked}
-use Rattle.rs_field.specs.rows.Rows.{Chunks, chunk, symbol}
+use Rattle.rs_field.specs.rows.Rows.{Chunks, chunk, symbol, word_in}
 use Rattle.rs_field.specs.words.DirectSum.{direct_factor, direct_sum}
 use Rattle.rs_field.specs.words.Field.{product, power, log}
 use Rattle.rs_field.specs.words.Tables.{times_factor}
@@ -40,31 +41,21 @@ pub one_row : (size chunks : ℕ) → chunks ≡ row_len size → chunk_count 1 
 unfolding chunk_count
 one_row size chunks is = omega arith
 
+-- Word j of the first of some sums, which have n chunks each.
+pub first-sum : (chunks : Chunks) (n j : ℕ) → word_in chunks n (j / 32) (j % 32) 0 ≡ sum_word chunks j
+first-sum chunks n j =
+    ap (λ i. symbol (chunk chunks i) (j % 32)) (let e : 0 * n + j / 32 ≡ j / 32 = omega arith in e)
+
 -- Column j of a shard that was laid out in chunks is word j of the sum in these chunks.
 pub column-sum : (chunks : Chunks) (size j : ℕ) → size % 2 ≡ 0 → j < size / 2
     → column j (shard_laid_out chunks size 0) ≡ sum_word chunks j
 column-sum chunks size j even inside = search (rules, column-put)
-
--- The words of a sum in two parts: those of the first n chunks, and those of the others.
-pub words-first : (n j : ℕ) (xs ys : Chunks) → length xs ≡ n → j / 32 < n → sum_word (xs ++ ys) j ≡ sum_word xs j
-words-first n j xs ys long inside = search (rules, get_or_append_left)
-
-pub words-last : (n j : ℕ) (xs ys : Chunks) → length xs ≡ n → n ≤ j / 32
-    → sum_word (xs ++ ys) j ≡ sum_word ys (j - 32 * n)
-words-last n j xs ys long past = search (rules, get_or-append_right)
 
 -- A slice that was lent by a vector is its list of elements afterwards, if it has as many elements.
 pub written-back : {X : Type 0} (xs ys : List X) (n : ℕ) → length xs ≡ n → length ys ≡ n
     → take n (xs ++ drop (length xs) ys) ≡ xs
 written-back xs ys n own other =
     ap (λ m. take m (xs ++ drop (length xs) ys)) (sym own) ∙ take-append_seam xs (drop (length xs) ys)
-
--- Words of zero bytes are 0.
-pub zero-word : (chunks : Chunks) (j : ℕ) → chunk chunks (j / 32) ≡ replicate 64 0 → sum_word chunks j ≡ 0
-zero-word chunks j is =
-    ap (λ (c : List ℕ). symbol c (j % 32)) is
-    ∙ ap₂ (λ a b. a + 256 * b) (get_or-replicate 64 (j % 32) 0 0 (omega arith))
-    (get_or-replicate 64 (j % 32 + 32) 0 0 (omega arith))
 
 -- A logarithm below 65535 is that of its factor.
 pub times_known : (l w : ℕ) → l < 65535 → times_factor l w ≡ product w (power l)
@@ -172,13 +163,22 @@ pub term-of : (base : SumBase) (words : ℕ → ℕ) (j y x log_m : ℕ) (piece 
     → product (column j piece) (power log_m) ≡ base_term base words y x
 term-of base words j y x log_m piece is factor = ap₂ (λ v l. product v (power l)) is factor
 
--- One more term is added.
-pub one_more : (term : ℕ → ℕ) (a s n m : ℕ) → s ≡ bit_xor a (sum_below n term) → m ≡ n
-    → bit_xor s (term m) ≡ bit_xor a (sum_below (n + 1) term)
-one_more term a s n m is same =
-    ap₂ (λ w i. bit_xor w (term i)) is same
-    ∙ xor_assoc a (sum_below n term) (term n)
-    ∙ ap (bit_xor a) (sym (sum_below-suc n term) ∙ ap (λ i. sum_below i term) (sym (add-one n)))
+-- The sum of the words of the rows of the base, each times its factor, is the direct sum.
+pub row_sum-base : (base : SumBase) (words : ℕ → ℕ) (y : ℕ)
+    → row_sum (length base.rows.now)
+    (λ i. direct_factor (λ z. slice_index base.locator.now z) (slice_index base.rows.now i) y)
+    (λ i. words (slice_index base.rows.now i))
+    ≡ base_sum base words y
+row_sum-base base words y =
+    sum_below-same (length base.rows.now) _ _
+    (λ i h. times_known (direct_factor (λ z. slice_index base.locator.now z) (slice_index base.rows.now i) y)
+    (words (slice_index base.rows.now i)) (omega arith))
+    ∙ base_sum-listed base words y
+
+-- No term is added.
+pub none_added : (term : ℕ → ℕ) (a : ℕ) → a ≡ bit_xor a (sum_below 0 term)
+unfolding sum_below
+none_added term a = sym (xor_zero_r a)
 
 -- ---- the factors
 

@@ -126,6 +126,13 @@ pub column-put : (chunks : Chunks) (size i j : ℕ) → size % 2 ≡ 0 → j < s
 unfolding row_chunk
 column-put chunks size i j even inside = column-laid_out size j (row_chunk chunks size i) inside
 
+-- Each element of a chunk is a byte.
+pub chunk-fits : (chunks : Chunks) (bytes : List ℕ) (k b : ℕ) → bytes ≡ flat_map (λ x. x) chunks
+    → ((j : ℕ) → get_or bytes j 0 < 256)
+    → ((j : ℕ) → j < length chunks → length (chunk chunks j) ≡ 64) → k < length chunks → b < 64
+    → slice_index (chunk chunks k) b < 256
+chunk-fits chunks bytes k b whole fits wide inside small = grind (arith, common_steps, byte_fits)
+
 -- Each element of a chunk of a row is a byte.
 pub row-fits : (chunks : Chunks) (bytes : List ℕ) (size rows i k b : ℕ) → bytes ≡ flat_map (λ x. x) chunks
     → ((j : ℕ) → get_or bytes j 0 < 256)

@@ -8,6 +8,10 @@ use Rattle.rs_field.specs.rows.Layout.{row_len, laid_out, in_order}
 unfoldable pub row_chunk : Chunks → ℕ → ℕ → ℕ → List ℕ
 row_chunk chunks size i k = chunk chunks (i * row_len size + k)
 
+-- the shard of this size in the first bytes of the chunks from this one on
+abbrev pub shard_from : Chunks → ℕ → ℕ → Shard
+shard_from chunks start size = in_order size (λ k. chunk chunks (start + k))
+
 -- the shard that was laid into row i
 abbrev pub shard_laid_out : Chunks → ℕ → ℕ → Shard
 shard_laid_out chunks size i = laid_out size (row_chunk chunks size i)

@@ -1,6 +1,6 @@
 //! How a change of one original changes the recovery shards: each word of a recovery shard changes by the change of the
 //! original's word times a factor.
-ghost use Rattle.std.specs.Prelude.{◌≡◌, ◌≢◌, ℕ, ◌*◌, ◌/◌, ◌%◌, ◌<◌, ◌≤◌, ◌⊎◌, true, false, length, vec_len};
+ghost use Rattle.std.specs.Prelude.{◌≡◌, ◌≢◌, ℕ, ◌/◌, ◌%◌, ◌<◌, ◌≤◌, ◌⊎◌, true, false, length, vec_len};
 ghost use Rattle.std.specs.Prelude.{slice_index, bit_xor, IfOk, IfErr};
 ghost use Rattle.rs_field.specs.code.Column.{column};
 ghost use Rattle.rs_field.specs.code.Counts.{default_rate};
@@ -11,7 +11,7 @@ ghost use Rattle.rs_field.specs.words.DirectSum.{direct_factor};
 ghost use Rattle.rs_field.specs.words.Field.{product, power};
 
 use crate::passes::sums::{
-    BaseFactors, add_times, factor_of, finish_sum, locate_base, summed_piece,
+    BaseFactors, add_tail_times, factor_of, finish_sums, locate_base, summed_piece,
 };
 use crate::rows::shard_rows::insert_at;
 use crate::values::supported_counts::DefaultRateCounts;
@@ -106,7 +106,7 @@ pub fn add_to_tail<E: Engine>(
     }
     let mut row = [[0; 64]];
     insert_at(&mut row, tail, 0);
-    add_times(engine, steps, &mut row, change, log_m);
-    finish_sum(&mut row, tail.len());
-    tail.copy_from_slice(summed_piece(&row, tail.len()));
+    add_tail_times(engine, steps, &mut row, change, log_m);
+    finish_sums(&mut row, 1, 1, tail.len());
+    tail.copy_from_slice(summed_piece(&row, 0, tail.len()));
 }

@@ -16,13 +16,14 @@ ghost use Rattle.rs_rate.specs.passes.Sums.{sum_word};
 ghost use Rattle.rs_rate.specs.rows.Marks.{how_many};
 ghost use Rattle.rs_rate.specs.values.SumCosts.{AreSumsCheaper};
 
-use crate::passes::base_sums::{BasePieces, add_base_sum};
-use crate::passes::sums::{SumBase, clear_sum};
+use crate::passes::base_sums::{BasePieces, BaseSums, write_base_sums};
+use crate::passes::sums::SumBase;
 use crate::rows::shard_rows::shard_at;
 use crate::values::configuration::{Configuration, Tally};
 use crate::values::frames::are_sums_cheaper;
 use rs_field::engine::layout::{is_zero_row, row_len};
-use rs_field::engine::{Engine, Steps};
+use rs_field::engine::utils::clear;
+use rs_field::engine::{Engine, Steps, Writing};
 
 /// The most rows of a decoder that uses direct sums. As many logarithms and as many rows of the base are kept on the
 /// stack.
@@ -212,7 +213,7 @@ fn set_to_sum<E: Engine>(
     ensures others { SameOutside (y * len) (y * len + len) chunks.old chunks.new }
     ensures counts { CountsUpTo (1 + 3 * length base.now.rows.now) 0 0 steps.old steps.new }
 {
-    clear_sum(&mut chunks[y * len..y * len + len]);
+    clear(&mut chunks[y * len..y * len + len]);
     steps.row_step();
     add_sum(engine, steps, chunks, len, base, y);
 }
@@ -269,7 +270,13 @@ fn add_beside<E: Engine>(
         row: y,
         len: sum.len(),
     };
-    add_base_sum(engine, steps, sum, base, &pieces, y);
+    let sums = BaseSums {
+        base,
+        pieces: &pieces,
+        piece_len: 64 * sum.len(),
+        rows: &[y],
+    };
+    write_base_sums(engine, steps, sum, pieces.len, &sums, Writing::Adding);
 }
 
 /// All rows of a list of rows except for one, which is written while these are read.
@@ -287,6 +294,7 @@ struct RowsBeside<'a> {
 
 impl BasePieces for RowsBeside<'_> {
     ghost use Rattle.std.specs.Prelude.{◌*◌, ◌/◌, ◌%◌};
+    ghost use Rattle.std.proofs.Math.Bridge.{le_prop};
     ghost use Rattle.rs_rate.specs.passes.BaseSum.{word_beside, IsRowBeside};
 
     ghost size = { λ x. 64 * x.len };
@@ -294,6 +302,8 @@ impl BasePieces for RowsBeside<'_> {
     ghost word = { λ x j p. word_beside x.before.now x.after.now x.row x.len (j / 32) (j % 32) p };
 
     ghost has = { λ x p. IsRowBeside x.before.now x.after.now x.row x.len p };
+
+    ghost has_is_prop = { λ x row. Prim.hlevel (le_prop) };
 
     fn piece(&self, row: usize) -> &[u8] {
         if row < self.row {

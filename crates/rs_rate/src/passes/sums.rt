@@ -10,17 +10,18 @@ ghost use Rattle.rs_field.specs.code.Column.{IsShard, column};
 ghost use Rattle.rs_field.specs.code.Frame.{row_count};
 ghost use Rattle.rs_field.specs.rows.Layout.{row_len};
 ghost use Rattle.rs_field.specs.rows.MarkedRows.{is_marked};
+ghost use Rattle.rs_field.specs.rows.Rows.{word_in};
 ghost use Rattle.rs_field.specs.words.DirectSum.{direct_factor};
 ghost use Rattle.rs_field.specs.words.Field.{product, power, log};
-ghost use Rattle.rs_field.specs.words.StepBounds.{RowSumCounts, TwoSumCounts};
 ghost use Rattle.rs_rate.specs.passes.Decoding.{IsLocatorOf};
 ghost use Rattle.rs_rate.specs.rows.Marks.{how_many};
-ghost use Rattle.rs_rate.specs.rows.ShardRows.{shard_in_order};
+ghost use Rattle.rs_rate.specs.rows.ShardRows.{shard_from};
 ghost use Rattle.rs_rate.specs.passes.Sums.{ListsMarked, MakeFactors, sum_word};
 
 use crate::passes::locators::make_locator;
-use crate::rows::shard_rows::{insert_at, move_tail, rows_are_bytes, shard_at};
-use rs_field::engine::{Engine, GF_MODULUS, GfElement, Steps, TwoLogarithms};
+use crate::rows::shard_rows::{insert_at, move_tail_from, parts_are_bytes};
+use rs_field::engine::layout::{row_len, shard_of};
+use rs_field::engine::{Engine, GF_MODULUS, GfElement, Steps};
 use rs_field::error::Error;
 use rs_field::frame::Frame;
 use std::alloc::Global;
@@ -42,25 +43,6 @@ pub struct SumBase<'a> {
 }
 
 impl SumBase<'_> {
-    /// Returns the logarithms of the factors that the words of the entries `index` and `index + 1` of the base have in
-    /// the word of row y, which is not in the base. Both are below 65535.
-    pub fn two_factors(&self, index: usize, y: usize) -> TwoLogarithms
-        requires two { index + 1 < length self.now.rows.now }
-        requires outside { is_marked self.now.marks.now y ≡ false }
-        requires within { y < length self.now.locator.now }
-        ensures first { result.first
-            ≡ direct_factor (λ z. slice_index self.now.locator.now z)
-            (slice_index self.now.rows.now index) y }
-        ensures second { result.second
-            ≡ direct_factor (λ z. slice_index self.now.locator.now z)
-            (slice_index self.now.rows.now (index + 1)) y }
-    {
-        TwoLogarithms {
-            first: self.factor(index, y),
-            second: self.factor(index + 1, y),
-        }
-    }
-
     /// Returns the logarithm, below 65535, of the factor that a word of the entry `index` of the base has in the word
     /// of row y, which is not in the base.
     pub fn factor(&self, index: usize, y: usize) -> GfElement
@@ -177,107 +159,8 @@ pub(crate) fn locate_zero<E: Engine>(
     engine.locate(steps, logs);
 }
 
-/// Sets all words of a sum to 0.
-pub fn clear_sum(sum: &mut [[u8; 64]])
-    ensures { (j : ℕ) → j < 32 * length sum.old → sum_word sum.new j ≡ 0 }
-{
-    for chunk in sum.iter_mut() {
-        *chunk = [0; 64];
-    }
-}
-
-/// Adds a piece of a shard, times a factor, to a sum of pieces of its size. `sum` holds the words of the sum: it has
-/// one chunk of 64 bytes for every 64 bytes of the piece, and one for the rest. The size of the piece is even. `log_m`
-/// is the logarithm of the factor, below 65535.
-pub fn add_times<E: Engine>(
-    engine: &E,
-    steps: &mut Steps,
-    sum: &mut [[u8; 64]],
-    piece: &[u8],
-    log_m: GfElement,
-)
-    requires room { length sum.old ≡ row_len (length piece.now) }
-    requires even { length piece.now % 2 ≡ 0 }
-    requires factor { log_m < 65535 }
-    ensures words { (j : ℕ) → j < length piece.now / 2
-        → sum_word sum.new j
-        ≡ bit_xor (sum_word sum.old j) (product (column j piece.now) (power log_m)) }
-    ensures counts { length piece.now % 64 ≡ 0 → RowSumCounts steps.old steps.new }
-{
-    let (whole, tail) = piece.as_chunks::<64>();
-    let (chunks, last) = sum.split_at_mut(whole.len());
-    engine.mul_add(steps, chunks, whole, log_m);
-    if !tail.is_empty() {
-        add_tail_times(engine, steps, last, tail, log_m);
-    }
-}
-
-/// Adds two pieces of shards, each times a factor of its own, to a sum of pieces of their size. `sum` is as for
-/// [`add_times`], and so are the sizes of the pieces. Both factors have logarithms below 65535.
-pub fn add_two_times<E: Engine>(
-    engine: &E,
-    steps: &mut Steps,
-    sum: &mut [[u8; 64]],
-    one: &[u8],
-    other: &[u8],
-    logs: TwoLogarithms,
-)
-    requires room { length sum.old ≡ row_len (length one.now) }
-    requires same { length other.now ≡ length one.now }
-    requires even { length one.now % 2 ≡ 0 }
-    requires first { logs.first < 65535 }
-    requires second { logs.second < 65535 }
-    ensures words { (j : ℕ) → j < length one.now / 2
-        → sum_word sum.new j
-        ≡ bit_xor (bit_xor (sum_word sum.old j) (product (column j one.now) (power logs.first)))
-        (product (column j other.now) (power logs.second)) }
-    ensures counts { length one.now % 64 ≡ 0 → TwoSumCounts steps.old steps.new }
-{
-    let (one_whole, one_tail) = one.as_chunks::<64>();
-    let (other_whole, other_tail) = other.as_chunks::<64>();
-    let (chunks, last) = sum.split_at_mut(one_whole.len());
-    engine.mul_add_two(steps, chunks, one_whole, other_whole, logs);
-    if !one_tail.is_empty() {
-        add_tail_times(engine, steps, last, one_tail, logs.first);
-        add_tail_times(engine, steps, last, other_tail, logs.second);
-    }
-}
-
-/// Adds a piece of a shard to two sums of pieces of its size, each time with a factor of its own. Both sums are as for
-/// [`add_times`], and so is the size of the piece. Both factors have logarithms below 65535.
-pub fn add_times_to_two<E: Engine>(
-    engine: &E,
-    steps: &mut Steps,
-    first: &mut [[u8; 64]],
-    second: &mut [[u8; 64]],
-    piece: &[u8],
-    logs: TwoLogarithms,
-)
-    requires first_room { length first.old ≡ row_len (length piece.now) }
-    requires second_room { length second.old ≡ row_len (length piece.now) }
-    requires even { length piece.now % 2 ≡ 0 }
-    requires first_factor { logs.first < 65535 }
-    requires second_factor { logs.second < 65535 }
-    ensures first_words { (j : ℕ) → j < length piece.now / 2
-        → sum_word first.new j
-        ≡ bit_xor (sum_word first.old j) (product (column j piece.now) (power logs.first)) }
-    ensures second_words { (j : ℕ) → j < length piece.now / 2
-        → sum_word second.new j
-        ≡ bit_xor (sum_word second.old j) (product (column j piece.now) (power logs.second)) }
-    ensures counts { length piece.now % 64 ≡ 0 → TwoSumCounts steps.old steps.new }
-{
-    let (whole, tail) = piece.as_chunks::<64>();
-    let (first_chunks, first_last) = first.split_at_mut(whole.len());
-    let (second_chunks, second_last) = second.split_at_mut(whole.len());
-    engine.mul_add_to_two(steps, first_chunks, second_chunks, whole, logs);
-    if !tail.is_empty() {
-        add_tail_times(engine, steps, first_last, tail, logs.first);
-        add_tail_times(engine, steps, second_last, tail, logs.second);
-    }
-}
-
 // Adds the tail of a piece, which is less than a chunk, times a factor, to the chunk of its words in a sum.
-fn add_tail_times<E: Engine>(
+pub(crate) fn add_tail_times<E: Engine>(
     engine: &E,
     steps: &mut Steps,
     sum: &mut [[u8; 64]],
@@ -298,22 +181,29 @@ fn add_tail_times<E: Engine>(
     engine.mul_add(steps, sum, &chunk, log_m);
 }
 
-/// Puts the bytes of a sum of pieces in order. Then [`summed_piece`] lends them.
-pub fn finish_sum(sum: &mut [[u8; 64]], piece_len: usize)
-    requires room { length sum.old ≡ row_len piece_len }
+/// Puts the bytes of `count` sums of pieces in order. The first sum begins at the first chunk of `x`, and each of the
+/// others begins `stride` chunks after the one before it. Then [`summed_piece`] lends them.
+pub fn finish_sums(x: &mut [[u8; 64]], count: usize, stride: usize, piece_len: usize)
+    requires room { count * stride ≤ length x.old }
+    requires fit { row_len piece_len ≤ stride }
     requires even { piece_len % 2 ≡ 0 }
-    ensures words { (j : ℕ) → j < piece_len / 2
-        → column j (shard_in_order sum.new piece_len 0) ≡ sum_word sum.old j }
-    ensures bytes { IsShard piece_len (shard_in_order sum.new piece_len 0) }
+    ensures length { length x.new ≡ length x.old }
+    ensures words { (d j : ℕ) → d < count → j < piece_len / 2
+        → column j (shard_from x.new (d * stride) piece_len)
+        ≡ word_in x.old stride (j / 32) (j % 32) d }
+    ensures bytes { (d : ℕ) → d < count
+        → IsShard piece_len (shard_from x.new (d * stride) piece_len) }
 {
-    move_tail(sum, 0, piece_len);
-    rows_are_bytes(sum, 1, piece_len);
+    for index in 0..count {
+        move_tail_from(x, index * stride, piece_len);
+    }
+    parts_are_bytes(x, piece_len);
 }
 
-/// Lends the bytes of a sum of pieces that was finished by [`finish_sum`].
-pub fn summed_piece(sum: &[[u8; 64]], piece_len: usize) -> &[u8]
-    requires { length sum.now ≡ row_len piece_len }
-    ensures { result.now ≡ shard_in_order sum.now piece_len 0 }
+/// Lends the bytes of the sum that begins at chunk `start`, of sums of pieces that were finished by [`finish_sums`].
+pub fn summed_piece(x: &[[u8; 64]], start: usize, piece_len: usize) -> &[u8]
+    requires { start + row_len piece_len ≤ length x.now }
+    ensures { result.now ≡ shard_from x.now start piece_len }
 {
-    shard_at(sum, piece_len, 0)
+    shard_of(&x[start..start + row_len(piece_len)], piece_len)
 }

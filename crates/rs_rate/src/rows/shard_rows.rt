@@ -1,11 +1,11 @@
 //! Shards in rows of chunks: how a shard is written into a row, how its tail is moved, and how it is read.
 ghost use Rattle.std.specs.Prelude.{◌≡◌, ◌≢◌, ℕ, ◌+◌, ◌*◌, ◌/◌, ◌%◌, ◌<◌, ◌≤◌, length, slice_index, bit_xor};
 ghost use Rattle.rs_field.specs.code.Column.{IsShard};
-ghost use Rattle.rs_field.specs.rows.Layout.{row_len};
-ghost use Rattle.rs_field.specs.rows.Rows.{chunk};
+ghost use Rattle.rs_field.specs.rows.Layout.{row_len, laid_out};
+ghost use Rattle.rs_field.specs.rows.Rows.{chunk, SameOutside};
 ghost use Rattle.rs_field.specs.words.StepBounds.{CountsRows};
 ghost use Rattle.rs_rate.specs.values.ChunkCounts.{chunk_count};
-ghost use Rattle.rs_rate.specs.rows.ShardRows.{row_chunk, shard_laid_out, shard_in_order, IsByteSum};
+ghost use Rattle.rs_rate.specs.rows.ShardRows.{shard_from, row_chunk, shard_laid_out, shard_in_order, IsByteSum};
 
 use rs_field::bytes::are_bytes;
 use rs_field::engine::Steps;
@@ -67,9 +67,20 @@ pub(crate) fn move_tail(chunks: &mut [[u8; 64]], index: usize, shard_bytes: usiz
     ensures others { (i k : ℕ) → i ≢ index → k < row_len shard_bytes
         → row_chunk chunks.new shard_bytes i k ≡ row_chunk chunks.old shard_bytes i k }
 {
-    let len = row_len(shard_bytes);
-    let start = index * len;
-    undo_last_chunk_encoding(&mut chunks[start..start + len], shard_bytes);
+    move_tail_from(chunks, index * row_len(shard_bytes), shard_bytes);
+}
+
+// Moves the tail of the shard in the chunks from chunk `start` on.
+pub(crate) fn move_tail_from(chunks: &mut [[u8; 64]], start: usize, shard_bytes: usize)
+    requires room { start + row_len shard_bytes ≤ length chunks.old }
+    requires even { shard_bytes % 2 ≡ 0 }
+    ensures length { length chunks.new ≡ length chunks.old }
+    ensures here { shard_from chunks.new start shard_bytes
+        ≡ laid_out shard_bytes (λ k. chunk chunks.old (start + k)) }
+    ensures others { SameOutside start (start + row_len shard_bytes) chunks.old chunks.new }
+{
+    let end = start + row_len(shard_bytes);
+    undo_last_chunk_encoding(&mut chunks[start..end], shard_bytes);
 }
 
 // Proves that the shards in rows consist of bytes, before and after their tails are moved. When the program runs, the
@@ -80,6 +91,14 @@ pub(crate) fn rows_are_bytes(chunks: &[[u8; 64]], count: usize, shard_bytes: usi
         → IsShard shard_bytes (shard_laid_out chunks.now shard_bytes i) }
     ensures in_order { (i : ℕ) → i < count
         → IsShard shard_bytes (shard_in_order chunks.now shard_bytes i) }
+{
+    are_bytes(chunks.as_flattened());
+}
+
+// Proves that a shard from any chunk on consists of bytes. When the program runs, the function does nothing.
+pub(crate) fn parts_are_bytes(chunks: &[[u8; 64]], shard_bytes: usize)
+    ensures { (start : ℕ) → start + row_len shard_bytes ≤ length chunks.now
+        → IsShard shard_bytes (shard_from chunks.now start shard_bytes) }
 {
     are_bytes(chunks.as_flattened());
 }

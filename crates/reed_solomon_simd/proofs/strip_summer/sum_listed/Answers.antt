@@ -22,8 +22,8 @@ list_base-end-requires-clause-enough g c = search (rules, enough-marked)
 pub locate_base-requires : goal.locate_base-requires
 locate_base-requires g c = (distinct_rows_of c.counts-counts.result.framed c.counts-counts.result.supported).few
 
-pub make_strips-requires-clause-ready : goal.make_strips-requires-clause-ready
-make_strips-requires-clause-ready g c =
+pub sum_strips-requires-clause-based : goal.sum_strips-requires-clause-based
+sum_strips-requires-clause-based g c =
     let s : DecoderState = g.S.Pieces.received c.args.store.now in
     let can = c.requires.can in
     let marks : List Bool = c.in_ok-received.received.items in
@@ -36,22 +36,18 @@ make_strips-requires-clause-ready g c =
     let frame = frame_same s can.set_up c.counts-counts.result.framed c.counts-counts.ensures.originals
     c.counts-counts.ensures.recovery in
     record {
-      based = record {
-        marked = subst (λ (m : List Bool). MarkBase (g.S.Pieces.received c.args.store.now) (take end m)) (sym lent)
-            (first-marks s can.set_up marks end c.list_base-end.new.rows c.in_ok-received.ensures.marks
-            (omega (arith, c.list_base-end.ensures.end, ap length given))
-            (subst (λ (m : List Bool). ListsMarked (take end m) (length m) c.list_base-end.new.rows) given
-            c.list_base-end.ensures.listed) rows);
-        exact = subst (λ (m : List Bool). (x : ℕ) → x < length (take end m)
-            → is_marked (take end m) x ≡ is_some (shard_in_row (g.S.Pieces.received c.args.store.now) x)) (sym lent)
-            (first-exact s can.set_up marks end c.in_ok-received.ensures.marks
-            (omega (arith, c.list_base-end.ensures.end, ap length given)));
-        located = subst (λ (l : List ℕ). IsLocatorOf (frame_at (g.S.Pieces.received c.args.store.now).configuration)
-            (take end c.deref-2.result.now) l) (sym locator)
-            (subst (λ (f : Frame). IsLocatorOf f (take end c.deref-2.result.now)
-            c.in_ok-factors.factors.locator.items) frame
-            c.in_ok-factors.ensures.located);
-      };
-      surplus_is = c.surplus_count-surplus.ensures;
-      few = omega arith;
+      marked = subst (λ (m : List Bool). MarkBase (g.S.Pieces.received c.args.store.now) (take end m)) (sym lent)
+          (first-marks s can.set_up marks end c.list_base-end.new.rows c.in_ok-received.ensures.marks
+          (omega (arith, c.list_base-end.ensures.end, ap length given))
+          (subst (λ (m : List Bool). ListsMarked (take end m) (length m) c.list_base-end.new.rows) given
+          c.list_base-end.ensures.listed) rows);
+      exact = subst (λ (m : List Bool). (x : ℕ) → x < length (take end m)
+          → is_marked (take end m) x ≡ is_some (shard_in_row (g.S.Pieces.received c.args.store.now) x)) (sym lent)
+          (first-exact s can.set_up marks end c.in_ok-received.ensures.marks
+          (omega (arith, c.list_base-end.ensures.end, ap length given)));
+      located = subst (λ (l : List ℕ). IsLocatorOf (frame_at (g.S.Pieces.received c.args.store.now).configuration)
+          (take end c.deref-2.result.now) l) (sym locator)
+          (subst (λ (f : Frame). IsLocatorOf f (take end c.deref-2.result.now)
+          c.in_ok-factors.factors.locator.items) frame
+          c.in_ok-factors.ensures.located);
     }

@@ -1,74 +1,87 @@
-use Rattle.std.proofs.Common.{◌≡◌, ℕ, ◌+◌, ◌-◌, ◌*◌, ◌/◌, ◌<◌, [], length, get_or, sym, ap, ◌∙◌, subst, arith}
-use Rattle.rs_field.specs.code.Column.{Shard}
+use Rattle.std.proofs.Common.{rules, ◌≡◌, ℕ, ◌+◌, ◌-◌, ◌<◌, ◌≤◌, [], length, take, drop, get_or, ap, ◌∙◌, subst, arith}
+use Rattle.std.proofs.lemmas.List.{get_or-take, get_or-drop}
 use Rattle.rs_field.specs.code.Decoder.{DecoderState}
-use Rattle.rs_rate.specs.rows.ShardRows.{shard_in_order}
+use Rattle.reed_solomon_simd.specs.StripSums.{sum_at}
+use Rattle.reed_solomon_simd.specs.declared.shard_index.ShardIndex.{ShardIndex}
 use Rattle.reed_solomon_simd.specs.declared.shard_index.ShardIndex.TheVariants.{Original}
 use Rattle.reed_solomon_simd.specs.StripSums.{IsPieceOf, PutBelow}
-use Rattle.reed_solomon_simd.proofs.PutPieces.{put-more, piece-ends, piece-named, all-put}
+use Rattle.reed_solomon_simd.proofs.PutPieces.{put-group, piece-named, all-put}
 use Rattle.reed_solomon_simd.proofs.RebuiltStrips.{named_shards}
 use Rattle.reed_solomon_simd.proofs.strip_sums.put_sums.Given.{Over}
-use Rattle.reed_solomon_simd.proofs.strip_sums.put_sums.Goals.{After-summed_piece}
+use Rattle.reed_solomon_simd.proofs.strip_sums.put_sums.Goals.{After-sum_pieces}
 use Rattle.reed_solomon_simd.proofs.strip_sums.put_sums.Goals as goal
 
--- The sum is the piece of the last shard.
-last : (g : Over) (c : After-summed_piece g)
+-- The sums are the pieces of the wanted shards of the group.
+pieces : (g : Over) (c : After-sum_pieces g) (i : ℕ) → c.loop-at.at ≤ i → i < c.min-next.result
     → IsPieceOf (g.S.Pieces.received c.args.store.now) c.args.start c.args.end
-    (get_or c.args.wanted.now (length c.args.wanted.now - 1) (Original 0)) c.summed_piece.result.now
-last g c =
-    subst (λ (piece : Shard). IsPieceOf (g.S.Pieces.received c.args.store.now) c.args.start c.args.end
-    (get_or c.args.wanted.now (length c.args.wanted.now - 1) (Original 0)) piece) (sym c.summed_piece.ensures)
-    (subst (λ (s : DecoderState). IsPieceOf s c.args.start c.args.end
-    (get_or c.args.wanted.now (length c.args.wanted.now - 1) (Original 0))
-    (shard_in_order c.sum_piece.new.sum (c.args.end - c.args.start) 0))
-    (g.met.S.Store.kept c.put_pairs.new.store c.args.store.now c.in_ok-put_pairs.ensures.places)
-    c.sum_piece.ensures)
+    (get_or c.args.wanted.now i (Original 0))
+    (sum_at c.sum_pieces.new.x (c.args.end - c.args.start) (i - c.loop-at.at))
+pieces g c i from below =
+    let wanted = c.args.wanted.now in
+    let at : ℕ = c.loop-at.at in
+    let next : ℕ = c.min-next.result in
+    let d : ℕ = i - c.loop-at.at in
+    let place : c.loop-at.at + (i - c.loop-at.at) ≡ i = omega (arith, from) in
+    let many : length (take (c.min-next.result - c.loop-at.at) (drop c.loop-at.at c.args.wanted.now))
+    ≡ c.min-next.result - c.loop-at.at = search rules in
+    let few : i - c.loop-at.at < c.min-next.result - c.loop-at.at = omega (arith, from, below) in
+    let named : get_or (take (c.min-next.result - c.loop-at.at) (drop c.loop-at.at c.args.wanted.now))
+    (i - c.loop-at.at) (Original 0) ≡ get_or c.args.wanted.now i (Original 0) =
+    get_or-take (next - at) (drop at wanted) d (Original 0) few
+    ∙ get_or-drop at wanted d (Original 0)
+    ∙ ap (λ (j : ℕ). get_or c.args.wanted.now j (Original 0)) place in
+    subst (λ (s : DecoderState). IsPieceOf s c.args.start c.args.end (get_or c.args.wanted.now i (Original 0))
+    (sum_at c.sum_pieces.new.x (c.args.end - c.args.start) (i - c.loop-at.at))) c.loop-at.invariant.received
+    (subst (λ (w : ShardIndex). IsPieceOf (g.S.Pieces.received c.loop-at.store) c.args.start c.args.end w
+    (sum_at c.sum_pieces.new.x (c.args.end - c.args.start) (i - c.loop-at.at))) named
+    (c.sum_pieces.ensures d (omega (arith, few, many))))
 
-pub put-requires-clause-fits : goal.put-requires-clause-fits
-put-requires-clause-fits g c =
-    let s : DecoderState = g.S.Pieces.received c.args.store.now in
-    let n : ℕ = length c.args.wanted.now - 1 in
+pub put_group-requires-clause-rooms : goal.put_group-requires-clause-rooms
+put_group-requires-clause-rooms g c =
     let (message, agrees) = c.requires.consistent in
-    let piece = last g (goal.at.put-requires-clause-fits g c).After-summed_piece in
-    let ends = piece-ends s c.args.start c.args.end c.requires.strip c.args.wanted.now _ _ piece in
-    let inside : length c.args.wanted.now - 1 < length (g.S.Rooms.held c.args.store.now) =
-    omega (arith, c.requires.rooms.number, c.if-count-eq1.true) in (
+    let strip = c.requires.strip in
+    let most : c.min-next.result ≤ length c.args.wanted.now = search rules in (
       (g.S.Pieces.received c.args.store.now).configuration.shard_bytes,
-      omega (arith, ends, c.requires.strip.inside),
-      ap length ((c.in_ok-put_pairs.ensures.put message agrees).others n (omega (arith, c.if-count-eq1.true)))
-          ∙ c.requires.rooms.fit n [] inside,
+      omega (arith, strip.inside, strip.order),
+      λ i from below.
+          ap length ((c.loop-at.invariant.put message agrees).others i from)
+          ∙ c.requires.rooms.fit i [] (omega (arith, below, most, c.requires.rooms.number)),
     )
 
-pub returns-in_ok-put-clause-put : goal.returns-in_ok-put-clause-put
-returns-in_ok-put-clause-put g c =
+pub loop-at-preserved : goal.loop-at-preserved
+loop-at-preserved g c =
     let s : DecoderState = g.S.Pieces.received c.args.store.now in
-    let n : ℕ = length c.args.wanted.now - 1 in
-    let at : 2 * (length c.args.wanted.now / 2) ≡ length c.args.wanted.now - 1 = omega (arith, c.if-count-eq1.true) in
-    let ends : length c.args.wanted.now - 1 + 1 ≡ length c.args.wanted.now = omega (arith, c.if-count-eq1.true) in
-    let piece = last g (goal.at.returns-in_ok-put-clause-put g c).After-summed_piece in
-    all-put s c.args.start c.args.end c.requires.strip c.args.wanted.now c.requires.can c.requires.consistent
-    (g.S.Rooms.held c.args.store.now) (g.S.Rooms.held c.put.new.self)
-    (c.in_ok-put.ensures.number ∙ c.in_ok-put_pairs.ensures.number) c.requires.rooms.number
-    (λ message agrees. subst (λ (m : ℕ). PutBelow c.args.start c.args.end
-    (named_shards message agrees.coded.0 c.args.wanted.now) (g.S.Rooms.held c.args.store.now)
-    (g.S.Rooms.held c.put.new.self) m) ends
-    (put-more c.args.start c.args.end n (named_shards message agrees.coded.0 c.args.wanted.now)
-    (g.S.Rooms.held c.args.store.now) (g.S.Rooms.held c.put_pairs.new.store) (g.S.Rooms.held c.put.new.self)
-    c.summed_piece.result.now
-    (subst (λ (m : ℕ). PutBelow c.args.start c.args.end (named_shards message agrees.coded.0 c.args.wanted.now)
-    (g.S.Rooms.held c.args.store.now) (g.S.Rooms.held c.put_pairs.new.store) m) at
-    (c.in_ok-put_pairs.ensures.put message agrees))
-    c.in_ok-put.ensures.here c.in_ok-put.ensures.others
-    (piece-named s c.args.start c.args.end c.requires.strip c.args.wanted.now n c.summed_piece.result.now
-    (omega (arith, c.if-count-eq1.true)) piece message agrees)
-    (piece-ends s c.args.start c.args.end c.requires.strip c.args.wanted.now _ _ piece)))
+    let held = c.loop-at.invariant in
+    let most : c.min-next.result ≤ length c.args.wanted.now = search rules in
+    let here = pieces g (goal.at.loop-at-preserved g c).After-sum_pieces in
+    record {
+      inside = most;
+      memory = search rules;
+      received = g.met.S.Store.kept c.put_group.new.store c.loop-at.store c.in_ok-put_group.ensures.places
+          ∙ held.received;
+      number = c.in_ok-put_group.ensures.number ∙ held.number;
+      put = λ message agrees.
+          put-group c.args.start (c.args.end - c.args.start) c.args.end c.loop-at.at c.min-next.result
+          (λ d. sum_at c.sum_pieces.new.x (c.args.end - c.args.start) d)
+          (named_shards message agrees.coded.0 c.args.wanted.now) (g.S.Rooms.held c.args.store.now)
+          (g.S.Rooms.held c.loop-at.store) (g.S.Rooms.held c.put_group.new.store)
+          (let e : c.loop-at.at ≤ c.min-next.result = search rules in e)
+          (omega (arith, c.requires.strip.order)) (held.put message agrees) c.in_ok-put_group.ensures.put
+          (λ i from below. piece-named s c.args.start c.args.end c.requires.strip c.args.wanted.now i
+          (sum_at c.sum_pieces.new.x (c.args.end - c.args.start) (i - c.loop-at.at))
+          (omega (arith, below, most)) (here i from below) message agrees);
+      places = c.in_ok-put_group.ensures.places ∙ held.places;
+      loan = c.in_ok-put_group.ensures.loan ∙ held.loan;
+    }
 
-pub returns-else-count-eq1-clause-put : goal.returns-else-count-eq1-clause-put
-returns-else-count-eq1-clause-put g c =
+pub returns-clause-put : goal.returns-clause-put
+returns-clause-put g c =
     let s : DecoderState = g.S.Pieces.received c.args.store.now in
-    let at : 2 * (length c.args.wanted.now / 2) ≡ length c.args.wanted.now = omega (arith, c.if-count-eq1.false) in
+    let all : c.loop-at.at ≡ length c.args.wanted.now =
+    omega (arith, c.loop-at.invariant.inside, c.loop-at-test.false) in
     all-put s c.args.start c.args.end c.requires.strip c.args.wanted.now c.requires.can c.requires.consistent
-    (g.S.Rooms.held c.args.store.now) (g.S.Rooms.held c.put_pairs.new.store)
-    c.in_ok-put_pairs.ensures.number c.requires.rooms.number
+    (g.S.Rooms.held c.args.store.now) (g.S.Rooms.held c.loop-at.store) c.loop-at.invariant.number
+    c.requires.rooms.number
     (λ message agrees. subst (λ (m : ℕ). PutBelow c.args.start c.args.end
     (named_shards message agrees.coded.0 c.args.wanted.now) (g.S.Rooms.held c.args.store.now)
-    (g.S.Rooms.held c.put_pairs.new.store) m) at (c.in_ok-put_pairs.ensures.put message agrees))
+    (g.S.Rooms.held c.loop-at.store) m) all (c.loop-at.invariant.put message agrees))

@@ -1,6 +1,9 @@
 use Rattle.std.proofs.Common.{rules, ◌≡◌, ◌<◌, ◌≤◌, List, ℕ, Bool, length, take, sym, ap, ◌∙◌, subst, arith, pow_mono}
 use Rattle.std.proofs.Common.{All}
-use Rattle.std.specs.Prelude.{is_some}
+use Rattle.std.specs.Prelude.{is_some, max, min}
+use Rattle.std.proofs.Math.Nat.{mul-le-mul}
+use Rattle.rs_field.specs.rows.Layout.{row_len}
+use Rattle.reed_solomon_simd.specs.StripSums.{sum_stride, chunks_of_sums}
 use Rattle.rs_field.specs.declared.code.frame.Frame.{Frame}
 use Rattle.rs_field.specs.code.Decoder.{DecoderState}
 use Rattle.rs_field.specs.code.Frame.{frame_at, recovery_row}
@@ -39,13 +42,22 @@ locate_base-requires g c =
 pub make_strips-requires-clause-can : goal.make_strips-requires-clause-can
 make_strips-requires-clause-can g c =
     let s : DecoderState = g.S.Pieces.received c.args.store.now in
-    let lent : c.as_slice.result.now ≡ c.in_ok-wanted.wanted.items = search rules in
+    let lent : c.as_slice-wanted.result.now ≡ c.in_ok-wanted.wanted.items = search rules in
     record {
       set_up = c.requires.set_up;
       enough = c.requires.enough;
       can = subst (λ (l : List ShardIndex). All (CanBeRebuilt (g.S.Pieces.received c.args.store.now)) l) (sym lent)
           (missing-rebuilt s c.in_ok-wanted.wanted.items c.in_ok-wanted.ensures.made.each);
     }
+
+-- Four sums over a whole strip fit into the array.
+all-fit : (n size : ℕ) → chunks_of_sums n (min 2048 size) ≤ 144
+all-fit n size =
+    let count : max 1 (min 4 n) ≤ 4 = search rules in
+    let strip : min 2048 size ≤ 2048 = search rules in
+    let width : row_len (min 2048 size) ≤ 32 = omega (arith, strip) in
+    let stride : sum_stride (min 2048 size) ≤ 36 = omega (arith, width) in
+    mul-le-mul count stride
 
 pub make_strips-requires-clause-ready : goal.make_strips-requires-clause-ready
 make_strips-requires-clause-ready g c =
@@ -96,12 +108,13 @@ make_strips-requires-clause-ready g c =
       names = search rules;
       surplus_is = c.surplus_count-surplus.ensures;
       few = omega arith;
+      enough = all-fit (length c.as_slice-wanted.result.now) s.configuration.shard_bytes;
     }
 
 pub make_strips-requires-clause-rooms : goal.make_strips-requires-clause-rooms
 make_strips-requires-clause-rooms g c =
     let names = (names-all (g.S.Pieces.received c.args.store.now)).number in
-    let lent : c.as_slice.result.now ≡ c.in_ok-wanted.wanted.items = search rules in
+    let lent : c.as_slice-wanted.result.now ≡ c.in_ok-wanted.wanted.items = search rules in
     let long = ap length lent in
     record {
       number = omega (arith, names, long, c.in_ok-wanted.ensures.made.number, c.requires.rooms.number);

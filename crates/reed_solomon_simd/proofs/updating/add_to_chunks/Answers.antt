@@ -28,6 +28,7 @@ returns-clause-changed g c i h =
     (c.rooms_are_bytes.ensures.bytes i [] (omega (arith, h, count, ap length kept, many))))
     after
     (λ k s few inside.
-    let plain = c.change_chunks.ensures.words k s i (subst (λ m. k < m) (sym c.as_chunks.ensures.front_len) few) inside
+    let plain = c.change_chunks.ensures.words.changed k s i
+    (subst (λ m. k < m) (sym c.as_chunks.ensures.front_len) few) inside (omega arith)
     (omega (arith, h, c.requires.number)) in
     rw (c.as_chunks.ensures.front, c.as_chunks-2.ensures.front, c.requires.same) at plain))

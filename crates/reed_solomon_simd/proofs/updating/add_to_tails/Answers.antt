@@ -1,5 +1,5 @@
-use Rattle.std.proofs.Common.{rules, ◌≡◌, ℕ, ◌+◌, ◌-◌, ◌*◌, ◌/◌, ◌<◌, List, [], length, get_or, MutBor, inl, inr, sym, ap, ◌∙◌, subst}
-use Rattle.std.proofs.Common.{arith}
+use Rattle.std.proofs.Common.{rules, ◌≡◌, ℕ, ◌+◌, ◌-◌, ◌*◌, ◌/◌, ◌<◌, List, [], length, get_or, MutBor, inl, inr, sym, ap}
+use Rattle.std.proofs.Common.{◌∙◌, subst, arith}
 use Rattle.std.specs.Prelude.{slice_index}
 use Rattle.std.proofs.lemmas.Bool.{cases_lt}
 use Rattle.std.proofs.lemmas.List.{get_or-map}
@@ -24,7 +24,8 @@ add_to_rest-requires-clause-inside g c =
     let was = was_held c.loop-i.recovery c.args.recovery.now index (omega (arith, number, test))
     (c.loop-i.invariant.others index (omega arith)) in
     let long = c.requires.fit index (omega (arith, number, test)) in
-    let wide : length c.put_change.new.change ≡ length c.args.old.now - length c.args.old.now / 64 * 64 = search rules in
+    let wide : length c.put_change.new.change ≡ length c.args.old.now - length c.args.old.now / 64 * 64 =
+    search rules in
     omega (arith, ap length was, long, wide)
 
 pub loop-i-preserved : goal.loop-i-preserved
@@ -40,7 +41,8 @@ loop-i-preserved g c =
     let initial : ℕ → Shard = λ i. shard_at (bytes_in c.args.recovery.now) i in
     let end : ℕ = length c.args.old.now in let start : ℕ = length c.args.old.now / 64 * 64 in
     let change : Shard = c.put_change.new.change in
-    let wide : length c.put_change.new.change ≡ length c.args.old.now - length c.args.old.now / 64 * 64 = search rules in
+    let wide : length c.put_change.new.change ≡ length c.args.old.now - length c.args.old.now / 64 * 64 =
+    search rules in
     let ends : (length c.args.old.now / 64 * 64) + length c.put_change.new.change ≡ (length c.args.old.now) =
     omega (arith, wide) in
     let adds : AddsToStrip start end change (log index) (get_or rooms index d).now c.add_to_rest.new.shard =

@@ -18,6 +18,7 @@ change_rows-requires-clause-has g c i k few inside =
     let within : i < length c.args.recovery.now = omega (arith, few, c.requires.number) in
     let same : (get_or (rests (length c.args.change.old.now) c.args.recovery.now) i (0, [])).0
     ≡ length (get_or (bytes_in c.args.recovery.now) i []) =
-    ap (λ (p : ℕ × List ℕ). p.0) (get_or-map (λ room. (length room.now, drop (n * 64) room.now)) rooms i d (0, []) within)
+    ap (λ (p : ℕ × List ℕ). p.0)
+    (get_or-map (λ room. (length room.now, drop (n * 64) room.now)) rooms i d (0, []) within)
     ∙ ap length (sym (get_or-map (λ room. room.now) rooms i d [] within)) in
     (omega (arith, count, few, c.requires.number), inside, omega (arith, long, same, inside))

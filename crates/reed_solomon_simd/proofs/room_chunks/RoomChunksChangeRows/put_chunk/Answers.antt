@@ -33,6 +33,7 @@ returns-clause-others c j s i small apart =
             | inl other ↦ other
             | inr away ↦ λ _. away same
           ])
-          ∙ ap (λ x. byte_symbol x j s) (held rooms c.args.row (omega (arith, count, c.requires.0)) ∙ ap (shard_at (bytes_in rooms)) (sym same))
+          ∙ ap (λ x. byte_symbol x j s)
+          (held rooms c.args.row (omega (arith, count, c.requires.0)) ∙ ap (shard_at (bytes_in rooms)) (sym same))
       | inr away ↦ ap (λ x. byte_symbol x j s) (shard-kept rooms c.args.row i _ away)
     ]

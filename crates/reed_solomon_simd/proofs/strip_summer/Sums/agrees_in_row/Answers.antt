@@ -1,4 +1,4 @@
-use Rattle.std.proofs.Common.{rules, ◌≡◌, sym, ◌∙◌, subst}
+use Rattle.std.proofs.Common.{rules, ◌≡◌, length, sym, ◌∙◌, subst, arith}
 use Rattle.std.specs.Prelude.{Option, Some, ◌↔◌, IsTrue}
 use Rattle.rs_field.specs.code.Column.{Shard}
 use Rattle.rs_field.specs.code.PieceStates.{state_of_pieces}
@@ -10,16 +10,21 @@ pub returns : goal.returns
 returns g c =
     let ready = c.requires.ready in
     let marks = c.args.self.now.base.marks.now in
-    let equal : IsTrue c.eq.result ↔ (c.summed_piece.result.now ≡ c.in-Some.piece.now) = search rules in (
+    let equal : IsTrue c.eq.result ↔ (c.sum_at.result.now ≡ c.in-Some.piece.now) = search rules in (
       λ is shard there not.
           let same : ◌≡◌ {A = Option Shard} (Some c.in-Some.piece.now) (Some shard) = c.in-Some.ensures ∙ there in
           let one : ◌≡◌ {A = Shard} c.in-Some.piece.now shard = cc same in
           subst (λ (p : Shard). IsBaseSum c.args.self.now.base.marks.now
           (state_of_pieces c.args.start c.args.end (g.P.Pieces.received c.args.received.now)) c.args.row p)
-          (sym c.summed_piece.ensures ∙ equal.0 is ∙ one) c.sum_row.ensures,
+          (sym c.sum_at.ensures ∙ equal.0 is ∙ one) (c.sum_rows.ensures 0 (omega arith)),
       λ agrees.
-          equal.1 (c.summed_piece.ensures
+          equal.1 (c.sum_at.ensures
           ∙ sums-same (g.P.Pieces.received c.args.received.now) ready.set_up c.args.start c.args.end ready.strip
-          marks ready.based.marked c.args.row _ c.in-Some.piece.now c.sum_row.ensures
+          marks ready.based.marked c.args.row _ c.in-Some.piece.now (c.sum_rows.ensures 0 (omega arith))
           (agrees c.in-Some.piece.now (sym c.in-Some.ensures) c.requires.outside)),
     )
+
+pub sum_at-requires : goal.sum_at-requires
+sum_at-requires g c =
+    let same : length c.sum_rows.new.x ≡ length c.args.x.now = search rules in
+    omega (arith, same, c.requires.room)

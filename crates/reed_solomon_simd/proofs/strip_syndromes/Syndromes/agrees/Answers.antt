@@ -1,5 +1,5 @@
-use Rattle.std.proofs.Common.{rules, ◌≡◌, ◌-◌, ◌<◌, ℕ, refl, sym, ap, ◌∙◌, subst, arith, pow_mono}
-use Rattle.std.specs.Prelude.{true, false, not, is_some, ◌↔◌, IsTrue}
+use Rattle.std.proofs.Common.{rules, ◌≡◌, ◌-◌, ◌<◌, ℕ, [], ◌∷◌, length, refl, sym, ap, ◌∙◌, subst, arith, pow_mono}
+use Rattle.std.specs.Prelude.{true, false, not, is_some, slice_index, ◌↔◌, IsTrue}
 use Rattle.std.proofs.lemmas.List.{get_or_past}
 use Rattle.rs_field.specs.declared.code.frame.Frame.{Frame}
 use Rattle.rs_field.specs.code.Column.{Shard, shard_at}
@@ -9,7 +9,7 @@ use Rattle.rs_field.specs.code.PieceStates.{state_of_pieces}
 use Rattle.rs_field.specs.rows.MarkedRows.{is_marked}
 use Rattle.rs_field.proofs.code_lemmas.Given.{some_of}
 use Rattle.rs_rate.specs.objects.StripView.{coded_shards}
-use Rattle.rs_rate.specs.rows.ShardRows.{shard_in_order}
+use Rattle.reed_solomon_simd.specs.StripSums.{sum_at}
 use Rattle.rs_rate.proofs.passes_lemmas.ChangeLemmas.{distinct_rows_of}
 use Rattle.rs_rate.proofs.rows_lemmas.AddedShards.{none_of}
 use Rattle.reed_solomon_simd.specs.Syndromes.{IsSyndromeSum}
@@ -52,14 +52,29 @@ returns-then-row-self g c =
       λ agrees. refl,
     )
 
-pub sum_row-requires-clause-row : goal.sum_row-requires-clause-row
-sum_row-requires-clause-row g c =
+-- The row of a recovery shard is a row of the decoder.
+pub sum_rows-requires-clause-inside : goal.sum_rows-requires-clause-inside
+sum_rows-requires-clause-inside g c d first =
     let s : DecoderState = g.P.Pieces.received c.args.received.now in
     let ready = c.requires.ready in
     let f = distinct_rows_of c.counts.result.framed c.counts.result.supported in
-    subst (λ (f : Frame). c.recovery_row-row.result < row_count f)
+    let only : slice_index (c.recovery_row-row.result ∷ []) d ≡ c.recovery_row-row.result =
+    ap (slice_index (c.recovery_row-row.result ∷ [])) (let e : d ≡ 0 = omega (arith, first) in e) in
+    subst (λ (x : ℕ). x < row_count (frame_at (g.P.Pieces.received c.args.received.now).configuration)) (sym only)
+    (subst (λ (f : Frame). c.recovery_row-row.result < row_count f)
     (frame_same s ready.set_up c.counts.result.framed c.counts.ensures.originals c.counts.ensures.recovery)
-    (omega (arith, c.recovery_row-row.ensures, f.recovery, c.requires.index, c.counts.ensures.recovery))
+    (omega (arith, c.recovery_row-row.ensures, f.recovery, c.requires.index, c.counts.ensures.recovery)))
+
+pub sum_rows-requires-clause-outside : goal.sum_rows-requires-clause-outside
+sum_rows-requires-clause-outside g c d first =
+    ap (λ i. is_marked c.args.self.now.base.marks.now (slice_index (c.recovery_row-row.result ∷ []) i))
+    (let e : d ≡ 0 = omega (arith, first) in e)
+    ∙ get_or_past c.args.self.now.base.marks.now c.recovery_row-row.result false (omega (arith, c.if-row-self.false))
+
+pub sum_at-requires : goal.sum_at-requires
+sum_at-requires g c =
+    let same : length c.sum_rows.new.x ≡ length c.args.x.now = search rules in
+    omega (arith, same, c.requires.room)
 
 pub syndrome_at-requires : goal.syndrome_at-requires
 syndrome_at-requires g c =
@@ -82,29 +97,29 @@ returns g c =
     let sum : IsSyndromeSum (state_of_pieces c.args.start c.args.end (g.P.Pieces.received c.args.received.now))
     c.args.self.now.base (coded_shards c.args.self.now.encoder)
     (recovery_row (frame_at (g.P.Pieces.received c.args.received.now).configuration) c.args.index)
-    (shard_in_order c.sum_row.new.sum (c.args.end - c.args.start) 0) =
+    (sum_at c.sum_rows.new.x (c.args.end - c.args.start) 0) =
     subst (λ (y : ℕ). IsSyndromeSum
     (state_of_pieces c.args.start c.args.end (g.P.Pieces.received c.args.received.now)) c.args.self.now.base
-    (coded_shards c.args.self.now.encoder) y (shard_in_order c.sum_row.new.sum (c.args.end - c.args.start) 0))
-    row c.sum_row.ensures in
+    (coded_shards c.args.self.now.encoder) y (sum_at c.sum_rows.new.x (c.args.end - c.args.start) 0))
+    row (c.sum_rows.ensures 0 (omega arith)) in
     let outside : is_marked c.args.self.now.base.marks.now
     (recovery_row (frame_at (g.P.Pieces.received c.args.received.now).configuration) c.args.index) ≡ false =
     get_or_past c.args.self.now.base.marks.now _ false (omega (arith, row, c.if-row-self.false)) in
     let there : is_some ((state_of_pieces c.args.start c.args.end
     (g.P.Pieces.received c.args.received.now)).recovery c.args.index) ≡ true =
     sym (ap is_some c.piece.ensures) ∙ some-copied c.piece.result ∙ c.is_none.ensures ∙ ap not c.if-is_none.false in
-    let equal : IsTrue c.eq.result ↔ (c.summed_piece.result.now ≡ c.syndrome_at.result.now) = search rules in (
+    let equal : IsTrue c.eq.result ↔ (c.sum_at.result.now ≡ c.syndrome_at.result.now) = search rules in (
       λ is shard e not.
           subst (λ (p : Shard). IsSyndromeSum
           (state_of_pieces c.args.start c.args.end (g.P.Pieces.received c.args.received.now)) c.args.self.now.base
           (coded_shards c.args.self.now.encoder)
           (recovery_row (frame_at (g.P.Pieces.received c.args.received.now).configuration) c.args.index) p)
-          (sym c.summed_piece.ensures ∙ equal.0 is ∙ c.syndrome_at.ensures) sum,
+          (sym c.sum_at.ensures ∙ equal.0 is ∙ c.syndrome_at.ensures) sum,
       λ agrees.
           let (piece, found) = some_of ((state_of_pieces c.args.start c.args.end s).recovery n) there in
-          equal.1 (c.summed_piece.ensures
+          equal.1 (c.sum_at.ensures
           ∙ sums-one s ready.set_up c.args.start c.args.end ready.strip base ready.based shards ready.made
           (recovery_row (frame_at s.configuration) n)
-          (shard_in_order c.sum_row.new.sum (c.args.end - c.args.start) 0) (shard_at shards n) sum
+          (sum_at c.sum_rows.new.x (c.args.end - c.args.start) 0) (shard_at shards n) sum
           (agrees piece found outside) ∙ sym c.syndrome_at.ensures),
     )

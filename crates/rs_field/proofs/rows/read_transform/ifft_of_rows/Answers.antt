@@ -21,4 +21,5 @@ pub returns-clause-counts : goal.returns-clause-counts
 returns-clause-counts g c =
     let count : c.count-count.result ≡ g.R.ReadRows.row_count c.args.rows.now = c.count-count.ensures in
     counts_within (omega arith) (rw count at (counts_then (c.if-ifft_of.ensures.uncounted refl)
-    (counts_then c.prepare_rows.ensures.counts (counts_then (counts_rows c.write_rows.ensures.counts) c.transform_backward.ensures.counts))))
+    (counts_then c.prepare_rows.ensures.counts
+    (counts_then (counts_rows c.write_rows.ensures.counts) c.transform_backward.ensures.counts))))

@@ -91,10 +91,16 @@ quarter_sums-requires-clause-three t c =
     omega (arith, cut.part0.size, cut.part3.size)
 
 pub returns-then-n-eq64-clause-counts : goal.returns-then-n-eq64-clause-counts
-returns-then-n-eq64-clause-counts t c = exact-counts c.if-n-eq64.true small_steps.1 c.walsh_64.ensures.counts
+returns-then-n-eq64-clause-counts t c = exact-counts c.if-n-eq64.true small_steps.3 c.walsh_64.ensures.counts
 
 pub returns-then-n-eq128-clause-counts : goal.returns-then-n-eq128-clause-counts
-returns-then-n-eq128-clause-counts t c = exact-counts c.if-n-eq128.true small_steps.2 c.walsh_128.ensures.counts
+returns-then-n-eq128-clause-counts t c = exact-counts c.if-n-eq128.true small_steps.4 c.walsh_128.ensures.counts
+
+pub returns-then-n-eq8-clause-counts : goal.returns-then-n-eq8-clause-counts
+returns-then-n-eq8-clause-counts t c = exact-counts c.if-n-eq8.true small_steps.2 c.walsh_8.ensures.counts
+
+pub returns-then-n-eq4-clause-counts : goal.returns-then-n-eq4-clause-counts
+returns-then-n-eq4-clause-counts t c = exact-counts c.if-n-eq4.true small_steps.1 c.walsh_4.ensures.counts
 
 pub returns-then-n-eq2-clause-counts : goal.returns-then-n-eq2-clause-counts
 returns-then-n-eq2-clause-counts t c = exact-counts c.if-n-eq2.true small_steps.0 c.pair_sum-sum.ensures.counts

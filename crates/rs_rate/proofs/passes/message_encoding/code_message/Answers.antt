@@ -16,7 +16,8 @@ put_message-requires-clause-room g c =
     let room : chunk_count (rows_to_encode own) own.shard_bytes ≤ length c.args.chunks.now =
     subst (λ (reads : Bool). chunk_count (strip_rows reads own) own.shard_bytes ≤ length c.args.chunks.now)
     c.if-reads.false c.requires.room in
-    let more = chunk_count-more own.original_count (rows_to_encode own) own.shard_bytes c.requires.configured.originals in
+    let more = chunk_count-more own.original_count (rows_to_encode own) own.shard_bytes
+    c.requires.configured.originals in
     omega (arith, more, room)
 
 pub returns-then-reads-clause-words : goal.returns-then-reads-clause-words

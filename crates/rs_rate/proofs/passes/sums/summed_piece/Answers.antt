@@ -1,5 +1,7 @@
-use Rattle.rs_rate.proofs.passes_lemmas.SumLemmas.{one_row}
+use Rattle.std.proofs.Common.{rules}
+use Rattle.rs_field.proofs.rows_lemmas.LayoutLemmas.{in_order-same}
+use Rattle.rs_rate.proofs.rows_lemmas.ShardRowsLemmas.{part-read}
 use Rattle.rs_rate.proofs.passes.sums.summed_piece.Goals as goal
 
-pub shard_at-requires : goal.shard_at-requires
-shard_at-requires c = one_row c.args.piece_len _ c.requires
+pub returns : goal.returns
+returns c = search (rules, in_order-same, part-read)

@@ -1,9 +1,12 @@
 use Rattle.std.proofs.Common.{rules}
-use Rattle.rs_rate.proofs.rows_lemmas.ShardRowsLemmas.{row_end, moved-here, row_chunk-apart, part_length}
+use Rattle.rs_field.proofs.rows_lemmas.RowOffsets.{offset_apart}
+use Rattle.rs_rate.specs.rows.ShardRows.{row_chunk}
 use Rattle.rs_rate.proofs.rows.shard_rows.move_tail.Goals as goal
 
 pub returns-clause-here : goal.returns-clause-here
-returns-clause-here c = search (rules, row_end, moved-here, part_length)
+unfolding row_chunk
+returns-clause-here c = search rules
 
 pub returns-clause-others : goal.returns-clause-others
-returns-clause-others c = search (rules, row_end, row_chunk-apart, part_length)
+unfolding row_chunk
+returns-clause-others c = search (rules, offset_apart)

@@ -20,7 +20,8 @@ add_at-requires c = record {
       let count = length-up_to own.configuration.recovery_count
       (shard_in_order own.chunks.items own.configuration.shard_bytes) in
       let within = chunk_count-within c.args.index (strip_rows own.reads own.configuration)
-      own.configuration.shard_bytes (length own.chunks.items) (omega (arith, fits, count, c.requires.index)) (omega (arith, own.room)) in
+      own.configuration.shard_bytes (length own.chunks.items) (omega (arith, fits, count, c.requires.index))
+      (omega (arith, own.room)) in
       let size = ap (λ n. chunk_count (c.args.index + 1) n) c.requires.sized in
       omega (arith, size, within, c.as_mut_slice.ensures.len);
 }
