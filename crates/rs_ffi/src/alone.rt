@@ -11,13 +11,15 @@ use rs_field::error::Error;
 type Bits = [u64; 1024];
 
 /// Checks that all originals are given. The index of each given original is noted in order, and then their number is
-/// compared with `original_count`. The call allocates nothing.
+/// compared with `original_count`. The call allocates nothing. It is not inlined, so that its bits are off the stack
+/// before the decode begins.
 ///
 /// # Errors
 ///
 /// - For each original in order: [`Error::InvalidOriginalShardIndex`] if its index is not below `original_count`, then
 ///   [`Error::DuplicateOriginalShardIndex`] if its index was noted before.
 /// - [`Error::NotEnoughShards`] if originals are missing.
+#[inline(never)]
 pub fn check_alone(original_count: usize, originals: &[RsShard<'_>]) -> Result<(), Error>
     requires { original_count ≤ 65536 }
     ensures answer { result ≡ originals_alone original_count (items_of originals.now) }
