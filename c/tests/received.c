@@ -1,5 +1,5 @@
-/* rs_verify, rs_reconstruct and rs_update. Words: `rounds SEED COUNT MOST`, with at most MOST originals and recovery
-   shards, and MOST at most 3000; `pairs FILE`; `refusals`. */
+/* rs_verify, rs_reconstruct, rs_decode_shards and rs_update. Words: `rounds SEED COUNT MOST`, with at most MOST originals
+   and recovery shards, and MOST at most 3000; `pairs FILE`; `refusals`. */
 #define TEST "received"
 #include "helpers.h"
 
@@ -7,17 +7,37 @@
 
 enum { MOST_SHARDS = 3000 };
 
+/* Bytes that begin at a place which differs from one call to the next, so that all remainders modulo 64 occur. */
+struct place {
+    uint8_t *memory, *bytes;
+};
+
+static struct place place(size_t size) {
+    static size_t calls;
+    size_t offset = calls++ % 64;
+    uint8_t *memory = room(offset + size);
+    return (struct place){memory, memory + offset};
+}
+
 /* A message of k originals and r recovery shards, one after the other, and an order of these shards. */
 struct message {
     size_t k, r, size;
-    uint8_t *shards;
+    uint8_t *memory, *shards;
     size_t *order;
 };
 
+static struct message unwritten(size_t k, size_t r, size_t size) {
+    struct place at = place((k + r) * size);
+    return (struct message){k, r, size, at.memory, at.bytes, room((k + r) * sizeof(size_t))};
+}
+
+static void drop(struct message *m) {
+    free(m->memory);
+    free(m->order);
+}
+
 static struct message made_of(size_t k, size_t r, size_t size, uint64_t *state) {
-    struct message m = {k, r, size, NULL, NULL};
-    m.shards = room((m.k + m.r) * m.size);
-    m.order = room((m.k + m.r) * sizeof *m.order);
+    struct message m = unwritten(k, r, size);
     for (size_t i = 0; i < m.k * m.size; i++) m.shards[i] = (uint8_t)(drawn(state) >> 24);
     for (size_t i = 0; i < m.k + m.r; i++) {
         size_t other = drawn(state) % (i + 1);
@@ -54,49 +74,88 @@ static uint32_t verified(const struct message *m, const struct received *a, stru
     return rs_verify(tables, m->k, m->r, a->shards[0], a->counts[0], a->shards[1], a->counts[1], fault);
 }
 
+/* Rooms for shards of a message, at places of all remainders modulo 64. */
+struct rooms {
+    size_t count;
+    struct place places[2 * MOST_SHARDS];
+    struct rs_room rooms[2 * MOST_SHARDS];
+};
+
+static struct rooms *rooms_for(const struct message *m, size_t count) {
+    static struct rooms rooms;
+    rooms.count = count;
+    for (size_t i = 0; i < count; i++) {
+        rooms.places[i] = place(m->size);
+        rooms.rooms[i] = (struct rs_room){memset(rooms.places[i].bytes, '#', m->size), m->size};
+    }
+    return &rooms;
+}
+
+/* Compares what a call with this answer has written into rooms with the shards at these places, or with what the rooms
+   held before if the call has failed. Returns the answer. */
+static uint32_t compared(const struct message *m, struct rooms *rooms, const size_t *places, uint32_t answer) {
+    for (size_t i = 0; i < rooms->count; i++) {
+        const uint8_t *bytes = rooms->places[i].bytes;
+        if (!answer && memcmp(bytes, m->shards + places[i] * m->size, m->size)) wrong("another shard comes back");
+        for (size_t j = 0; answer && j < m->size; j++)
+            if (bytes[j] != '#') wrong("a call that fails has written");
+        free(rooms->places[i].memory);
+    }
+    return answer;
+}
+
 /* Reconstructs the shards of the order from place `from` on, and compares them, or the unchanged rooms if the call
    fails. */
 static uint32_t reconstructed(const struct message *m, const struct received *a, size_t from, struct rs_fault *fault) {
     static struct rs_wanted wanted[2 * MOST_SHARDS];
-    static struct rs_room rooms[2 * MOST_SHARDS];
+    static size_t places[2 * MOST_SHARDS];
     size_t count = 0;
-    uint32_t answer;
     for (size_t i = from; i < m->k + m->r; i++, count++) {
         size_t place = m->order[i], kind = place >= m->k;
         wanted[count].kind = kind ? RS_RECOVERY : RS_ORIGINAL;
         wanted[count].index = kind ? place - m->k : place;
-        rooms[count].bytes = memset(room(m->size), '#', m->size);
-        rooms[count].length = m->size;
+        places[count] = place;
     }
-    answer = rs_reconstruct(tables, m->k, m->r, a->shards[0], a->counts[0], a->shards[1], a->counts[1], wanted, count,
-                            rooms, count, fault);
-    for (size_t i = 0; i < count; i++) {
-        if (!answer && memcmp(rooms[i].bytes, m->shards + m->order[from + i] * m->size, m->size))
-            wrong("another shard is reconstructed");
-        for (size_t j = 0; answer && j < m->size; j++)
-            if (rooms[i].bytes[j] != '#') wrong("a call that fails has written");
-        free(rooms[i].bytes);
-    }
-    return answer;
+    struct rooms *rooms = rooms_for(m, count);
+    return compared(m, rooms, places,
+                    rs_reconstruct(tables, m->k, m->r, a->shards[0], a->counts[0], a->shards[1], a->counts[1], wanted,
+                                   count, rooms->rooms, count, fault));
+}
+
+/* Decodes the received shards, and compares the restored originals, or the unchanged rooms if the call fails. */
+static uint32_t decoded(const struct message *m, const struct received *a, struct rs_fault *fault) {
+    static size_t places[2 * MOST_SHARDS];
+    uint8_t *is_there = memset(room(m->k), 0, m->k);
+    size_t count = 0;
+    for (size_t i = 0; i < a->counts[0]; i++) is_there[a->shards[0][i].index] = 1;
+    for (size_t i = 0; i < m->k; i++)
+        if (!is_there[i]) places[count++] = i;
+    free(is_there);
+    struct rooms *rooms = rooms_for(m, count);
+    return compared(m, rooms, places,
+                    rs_decode_shards(tables, m->k, m->r, a->shards[0], a->counts[0], a->shards[1], a->counts[1],
+                                     rooms->rooms, count, fault));
 }
 
 /* An original changes. Its recovery shards are updated, and compared with those that an encode makes. */
 static void update(struct message *m, uint64_t *state) {
     size_t index = drawn(state) % m->k, length = m->r * m->size;
     uint8_t *original = m->shards + index * m->size, *recovery = m->shards + m->k * m->size;
-    uint8_t *before = memcpy(room(m->size), original, m->size), *updated = memcpy(room(length), recovery, length);
+    struct place old = place(m->size), updated = place(length);
     static struct rs_room rooms[MOST_SHARDS];
     struct rs_fault fault = {99, 99, 99, 99};
+    memcpy(old.bytes, original, m->size);
+    memcpy(updated.bytes, recovery, length);
     for (size_t i = 0; i < m->size; i++) original[i] = (uint8_t)(drawn(state) >> 24);
-    for (size_t i = 0; i < m->r; i++) rooms[i].bytes = updated + i * m->size, rooms[i].length = m->size;
-    if (rs_update(tables, m->k, m->r, index, before, m->size, original, m->size, rooms, m->r, &fault) ||
+    for (size_t i = 0; i < m->r; i++) rooms[i] = (struct rs_room){updated.bytes + i * m->size, m->size};
+    if (rs_update(tables, m->k, m->r, index, old.bytes, m->size, original, m->size, rooms, m->r, &fault) ||
         !told(&fault, RS_OK, 0, 0, 0))
         wrong("an update fails");
     if (rs_encode(tables, m->k, m->r, m->size, m->shards, m->k * m->size, recovery, length, NULL))
         wrong("an encode fails");
-    if (memcmp(updated, recovery, length)) wrong("an update makes other recovery shards than an encode");
-    free(before);
-    free(updated);
+    if (memcmp(updated.bytes, recovery, length)) wrong("an update makes other recovery shards than an encode");
+    free(old.memory);
+    free(updated.memory);
 }
 
 /* A round with a message of random counts. In each second round, at most four shards are wanted and at most one is
@@ -112,17 +171,18 @@ static void round_of(uint64_t *state, size_t most) {
     if (verified(&m, &a, &fault) || !told(&fault, RS_OK, 0, 0, 0)) wrong("shards of one message are refused");
     if (reconstructed(&m, &a, from, &fault) || !told(&fault, RS_OK, 0, 0, 0))
         wrong("wanted shards aren't reconstructed");
+    if (decoded(&m, &a, &fault) || !told(&fault, RS_OK, 0, 0, 0)) wrong("shards of one message aren't decoded");
     if (count > m.k) {
         uint8_t *damaged = m.shards + m.order[drawn(state) % count] * m.size + drawn(state) % m.size;
         *damaged ^= (uint8_t)(1 + drawn(state) % 255);
         if (verified(&m, &a, &fault) != RS_INCONSISTENT_SHARDS ||
             !told(&fault, RS_INCONSISTENT_SHARDS, a.counts[0], a.counts[1], 0) ||
             reconstructed(&m, &a, from, &fault) != RS_INCONSISTENT_SHARDS ||
-            reconstructed(&m, &a, from, NULL) != RS_INCONSISTENT_SHARDS)
+            reconstructed(&m, &a, from, NULL) != RS_INCONSISTENT_SHARDS ||
+            decoded(&m, &a, &fault) != RS_INCONSISTENT_SHARDS)
             wrong("a damaged shard isn't noticed");
     }
-    free(m.shards);
-    free(m.order);
+    drop(&m);
 }
 
 /* A digest of bytes: FNV-1a with 64 bits. */
@@ -142,12 +202,25 @@ static void lose(struct message *m, size_t first, size_t second) {
     m->order[count] = first;
     m->order[m->k + m->r - 1] = second;
     struct received a = first_of(m, count);
-    if (verified(m, &a, &fault) || reconstructed(m, &a, count, &fault) || !told(&fault, RS_OK, 0, 0, 0))
+    if (verified(m, &a, &fault) || reconstructed(m, &a, count, &fault) || decoded(m, &a, &fault) ||
+        !told(&fault, RS_OK, 0, 0, 0))
         wrong("lost shards don't come back");
 }
 
+/* The codeword whose shards are the first 64 bytes of these ten times, and then the last two. */
+static struct message longer(const struct message *m) {
+    struct message longer = unwritten(m->k, m->r, 642);
+    for (size_t i = 0; i < m->k + m->r; i++) {
+        uint8_t *shard = longer.shards + i * 642;
+        for (size_t j = 0; j < 10; j++) memcpy(shard + 64 * j, m->shards + i * 66, 64);
+        memcpy(shard + 640, m->shards + i * 66 + 64, 2);
+    }
+    return longer;
+}
+
 /* Every lost shard, and every pair of lost shards, for all counts up to 12:12. The file has a digest of each codeword,
-   which the Rust crate has made. So the shards that come back are compared with those of the crate. */
+   which the Rust crate has made. So the shards that come back are compared with those of the crate. Each codeword is
+   lost once more with more chunks in a shard, because sums over more than eight chunks are made in another way. */
 static void pairs(const char *name) {
     FILE *file = fopen(name, "r");
     char line[160];
@@ -157,13 +230,13 @@ static void pairs(const char *name) {
     while (fgets(line, sizeof line, file)) {
         if (sscanf(line, "%zu %zu %" SCNx64, &k, &r, &wanted) != 3) continue;
         uint64_t state = 1000 * k + r;
-        struct message m = made_of(k, r, 66, &state);
+        struct message m = made_of(k, r, 66, &state), more = longer(&m);
         if (digest(m.shards, (k + r) * 66) != wanted) wrong("a codeword isn't that of the Rust crate");
         for (size_t first = 0; first < k + r; first++)
             for (size_t second = first; second < (r > 1 ? k + r : first + 1); second++, count++)
-                lose(&m, first, second);
-        free(m.shards);
-        free(m.order);
+                lose(&m, first, second), lose(&more, first, second);
+        drop(&m);
+        drop(&more);
         codewords++;
     }
     fclose(file);
