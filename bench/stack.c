@@ -22,8 +22,8 @@ static size_t k, r, size;
 static uint8_t *originals, *recovery, *rooms, *marks;
 static struct rs_bytes *whole;
 static struct rs_shard *own, *other;
-static struct rs_room *coded, *restored;
-static struct rs_wanted *wanted;
+static struct rs_room *coded, *restored, *rebuilt;
+static struct rs_wanted *wanted, *others;
 static size_t lost, left; /* the lost originals, and the recovery shards that are left */
 static uint32_t answer;
 static struct rs_fault fault;
@@ -51,6 +51,10 @@ static void *verify(void *unused) {
 }
 static void *reconstruct(void *unused) {
     answer = rs_reconstruct(tables, k, r, own + lost, k - lost, other, left, wanted, lost, restored, lost, &fault);
+    return unused;
+}
+static void *reconstruct_recovery(void *unused) {
+    answer = rs_reconstruct(tables, k, r, own + lost, k - lost, other, left, others + left, r - left, rebuilt, r - left, &fault);
     return unused;
 }
 static void *update(void *unused) {
@@ -87,7 +91,8 @@ static void received(size_t lost_now, size_t left_now) {
     row("rs_decode", decode);
     row("rs_decode_shards", decode_shards);
     row("rs_verify", verify);
-    row("rs_reconstruct", reconstruct);
+    row("rs_reconstruct of originals", reconstruct);
+    row("rs_reconstruct of recovery shards", reconstruct_recovery);
 }
 
 static void counts(const char *text) {
@@ -102,15 +107,23 @@ static void counts(const char *text) {
         restored[i] = (struct rs_room){rooms + i * size, size};
         wanted[i] = (struct rs_wanted){RS_ORIGINAL, i};
     }
+    others = calloc(r, sizeof *others), rebuilt = calloc(r, sizeof *rebuilt);
     for (size_t i = 0; i < r; i++) {
         other[i] = (struct rs_shard){i, recovery + i * size, size};
         coded[i] = (struct rs_room){recovery + i * size, size};
+        others[i] = (struct rs_wanted){RS_RECOVERY, i};
+        rebuilt[i] = (struct rs_room){calloc(size, 1), size};
     }
     row("rs_encode", encode);
     row("rs_encode_shards", encode_shards);
     row("rs_update", update);
+    received(0, 0);
     received(1, 1);
     received(1, r);
+    /* Four sums at a time, and for many counts sums of syndromes. */
+    for (size_t n = 4; n <= 8; n += 4)
+        if (n <= k && n <= r) received(n, n);
+    if (8 <= k && 8 < r) received(8, 9);
     received(k < r ? k : r, k < r ? k : r);
 }
 
