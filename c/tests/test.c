@@ -729,8 +729,8 @@ static void random_round(uint64_t *state) {
     round_of(state, k, r, 2 + 2 * (drawn(state) % 100), 0);
 }
 
-/* Shards about as long as the strips in which a call codes them: 4096 bytes in an encode, 2048 bytes in a decode.
-   Surplus shards are damaged in the last strip of a decode alone. */
+/* Shards about as long as the strips in which a call codes them: 4096 bytes in an encode and in direct sums, 2048 bytes
+   in any other decode. Surplus shards are damaged in the last strip of a decode alone. */
 static void strips(uint64_t seed) {
     static const size_t counts[][2] = {{1, 1}, {1, 5}, {5, 1}, {2, 3}, {10, 4}, {33, 31}};
     static const size_t sizes[] = {2046, 2048, 2050, 2082, 4094, 4096, 4098, 4130, 6144, 8192, 8194, 8226};

@@ -74,7 +74,9 @@ fn a_sum_calls_its_engine_so_often(rt: HostRuntime) -> Result<(), Fail> {
 }
 
 // In each strip, one call makes up to four sums, and the next call makes the next ones. The tails are added to one sum
-// after the other. Eight and nine lost originals of 60 are sums of as many syndromes, in strips of 2048 bytes.
+// after the other. Eight and nine lost originals of 60 are sums of as many syndromes, in strips of 2048 bytes. Of 100
+// originals and 30 recovery shards, seven lost originals are direct sums, 8 to 16 are sums of syndromes, and 17 are
+// found by transforms.
 #[test]
 fn up_to_four_sums_call_their_engine_once(rt: HostRuntime) -> Result<(), Fail> {
     let tables = Tables::new(rt.alloc())?;
@@ -90,6 +92,10 @@ fn up_to_four_sums_call_their_engine_once(rt: HostRuntime) -> Result<(), Fail> {
         ((60, 12, 8), 2048, 2, 0),
         ((60, 12, 8), 4096, 4, 0),
         ((60, 12, 9), 2048, 3, 0),
+        ((100, 30, 7), 66, 2, 700),
+        ((100, 30, 8), 66, 2, 64),
+        ((100, 30, 16), 66, 4, 256),
+        ((100, 30, 17), 66, 0, 0),
     ] {
         let calls = calls_of_decode(rt.alloc(), &tables, counts, size)?;
         let wanted = AddCalls {
