@@ -16,6 +16,9 @@ use std::fs::OpenFile;
 use std::io::{Read, Seek};
 use std::rt::Files;
 
+/// The largest number of sets that are tried for the volumes of a command.
+const MOST_SETS: usize = 8;
+
 /// How the blocks of a volume are found.
 #[derive(Clone, Copy)]
 pub enum Form {
@@ -80,8 +83,10 @@ struct Finder {
     alloc: Global,
     // The number of bytes of memory that a description may take.
     memory: u64,
-    // The first set whose description is whole.
+    // The first set whose description is whole, without those in `refused`.
     set: Option<Set>,
+    // The digests of the sets to which not all volumes belong.
+    refused: Vec<[u8; 32]>,
     // The parts of descriptions that were found so far.
     assembly: Assembly,
     // Why a description whose parts are all there cannot be used.
@@ -96,6 +101,7 @@ impl Finder {
             alloc,
             memory,
             set: None,
+            refused: Vec::new(alloc),
             assembly: Assembly::new(alloc, memory),
             fault: None,
             body: Vec::new(alloc),
@@ -103,9 +109,13 @@ impl Finder {
     }
 
     fn keep(&mut self, set: Set) {
-        if self.set.is_none() {
+        if self.set.is_none() && !self.is_refused(&set.digest) {
             self.set = Some(set);
         }
+    }
+
+    fn is_refused(&self, digest: &[u8; 32]) -> bool {
+        self.refused.iter().any(|refused| *refused == *digest)
     }
 
     // Opens a volume, and looks for a whole description in it, unless the set is known. Fails if the file is no volume.
@@ -148,7 +158,7 @@ impl Finder {
 
     // Adds the part of a description in a record to the assembly.
     fn add<F: Read + Seek + Drop>(&mut self, walk: &mut Walk<F>, record: &Record) {
-        if record.head.kind != PART {
+        if record.head.kind != PART || self.is_refused(&record.head.set) {
             return;
         }
         if let Some(part) = part_in(walk, record, &mut self.body) {
@@ -158,6 +168,39 @@ impl Finder {
                 Err(fault) => self.fault = Some(fault),
             }
         }
+    }
+
+    // Returns the first set whose description is whole and to which all of these volumes belong. The first whole
+    // description in a volume can be that of another set: if a file of the set is itself a volume, a damaged record can
+    // expose the records in its body. Returns `None` if no description is whole.
+    //
+    // Fails if there is a whole description, but no such set. The failure is that of the first set.
+    fn common_set<R: Files>(&mut self, rt: &R, volumes: &[Volume]) -> Result<Option<Set>> {
+        let mut failure = None;
+        for _ in 0..MOST_SETS {
+            let Some(set) = self.next_set(rt, volumes) else {
+                break;
+            };
+            match check_set(rt, self.alloc, &set, volumes) {
+                Ok(()) => return Ok(Some(set)),
+                Err(fault) => failure = Some(failure.unwrap_or(fault)),
+            }
+            self.refused.push(set.digest)?;
+        }
+        match failure {
+            Some(failure) => Err(failure),
+            None => Ok(None),
+        }
+    }
+
+    // Returns the set that was found. If there is none, looks for one in these volumes.
+    fn next_set<R: Files>(&mut self, rt: &R, volumes: &[Volume]) -> Option<Set> {
+        for volume in volumes {
+            if self.set.is_none() {
+                let _ = self.open(rt, volume.path.as_str());
+            }
+        }
+        self.set.take()
     }
 }
 
@@ -194,14 +237,14 @@ fn fault_of(fault: Option<Failure>) -> Failure {
     fault.unwrap_or(Failure::of("each copy of its description is damaged"))
 }
 
-/// Opens volumes, and finds their set: that of the first description that is whole, in the order of the volumes and of
-/// their bytes. For each volume that cannot be read, the function prints a message. `memory` is the number of bytes of
-/// memory that descriptions may take, approximately.
+/// Opens volumes, and finds their set. This is the set of the first whole description, in the order of the volumes and
+/// of their bytes, to whose set all volumes belong. For each volume that cannot be read, the function prints a message.
+/// `memory` is the number of bytes of memory that descriptions may take, approximately.
 ///
 /// # Errors
 ///
-/// Fails if no volume can be read, if a volume belongs to another set, if a message cannot be printed, or if memory
-/// cannot be allocated.
+/// Fails if no volume can be read, if the volumes belong to different sets, if a message cannot be printed, or if
+/// memory cannot be allocated.
 pub fn open_volumes<R: Files + Eprint>(
     rt: &R,
     alloc: Global,
@@ -221,17 +264,16 @@ pub fn open_volumes<R: Files + Eprint>(
             }
         }
     }
-    let Finder { set, fault, .. } = finder;
-    match set {
-        Some(set) => {
-            check_set(rt, alloc, &set, read.as_slice())?;
-            Ok(Volumes {
-                set,
-                read,
-                unreadable,
-            })
+    match finder.common_set(rt, read.as_slice())? {
+        Some(set) => Ok(Volumes {
+            set,
+            read,
+            unreadable,
+        }),
+        None => {
+            let Finder { fault, .. } = finder;
+            Err(without_set(rt, alloc, read.as_slice(), fault))
         }
-        None => Err(without_set(rt, alloc, read.as_slice(), fault)),
     }
 }
 
