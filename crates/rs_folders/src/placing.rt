@@ -299,24 +299,31 @@ fn obstacle(goal: Goal<'_>, kind: Kind, is_folder: bool, is_input: bool) -> Opti
 }
 
 /// Returns whether a folder in a name is a symbolic link. The name is relative to `folder`, which may itself be a
-/// symbolic link.
+/// symbolic link. The function looks at no path below one where nothing is found, so it takes no long time for a name
+/// with many slashes.
 ///
 /// # Errors
 ///
 /// Fails if memory cannot be allocated.
 pub fn leads_away<R: Files>(rt: &R, alloc: Global, folder: &str, name: &str) -> Result<bool> {
     for end in 0..name.len() {
-        if let Some((front, rest)) = name.split_at_checked(end) {
-            if rest.starts_with('/') && is_link(rt, path_in(alloc, folder, front)?.as_str()) {
-                return Ok(true);
+        if let Some(front) = front_of(name, end) {
+            match fs::symlink_metadata(rt, path_in(alloc, folder, front)?.as_str()) {
+                Ok(found) if found.is_symlink() => return Ok(true),
+                Ok(_) => {}
+                Err(_) => break,
             }
         }
     }
     Ok(false)
 }
 
-fn is_link<R: Files>(rt: &R, path: &str) -> bool {
-    fs::symlink_metadata(rt, path).is_ok_and(|found| found.is_symlink())
+// Returns the text of a name before the slash at the index `end`. Returns `None` if no slash is there.
+fn front_of(name: &str, end: usize) -> Option<&str> {
+    match name.split_at_checked(end) {
+        Some((front, rest)) if rest.starts_with('/') => Some(front),
+        _ => None,
+    }
 }
 
 // The results of setting the permission bits and the time of an entry.
